@@ -1,0 +1,4 @@
+pub mod Deliveries
+pub mod Selections
+pub mod Ends
+pub mod Complete

@@ -1,0 +1,6 @@
+use Rattle.std.proofs.Common.{◌≡◌, ◌++◌, drop}
+use Rattle.smp_app.specs.Texts.{steps_text}
+use Rattle.smp_app.proofs.texts.steps_text.Given as goal
+
+abbrev pub invariant-loop-step : goal.invariant-loop-step
+invariant-loop-step l = l.text ++ steps_text (drop l.step-index l.steps) ≡ steps_text l.steps

@@ -1,0 +1,9 @@
+pub mod Codes
+pub mod Words
+pub mod Views
+pub mod Texts
+pub mod Quick
+pub mod Verdict
+pub mod Jobs
+pub mod Deliveries
+pub mod Answers

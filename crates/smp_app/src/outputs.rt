@@ -1,0 +1,55 @@
+ghost use Rattle.std.specs.Prelude.{◌≡◌, ◌⊎◌, ◌≤◌, ◌++◌, ◌∷◌, [], ℕ, List, option_map, OnOk, OnErr, IsErrOf, codes};
+ghost use Rattle.std.specs.List.{flat_map};
+ghost use Rattle.smp_io.specs.Counts.{Rose, NeverFalls};
+ghost use Rattle.smp_io.specs.Sink.{with_bytes};
+ghost use Rattle.smp_app.specs.Deliveries.{outputs_view, with_files, StopsAtFile, StopsAt, SomeWriteFails};
+
+use smp_frac::{Bytes, Text};
+use smp_io::{Sink, Store, StoreFault};
+
+/// A file that is to be written.
+#[derive(Drop)]
+pub struct OutputFile {
+    /// Its name.
+    pub name: Text,
+    /// Its whole content.
+    pub bytes: Bytes,
+}
+
+/// What a command writes and puts.
+#[derive(Drop)]
+pub struct Outputs {
+    /// The files in the order in which they are written.
+    pub files: Vec<OutputFile>,
+    /// What is put to the sink after them.
+    pub put: Bytes,
+}
+
+impl Outputs {
+    /// Writes the files in order and puts the result after them. It stops at the first failure.
+    pub fn deliver<K: Store, S: Sink>(&self, store: &mut K, out: &mut S) -> Result<(), StoreFault>
+        ensures files { OnOk result (K.files store.new ≡ option_map (with_files (outputs_view self.now).files) (K.files store.old)) }
+        ensures written { OnOk result (S.written out.new ≡ with_bytes (outputs_view self.now).put (S.written out.old)) }
+        ensures stops { OnErr result (StopsAt (outputs_view self.now) (K.files store.old) (K.files store.new) (S.written out.old) (S.written out.new)) }
+        ensures cause { IsErrOf result StoreFault.Failed → SomeWriteFails (outputs_view self.now).files (K.write_faults store.old) (K.write_faults store.new) ⊎ Rose (S.faults out.old) (S.faults out.new) }
+        ensures reads { NeverFalls (K.read_faults store.old) (K.read_faults store.new) }
+        ensures writes { NeverFalls (K.write_faults store.old) (K.write_faults store.new) }
+        ensures puts { S.faults out.old ≤ S.faults out.new }
+    {
+        write_files(self.files.as_slice(), store)?;
+        out.put(self.put.as_slice())
+    }
+}
+
+fn write_files<K: Store>(files: &[OutputFile], store: &mut K) -> Result<(), StoreFault>
+    ensures ok { OnOk result (K.files store.new ≡ option_map (with_files files.now) (K.files store.old)) }
+    ensures err { OnErr result (StopsAtFile files.now (K.files store.old) (K.files store.new)) }
+    ensures cause { IsErrOf result StoreFault.Failed → SomeWriteFails files.now (K.write_faults store.old) (K.write_faults store.new) }
+    ensures reads { NeverFalls (K.read_faults store.old) (K.read_faults store.new) }
+    ensures writes { NeverFalls (K.write_faults store.old) (K.write_faults store.new) }
+{
+    for file in files {
+        store.write(file.name.as_str(), file.bytes.as_slice())?;
+    }
+    Ok(())
+}

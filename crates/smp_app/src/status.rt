@@ -1,0 +1,73 @@
+ghost use Rattle.std.specs.Prelude.{◌≡◌};
+ghost use Rattle.smp_app.specs.Codes.{code_of, frame_status, tape_status};
+ghost use Rattle.smp_app.specs.declared.status.Status.TheVariants as status;
+
+use smp_frac::NoMemory;
+use smp_frame::FrameFault;
+use smp_tape::TapeFault;
+
+/// How a call ended.
+#[derive(Clone, Copy, Debug, PartialEq, Eq)]
+pub enum Status {
+    /// All was done.
+    Done,
+    /// The words haven't the form of a command.
+    Usage,
+    /// The walk asks for a value and the tape has none left; so many were taken.
+    TapeShort { taken: u64 },
+    /// A file couldn't be read.
+    ReadFault,
+    /// A file couldn't be written, or the result couldn't be put.
+    WriteFault,
+    /// Memory ran out.
+    NoMemory,
+    /// The inputs are of a kind that isn't served yet.
+    NotYet,
+}
+
+impl Status {
+    /// The exit code of the program.
+    pub fn code(&self) -> u8
+        ensures { result ≡ code_of self.now }
+    {
+        match self {
+            Status::Done => 0,
+            Status::Usage => 2,
+            Status::TapeShort { .. } => 7,
+            Status::ReadFault => 12,
+            Status::WriteFault => 13,
+            Status::NoMemory => 14,
+            Status::NotYet => 15,
+        }
+    }
+}
+
+impl From<NoMemory> for Status {
+    ghost from_gives = { λ _ answer. answer ≡ status.NoMemory };
+
+    fn from(_: NoMemory) -> Status {
+        Status::NoMemory
+    }
+}
+
+impl From<FrameFault> for Status {
+    ghost from_gives = { λ fault answer. answer ≡ frame_status fault };
+
+    fn from(fault: FrameFault) -> Status {
+        match fault {
+            FrameFault::NotYet => Status::NotYet,
+            FrameFault::NoMemory => Status::NoMemory,
+        }
+    }
+}
+
+impl From<TapeFault> for Status {
+    ghost from_gives = { λ fault answer. answer ≡ tape_status fault };
+
+    fn from(fault: TapeFault) -> Status {
+        match fault {
+            TapeFault::NotYet => Status::NotYet,
+            TapeFault::NoMemory => Status::NoMemory,
+        }
+    }
+}

@@ -1,0 +1,71 @@
+ghost use Rattle.std.specs.Prelude.{◌≡◌, ◌++◌, ◌≤◌, ◌↔◌, Some, OnOk, OnErr, IsErrOf};
+ghost use Rattle.smp_io.specs.Counts.{Rose};
+ghost use Rattle.smp_io.specs.Calls.{after_call, IsDueToFail};
+ghost use Rattle.smp_io.specs.Sink.{AppendsFront};
+ghost use Rattle.smp_io.specs.Memory.{empty_sink};
+
+use crate::calls::FailingCalls;
+use crate::{Sink, StoreFault};
+use smp_frac::Bytes;
+use std::alloc::Global;
+use std::marker::Model;
+
+/// A sink in memory, of which chosen puts fail.
+#[derive(Drop)]
+pub struct MemSink {
+    bytes: Bytes,
+    puts: FailingCalls,
+    failed: u64,
+}
+
+impl Model for MemSink {
+    ghost use Rattle.smp_io.specs.Memory.{SinkState};
+
+    ghost Value = { SinkState };
+
+    ghost view = { λ s. record { written = s.bytes; puts = s.puts; failed = s.failed } };
+}
+
+impl MemSink {
+    /// A sink without bytes. Puts are counted from 1, and those whose numbers are in `failing` fail.
+    pub fn new(alloc: Global, failing: Vec<u64>) -> MemSink
+        ensures { result ≡ empty_sink failing.items }
+    {
+        MemSink {
+            bytes: Bytes::new(alloc),
+            puts: FailingCalls::new(failing),
+            failed: 0,
+        }
+    }
+
+    /// What was put.
+    pub fn as_slice(&self) -> &[u8]
+        ensures { result.now ≡ self.now.written }
+    {
+        self.bytes.as_slice()
+    }
+}
+
+impl Sink for MemSink {
+    ghost written = { λ s. Some s.written };
+
+    ghost faults = { λ s. s.failed };
+
+    #[tactic(auto, using(crate::proofs::Fronts::nothing_is_a_front))]
+    fn put(&mut self, bytes: &[u8]) -> Result<(), StoreFault>
+        ensures ok { OnOk result (self.new.written ≡ self.old.written ++ bytes.now) }
+        ensures err { OnErr result (AppendsFront bytes.now (Some self.old.written) (Some self.new.written)) }
+        ensures same { OnErr result (self.new.written ≡ self.old.written) }
+        ensures puts { self.new.puts ≡ after_call self.old.puts }
+        ensures never_falls { self.old.failed ≤ self.new.failed }
+        ensures cause { IsErrOf result StoreFault.Failed → Rose self.old.failed self.new.failed }
+        ensures failed { IsErrOf result StoreFault.Failed ↔ IsDueToFail self.old.puts }
+    {
+        if self.puts.next_fails() {
+            self.failed = self.failed.saturating_add(1);
+            return Err(StoreFault::Failed);
+        }
+        self.bytes.push_all(bytes)?;
+        Ok(())
+    }
+}

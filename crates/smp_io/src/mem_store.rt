@@ -1,0 +1,121 @@
+ghost use Rattle.std.specs.Prelude.{◌≡◌, ◌⊎◌, ◌≤◌, ◌↔◌, Some, None, IfOk, OnOk, OnErr, IsErrOf, option_map};
+ghost use Rattle.smp_io.specs.Counts.{Rose};
+ghost use Rattle.smp_io.specs.Calls.{after_call, IsDueToFail};
+ghost use Rattle.smp_io.specs.Store.{OthersStay, with_file};
+ghost use Rattle.smp_io.specs.Memory.{held, files_of, store_of};
+
+use crate::calls::FailingCalls;
+use crate::{Store, StoreFault};
+use smp_frac::{Bytes, NoMemory, Text};
+use std::alloc::Global;
+use std::marker::Model;
+
+/// Files in memory, of which chosen calls fail.
+#[derive(Drop)]
+pub struct MemStore {
+    // A write adds a file at the end, and the last one of a name counts.
+    files: Vec<(Text, Bytes)>,
+    calls: FailingCalls,
+    failed_reads: u64,
+    failed_writes: u64,
+}
+
+impl Model for MemStore {
+    ghost use Rattle.smp_io.specs.Memory.{StoreState};
+
+    ghost Value = { StoreState };
+
+    ghost view = { λ s. record { entries = s.files.items; calls = s.calls; failed_reads = s.failed_reads; failed_writes = s.failed_writes } };
+}
+
+impl MemStore {
+    /// A store of these files. Where a name is given more than once, the last of its files counts.
+    ///
+    /// Reads and writes are counted together, from 1. Those whose numbers are in `failing` fail.
+    pub fn new(files: Vec<(Text, Bytes)>, failing: Vec<u64>) -> MemStore
+        ensures { result ≡ store_of files.items failing.items }
+    {
+        MemStore {
+            files,
+            calls: FailingCalls::new(failing),
+            failed_reads: 0,
+            failed_writes: 0,
+        }
+    }
+}
+
+// The last content under a name.
+fn content_of<'a>(files: &'a [(Text, Bytes)], name: &str) -> Option<&'a Bytes>
+    ensures { option_map (λ bytes. bytes.now) result ≡ held files.now name.now }
+{
+    files
+        .iter()
+        .rev()
+        .find(|file| file.0.as_str() == name)
+        .map(|file| &file.1)
+}
+
+fn copy_of(alloc: Global, bytes: &[u8]) -> Result<Bytes, NoMemory>
+    ensures { IfOk result (λ copy. copy ≡ bytes.now) }
+{
+    let mut copy = Bytes::new(alloc);
+    copy.push_all(bytes)?;
+    Ok(copy)
+}
+
+// Adds a file at the end.
+fn add(files: &mut Vec<(Text, Bytes)>, name: &str, bytes: &[u8]) -> Result<(), NoMemory>
+    ensures ok { OnOk result (held files.new.items ≡ with_file name.now bytes.now (held files.old.items)) }
+    ensures err { OnErr result (files.new.items ≡ files.old.items) }
+{
+    let alloc = *files.allocator();
+    let name = Text::from_str(alloc, name)?;
+    let bytes = copy_of(alloc, bytes)?;
+    files.push((name, bytes))?;
+    Ok(())
+}
+
+impl Store for MemStore {
+    ghost files = { λ s. Some (files_of s) };
+
+    ghost read_faults = { λ s _. s.failed_reads };
+
+    ghost write_faults = { λ s _. s.failed_writes };
+
+    fn read(&mut self, alloc: Global, name: &str) -> Result<Bytes, StoreFault>
+        ensures content { IfOk result (λ bytes. files_of self.old name.now ≡ Some bytes) }
+        ensures same { files_of self.new ≡ files_of self.old }
+        ensures calls { self.new.calls ≡ after_call self.old.calls }
+        ensures reads { self.old.failed_reads ≤ self.new.failed_reads }
+        ensures writes { self.new.failed_writes ≡ self.old.failed_writes }
+        ensures cause { IsErrOf result StoreFault.Failed → Rose self.old.failed_reads self.new.failed_reads }
+        ensures failed { IsErrOf result StoreFault.Failed ↔ (IsDueToFail self.old.calls ⊎ (files_of self.old name.now ≡ None)) }
+    {
+        let fails = self.calls.next_fails();
+        match content_of(&self.files, name) {
+            Some(content) if !fails => Ok(copy_of(alloc, content.as_slice())?),
+            _ => {
+                self.failed_reads = self.failed_reads.saturating_add(1);
+                Err(StoreFault::Failed)
+            }
+        }
+    }
+
+    fn write(&mut self, name: &str, bytes: &[u8]) -> Result<(), StoreFault>
+        ensures written { OnOk result (files_of self.new ≡ with_file name.now bytes.now (files_of self.old)) }
+        ensures others { OnErr result (OthersStay name.now (Some (files_of self.old)) (Some (files_of self.new))) }
+        ensures same { OnErr result (files_of self.new ≡ files_of self.old) }
+        ensures calls { self.new.calls ≡ after_call self.old.calls }
+        ensures reads { self.new.failed_reads ≡ self.old.failed_reads }
+        ensures writes { self.old.failed_writes ≤ self.new.failed_writes }
+        ensures cause { IsErrOf result StoreFault.Failed → Rose self.old.failed_writes self.new.failed_writes }
+        ensures failed { IsErrOf result StoreFault.Failed ↔ IsDueToFail self.old.calls }
+    {
+        if self.calls.next_fails() {
+            self.failed_writes = self.failed_writes.saturating_add(1);
+            return Err(StoreFault::Failed);
+        }
+        add(&mut self.files, name, bytes)?;
+        Ok(())
+    }
+}

@@ -1,0 +1,37 @@
+ghost use Rattle.std.specs.Prelude.{◌≡◌};
+
+use crate::{Sink, StoreFault};
+
+/// Standard output. It doesn't tell what was written.
+#[derive(Drop)]
+pub struct OutSink<'a, R: Print> {
+    rt: &'a R,
+    failed: u64,
+}
+
+impl<'a, R: Print> OutSink<'a, R> {
+    /// The standard output of the program.
+    pub fn new(rt: &'a R) -> OutSink<'a, R>
+        ensures { result.failed ≡ 0 }
+    {
+        OutSink { rt, failed: 0 }
+    }
+}
+
+impl<'a, R: Print> Sink for OutSink<'a, R> {
+    ghost use Rattle.std.specs.Prelude.{None};
+
+    ghost written = { λ _. None };
+
+    ghost faults = { λ s. s.failed };
+
+    fn put(&mut self, bytes: &[u8]) -> Result<(), StoreFault> {
+        match self.rt.write_all(bytes) {
+            Ok(()) => Ok(()),
+            Err(error) => {
+                self.failed = self.failed.saturating_add(1);
+                Err(StoreFault::from(error))
+            }
+        }
+    }
+}

@@ -1,0 +1,3 @@
+pub mod Free
+pub mod Requests
+pub mod Shares

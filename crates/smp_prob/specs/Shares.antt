@@ -1,0 +1,24 @@
+-- The requested probabilities as fractions with one denominator.
+use Rattle.std.specs.Prelude.{ℕ, ◌*◌, ◌/◌, ◌==◌, List, length, map, if◌then◌else◌}
+use Rattle.smp_frac.specs.Divisors.{greatest_common_divisor}
+use Rattle.smp_prob.specs.declared.requests.Request.{Request}
+
+-- numerators over one denominator
+pub record Shares : Type 0 where
+  pub numer : List ℕ
+  pub den : ℕ
+
+-- what brings r / total to lowest terms
+abbrev pub common_divisor : Request → ℕ
+common_divisor request = greatest_common_divisor request.total request.r
+
+-- the denominator, 1 where no unit is free
+abbrev pub common_denominator : Request → ℕ
+common_denominator request = if length request.free == 0 then 1 else request.total / common_divisor request
+
+-- the numerators of the free units, in order
+abbrev pub numerators : Request → List ℕ
+numerators request = map (λ shape. shape * (request.r / common_divisor request)) request.shape
+
+abbrev pub shares_of : Request → Shares
+shares_of request = record { numer = numerators request; den = common_denominator request }

@@ -1,0 +1,6 @@
+/// In which order the units of a request are taken.
+#[derive(Clone, Copy, Debug, PartialEq, Eq)]
+pub enum Order {
+    /// As they stand in the frame.
+    Frame,
+}

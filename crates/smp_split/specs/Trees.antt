@@ -1,0 +1,66 @@
+-- A selection design as a tree of weighted parts, and its lawful splits (Deville and Tillé 1998).
+use Rattle.std.specs.Prelude.{◌≡◌, ℕ, ◌+◌, ◌-◌, ◌*◌, ◌^◌, ◌≤◌, ◌<◌, Bool, true, false, cond, nat_lt, List, [], ◌∷◌}
+use Rattle.smp_split.specs.Fractions.{Fraction, Same, whole, plus, times}
+use Rattle.smp_split.specs.declared.kind.Kind.{Kind}
+
+-- a weight, and the state that has it
+pub record Part (State : Type 0) : Type 0 where
+  pub weight : ℕ
+  pub state : State
+
+-- what a design means: how many units it has, and of each state whether it is done, the kind of its step, its parts, its
+-- rank, the value of each unit, which is a fraction, and which units are selected in it
+pub record Tree (State : Type 0) : Type 0 where
+  pub units : ℕ
+  pub ended : State → Bool
+  pub kind : State → Kind
+  pub parts : State → List (Part State)
+  pub rank : State → ℕ
+  pub value : State → ℕ → Fraction
+  pub selected : State → ℕ → Bool
+
+abbrev pub weight_sum : {State : Type 0} → List (Part State) → ℕ
+weight_sum [] = 0
+weight_sum (p ∷ ps) = p.weight + weight_sum ps
+
+-- the state of the first part at which the cumulated weights pass the draw
+abbrev pub picked : {State : Type 0} → State → List (Part State) → ℕ → State
+picked default [] draw = default
+picked default (p ∷ ps) draw = cond (nat_lt draw p.weight) p.state (picked default ps (draw - p.weight))
+
+-- the sum of weight times f over the parts
+abbrev pub weighted : {State : Type 0} → (State → Fraction) → List (Part State) → Fraction
+weighted f [] = whole 0
+weighted f (p ∷ ps) = plus (times (whole p.weight) (f p.state)) (weighted f ps)
+
+-- P holds of each part
+abbrev pub EachPart : {State : Type 0} → (Part State → Type 0) → List (Part State) → Type 0
+EachPart P [] = Unit {0}
+EachPart P (p ∷ ps) = P p × EachPart P ps
+
+-- what a part of a state is held to
+pub record IsPart {State : Type 0} (tree : Tree State) (belongs : State → Type 0) (state : State) (part : Part State) : Type 0 where
+  pub heavy : 1 ≤ part.weight
+  pub falls : tree.rank part.state < tree.rank state
+  pub member : belongs part.state
+
+-- A state that isn't done is split lawfully: for each unit, the sum of weight times value over the parts is the sum of the
+-- weights times its value in the state. The sum of the weights is the bound of the draw.
+pub record LawfulSplit {State : Type 0} (tree : Tree State) (belongs : State → Type 0) (state : State) : Type 0 where
+  pub some : 1 ≤ weight_sum (tree.parts state)
+  pub narrow : weight_sum (tree.parts state) < 2 ^ 126
+  pub each : EachPart (IsPart tree belongs state) (tree.parts state)
+  pub even : (unit : ℕ) → unit < tree.units → Same (weighted (λ s. tree.value s unit) (tree.parts state)) (times (whole (weight_sum (tree.parts state))) (tree.value state unit))
+
+-- in a done state each value is 1 or 0, and the units of value 1 are selected
+abbrev pub LawfulEnd : {State : Type 0} → Tree State → State → Type 0
+LawfulEnd tree state = (unit : ℕ) → unit < tree.units → Same (tree.value state unit) (whole (cond (tree.selected state unit) 1 0))
+
+pub record Lawful {State : Type 0} (tree : Tree State) (belongs : State → Type 0) : Type 0 where
+  pub split : (state : State) → belongs state → tree.ended state ≡ false → LawfulSplit tree belongs state
+  pub end : (state : State) → belongs state → tree.ended state ≡ true → LawfulEnd tree state
+
+-- the sum of weight times a number of the part's state
+abbrev pub weighted_number : {State : Type 0} → (State → ℕ) → List (Part State) → ℕ
+weighted_number f [] = 0
+weighted_number f (p ∷ ps) = p.weight * f p.state + weighted_number f ps

@@ -1,0 +1,17 @@
+//! Selection designs as trees of weighted parts (Deville and Tillé 1998), the walk down such a tree by draws, and the
+//! theorem that carries every design: over draws that are uniform below each asked bound, the mean of a list over the
+//! selected units is the sum of the list times the values.
+#![tactic(auto)]
+
+mod kind;
+mod splitting;
+mod trace;
+mod walking;
+
+pub use kind::Kind;
+pub use splitting::{Splitting, mean_is_value};
+pub use trace::{Lines, NoMemory, NoTrace, Trace};
+pub use walking::{WalkFault, walk, walk_tape};
+
+#[cfg(test)]
+mod tests;
