@@ -1,6 +1,6 @@
-ghost use Rattle.std.specs.Prelude.{◌≡◌};
+ghost use Rattle.std.specs.Prelude.{◌≡◌, ℕ, ◌≤◌, ◌<◌, IfSome, IfNone};
 ghost use Rattle.std.specs.Int.{IsGcd};
-ghost use Rattle.smp_frac.specs.Divisors.{greatest_common_divisor};
+ghost use Rattle.smp_frac.specs.Divisors.{greatest_common_divisor, IsCommonMultiple, IsLeastMultiple, IsContent};
 
 /// The greatest common divisor; that of 0 and 0 is 0.
 pub fn gcd(a: u128, b: u128) -> u128
@@ -15,4 +15,31 @@ pub fn gcd(a: u128, b: u128) -> u128
         y = rest;
     }
     x
+}
+
+/// The least common multiple, or `None` where it passes `cap`.
+pub fn lcm_within(a: u128, b: u128, cap: u128) -> Option<u128>
+    requires first { 1 ≤ a }
+    requires second { 1 ≤ b }
+    ensures least { IfSome result (IsLeastMultiple a b) }
+    ensures within { IfSome result (λ m. m ≤ cap) }
+    ensures passes { IfNone result ((m : ℕ) → IsCommonMultiple a b m → cap < m) }
+{
+    let multiple = (a / gcd(a, b)).checked_mul(b)?;
+    if multiple <= cap {
+        Some(multiple)
+    } else {
+        None
+    }
+}
+
+/// The greatest common divisor of the absolute values, 0 where all are 0.
+pub fn content(row: &[i128]) -> u128
+    ensures { IsContent row.now result }
+{
+    let mut divisor = 0;
+    for entry in row {
+        divisor = gcd(divisor, entry.unsigned_abs());
+    }
+    divisor
 }

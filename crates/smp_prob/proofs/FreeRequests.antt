@@ -56,6 +56,17 @@ module _ (sizes : List ℕ) where
     shape-le-size : slice_index (shape_of sizes) i ≤ slice_index sizes i
     shape-le-size = rw shape-quotient (div-le_self (slice_index sizes i) (size_divisor sizes))
 
+    pub shape_positive : 1 ≤ slice_index sizes i → 1 ≤ slice_index (shape_of sizes) i
+    shape_positive some =
+        let product : 1 ≤ slice_index (shape_of sizes) i * size_divisor sizes = rw shape-divisor some in
+        pos_of_dvd_of_pos (dvd-mul_right (slice_index (shape_of sizes) i) (size_divisor sizes)) product
+
+    pub shape_below : (n : ℕ) → n * slice_index sizes i < sum sizes → slice_index (shape_of sizes) i * n < sum (shape_of sizes)
+    shape_below n below =
+        lt_of_mul-lt-mul_right (size_divisor sizes)
+        (let product : slice_index (shape_of sizes) i * n * size_divisor sizes ≡ n * slice_index sizes i = rw (← shape-divisor) (omega arith) in
+        omega (arith, product, total-divisor, below))
+
   pub shape_small : EachIndex sizes (λ i. slice_index sizes i < 2 ^ 31) → EachIndex (shape_of sizes) (λ i. slice_index (shape_of sizes) i < 2 ^ 31)
   shape_small small i within =
       let here : i < length sizes = omega (arith, within, length-shape_of) in
@@ -66,7 +77,7 @@ module _ (sizes : List ℕ) where
   proportional n i here = rw (← shape-divisor i here, ← total-divisor) (omega arith)
 
 -- the sum of at most 200000 numbers below 2 ^ 31
-sum_narrow : (sizes : List ℕ) → length sizes ≤ 200000 → EachIndex sizes (λ i. slice_index sizes i < 2 ^ 31) → sum sizes < 2 ^ 49
+pub sum_narrow : (sizes : List ℕ) → length sizes ≤ 200000 → EachIndex sizes (λ i. slice_index sizes i < 2 ^ 31) → sum sizes < 2 ^ 49
 sum_narrow sizes few small =
     let each : All (λ size. size ≤ 2 ^ 31) sizes = All-from_get_or (λ size. size ≤ 2 ^ 31) sizes 0 (λ i here. omega (arith, small i here)) in
     omega (arith, few, sum_by-le (λ (size : ℕ). size) (2 ^ 31) sizes each)
@@ -85,26 +96,15 @@ module _ (sizes : List ℕ) (n : ℕ) (free : list_all (is_free (sum sizes) n) s
     size_positive : 1 ≤ slice_index sizes i
     size_positive = pos_of_dvd_of_pos (dvd-mul_left (slice_index sizes i) n) is_free_here.0
 
-    shape_positive : 1 ≤ slice_index (shape_of sizes) i
-    shape_positive =
-        let product : 1 ≤ slice_index (shape_of sizes) i * size_divisor sizes = rw (shape-divisor sizes i here) size_positive in
-        pos_of_dvd_of_pos (dvd-mul_right (slice_index (shape_of sizes) i) (size_divisor sizes)) product
-
-    below_total : slice_index (shape_of sizes) i * n < sum (shape_of sizes)
-    below_total =
-        lt_of_mul-lt-mul_right (size_divisor sizes)
-        (let product : slice_index (shape_of sizes) i * n * size_divisor sizes ≡ n * slice_index sizes i = rw (← shape-divisor sizes i here) (omega arith) in
-        omega (arith, product, total-divisor sizes, is_free_here.1))
-
   pub IsRequest-free_request : length sizes ≤ 200000 → EachIndex sizes (λ i. slice_index sizes i < 2 ^ 31) → IsRequest (free_request sizes n)
   IsRequest-free_request few small = record {
     few = omega (arith, few, places);
     paired = length-shape_of sizes ∙ sym places;
-    positive = λ i within. shape_positive i (here i within);
+    positive = λ i within. shape_positive sizes i (here i within) (size_positive i (here i within));
     small = shape_small sizes small;
     narrow = sum_narrow (shape_of sizes) (omega (arith, few, length-shape_of sizes)) (shape_small sizes small);
     drawn = λ some. drawn 0 (omega (arith, some, places));
-    below_one = λ i within. below_total i (here i within);
+    below_one = λ i within. shape_below sizes i (here i within) n (is_free_here i (here i within)).1;
   }
     where
       places : length (range_with_len 0 (length sizes)) ≡ length sizes

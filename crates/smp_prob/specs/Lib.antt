@@ -1,3 +1,5 @@
+pub mod Cuts
 pub mod Free
+pub mod Requested
 pub mod Requests
 pub mod Shares

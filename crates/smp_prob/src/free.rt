@@ -7,7 +7,7 @@ use crate::{Places, Request, Shapes};
 use smp_frac::{NoMemory, gcd};
 use std::alloc::{AllocError, Global};
 
-fn sum_of(sizes: &[u32]) -> u64
+pub(crate) fn sum_of(sizes: &[u32]) -> u64
     requires few { length sizes.now ≤ 200000 }
     requires small { EachIndex sizes.now (λ i. slice_index sizes.now i < 2 ^ 31) }
     ensures { result ≡ sum sizes.now }
@@ -46,7 +46,7 @@ fn places(alloc: Global, count: usize) -> Result<Vec<usize>, AllocError>
 }
 
 // The sizes, each divided by their greatest common divisor.
-fn shape_of(alloc: Global, sizes: &[u32]) -> Result<Vec<u32>, NoMemory>
+pub(crate) fn shape_of(alloc: Global, sizes: &[u32]) -> Result<Vec<u32>, NoMemory>
     requires { EachIndex sizes.now (λ i. 1 ≤ slice_index sizes.now i) }
     ensures { IfOk result (λ list. list.items ≡ Free.shape_of sizes.now) }
 {

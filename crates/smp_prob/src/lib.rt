@@ -1,13 +1,17 @@
 //! Requests: which units are taken for sure, and with which probabilities the others are.
 #![tactic(auto)]
 
+mod faults;
 mod free;
 mod lists;
 mod orders;
+mod proportional;
 mod requests;
 #[cfg(test)]
 mod tests;
 
+pub use faults::ProbFault;
 pub use lists::{Places, Shapes};
 pub use orders::Order;
+pub use proportional::requested;
 pub use requests::Request;

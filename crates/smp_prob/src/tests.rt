@@ -2,7 +2,7 @@ ghost use Rattle.std.specs.Prelude.{◌≡◌, ◌*◌, ◌^◌, ◌≤◌, ◌<
 ghost use Rattle.std.specs.List.{list_all};
 ghost use Rattle.smp_prob.specs.Requests.{IsRequest};
 
-use crate::{Places, Request, Shapes};
+use crate::{Places, ProbFault, Request, Shapes, requested};
 use smp_frac::NoMemory;
 use std::alloc::Global;
 use std::test::Fail;
@@ -90,5 +90,76 @@ fn every_unit_is_free(rt: HostRuntime) -> Result<(), Fail> {
     assert!(rt; size_zero.is_none());
     let one_unit = all_free(alloc, &[7], 1)?;
     assert!(rt; one_unit.is_none());
+    Ok(())
+}
+
+fn asked(alloc: Global, sizes: &[u32], n: u32) -> Result<Request, ProbFault>
+    requires few { length sizes.now ≤ 200000 }
+    requires small { IsTrue (list_all (λ z. nat_lt z (2 ^ 31)) sizes.now) }
+    requires some { 1 ≤ n }
+{
+    requested(alloc, sizes, n)
+}
+
+fn has(
+    request: &Request,
+    certain: &[usize],
+    free: &[usize],
+    shape: &[u32],
+    r: u32,
+    total: u64,
+) -> bool {
+    request.certain.as_slice() == certain
+        && request.free.as_slice() == free
+        && request.shape.as_slice() == shape
+        && request.r == r
+        && request.total == total
+}
+
+#[test]
+fn the_largest_units_are_certain(rt: HostRuntime) -> Result<(), Fail> {
+    let alloc = rt.alloc();
+
+    let one_certain = asked(alloc, &[1, 1, 8], 2)?;
+    assert!(rt; has(&one_certain, &[2], &[0, 1], &[1, 1], 1, 2));
+    let two_certain = asked(alloc, &[2, 2, 4, 8], 3)?;
+    assert!(rt; has(&two_certain, &[2, 3], &[0, 1], &[1, 1], 1, 2));
+    let after_the_first = asked(alloc, &[40, 9, 20, 1], 3)?;
+    assert!(rt; has(&after_the_first, &[0, 2], &[1, 3], &[9, 1], 1, 10));
+    let size_zero = asked(alloc, &[0, 1, 1], 1)?;
+    assert!(rt; has(&size_zero, &[], &[1, 2], &[1, 1], 1, 2));
+    let all_certain = asked(alloc, &[5, 0, 7, 3], 3)?;
+    assert!(rt; has(&all_certain, &[0, 2, 3], &[], &[], 0, 0));
+
+    let too_many = asked(alloc, &[0, 1, 0, 1], 3).err();
+    assert_eq!(rt; too_many, Some(ProbFault::TooMany { positive: 2 }));
+    Ok(())
+}
+
+fn of_equal_sizes(alloc: Global, count: usize, size: u32, n: u32) -> Result<Request, Fail>
+    requires few { count ≤ 200000 }
+    requires small { size < 2 ^ 31 }
+    requires some { 1 ≤ n }
+{
+    let sizes = vec![in alloc; size; count]?;
+    Ok(requested(alloc, &sizes, n)?)
+}
+
+#[test]
+fn many_units_share_the_draws(rt: HostRuntime) -> Result<(), Fail> {
+    let alloc = rt.alloc();
+
+    let some = of_equal_sizes(alloc, 200_000, 2_147_483_647, 199_999)?;
+    assert!(rt; some.certain.as_slice().is_empty());
+    assert_eq!(rt; some.free.as_slice().len(), 200_000);
+    assert!(rt; some.shape.as_slice().iter().all(|&shape| shape == 1));
+    assert_eq!(rt; some.r, 199_999);
+    assert_eq!(rt; some.total, 200_000);
+
+    let all = of_equal_sizes(alloc, 200_000, 1, 200_000)?;
+    assert_eq!(rt; all.certain.as_slice().len(), 200_000);
+    assert!(rt; all.free.as_slice().is_empty());
+    assert_eq!(rt; all.r, 0);
+    assert_eq!(rt; all.total, 0);
     Ok(())
 }

@@ -1,0 +1,34 @@
+use Rattle.std.proofs.Common.{◌+◌, ◌*◌, ◌/◌}
+use Rattle.std.proofs.lemmas.Result.{IfOk-weaker}
+use Rattle.smp_frac.specs.Fractions.{IsRatio, IsSum}
+use Rattle.smp_frac.proofs.Coprime.{part_positive}
+use Rattle.smp_frac.proofs.Lowest.{coprime_from_lowest}
+use Rattle.smp_frac.proofs.Sums.{sum_apart, sum_rest_apart, sum_value}
+use Rattle.smp_frac.proofs.fractions.Frac.add.Goals as goal
+
+pub reduced-requires-clause-some_part : goal.reduced-requires-clause-some_part
+reduced-requires-clause-some_part c = part_positive _ _ c.args.self.positive c.gcd-common.ensures.divides.0
+
+pub reduced-requires-clause-apart : goal.reduced-requires-clause-apart
+reduced-requires-clause-apart c =
+    let p = c.args.self in
+    let q = c.args.other in
+    rw (c.in_ok-first.ensures.1, c.in_ok-second.ensures.1)
+    (sum_apart p.num p.den q.num q.den c.gcd-common.result q.positive (coprime_from_lowest p.num p.den p.lowest) c.gcd-common.ensures.divides)
+
+pub reduced-requires-clause-rest_apart : goal.reduced-requires-clause-rest_apart
+reduced-requires-clause-rest_apart c =
+    let p = c.args.self in
+    let q = c.args.other in
+    rw (c.in_ok-first.ensures.1, c.in_ok-second.ensures.1)
+    (sum_rest_apart p.num p.den q.num q.den c.gcd-common.result p.positive (coprime_from_lowest q.num q.den q.lowest) c.gcd-common.ensures.divides)
+
+pub returns-clause-value : goal.returns-clause-value
+returns-clause-value c =
+    let p = c.args.self in
+    let q = c.args.other in
+    let g = c.gcd-common.result in
+    let r = c.gcd-common.ensures.divides in
+    let h = rw (c.in_ok-first.ensures.1, c.in_ok-second.ensures.1) at c.reduced.ensures.value in
+    IfOk-weaker c.reduced.result (IsRatio (p.num * (q.den / g) + q.num * (p.den / g)) (p.den / g * q.den)) (IsSum p q)
+    (λ f e. sum_value p.num p.den q.num q.den g f.num f.den r.0 r.1 e) h

@@ -1,0 +1,158 @@
+ghost use Rattle.std.specs.Prelude.{◌≡◌, ◌*◌, ◌/◌, ◌^◌, ◌<◌, ◌≤◌, ◌↔◌, IsNone, IfSome, IfOk, OnOk, OnErr, OkIff, ◌++◌};
+ghost use Prim.Native.Nat.{◌∣◌};
+ghost use Rattle.std.specs.Int.{IsGcd};
+ghost use Rattle.std.specs.Ordering.{nat_cmp};
+ghost use Rattle.smp_frac.specs.Divisors.{greatest_common_divisor};
+
+use crate::{Bytes, NoMemory, gcd};
+use std::cmp::Ordering;
+
+/// A result needs a number of 2^126 or more.
+#[derive(Clone, Copy, Debug, PartialEq, Eq)]
+pub struct Wide;
+
+/// Sums, products and differences need numbers below this one.
+const LIMIT: u128 = 1 << 126;
+
+/// A fraction in lowest terms; zero is 0/1. No other numbers fit in its fields, so each value has
+/// one fraction.
+#[derive(Clone, Copy, Debug, PartialEq, Eq)]
+pub struct Frac {
+    /// The numerator.
+    pub num: u128,
+    /// The denominator.
+    pub den: u128,
+    pub ghost positive: { 1 ≤ den },
+    pub ghost lowest: { greatest_common_divisor num den ≡ 1 },
+}
+
+impl Frac {
+    ghost use Rattle.smp_frac.specs.Fractions.{IsRatio, IsSum, IsProduct, sum_size, product_size, decimal_fraction};
+
+    /// The fraction `num/den` in lowest terms, or `None` where `den` is 0.
+    pub fn new(num: u128, den: u128) -> Option<Frac>
+        ensures none { IsNone result ↔ (den ≡ 0) }
+        ensures value { IfSome result (IsRatio num den) }
+    {
+        if den == 0 {
+            return None;
+        }
+        let divisor = gcd(num, den);
+        Some(Frac {
+            num: num / divisor,
+            den: den / divisor,
+        })
+    }
+
+    /// The numerator.
+    pub fn num(self) -> u128
+        ensures { result ≡ self.num }
+    {
+        self.num
+    }
+
+    /// The denominator.
+    pub fn den(self) -> u128
+        ensures { result ≡ self.den }
+    {
+        self.den
+    }
+
+    /// One divided by the fraction, or `None` for zero.
+    pub fn inverse(self) -> Option<Frac>
+        ensures none { IsNone result ↔ (self.num ≡ 0) }
+        ensures value { IfSome result (IsRatio self.den self.num) }
+    {
+        if self.num == 0 {
+            return None;
+        }
+        Some(Frac {
+            num: self.den,
+            den: self.num,
+        })
+    }
+
+    /// How the two values compare, whatever their size: by repeated division, with no products.
+    pub fn order(self, other: Frac) -> Ordering
+        ensures exact { result ≡ nat_cmp (self.num * other.den) (other.num * self.den) }
+        ensures same { (result ≡ Ordering.Equal) ↔ (self ≡ other) }
+    {
+        let (mut a, mut b) = (self.num, self.den);
+        let (mut c, mut d) = (other.num, other.den);
+        // What is left above equal whole parts compares as the inverses do, the other way round.
+        while a / b == c / d && a % b != 0 && c % d != 0 {
+            (a, b, c, d) = (d, c % d, b, a % b);
+        }
+        (a / b).cmp(&(c / d)).then((a % b).cmp(&(c % d)))
+    }
+
+    /// The sum, or `Wide` where it needs a number of 2^126 or more: the numerator over the least
+    /// common denominator, or the denominator in lowest terms. Only the divisors of the common
+    /// divisor of both denominators can be left to take out (Knuth 1997).
+    pub fn add(self, other: Frac) -> Result<Frac, Wide>
+        ensures value { IfOk result (IsSum self other) }
+        ensures fits { OnOk result (sum_size self other < 2 ^ 126) }
+        ensures wide { OnErr result (2 ^ 126 ≤ sum_size self other) }
+    {
+        let common = gcd(self.den, other.den);
+        let first = narrow_product(self.num, other.den / common)?;
+        let second = narrow_product(other.num, self.den / common)?;
+        if first + second >= LIMIT {
+            return Err(Wide);
+        }
+        Frac::reduced(first + second, self.den / common, other.den, common)
+    }
+
+    /// The product, or `Wide` where its numerator or denominator in lowest terms is 2^126 or more.
+    pub fn mul(self, other: Frac) -> Result<Frac, Wide>
+        ensures value { IfOk result (IsProduct self other) }
+        ensures fits { OnOk result (product_size self other < 2 ^ 126) }
+        ensures wide { OnErr result (2 ^ 126 ≤ product_size self other) }
+    {
+        let falling = gcd(self.num, other.den);
+        let rising = gcd(other.num, self.den);
+        let num = narrow_product(self.num / falling, other.num / rising)?;
+        let den = narrow_product(self.den / rising, other.den / falling)?;
+        Ok(Frac { num, den })
+    }
+
+    /// Appends the numerator, a slash and the denominator in decimal, or nothing where memory
+    /// runs out.
+    pub fn write(self, into: &mut Bytes) -> Result<(), NoMemory>
+        ensures ok { OnOk result (into.new ≡ into.old ++ decimal_fraction self) }
+        ensures err { OnErr result (into.new ≡ into.old) }
+    {
+        let text = format!(in into.allocator(); "{}/{}", self.num, self.den)?;
+        into.push_all(text.as_bytes())
+    }
+
+    /// The fraction `num / (part * den)` in lowest terms, where `num` has no divisor in common
+    /// with `part`, nor with what `den` has beside its divisor `common`.
+    pub(crate) fn reduced(num: u128, part: u128, den: u128, common: u128) -> Result<Frac, Wide>
+        requires some_part { 1 ≤ part }
+        requires some_den { 1 ≤ den }
+        requires divides { common ∣ den }
+        requires apart { IsGcd num part 1 }
+        requires rest_apart { IsGcd num (den / common) 1 }
+        ensures value { IfOk result (IsRatio num (part * den)) }
+        ensures fits { OnOk result (part * (den / greatest_common_divisor num common) < 2 ^ 126) }
+        ensures wide { OnErr result (2 ^ 126 ≤ part * (den / greatest_common_divisor num common)) }
+    {
+        let divisor = gcd(num, common);
+        let den = narrow_product(part, den / divisor)?;
+        Ok(Frac {
+            num: num / divisor,
+            den,
+        })
+    }
+}
+
+/// The product of two numbers, where it is below the limit.
+pub(crate) fn narrow_product(a: u128, b: u128) -> Result<u128, Wide>
+    ensures { OkIff result (a * b < 2 ^ 126) (a * b) }
+{
+    match a.checked_mul(b) {
+        Some(product) if product < LIMIT => Ok(product),
+        _ => Err(Wide),
+    }
+}
