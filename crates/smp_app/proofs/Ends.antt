@@ -1,166 +1,139 @@
 -- How a call ends, from what its parts did.
-use Rattle.std.proofs.Common.{◌≡◌, ◌⊎◌, ◌≤◌, ◌<◌, ℕ, List, length, Option, Some, None, option_map, Result, Ok, Err, refl, sym, ap, subst, ◌∙◌, arith, inl, inr}
-use Rattle.std.specs.Prelude.{option_and_then}
+use Rattle.std.proofs.Common.{◌≡◌, ◌⊎◌, ◌≤◌, ℕ, List, Option, Some, None, option_map, Result, Ok, Err, refl, sym, ap, subst, ◌∙◌, inl, inr, true}
+use Rattle.std.specs.Prelude.{is_some}
 use Rattle.smp_io.specs.Counts.{Rose, NeverFalls}
-use Rattle.smp_io.specs.Sink.{with_bytes}
+use Rattle.smp_io.specs.Sink.{with_bytes, AppendsFront}
 use Rattle.smp_io.specs.Store.{Files}
-use Rattle.smp_tape.specs.Tapes.{values_of}
-use Rattle.smp_split.specs.Fractions.{Same}
-use Rattle.smp_split.specs.Means.{inclusion_probability}
-use Rattle.smp_split.specs.Runs.{Outcome, run, leaf, short, too_big, long}
-use Rattle.smp_frame.specs.declared.frame.Unit as unit
-use Rattle.smp_frame.specs.Bounds.{sizes_of}
-use Rattle.smp_frame.specs.Frames.{frame_of}
-use Rattle.smp_prob.specs.declared.requests.Request.{Request}
-use Rattle.smp_prob.specs.Free.{all_free}
-use Rattle.smp_prob.specs.Shares.{Shares}
 use Rattle.smp_app.specs.declared.status.Status.{Status}
 use Rattle.smp_app.specs.declared.status.Status.TheVariants as status
-use Rattle.smp_app.specs.Words.{Arguments, arguments_of}
-use Rattle.smp_app.specs.Quick.{Plan, tree_of, start_of, requested_fraction, drawn_ids}
-use Rattle.smp_app.specs.Verdict.{Stop, ◌>>=◌, or_refused, content, plan_of, Drawn, drawn_of, plan_stage, drawn_stage, verdict}
+use Rattle.smp_app.specs.Words.{Command, command_of, outputs_of}
+use Rattle.smp_app.specs.FaultLines.{fault_line}
+use Rattle.smp_app.specs.Verdict.{Stop, Refused, ◌>>=◌, or_refused, without, outputs_stage, verdict}
 use Rattle.smp_app.specs.Jobs.{Follows, IsOfInputs, ReadCause}
-use Rattle.smp_app.specs.Deliveries.{Outputs, with_files, StopsAt, SomeWriteFails}
-use Rattle.smp_app.specs.Answers.{Outside, Untouched, outputs_of, IsDraw, IsDone, Stopped, IsWriteFault, Says}
+use Rattle.smp_app.specs.Deliveries.{Outputs, SomeRose, names_of, with_files, StopsAt}
+use Rattle.smp_app.specs.Answers.{Outside, Untouched, Means, IsDone, IsRefused, Refuses, IsRefusal, IsRefusing, Stopped, IsWriteFault, IsNoMemory, AtWork, AtLine, Says, WorkSays, PutsLine, Whole, Cut, OutOfMemory, Reports}
+use Rattle.smp_app.proofs.Deliveries.{rose_since}
 
--- ---- a stage that answered, step by step
+-- ---- the verdict of a command
 
-record Step {A B : Type 0} (first : Result A Stop) (then_ : A → Result B Stop) (last : B) : Type 0 where
-  value : A
-  first_is : first ≡ Ok value
-  then_is : then_ value ≡ Ok last
+verdict_is : (words : List (List ℕ)) (fs : Files) (command : Command) (answer : Result Outputs Stop) → Some command ≡ command_of words → outputs_stage command fs ≡ answer → verdict words fs ≡ answer
+unfolding verdict
+verdict_is words fs command answer asked stage = ap (λ o. or_refused status.Usage o >>= λ c. outputs_stage c fs) (sym asked) ∙ stage
 
-step : {A B : Type 0} (first : Result A Stop) (then_ : A → Result B Stop) (last : B) → first >>= then_ ≡ Ok last → Step first then_ last
-step (Ok x) then_ last h = record { value = x; first_is = refl; then_is = h }
-step (Err e) then_ last h = absurd (cc)
+module _ (words : List (List ℕ)) (command : Command) (before now : Outside) (asked : Some command ≡ command_of words) where
+  refused_by :
+      (refusal : Status) → ((fs : Files) → before.files ≡ Some fs → outputs_stage command fs ≡ Err (Refused refusal)) → IsRefused refusal words before.files
+  refused_by refusal stage = record { command = command; asked = sym asked; verdict_is = λ fs told. verdict_is words fs command _ asked (stage fs told) }
 
-content_is : (held : Option (List ℕ)) (name bytes : List ℕ) → content held name ≡ Ok bytes → held ≡ Some bytes
-content_is (Some b) name bytes h = let same : ◌≡◌ {A = Result (List ℕ) Stop} (Ok b) (Ok bytes) = h in cc
-content_is None name bytes h = absurd (cc)
+  -- a status to which the inputs led
+  pub refusal_says :
+      (refusal : Status)
+      → IsOfInputs refusal
+      → ((fs : Files) → before.files ≡ Some fs → Follows {A = Outputs} (Err refusal) (outputs_stage command fs))
+      → (refusal ≡ status.ReadFault → ReadCause command before.files before.read_faults now.read_faults)
+      → Untouched before now
+      → WorkSays refusal words before now
+  refusal_says status.Done kind follows cause same = absurd kind
+  refusal_says status.Usage kind follows cause same = absurd kind
+  refusal_says status.WriteFault kind follows cause same = absurd kind
+  refusal_says (status.Frame fault) kind follows cause same = record { refused = refused_by (status.Frame fault) follows; lined = kind; same = same }
+  refusal_says (status.Misfit misfit) kind follows cause same = record { refused = refused_by (status.Misfit misfit) follows; lined = kind; same = same }
+  refusal_says (status.TapeShort taken) kind follows cause same = record { refused = refused_by (status.TapeShort taken) follows; lined = kind; same = same }
+  refusal_says (status.TapeValue place value bound) kind follows cause same = record { refused = refused_by (status.TapeValue place value bound) follows; lined = kind; same = same }
+  refusal_says (status.TapeLong left) kind follows cause same = record { refused = refused_by (status.TapeLong left) follows; lined = kind; same = same }
+  refusal_says status.NotYet kind follows cause same = record { refused = refused_by status.NotYet follows; lined = kind; same = same }
+  refusal_says status.ReadFault kind follows cause same =
+      let failed = cause refl in
+      record {
+        command = command;
+        asked = sym asked;
+        cause = record { name = failed.name; is_one = failed.is_input; rose = failed.rose };
+        first = λ fs told. verdict_is words (without failed.name fs) command _ asked (failed.first fs told);
+        same = same;
+      }
+  refusal_says status.NoMemory kind follows cause same = AtWork same
 
-or_refused_is : {A : Type 0} (refusal : Status) (o : Option A) (x : A) → or_refused refusal o ≡ Ok x → o ≡ Some x
-or_refused_is {A} refusal (Some y) x h = let same : ◌≡◌ {A = Result A Stop} (Ok y) (Ok x) = h in cc
-or_refused_is refusal None x h = absurd (cc)
+  -- ---- the outputs, where the files between the work and the writes are those before it
 
-plan_is : (units : List unit.Unit) (n : ℕ) (request : Option Request) (plan : Plan) → plan_of units n request ≡ Ok plan → record { units = units; n = n } ≡ plan
-plan_is units n (Some request) plan h = let same : ◌≡◌ {A = Result Plan Stop} (Ok (record { units = units; n = n })) (Ok plan) = h in cc
-plan_is units n None plan h = absurd (cc)
-
-record AtLeaf (plan : Plan) (outcome : Outcome Shares) (drawn : Drawn) : Type 0 where
-  plan_same : drawn.plan ≡ plan
-  outcome_is : outcome ≡ leaf drawn.state drawn.path
-
-at_leaf : (plan : Plan) (outcome : Outcome Shares) (drawn : Drawn) → drawn_of plan outcome ≡ Ok drawn → AtLeaf plan outcome drawn
-at_leaf plan (leaf state path) drawn h =
-    let same : ◌≡◌ {A = Result Drawn Stop} (Ok (record { plan = plan; state = state; path = path })) (Ok drawn) = h in
-    let is : record { plan = plan; state = state; path = path } ≡ drawn = cc in
-    record { plan_same = ap (λ (d : Drawn). d.plan) (sym is); outcome_is = ap (λ (d : Drawn). leaf d.state d.path) is }
-at_leaf plan (short taken) drawn h = absurd (cc)
-at_leaf plan (too_big place value bound) drawn h = absurd (cc)
-at_leaf plan (long left) drawn h = absurd (cc)
-
-record OfFrame (arguments : Arguments) (fs : Files) (plan : Plan) : Type 0 where
-  units : option_and_then frame_of (fs arguments.frame) ≡ Some plan.units
-  count : plan.n ≡ arguments.n
-
-of_frame : (arguments : Arguments) (fs : Files) (plan : Plan) → plan_stage arguments fs ≡ Ok plan → OfFrame arguments fs plan
-unfolding plan_stage
-of_frame arguments fs plan h =
-    let bytes = step (content (fs arguments.frame) arguments.frame) _ plan h in
-    let units = step (or_refused status.NotYet (frame_of bytes.value)) _ plan bytes.then_is in
-    let is : record { units = units.value; n = arguments.n } ≡ plan = plan_is units.value arguments.n (all_free (sizes_of units.value) arguments.n) plan units.then_is in
-    let read : option_and_then frame_of (fs arguments.frame) ≡ Some units.value =
-    ap (option_and_then frame_of) (content_is (fs arguments.frame) arguments.frame bytes.value bytes.first_is) ∙ or_refused_is status.NotYet (frame_of bytes.value) units.value units.first_is in
-    record { units = read ∙ ap (λ (p : Plan). Some p.units) is; count = ap (λ (p : Plan). p.n) (sym is) }
-
-pub draw_is : (arguments : Arguments) (fs : Files) (drawn : Drawn) → drawn_stage arguments fs ≡ Ok drawn → IsDraw arguments fs drawn
-unfolding drawn_stage
-draw_is arguments fs drawn h =
-    let plan = step (plan_stage arguments fs) _ drawn h in
-    let bytes = step (content (fs arguments.tape) arguments.tape) _ drawn plan.then_is in
-    let values = step (or_refused status.NotYet (values_of bytes.value)) _ drawn bytes.then_is in
-    let ended = at_leaf plan.value (run (tree_of plan.value) (start_of plan.value) 0 values.value) drawn values.then_is in
-    let frame = of_frame arguments fs plan.value plan.first_is in
-    record {
-      units = frame.units ∙ ap (λ (p : Plan). Some p.units) (sym ended.plan_same);
-      count = ap (λ (p : Plan). p.n) ended.plan_same ∙ frame.count;
-      values = values.value;
-      tape = ap (option_and_then values_of) (content_is (fs arguments.tape) arguments.tape bytes.value bytes.first_is) ∙ or_refused_is status.NotYet (values_of bytes.value) values.value values.first_is;
-      ran = ap (λ (p : Plan). run (tree_of p) (start_of p) 0 values.value) ended.plan_same ∙ ended.outcome_is;
+  module _ (mid : Option Files) (same : mid ≡ before.files) (outputs : Outputs) (stage : (fs : Files) → before.files ≡ Some fs → outputs_stage command fs ≡ Ok outputs) where
+    pub all_done : ((fs : Files) → before.files ≡ Some fs → Means command fs outputs) → now.files ≡ option_map (with_files outputs.files) mid → now.written ≡ with_bytes outputs.put before.written → IsDone words before now
+    all_done means wrote put = record {
+      command = command;
+      asked = sym asked;
+      done = λ fs told. record {
+        outputs = outputs;
+        accepted = verdict_is words fs command _ asked (stage fs told);
+        means = means fs told;
+        files = wrote ∙ ap (option_map (with_files outputs.files)) (same ∙ told);
+        written = put;
+      };
     }
 
--- ---- the verdict
+    pub stopped : names_of outputs.files ≡ outputs_of command → StopsAt outputs mid now.files before.written now.written → Stopped words command before now
+    stopped named stops = record {
+      asked = sym asked;
+      outputs = outputs;
+      named = named;
+      accepted = λ fs told. verdict_is words fs command _ asked (stage fs told);
+      stops = subst (λ (held : Option Files). StopsAt outputs held now.files before.written now.written) same stops;
+    }
 
-verdict_is : (words : List (List ℕ)) (fs : Files) (arguments : Arguments) (answer : Result Drawn Stop) → Some arguments ≡ arguments_of words → drawn_stage arguments fs ≡ answer → verdict words fs ≡ answer
-unfolding verdict
-verdict_is words fs arguments answer asked stage = ap (λ o. or_refused status.Usage o >>= λ a. drawn_stage a fs) (sym asked) ∙ stage
+    pub write_fault :
+        (counts : List ℕ → ℕ) → NeverFalls before.write_faults counts → (named : names_of outputs.files ≡ outputs_of command) → StopsAt outputs mid now.files before.written now.written
+        → SomeRose (names_of outputs.files) counts now.write_faults ⊎ Rose before.put_faults now.put_faults → IsWriteFault words before now
+    write_fault counts rises named stops cause = record {
+      command = command;
+      stopped = stopped named stops;
+      cause = elim cause [
+        | inl write ↦ inl (subst (λ names. SomeRose names before.write_faults now.write_faults) named (record { name = write.name; is_one = write.is_one; rose = rose_since _ _ _ (rises write.name) write.rose }))
+        | inr put ↦ inr put
+      ];
+    }
 
--- a status to which the inputs led
-pub refusal_says :
-    (refusal : Status) (words : List (List ℕ)) (arguments : Arguments) (before now : Outside)
-    → Some arguments ≡ arguments_of words
-    → IsOfInputs refusal
-    → ((fs : Files) → before.files ≡ Some fs → Follows {A = Drawn} (Err refusal) (drawn_stage arguments fs))
-    → (refusal ≡ status.ReadFault → ReadCause arguments before.files before.read_faults now.read_faults)
-    → Untouched before now
-    → Says refusal words before now
-refusal_says status.Done words arguments before now asked kind follows cause same = absurd kind
-refusal_says status.Usage words arguments before now asked kind follows cause same = absurd kind
-refusal_says status.WriteFault words arguments before now asked kind follows cause same = absurd kind
-refusal_says (status.TapeShort taken) words arguments before now asked kind follows cause same =
-    record { arguments = arguments; asked = sym asked; verdict_is = λ fs told. verdict_is words fs arguments _ asked (follows fs told); same = same }
-refusal_says status.NotYet words arguments before now asked kind follows cause same =
-    record { arguments = arguments; asked = sym asked; verdict_is = λ fs told. verdict_is words fs arguments _ asked (follows fs told); same = same }
-refusal_says status.ReadFault words arguments before now asked kind follows cause same =
-    record { arguments = arguments; asked = sym asked; cause = cause refl; same = same }
-refusal_says status.NoMemory words arguments before now asked kind follows cause same = record { arguments = arguments; asked = sym asked; state = inl same }
+-- ---- the line of a refusal
 
--- ---- the outputs
+module _ (refusal answer : Status) (words : List (List ℕ)) (before now : Outside) (written : Option (List ℕ)) (faults : ℕ) (le : before.put_faults ≤ faults) where
+  -- how a refusal ends, whose line was put after its work
+  line_put :
+      Refuses refusal words before.files
+      → Untouched before (record now { written = written; put_faults = faults })
+      → (line : List ℕ) → fault_line refusal ≡ Some line
+      → PutsLine refusal answer line written now.written faults now.put_faults
+      → ((answer ≡ refusal) × IsRefusal refusal words before now) ⊎ ((answer ≡ status.NoMemory) × IsNoMemory words before now)
+  line_put refused same line line_is puts = elim puts [
+    | Whole is whole ↦ inl (is, record { refused = refused; files = same.files; line = line; line_is = line_is; put = inl (whole ∙ ap (with_bytes line) same.written) })
+    | Cut is rose front ↦ inl (is, record { refused = refused; files = same.files; line = line; line_is = line_is; put = inr (rose_since _ _ _ le rose, subst (λ w. AppendsFront line w now.written) same.written front) })
+    | OutOfMemory is some ↦ inr (
+      is,
+      elim some [
+        | inl front ↦ AtLine refusal line refused line_is same.files (subst (λ w. AppendsFront line w now.written) same.written front)
+        | inr none ↦ AtWork (record { files = same.files; written = none ∙ same.written })
+      ],
+    )
+  ]
 
-module _ (words : List (List ℕ)) (arguments : Arguments) (before now : Outside) (mid : Option Files) (asked : Some arguments ≡ arguments_of words) (same : mid ≡ before.files) (drawn : Drawn) (stage : (fs : Files) → before.files ≡ Some fs → drawn_stage arguments fs ≡ Ok drawn) (outputs : Outputs) (made : outputs ≡ outputs_of arguments drawn) where
-  pub all_done :
-      length (drawn_ids drawn.plan drawn.state) ≡ drawn.plan.n
-      → ((unit : ℕ) → unit < length drawn.plan.units → Same (inclusion_probability (tree_of drawn.plan) (start_of drawn.plan) unit) (requested_fraction drawn.plan unit))
-      → now.files ≡ option_map (with_files outputs.files) mid
-      → now.written ≡ with_bytes outputs.put before.written
-      → IsDone words before now
-  all_done size probability wrote put = record {
-    arguments = arguments;
-    asked = sym asked;
-    done = λ fs told. record {
-      drawn = drawn;
-      accepted = verdict_is words fs arguments _ asked (stage fs told);
-      draw = draw_is arguments fs drawn (stage fs told);
-      size = size ∙ (draw_is arguments fs drawn (stage fs told)).count;
-      probability = probability;
-      files = wrote ∙ ap (λ (o : Outputs). option_map (with_files o.files) mid) made ∙ ap (option_map (with_files (outputs_of arguments drawn).files)) (same ∙ told);
-      written = put ∙ ap (λ (o : Outputs). with_bytes o.put before.written) made;
-    };
-  }
+  some_line : (told : Option (List ℕ)) → is_some told ≡ true → fault_line refusal ≡ told → IsRefusing refusal words before (record now { written = written; put_faults = faults })
+      → Reports told refusal answer written now.written faults now.put_faults
+      → ((answer ≡ refusal) × IsRefusal refusal words before now) ⊎ ((answer ≡ status.NoMemory) × IsNoMemory words before now)
+  some_line (Some line) has is work reports = line_put work.refused work.same line is reports
+  some_line None has is work reports = absurd (cc)
 
-  pub stopped : StopsAt outputs mid now.files before.written now.written → Stopped words arguments before now
-  stopped stops = record {
-    asked = sym asked;
-    drawn = drawn;
-    accepted = λ fs told. verdict_is words fs arguments _ asked (stage fs told);
-    stops = subst (λ (files : Option Files). StopsAt (outputs_of arguments drawn) files now.files before.written now.written) same
-        (subst (λ (o : Outputs). StopsAt o mid now.files before.written now.written) made stops);
-  }
+  pub refusal_ends :
+      IsRefusing refusal words before (record now { written = written; put_faults = faults })
+      → Reports (fault_line refusal) refusal answer written now.written faults now.put_faults
+      → (IsRefusal refusal words before now → Says refusal words before now)
+      → Says answer words before now
+  refusal_ends work reports says = elim (some_line (fault_line refusal) work.lined refl work reports) [
+    | inl put ↦ subst (λ a. Says a words before now) (sym put.0) (says put.1)
+    | inr memory ↦ subst (λ a. Says a words before now) (sym memory.0) memory.1
+  ]
 
-  rose_since : (first mid now : ℕ) → first ≤ mid → Rose mid now → Rose first now
-  rose_since first mid now le rose = omega arith
-
-  pub write_fault :
-      (counts : List ℕ → ℕ)
-      → NeverFalls before.write_faults counts
-      → SomeWriteFails outputs.files counts now.write_faults ⊎ Rose before.put_faults now.put_faults
-      → StopsAt outputs mid now.files before.written now.written
-      → IsWriteFault words before now
-  write_fault counts rises cause stops = record {
-    arguments = arguments;
-    stopped = stopped stops;
-    cause = elim (subst (λ (o : Outputs). SomeWriteFails o.files counts now.write_faults ⊎ Rose before.put_faults now.put_faults) made cause) [
-      | inl write ↦ elim write [ inl rose ↦ inl (rose_since _ _ _ (rises arguments.out) rose) | inr none ↦ absurd none ]
-      | inr put ↦ inr put
-    ];
-  }
+  -- where a status has no line, nothing changes
+  pub no_line :
+      WorkSays refusal words before (record now { written = written; put_faults = faults })
+      → Reports None refusal answer written now.written faults now.put_faults
+      → (WorkSays refusal words before now → Says refusal words before now)
+      → Says answer words before now
+  no_line work same says =
+      let ends : ◌≡◌ {A = Outside} (record now { written = written; put_faults = faults }) now = λ i. record now { written = sym same.1 i; put_faults = sym same.2 i } in
+      subst (λ a. Says a words before now) (sym same.0) (says (subst (λ o. WorkSays refusal words before o) ends work))

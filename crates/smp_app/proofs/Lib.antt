@@ -1,4 +1,7 @@
 pub mod Deliveries
+pub mod Written
+pub mod CommandWords
+pub mod Stages
 pub mod Selections
 pub mod Ends
 pub mod Complete

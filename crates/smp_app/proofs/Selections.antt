@@ -1,150 +1,142 @@
--- What is selected by a tape is what the verdict draws.
-use Rattle.std.proofs.Common.{◌≡◌, ℕ, suc, ◌+◌, ◌*◌, ◌≤◌, ◌<◌, true, false, cond, nat_eq, get_or, List, [], ◌∷◌, length, Option, Some, None, Result, Ok, Err, refl, ap, subst, ◌∙◌, arith, sym, inl, inr}
-use Rattle.std.specs.Prelude.{Bool, if◌then◌else◌, sum, slice_index}
-use Rattle.std.specs.List.{list_all, count_by}
-use Rattle.std.proofs.lemmas.Bool.{cases_Bool}
-use Rattle.std.proofs.lemmas.List.FromFn.{length-range_with_len}
-use Rattle.std.proofs.lemmas.List.Sums.{sum_by-cons}
+-- What is selected by a tape is what the verdict draws, with the requested probabilities.
+use Rattle.std.proofs.Common.{◌≡◌, ℕ, suc, zero, ◌+◌, ◌<◌, ◌≤◌, Bool, cond, List, [], ◌∷◌, length, Option, Some, Ok, Err, refl, sym, ap, subst, ◌∙◌, arith, inl, inr}
+use Rattle.std.specs.Prelude.{sum}
+use Rattle.std.specs.List.{count_by, range_with_len}
+use Rattle.std.proofs.lemmas.Bool.{cases_Bool, cases_eq}
 use Rattle.std.proofs.lemmas.List.{length-map}
+use Rattle.std.proofs.lemmas.List.Sums.{sum_by-cons}
 use Rattle.smp_frame.specs.declared.frame.Unit as unit
 use Rattle.smp_frame.specs.Bounds.{sizes_of}
+use Rattle.smp_prob.specs.declared.orders.Order.TheVariants.{Frame}
 use Rattle.smp_prob.specs.declared.requests.Request.{Request}
-use Rattle.smp_prob.specs.Free.{is_free, shape_of, free_request, all_free}
-use Rattle.smp_prob.specs.Requests.{IsRequest}
-use Rattle.smp_prob.specs.Shares.{Shares, shares_of}
-use Rattle.smp_prob.proofs.FreeRequests.{is_free_here, length-shape_of}
+use Rattle.smp_prob.specs.Shares.{Shares}
+use Rattle.smp_prob.proofs.Fractions.{length-numerators}
+use Rattle.smp_split.specs.Counts.{selected_count}
+use Rattle.smp_split.specs.Counts as counts
 use Rattle.smp_split.specs.Fractions.{Same}
 use Rattle.smp_split.specs.Means.{inclusion_probability}
-use Rattle.smp_split.specs.Runs.{Outcome, RanTo, run, at_end, leaf, short, too_big}
-use Rattle.smp_split.specs.Walks.{Line, Leads}
+use Rattle.smp_split.specs.Orders.{Ordered}
+use Rattle.smp_split.specs.Runs.{Outcome, RanTo, run, at_end, leaf, short, too_big, long}
+use Rattle.smp_split.specs.Trees.{Tree}
+use Rattle.smp_split.specs.Walks.{Line}
 use Rattle.smp_split.proofs.Fractions.{same_trans}
 use Rattle.smp_split.proofs.Over.{over_same}
-use Rattle.smp_pivotal.specs.Pivots.{SumsTo, LeavesSelect, is_done, is_selected, pivotal_tree, value_of, requested}
-use Rattle.smp_app.specs.declared.status.Status.TheVariants.{TapeShort, NotYet}
+use Rattle.smp_pivotal.specs.Pivots.{LeavesSelect, SumsTo, pivotal_tree, started, value_of, requested}
+use Rattle.smp_rows.specs.Rows.{rows_tree, asked_fraction, Serves, Fills}
+use Rattle.smp_app.specs.declared.inputs.FramePlan.{FramePlan}
+use Rattle.smp_app.specs.declared.status.Status.TheVariants.{TapeShort, TapeValue, TapeLong}
+use Rattle.smp_app.specs.Jobs.{IsPlanned, IsDrawnBy, plan_view}
+use Rattle.smp_app.specs.Plans.{Plan, tree_of, start_of, requested_fraction}
 use Rattle.smp_app.specs.Texts.{ids_from}
-use Rattle.smp_app.specs.Quick.{Plan, tree_of, start_of, requested_fraction, drawn_ids}
 use Rattle.smp_app.specs.Verdict.{Drawn, Refused, drawn_of}
 
-by_test : (test : Bool) (made request : Request) → (if test then Some made else None) ≡ Some request → (test ≡ true) × (request ≡ made)
-by_test true made request h = (refl, (let same : ◌≡◌ {A = Option Request} (Some made) (Some request) = h in cc))
-by_test false made request h = absurd (cc)
-
--- the ids are as many as the numerators that are 1
-length-ids : (chosen : ℕ → Bool) (den place : ℕ) (numer : List ℕ) (units : List unit.Unit) → length numer ≡ length units → ((i : ℕ) → chosen (place + i) ≡ nat_eq (get_or numer i 0) den) → length (ids_from place chosen units) ≡ count_by (λ a. nat_eq a den) numer
-length-ids chosen den place [] [] same tests = refl
-length-ids chosen den place [] (u ∷ units) same tests = absurd (omega arith)
-length-ids chosen den place (a ∷ numer) [] same tests = absurd (omega arith)
-length-ids chosen den place (a ∷ numer) (u ∷ units) same tests =
-    let here : chosen place ≡ nat_eq a den = (let none : place + 0 ≡ place = omega arith in ap chosen (sym none) ∙ tests 0) in
-    let rest : length (ids_from (place + 1) chosen units) ≡ count_by (λ a. nat_eq a den) numer =
-    length-ids chosen den (place + 1) numer units (omega arith) (λ i. (let next : place + 1 + i ≡ place + suc i = omega arith in ap chosen next ∙ tests (suc i))) in
-    let sums : count_by (λ a. nat_eq a den) (a ∷ numer) ≡ cond (nat_eq a den) 1 0 + count_by (λ a. nat_eq a den) numer = sum_by-cons (λ a. cond (nat_eq a den) 1 0) a numer in
-    elim (cases_Bool (nat_eq a den)) [
-      | inl yes_ ↦ (let test : chosen place ≡ true = here ∙ yes_ in rw (test, sums, yes_) (omega (arith, rest)))
-      | inr no_ ↦ (let test : chosen place ≡ false = here ∙ no_ in rw (test, sums, no_) (omega (arith, rest)))
+-- the ids are as many as the rows that are chosen
+length-ids : (chosen : ℕ → Bool) (place : ℕ) (units : List unit.Unit) → length (ids_from place chosen units) ≡ count_by chosen (range_with_len place (length units))
+length-ids chosen place [] = refl
+length-ids chosen place (u ∷ units) =
+    let rest = length-ids chosen (place + 1) units in
+    let more = sum_by-cons (λ (p : ℕ). cond (chosen p) 1 0) place (range_with_len (place + 1) (length units)) in
+    elim (cases_Bool (chosen place)) [
+      | inl e ↦ rw (e, more, e) (omega (arith, rest))
+      | inr e ↦ rw (e, more, e) (omega (arith, rest))
     ]
 
-module _ (plan : Plan) (request : Request) (free : all_free (sizes_of plan.units) plan.n ≡ Some request) where
-  request_is : request ≡ free_request (sizes_of plan.units) plan.n
-  request_is = (by_test (list_all (is_free (sum (sizes_of plan.units)) plan.n) (sizes_of plan.units)) (free_request (sizes_of plan.units) plan.n) request free).1
+-- ---- the run of the tape
 
-  all_are_free : list_all (is_free (sum (sizes_of plan.units)) plan.n) (sizes_of plan.units) ≡ true
-  all_are_free = (by_test (list_all (is_free (sum (sizes_of plan.units)) plan.n) (sizes_of plan.units)) (free_request (sizes_of plan.units) plan.n) request free).0
+-- a run in the plan's draw tree from its start
+module _ (plan : Plan) (tree : Tree (Ordered Shares)) (tree_is : tree ≡ tree_of plan) (start : Ordered Shares) (start_is : start ≡ start_of plan) (taken values : List ℕ) (none_taken : taken ≡ []) where
+  ran_so : (outcome : Outcome (Ordered Shares)) → run tree start (length taken) values ≡ outcome → run (tree_of plan) (start_of plan) 0 values ≡ outcome
+  ran_so outcome ran =
+      subst (λ (t : Tree (Ordered Shares)). run t (start_of plan) 0 values ≡ outcome) tree_is
+      (subst (λ (s : Ordered Shares). run tree s 0 values ≡ outcome) start_is
+      (subst (λ (t : List ℕ). run tree start (length t) values ≡ outcome) none_taken ran))
 
-  module _ (design : Shares) (shares : design ≡ shares_of request) where
-    starts_at : design ≡ start_of plan
-    starts_at = shares ∙ ap shares_of request_is
+  pub drawn_short : (count : ℕ) → count ≡ length values → run tree start (length taken) values ≡ short (length taken + length values) → drawn_of plan (run (tree_of plan) (start_of plan) 0 values) ≡ Err (Refused (TapeShort count))
+  drawn_short count counted ran =
+      let all : length taken + length values ≡ count = (let none : length taken ≡ 0 = ap length none_taken in omega arith) in
+      ap (drawn_of plan) (ran_so _ ran) ∙ ap (λ n. Err (Refused (TapeShort n))) all
 
-    pub units_are : length design.numer ≡ length plan.units
-    units_are =
-        ap (λ (s : Shares). length s.numer) starts_at
-        ∙ length-map (shape_of (sizes_of plan.units)) _
-        ∙ length-shape_of (sizes_of plan.units)
-        ∙ length-map plan.units (λ u. u.size)
+  pub drawn_value : (place value bound asked : ℕ) → bound ≡ asked → run tree start (length taken) values ≡ too_big place value asked → drawn_of plan (run (tree_of plan) (start_of plan) 0 values) ≡ Err (Refused (TapeValue place value bound))
+  drawn_value place value bound asked bound_is ran = ap (drawn_of plan) (ran_so _ ran) ∙ ap (λ b. Err (Refused (TapeValue place value b))) (sym bound_is)
 
-    pub ran_from : (start : Shares) (values : List ℕ) (outcome : Outcome Shares) → start ≡ design → run (pivotal_tree (length design.numer)) start 0 values ≡ outcome → run (tree_of plan) (start_of plan) 0 values ≡ outcome
-    ran_from start values outcome is ran =
-        subst (λ (s : Shares). run (pivotal_tree (length plan.units)) s 0 values ≡ outcome) (is ∙ starts_at)
-        (subst (λ (units : ℕ). run (pivotal_tree units) start 0 values ≡ outcome) units_are ran)
+  module _ (state : Ordered Shares) (left : List ℕ) (lines : List Line) (walked : RanTo tree start (length taken) values state left (Some []) (Some lines)) where
+    ends_so : (path : List Line) (rest : List ℕ) → length rest ≡ 0 → at_end state path rest ≡ leaf state path
+    ends_so path [] h = refl
+    ends_so path (v ∷ rest) h = absurd (omega arith)
 
-    module _ (start : Shares) (is : start ≡ design) (taken values : List ℕ) (none_taken : taken ≡ []) where
-      draws : (outcome : Outcome Shares) (drawn : Result Drawn _) → run (pivotal_tree (length design.numer)) start (length taken) values ≡ outcome → drawn_of plan outcome ≡ drawn → drawn_of plan (run (tree_of plan) (start_of plan) 0 values) ≡ drawn
-      draws outcome drawn ran drawn_is =
-          ap (drawn_of plan) (ran_from start values outcome is (subst (λ (t : List ℕ). run (pivotal_tree (length design.numer)) start (length t) values ≡ outcome) none_taken ran)) ∙ drawn_is
+    leaves : (path : List Line) (rest : List ℕ) → 0 < length rest → at_end state path rest ≡ long (length rest)
+    leaves path [] h = absurd (omega arith)
+    leaves path (v ∷ rest) h = refl
 
-      pub drawn_short : (count : ℕ) → count ≡ length values → run (pivotal_tree (length design.numer)) start (length taken) values ≡ short (length taken + length values) → drawn_of plan (run (tree_of plan) (start_of plan) 0 values) ≡ Err (Refused (TapeShort count))
-      drawn_short count counted ran =
-          let all : length taken + length values ≡ count = (let none : length taken ≡ 0 = ap length none_taken in omega arith) in
-          draws (short (length taken + length values)) _ ran (ap (λ n. Err (Refused (TapeShort n))) all)
+    pub drawn_leaf : length left ≡ 0 → drawn_of plan (run (tree_of plan) (start_of plan) 0 values) ≡ Ok (record { plan = plan; state = state; path = lines })
+    drawn_leaf all_taken =
+        let same : ◌≡◌ {A = Option (List Line)} (Some lines) (Some walked.path) = walked.traced in
+        let path : walked.path ≡ lines = cc in
+        ap (drawn_of plan) (ran_so _ (walked.ran ∙ ends_so walked.path left all_taken)) ∙ ap (λ (p : List Line). Ok (record { plan = plan; state = state; path = p })) path
 
-      pub drawn_too_big : (place value bound : ℕ) → run (pivotal_tree (length design.numer)) start (length taken) values ≡ too_big place value bound → drawn_of plan (run (tree_of plan) (start_of plan) 0 values) ≡ Err (Refused NotYet)
-      drawn_too_big place value bound ran = draws (too_big place value bound) _ ran refl
+    pub drawn_long : (count : ℕ) → count ≡ length left → 0 < length left → drawn_of plan (run (tree_of plan) (start_of plan) 0 values) ≡ Err (Refused (TapeLong count))
+    drawn_long count counted some_left = ap (drawn_of plan) (ran_so _ (walked.ran ∙ leaves walked.path left some_left)) ∙ ap (λ n. Err (Refused (TapeLong n))) (sym counted)
 
-      module _ (state : Shares) (left : List ℕ) (lines : List Line) (walked : RanTo (pivotal_tree (length design.numer)) start (length taken) values state left (Some []) (Some lines)) where
-        at_leaf : (path : List Line) (left : List ℕ) → length left ≡ 0 → at_end state path left ≡ leaf state path
-        at_leaf path [] h = refl
-        at_leaf path (v ∷ left) h = absurd (omega arith)
+-- ---- the design of a plan
 
-        not_at_leaf : (path : List Line) (left : List ℕ) → 0 < length left → drawn_of plan (at_end state path left) ≡ Err (Refused NotYet)
-        not_at_leaf path [] h = absurd (omega arith)
-        not_at_leaf path (v ∷ left) h = refl
+module _ (plan : FramePlan) (planned : IsPlanned plan) (design : Ordered Shares) (is_started : design ≡ started plan.request Frame) where
+  units_free : length design.state.numer ≡ length plan.request.free
+  units_free = ap (λ (s : Ordered Shares). length s.state.numer) is_started ∙ length-numerators plan.request planned.is_request
 
-        pub drawn_leaf : length left ≡ 0 → drawn_of plan (run (tree_of plan) (start_of plan) 0 values) ≡ Ok (record { plan = plan; state = state; path = lines })
-        drawn_leaf all_taken =
-            let same : ◌≡◌ {A = Option (List Line)} (Some lines) (Some walked.path) = walked.traced in
-            let path : walked.path ≡ lines = cc in
-            draws (leaf state walked.path) _ (walked.ran ∙ at_leaf walked.path left all_taken) (ap (λ (p : List Line). Ok (record { plan = plan; state = state; path = p })) path)
+  pub paired : length plan.request.free ≡ length design.state.numer
+  paired = sym units_free
 
-        pub drawn_long : 0 < length left → drawn_of plan (run (tree_of plan) (start_of plan) 0 values) ≡ Err (Refused NotYet)
-        drawn_long some_left = draws (at_end state walked.path left) _ walked.ran (not_at_leaf walked.path left some_left)
+  module _ (state : Ordered Shares) (start_is : state ≡ design) where
+    pub starts_so : state ≡ start_of (plan_view plan)
+    starts_so = start_is ∙ is_started ∙ ap (λ (r : Request). started r Frame) planned.request_is
 
-    -- as many units are selected as was asked
-    some_free : 1 ≤ length plan.units → 1 ≤ length request.free
-    some_free some = omega (arith, some, ap (λ (r : Request). length r.free) request_is, length-range_with_len 0 (length (sizes_of plan.units)), length-map plan.units (λ u. u.size))
+    pub tree_is : (rows : ℕ) → rows ≡ length plan.frame → rows_tree rows plan.request (pivotal_tree (length design.state.numer)) ≡ tree_of (plan_view plan)
+    tree_is rows rows_are =
+        ap (λ n. rows_tree n plan.request (pivotal_tree (length design.state.numer))) rows_are
+        ∙ ap (λ n. rows_tree (length plan.frame) plan.request (pivotal_tree n)) units_free
+        ∙ ap (λ (r : Request). rows_tree (length plan.frame) r (pivotal_tree (length r.free))) planned.request_is
 
-    total_is : sum request.shape ≡ request.total
-    total_is = ap (λ (r : Request). sum r.shape) request_is ∙ ap (λ (r : Request). r.total) (sym request_is)
+    none_drawn : (units : ℕ) (selected : Ordered Shares → ℕ → Bool) (to : Ordered Shares) → units ≡ 0 → count_by (selected to) (range_with_len 0 units) ≡ 0
+    none_drawn zero selected to none = refl
+    none_drawn (suc n) selected to none = absurd (omega (arith, none))
 
-    asked_is : request.r ≡ plan.n
-    asked_is = ap (λ (r : Request). r.r) request_is
+    pub serves :
+        ((unit : ℕ) → unit < length plan.request.free → Same (value_of design unit) (requested plan.request unit))
+        → (1 ≤ length plan.request.free → sum plan.request.shape ≡ plan.request.total → SumsTo plan.request.r design)
+        → ((n : ℕ) → SumsTo n design → LeavesSelect n state)
+        → Serves plan.request (pivotal_tree (length design.state.numer)) state
+    serves values whole count = record {
+      values = subst (λ (s : Ordered Shares). (unit : ℕ) → unit < length plan.request.free → Same (value_of s unit) (requested plan.request unit)) (sym start_is) values;
+      count = elim (cases_eq (length plan.request.free) 0) [
+        | inl none ↦ (λ path to leads done. none_drawn (length design.state.numer) (pivotal_tree (length design.state.numer)).selected to (units_free ∙ none) ∙ sym (planned.none_free none))
+        | inr some ↦
+            (let total : sum plan.request.shape ≡ plan.request.total = ap (λ (r : Request). sum r.shape) planned.request_is ∙ ap (λ (r : Request). r.total) (sym planned.request_is) in
+            let adds = whole (let one : 1 ≤ length plan.request.free = omega (arith, some) in one) total in
+            subst (λ (s : Ordered Shares). counts.LeavesSelect (pivotal_tree (length s.state.numer)) plan.request.r state) start_is (count plan.request.r adds))
+      ];
+    }
 
-    pub size_is : (start state : Shares) (path : List Line) → start ≡ design → 1 ≤ length plan.units
-        → (1 ≤ length request.free → sum request.shape ≡ request.total → SumsTo request.r design)
-        → ((n : ℕ) → SumsTo n design → LeavesSelect n start)
-        → Leads (pivotal_tree (length design.numer)) start path state
-        → is_done state ≡ true
-        → length state.numer ≡ length design.numer
-        → length (drawn_ids plan state) ≡ plan.n
-    size_is start state path is some whole count leads done kept =
-        let from_start : Leads (pivotal_tree (length start.numer)) start path state = subst (λ (s : Shares). Leads (pivotal_tree (length s.numer)) start path state) (sym is) leads in
-        let selected : count_by (λ a. nat_eq a state.den) state.numer ≡ request.r = count request.r (whole (some_free some) total_is) path state from_start done in
-        length-ids (is_selected state) state.den 0 state.numer plan.units (kept ∙ units_are) (λ i. (let from_0 : 0 + i ≡ i = omega arith in ap (is_selected state) from_0)) ∙ selected ∙ asked_is
+  pub fills : (rows : ℕ) → rows ≡ length plan.frame → Fills plan.request rows plan.n
+  fills rows rows_are = subst (λ (n : ℕ). Fills plan.request n plan.n) (length-map plan.frame (λ u. u.size) ∙ sym rows_are) planned.fills
 
-    -- each unit's probability is the requested one
-    module _ (is_request : IsRequest request) (unit : ℕ) (here : unit < length plan.units) where
-      sizes_here : unit < length (sizes_of plan.units)
-      sizes_here = omega (arith, length-map plan.units (λ u. u.size), here)
-
-      shape_here : unit < length request.shape
-      shape_here = omega (arith, ap (λ (r : Request). length r.shape) request_is, length-shape_of (sizes_of plan.units), sizes_here)
-
-      free_here : unit < length request.free
-      free_here = omega (arith, is_request.paired, shape_here)
-
-      numer_here : unit < length design.numer
-      numer_here = omega (arith, units_are, here)
-
-      pub probability_is : (start : Shares) → start ≡ design
-          → ((unit : ℕ) → unit < length design.numer → Same (inclusion_probability (pivotal_tree (length design.numer)) start unit) (value_of design unit))
-          → ((unit : ℕ) → unit < length request.free → Same (value_of design unit) (requested request unit))
-          → ((unit : ℕ) → unit < length (sizes_of plan.units) → slice_index request.shape unit * request.r * sum (sizes_of plan.units) ≡ plan.n * slice_index (sizes_of plan.units) unit * request.total)
-          → Same (inclusion_probability (tree_of plan) (start_of plan) unit) (requested_fraction plan unit)
-      probability_is start is probability value cross =
-          let total : 1 ≤ request.total = omega (arith, is_request.below_one unit shape_here) in
-          let positive : 1 ≤ sum (sizes_of plan.units) = omega (arith, (is_free_here (sizes_of plan.units) plan.n all_are_free unit sizes_here).1) in
-          let asked : Same (requested request unit) (requested_fraction plan unit) =
-          over_same (slice_index request.shape unit * request.r) (plan.n * slice_index (sizes_of plan.units) unit) request.total (sum (sizes_of plan.units)) total positive (cross unit sizes_here) in
-          let all : Same (inclusion_probability (pivotal_tree (length design.numer)) start unit) (requested_fraction plan unit) =
-          same_trans (probability unit numer_here) (same_trans (value unit free_here) asked) in
-          subst (λ (s : Shares). Same (inclusion_probability (pivotal_tree (length plan.units)) s unit) (requested_fraction plan unit)) (is ∙ starts_at)
-          (subst (λ (units : ℕ). Same (inclusion_probability (pivotal_tree units) start unit) (requested_fraction plan unit)) units_are all)
+  -- as many rows are drawn as was asked, and each with the requested probability
+  pub drawn_by :
+      (tree : Tree (Ordered Shares)) → tree ≡ tree_of (plan_view plan) → (state : Ordered Shares) → state ≡ start_of (plan_view plan)
+      → ((row : ℕ) → row < length plan.frame → Same (inclusion_probability tree state row) (asked_fraction plan.request row))
+      → counts.LeavesSelect tree plan.n state
+      → (taken values left : List ℕ) (to : Ordered Shares) (told telling : Option (List Line)) → RanTo tree state (length taken) values to left told telling
+      → (drawn : Drawn) → drawn.state ≡ to
+      → IsDrawnBy (plan_view plan) drawn
+  drawn_by tree tree_same state starts asked counted taken values left to told telling walked drawn ends = record {
+    size =
+        let selected : selected_count tree to ≡ plan.n = counted walked.path to walked.leads walked.done in
+        let in_tree : selected_count (tree_of (plan_view plan)) drawn.state ≡ plan.n =
+        subst (λ (t : Tree (Ordered Shares)). selected_count t drawn.state ≡ plan.n) tree_same (subst (λ (s : Ordered Shares). selected_count tree s ≡ plan.n) (sym ends) selected) in
+        length-ids ((tree_of (plan_view plan)).selected drawn.state) 0 plan.frame ∙ in_tree;
+    probability = λ row here.
+        let in_sizes : row < length (sizes_of plan.frame) = omega (arith, length-map plan.frame (λ u. u.size), here) in
+        let same = planned.asked row in_sizes in
+        let requested_is : Same (asked_fraction plan.request row) (requested_fraction (plan_view plan) row) = over_same _ _ _ _ same.first same.second same.cross in
+        subst (λ (t : Tree (Ordered Shares)). Same (inclusion_probability t (start_of (plan_view plan)) row) (requested_fraction (plan_view plan) row)) tree_same
+        (subst (λ (s : Ordered Shares). Same (inclusion_probability tree s row) (requested_fraction (plan_view plan) row)) starts (same_trans (asked row here) requested_is));
+  }

@@ -1,5 +1,5 @@
 -- What is written and put, and where that may stop.
-use Rattle.std.specs.Prelude.{◌≡◌, ◌⊎◌, ℕ, List, [], ◌∷◌, ◌++◌, fold, Option, option_map}
+use Rattle.std.specs.Prelude.{◌≡◌, ℕ, List, ◌∷◌, ◌++◌, map, fold, Contains, Option, option_map}
 use Rattle.smp_io.specs.Counts.{Rose}
 use Rattle.smp_io.specs.Sink.{AppendsFront}
 use Rattle.smp_io.specs.Store.{Files, OthersStay, with_file}
@@ -31,7 +31,11 @@ pub data StopsAt (outputs : Outputs) (files files_now : Option Files) (written w
   AtFile : StopsAtFile outputs.files files files_now → written_now ≡ written → StopsAt outputs files files_now written written_now
   AtPut : files_now ≡ option_map (with_files outputs.files) files → AppendsFront outputs.put written written_now → StopsAt outputs files files_now written written_now
 
--- a write of one of these files failed
-abbrev pub SomeWriteFails : List OutputFile → (List ℕ → ℕ) → (List ℕ → ℕ) → Type 0
-SomeWriteFails [] before now = ⊥
-SomeWriteFails (file ∷ files) before now = Rose (before file.name) (now file.name) ⊎ SomeWriteFails files before now
+-- the count of one of these names rose
+pub record SomeRose (names : List (List ℕ)) (before now : List ℕ → ℕ) : Type 0 where
+  pub name : List ℕ
+  pub is_one : Contains names name
+  pub rose : Rose (before name) (now name)
+
+abbrev pub names_of : List OutputFile → List (List ℕ)
+names_of outputs = map (λ file. file.name) outputs

@@ -1,32 +1,33 @@
 -- What the stages of a call answer, before anything is written.
-use Rattle.std.specs.Prelude.{◌≡◌, ℕ, ◌*◌, ◌<◌, ◌≤◌, List, length, sum, slice_index, Option, Some, is_ok, true, Result, Ok, Err}
+use Rattle.std.specs.Prelude.{◌≡◌, ℕ, ◌<◌, List, length, slice_index, EachIndex, Contains, Option, Some, is_some, true, Result, Ok, Err}
 use Rattle.smp_io.specs.Counts.{Rose}
 use Rattle.smp_io.specs.Store.{Files}
 use Rattle.smp_split.specs.Fractions.{Same}
 use Rattle.smp_split.specs.Means.{inclusion_probability}
-use Rattle.smp_frame.specs.Bounds.{sizes_of}
-use Rattle.smp_prob.specs.Free.{all_free}
+use Rattle.smp_frame.specs.Bounds.{IsFrame, sizes_of}
+use Rattle.smp_prob.specs.Requested.{SameRatio, requested_ratio}
 use Rattle.smp_prob.specs.Requests.{IsRequest}
-use Rattle.smp_pivotal.specs.Pivots.{IsShares, is_done}
+use Rattle.smp_prob.specs.Standings.{IsOrdered, asked_ratio}
+use Rattle.smp_pivotal.specs.Pivots.{IsPivotal, pivotal_tree}
+use Rattle.smp_rows.specs.Rows.{rows_tree, BelongsToRows, Fills}
+use Rattle.smp_app.specs.declared.misfit.Misfit.{Misfit}
+use Rattle.smp_app.specs.declared.misfit.Misfit.TheVariants as misfits
 use Rattle.smp_app.specs.declared.status.Status.{Status}
 use Rattle.smp_app.specs.declared.status.Status.TheVariants as status
-use Rattle.smp_app.specs.declared.inputs.QuickPlan.{QuickPlan}
-use Rattle.smp_app.specs.declared.inputs.QuickJob.{QuickJob}
+use Rattle.smp_app.specs.declared.inputs.FramePlan.{FramePlan}
 use Rattle.smp_app.specs.declared.selection.Selection.{Selection}
-use Rattle.smp_app.specs.Words.{Arguments}
-use Rattle.smp_app.specs.Quick.{Plan, tree_of, start_of, requested_fraction, drawn_ids}
-use Rattle.smp_app.specs.Verdict.{Stop, Refused, Drawn, plan_stage}
+use Rattle.smp_app.specs.FaultLines.{fault_line}
+use Rattle.smp_app.specs.Plans.{Plan, request_of, tree_of, start_of, requested_fraction, drawn_ids}
+use Rattle.smp_app.specs.Verdict.{Stop, Refused, Missing, Drawn, without, outputs_stage}
+use Rattle.smp_app.specs.Words.{Command, inputs_of}
 
 -- ---- values of the code as the definitions see them
 
-abbrev pub plan_view : QuickPlan → Plan
+abbrev pub plan_view : FramePlan → Plan
 plan_view plan = record { units = plan.frame; n = plan.n }
 
 abbrev pub selection_view : Plan → Selection → Drawn
 selection_view plan selection = record { plan = plan; state = selection.state; path = selection.lines }
-
-abbrev pub job_view : QuickJob → Drawn
-job_view job = selection_view (plan_view job.plan) job.selection
 
 abbrev pub result_view : {A B E : Type 0} → (A → B) → Result A E → Result B E
 result_view view (Ok x) = Ok (view x)
@@ -41,40 +42,59 @@ Follows (Err status.ReadFault) stage = Unit {0}
 Follows (Err status.NoMemory) stage = Unit {0}
 Follows (Err refusal) stage = stage ≡ Err (Refused refusal)
 
+-- A plan is that of the definition, unless memory ran out.
+abbrev pub GivesPlan : Result Plan Misfit → Result Plan Stop → Type 0
+GivesPlan (Ok plan) stage = stage ≡ Ok plan
+GivesPlan (Err misfits.NoMemory) stage = Unit {0}
+GivesPlan (Err misfit) stage = stage ≡ Err (Refused (status.Misfit misfit))
+
+-- a refusal, which has a line
+abbrev pub HasLine : Status → Type 0
+HasLine refusal = is_some (fault_line refusal) ≡ true
+
 -- the statuses to which the content of the inputs can lead
 abbrev pub IsOfContent : Status → Type 0
-IsOfContent (status.TapeShort taken) = Unit {0}
-IsOfContent status.NotYet = Unit {0}
+IsOfContent status.Done = ⊥
+IsOfContent status.Usage = ⊥
+IsOfContent status.ReadFault = ⊥
+IsOfContent status.WriteFault = ⊥
 IsOfContent status.NoMemory = Unit {0}
-IsOfContent other = ⊥
+IsOfContent refusal = HasLine refusal
 
 -- the statuses to which reading the inputs and their content can lead
 abbrev pub IsOfInputs : Status → Type 0
 IsOfInputs status.Done = ⊥
 IsOfInputs status.Usage = ⊥
 IsOfInputs status.WriteFault = ⊥
-IsOfInputs other = Unit {0}
+IsOfInputs status.ReadFault = Unit {0}
+IsOfInputs status.NoMemory = Unit {0}
+IsOfInputs refusal = HasLine refusal
 
--- A read of an input failed. Where the files are told, nothing was refused before it.
-pub data ReadCause (arguments : Arguments) (told : Option Files) (before now : List ℕ → ℕ) : Type 0 where
-  OfFrame : Rose (before arguments.frame) (now arguments.frame) → ReadCause arguments told before now
-  OfTape : Rose (before arguments.tape) (now arguments.tape) → ((fs : Files) → told ≡ Some fs → is_ok (plan_stage arguments fs) ≡ true) → ReadCause arguments told before now
+-- A read of an input failed. Where the files are told, no refusal stands before that reading: were the file not there, it would be missing.
+pub record ReadCause (command : Command) (told : Option Files) (before now : List ℕ → ℕ) : Type 0 where
+  pub name : List ℕ
+  pub is_input : Contains (inputs_of command) name
+  pub rose : Rose (before name) (now name)
+  pub first : (fs : Files) → told ≡ Some fs → outputs_stage command (without name fs) ≡ Err (Missing name)
 
--- the request of a plan is that of its sizes, and no unit is certain
-pub record IsPlanned (plan : QuickPlan) : Type 0 where
-  pub some : 1 ≤ length plan.frame
-  pub free : all_free (sizes_of plan.frame) plan.n ≡ Some plan.request
+-- the request of a plan is that of its sizes
+pub record IsPlanned (plan : FramePlan) : Type 0 where
+  pub frame : IsFrame plan.frame
+  pub request_is : plan.request ≡ request_of (plan_view plan)
   pub is_request : IsRequest plan.request
-  pub requested : (unit : ℕ) → unit < length (sizes_of plan.frame) → slice_index plan.request.shape unit * plan.request.r * sum (sizes_of plan.frame) ≡ plan.n * slice_index (sizes_of plan.frame) unit * plan.request.total
+  pub ordered : IsOrdered plan.request
+  pub asked : EachIndex (sizes_of plan.frame) (λ row. SameRatio (asked_ratio plan.request row) (requested_ratio plan.n (sizes_of plan.frame) (slice_index (sizes_of plan.frame) row)))
+  pub fills : Fills plan.request (length (sizes_of plan.frame)) plan.n
+  pub none_free : length plan.request.free ≡ 0 → plan.request.r ≡ 0
 
--- a done state of the plan's design, in which as many units are selected as was asked, and in whose draw tree each unit has the
--- requested probability
+-- what a selection by a plan has: as many rows are selected as was asked, and in its draw tree each row has the requested probability
+pub record IsDrawnBy (plan : Plan) (drawn : Drawn) : Type 0 where
+  pub size : length (drawn_ids plan drawn.state) ≡ plan.n
+  pub probability : (row : ℕ) → row < length plan.units → Same (inclusion_probability (tree_of plan) (start_of plan) row) (requested_fraction plan row)
+
+-- a done state of the plan's design over the rows
 pub record IsSelection (plan : Plan) (selection : Selection) : Type 0 where
-  pub units : length selection.design.numer ≡ length plan.units
-  pub belongs : IsShares (length selection.design.numer) selection.design.den selection.state
-  pub done : is_done selection.state ≡ true
-  pub size : length (drawn_ids plan selection.state) ≡ plan.n
-  pub probability : (unit : ℕ) → unit < length plan.units → Same (inclusion_probability (tree_of plan) (start_of plan) unit) (requested_fraction plan unit)
-
-abbrev pub IsJob : QuickJob → Type 0
-IsJob job = IsPlanned job.plan × IsSelection (plan_view job.plan) job.selection
+  pub tree : rows_tree selection.design.rows selection.design.request.now (pivotal_tree (length selection.design.design.state.numer)) ≡ tree_of plan
+  pub belongs : BelongsToRows selection.design.request.now (pivotal_tree (length selection.design.design.state.numer)) (IsPivotal (length selection.design.design.state.numer) selection.design.design.state.den) selection.state
+  pub ended : (tree_of plan).ended selection.state ≡ true
+  pub drawn : IsDrawnBy plan (selection_view plan selection)

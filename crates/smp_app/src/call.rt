@@ -1,14 +1,9 @@
-ghost use Rattle.std.specs.Prelude.{◌≡◌, map, string_bytes, IfOk};
-ghost use Rattle.smp_app.specs.Answers.{IsAnswer, Says, outputs_of, outside};
-ghost use Rattle.smp_app.specs.Deliveries.{outputs_view};
-ghost use Rattle.smp_app.specs.Jobs.{IsJob, job_view};
-ghost use Rattle.smp_app.specs.Views.{arguments_view};
+ghost use Rattle.std.specs.Prelude.{◌≡◌, ◌≤◌, map, string_bytes};
+ghost use Rattle.smp_app.specs.Answers.{IsAnswer, WorkSays, outside};
 
-use crate::inputs::{QuickJob, job_from};
-use crate::{
-    OutputFile, Outputs, QuickArguments, Status, quick_arguments, sample_text, steps_text,
-};
-use smp_frac::{NoMemory, Text};
+use crate::commands::outputs_for;
+use crate::refusals::report;
+use crate::{Status, command_from};
 use smp_io::{Sink, Store, StoreFault};
 use std::alloc::Global;
 
@@ -16,6 +11,9 @@ use std::alloc::Global;
 ///
 /// `quick FRAME N TAPE OUT` reads the files FRAME and TAPE, selects N units of the frame by sequential pivotal steps with
 /// the values of the tape, writes the ids of the selected units to the file OUT, and puts the lines of the steps.
+/// `probs FRAME N` reads the file FRAME and puts the probabilities with which N of its units are to be selected.
+///
+/// After a refusal no file has changed, and a line was put that says what was wrong.
 pub fn sampler<K: Store, S: Sink>(
     alloc: Global,
     words: &[String],
@@ -26,52 +24,27 @@ pub fn sampler<K: Store, S: Sink>(
         (outside K.files K.read_faults K.write_faults S.written S.faults store.old out.old)
         (outside K.files K.read_faults K.write_faults S.written S.faults store.new out.new) }
 {
-    quick(alloc, words, store, out)
+    let status = work(alloc, words, store, out);
+    report(alloc, status, out)
 }
 
-fn quick<K: Store, S: Sink>(alloc: Global, words: &[String], store: &mut K, out: &mut S) -> Status
-    ensures { Says result (map string_bytes words.now)
+// All but the line of a refusal.
+fn work<K: Store, S: Sink>(alloc: Global, words: &[String], store: &mut K, out: &mut S) -> Status
+    ensures says { WorkSays result (map string_bytes words.now)
         (outside K.files K.read_faults K.write_faults S.written S.faults store.old out.old)
         (outside K.files K.read_faults K.write_faults S.written S.faults store.new out.new) }
+    ensures puts { S.faults out.old ≤ S.faults out.new }
 {
-    let Some(arguments) = quick_arguments(words) else {
+    let Some(command) = command_from(words) else {
         return Status::Usage;
     };
-    let job = match job_from(alloc, store, &arguments) {
-        Ok(job) => job,
-        Err(status) => return status,
-    };
-    let outputs = match outputs_for(alloc, &arguments, &job) {
+    let outputs = match outputs_for(alloc, store, &command) {
         Ok(outputs) => outputs,
-        Err(NoMemory) => return Status::NoMemory,
+        Err(status) => return status,
     };
     match outputs.deliver(store, out) {
         Ok(()) => Status::Done,
         Err(StoreFault::Failed) => Status::WriteFault,
         Err(StoreFault::NoMemory) => Status::NoMemory,
     }
-}
-
-fn outputs_for(
-    alloc: Global,
-    arguments: &QuickArguments,
-    job: &QuickJob,
-) -> Result<Outputs, NoMemory>
-    requires { IsJob job.now }
-    ensures { IfOk result (λ outputs. outputs_view outputs ≡ outputs_of (arguments_view arguments.now) (job_view job.now)) }
-{
-    let selection = &job.selection;
-    let sample = sample_text(
-        alloc,
-        job.plan.frame.units(),
-        &selection.design,
-        &selection.state,
-    )?;
-    let mut files = Vec::new(alloc);
-    files.push(OutputFile {
-        name: Text::from_str(alloc, arguments.out)?,
-        bytes: sample,
-    })?;
-    let put = steps_text(alloc, selection.lines.as_slice())?;
-    Ok(Outputs { files, put })
 }

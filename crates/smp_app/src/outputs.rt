@@ -2,7 +2,7 @@ ghost use Rattle.std.specs.Prelude.{◌≡◌, ◌⊎◌, ◌≤◌, ◌++◌, �
 ghost use Rattle.std.specs.List.{flat_map};
 ghost use Rattle.smp_io.specs.Counts.{Rose, NeverFalls};
 ghost use Rattle.smp_io.specs.Sink.{with_bytes};
-ghost use Rattle.smp_app.specs.Deliveries.{outputs_view, with_files, StopsAtFile, StopsAt, SomeWriteFails};
+ghost use Rattle.smp_app.specs.Deliveries.{outputs_view, with_files, StopsAtFile, StopsAt, SomeRose, names_of};
 
 use smp_frac::{Bytes, Text};
 use smp_io::{Sink, Store, StoreFault};
@@ -31,7 +31,7 @@ impl Outputs {
         ensures files { OnOk result (K.files store.new ≡ option_map (with_files (outputs_view self.now).files) (K.files store.old)) }
         ensures written { OnOk result (S.written out.new ≡ with_bytes (outputs_view self.now).put (S.written out.old)) }
         ensures stops { OnErr result (StopsAt (outputs_view self.now) (K.files store.old) (K.files store.new) (S.written out.old) (S.written out.new)) }
-        ensures cause { IsErrOf result StoreFault.Failed → SomeWriteFails (outputs_view self.now).files (K.write_faults store.old) (K.write_faults store.new) ⊎ Rose (S.faults out.old) (S.faults out.new) }
+        ensures cause { IsErrOf result StoreFault.Failed → SomeRose (names_of (outputs_view self.now).files) (K.write_faults store.old) (K.write_faults store.new) ⊎ Rose (S.faults out.old) (S.faults out.new) }
         ensures reads { NeverFalls (K.read_faults store.old) (K.read_faults store.new) }
         ensures writes { NeverFalls (K.write_faults store.old) (K.write_faults store.new) }
         ensures puts { S.faults out.old ≤ S.faults out.new }
@@ -44,7 +44,7 @@ impl Outputs {
 fn write_files<K: Store>(files: &[OutputFile], store: &mut K) -> Result<(), StoreFault>
     ensures ok { OnOk result (K.files store.new ≡ option_map (with_files files.now) (K.files store.old)) }
     ensures err { OnErr result (StopsAtFile files.now (K.files store.old) (K.files store.new)) }
-    ensures cause { IsErrOf result StoreFault.Failed → SomeWriteFails files.now (K.write_faults store.old) (K.write_faults store.new) }
+    ensures cause { IsErrOf result StoreFault.Failed → SomeRose (names_of files.now) (K.write_faults store.old) (K.write_faults store.new) }
     ensures reads { NeverFalls (K.read_faults store.old) (K.read_faults store.new) }
     ensures writes { NeverFalls (K.write_faults store.old) (K.write_faults store.new) }
 {

@@ -1,20 +1,37 @@
 ghost use Rattle.std.specs.Prelude.{◌≡◌};
-ghost use Rattle.smp_app.specs.Codes.{code_of, frame_status, tape_status};
+ghost use Rattle.smp_app.specs.Codes.{code_of, frame_status, misfit_status, tape_status};
 ghost use Rattle.smp_app.specs.declared.status.Status.TheVariants as status;
 
+use crate::Misfit;
 use smp_frac::NoMemory;
 use smp_frame::FrameFault;
 use smp_tape::TapeFault;
 
 /// How a call ended.
-#[derive(Clone, Copy, Debug, PartialEq, Eq)]
+#[derive(Debug, Drop)]
 pub enum Status {
     /// All was done.
     Done,
     /// The words haven't the form of a command.
     Usage,
+    /// The frame has this fault.
+    Frame(FrameFault),
+    /// The frame doesn't serve the number of units that is asked.
+    Misfit(Misfit),
     /// The walk asks for a value and the tape has none left; so many were taken.
-    TapeShort { taken: u64 },
+    TapeShort {
+        taken: u64,
+    },
+    /// The value at this place of the tape, counted from 1, isn't below the bound that was asked.
+    TapeValue {
+        place: u64,
+        value: u128,
+        bound: u128,
+    },
+    /// So many values of the tape are left at the end of the walk.
+    TapeLong {
+        left: u64,
+    },
     /// A file couldn't be read.
     ReadFault,
     /// A file couldn't be written, or the result couldn't be put.
@@ -33,7 +50,11 @@ impl Status {
         match self {
             Status::Done => 0,
             Status::Usage => 2,
+            Status::Frame(_) => 4,
+            Status::Misfit(_) => 5,
             Status::TapeShort { .. } => 7,
+            Status::TapeValue { .. } => 8,
+            Status::TapeLong { .. } => 9,
             Status::ReadFault => 12,
             Status::WriteFault => 13,
             Status::NoMemory => 14,
@@ -57,6 +78,18 @@ impl From<FrameFault> for Status {
         match fault {
             FrameFault::NotYet => Status::NotYet,
             FrameFault::NoMemory => Status::NoMemory,
+            fault => Status::Frame(fault),
+        }
+    }
+}
+
+impl From<Misfit> for Status {
+    ghost from_gives = { λ misfit answer. answer ≡ misfit_status misfit };
+
+    fn from(misfit: Misfit) -> Status {
+        match misfit {
+            Misfit::NoMemory => Status::NoMemory,
+            misfit => Status::Misfit(misfit),
         }
     }
 }

@@ -1,4 +1,4 @@
-use super::{Status, sampler};
+use super::sampler;
 use smp_frac::{Bytes, Text};
 use smp_io::{MemSink, MemStore, Store};
 use std::alloc::Global;
@@ -9,10 +9,13 @@ const FRAME: &[u8] = b"id,size\na,1\nb,2\nc,3\nd,4\n";
 // A tape that is full for two units of that frame.
 const FULL: &[u8] = b"0\n3\n4\n";
 
+const USAGE: &[u8] =
+    b"error 2 usage: sampler COMMAND [OPTIONS], COMMAND is quick, draw, replay, probs, check or demo\n";
+
 // How a call ended, and what it left.
 #[derive(Drop)]
 struct Outcome {
-    status: Status,
+    code: u8,
     out: Option<Bytes>,
     put: MemSink,
 }
@@ -57,9 +60,9 @@ impl<'a> Case<'a> {
         for word in self.words {
             words.push(String::from_str(alloc, word)?)?;
         }
-        let status = sampler(alloc, words.as_slice(), &mut store, &mut put);
+        let code = sampler(alloc, words.as_slice(), &mut store, &mut put).code();
         let out = store.read(alloc, "out").ok();
-        Ok(Outcome { status, out, put })
+        Ok(Outcome { code, out, put })
     }
 }
 
@@ -71,14 +74,18 @@ fn file(alloc: Global, name: &str, bytes: &[u8]) -> Result<(Text, Bytes), Fail> 
 
 const QUICK: &[&str] = &["sampler", "quick", "frame", "2", "tape", "out"];
 
+const QUICK_ONE: &[&str] = &["sampler", "quick", "frame", "1", "tape", "out"];
+
+const QUICK_THREE: &[&str] = &["sampler", "quick", "frame", "3", "tape", "out"];
+
 #[test]
-fn quick_draws(rt: HostRuntime) -> Result<(), Fail> {
+fn quick_draws_and_probs_lists(rt: HostRuntime) -> Result<(), Fail> {
     let alloc = rt.alloc();
-    let cases: [(&[&str], &[u8], &[u8], &[u8], &[u8]); 5] = [
+    let draws: [(&[&str], &[u8], &[u8], &[u8], &[u8]); 9] = [
         (
             QUICK,
             FRAME,
-            b"0\n3\n4\n",
+            FULL,
             b"id\nc\nd\n",
             b"pivot 3 0\npivot 4 3\npivot 5 4\n",
         ),
@@ -97,78 +104,194 @@ fn quick_draws(rt: HostRuntime) -> Result<(), Fail> {
             b"pivot 2 1\npivot 3 0\n",
         ),
         (
-            &["sampler", "quick", "frame", "1", "tape", "out"],
+            QUICK_ONE,
             b"id,size\na,2147483647\nb,2147483646\n",
             b"4294967292\n",
             b"id\nb\n",
             b"pivot 4294967293 4294967292\n",
         ),
         (
-            &["sampler", "quick", "frame", "1", "tape", "out"],
+            QUICK_ONE,
             b"id,size\na,2\nb,4\nc,6\n",
             b"0\n3\n",
             b"id\nc\n",
             b"pivot 3 0\npivot 6 3\n",
         ),
+        // Two units are certain, one of them since its share is exactly 1.
+        (
+            QUICK_THREE,
+            b"id,size\na,2\nb,2\nc,4\nd,8\n",
+            b"1\n",
+            b"id\nb\nc\nd\n",
+            b"pivot 2 1\n",
+        ),
+        // One unit has no size, and one is certain.
+        (
+            QUICK,
+            b"id,size\na,8\nb,0\nc,1\nd,1\n",
+            b"0\n",
+            b"id\na\nc\n",
+            b"pivot 2 0\n",
+        ),
+        // The two largest units are certain.
+        (QUICK_THREE, FRAME, b"2\n", b"id\nb\nc\nd\n", b"pivot 3 2\n"),
+        (
+            &["sampler", "quick", "frame", "4", "tape", "out"],
+            FRAME,
+            b"",
+            b"id\na\nb\nc\nd\n",
+            b"",
+        ),
     ];
-    for (words, frame, tape, sample, steps) in cases {
+    for (words, frame, tape, sample, steps) in draws {
         let outcome = Case::new(words, frame, tape).run(alloc)?;
-        assert_eq!(rt; outcome.status, Status::Done, "{frame:?}");
+        assert_eq!(rt; outcome.code, 0, "{frame:?}");
         assert_eq!(rt; outcome.put.as_slice(), steps, "{frame:?}");
         assert_eq!(rt; outcome.sample(), Some(sample), "{frame:?}");
+    }
+
+    let lists: [(&[&str], &[u8], &[u8]); 3] = [
+        (
+            &["sampler", "probs", "frame", "2"],
+            b"id,size\na,1\nb,1\nc,8\n",
+            b"id,probability\na,1/2\nb,1/2\nc,1/1\n",
+        ),
+        (
+            &["sampler", "probs", "frame", "1"],
+            b"id,size\na,0\nb,1\nc,1\n",
+            b"id,probability\na,0/1\nb,1/2\nc,1/2\n",
+        ),
+        (
+            &["sampler", "probs", "frame", "2"],
+            FRAME,
+            b"id,probability\na,1/5\nb,2/5\nc,3/5\nd,4/5\n",
+        ),
+    ];
+    for (words, frame, probabilities) in lists {
+        let outcome = Case::new(words, frame, b"").run(alloc)?;
+        assert_eq!(rt; outcome.code, 0, "{frame:?}");
+        assert_eq!(rt; outcome.put.as_slice(), probabilities, "{frame:?}");
+        assert!(rt; outcome.out.is_none());
     }
     Ok(())
 }
 
 #[test]
-fn quick_refuses(rt: HostRuntime) -> Result<(), Fail> {
+fn refusals_put_their_line(rt: HostRuntime) -> Result<(), Fail> {
     let alloc = rt.alloc();
-    let contents: [(&[u8], &[u8], Status); 20] = [
-        (FRAME, b"0\n3\n", Status::TapeShort { taken: 2 }),
-        (FRAME, b"", Status::TapeShort { taken: 0 }),
-        (FRAME, b"0\n3\n4\n0\n", Status::NotYet),
-        (FRAME, b"0\n4\n4\n", Status::NotYet),
-        (FRAME, b"3\n", Status::NotYet),
-        (FRAME, b"0\n3\n4", Status::NotYet),
-        (FRAME, b"0\n3x\n4\n", Status::NotYet),
+    let not_yet: &[u8] = b"error 15 not yet\n";
+    let cases: [(&[&str], &[u8], &[u8], u8, &[u8]); 23] = [
+        (QUICK, FRAME, b"0\n3\n", 7, b"error 7 tape ends after 2\n"),
+        (QUICK, FRAME, b"", 7, b"error 7 tape ends after 0\n"),
         (
+            QUICK,
+            FRAME,
+            b"0\n3\n4\n0\n",
+            9,
+            b"error 9 tape has 1 more\n",
+        ),
+        (
+            QUICK,
+            FRAME,
+            b"0\n4\n4\n",
+            8,
+            b"error 8 tape value 2 is 4, bound 4\n",
+        ),
+        (
+            QUICK,
+            FRAME,
+            b"3\n",
+            8,
+            b"error 8 tape value 1 is 3, bound 3\n",
+        ),
+        (QUICK, FRAME, b"0\n3\n4", 15, not_yet),
+        (QUICK, FRAME, b"0\n3x\n4\n", 15, not_yet),
+        (
+            QUICK,
             FRAME,
             b"000000000000000000000000000000000000000\n3\n4\n",
-            Status::NotYet,
+            15,
+            not_yet,
         ),
-        (b"", FULL, Status::NotYet),
-        (b"id,size\n", FULL, Status::NotYet),
-        (b"id,size\na,1\nb,2\nc,3\nd,4", FULL, Status::NotYet),
-        (b"id,size\na,1\nb,2\na,3\nd,4\n", FULL, Status::NotYet),
-        (b"id,size\na,0\nb,2\nc,3\nd,4\n", FULL, Status::NotYet),
-        (b"id,size\na,1\nb,1\nc,2\n", FULL, Status::NotYet),
-        (b"id,size\na,1\nb,1\nc,3\n", FULL, Status::NotYet),
+        (QUICK, b"", FULL, 15, not_yet),
+        (QUICK, b"id,size\n", FULL, 15, not_yet),
+        (QUICK, b"id,size\na,1\nb,2\nc,3\nd,4", FULL, 15, not_yet),
+        (QUICK, b"id,size\na,00000000001\nb,2\n", FULL, 15, not_yet),
+        (QUICK, b"id,size\na,2147483648\nb,2\n", FULL, 15, not_yet),
+        (QUICK, b"id,weight\na,1\nb,2\n", FULL, 15, not_yet),
+        (QUICK, b"id,size\r\na,1\r\nb,2\r\n", FULL, 15, not_yet),
         (
-            b"id,size\naaaaaaaaaaaaaaaaaaaaaaaaaaaaaaaaaaaaaaaaaaaaaaaaaaaaaaaaaaaaaaaaa,1\nb,2\nc,3\nd,4\n",
-            FULL,
-            Status::NotYet,
+            &["sampler", "probs", "frame", "1"],
+            b"id;size\na;1\n",
+            b"",
+            15,
+            not_yet,
         ),
         (
-            b"id,size\na,00000000001\nb,2\nc,3\nd,4\n",
-            FULL,
-            Status::NotYet,
+            QUICK_ONE,
+            b"id,size\na,1\na,2\n",
+            b"0\n",
+            4,
+            b"error 4.7 repeated id in row 2\n",
         ),
-        (b"id,size\na,2147483648\nb,2\n", FULL, Status::NotYet),
-        (b"id,weight\na,1\nb,2\nc,3\nd,4\n", FULL, Status::NotYet),
         (
-            b"id,size\r\na,1\r\nb,2\r\nc,3\r\nd,4\r\n",
+            &["sampler", "probs", "frame", "9"],
+            b"id,size\na,1\nb,2\nc,3\nb,1\na,1\n",
+            b"",
+            4,
+            b"error 4.7 repeated id in row 4\n",
+        ),
+        (
+            &["sampler", "quick", "frame", "5", "tape", "out"],
+            FRAME,
             FULL,
-            Status::NotYet,
+            5,
+            b"error 5.4 5 asked of 4: \n",
+        ),
+        (
+            &["sampler", "probs", "frame", "2"],
+            b"id,size\na,0\nb,1\nc,0\n",
+            b"",
+            5,
+            b"error 5.4 2 asked of 1: \n",
+        ),
+        // The frame is refused before the tape is read.
+        (
+            &["sampler", "quick", "frame", "5", "elsewhere", "out"],
+            FRAME,
+            FULL,
+            5,
+            b"error 5.4 5 asked of 4: \n",
+        ),
+        // What can't be read puts nothing.
+        (
+            &["sampler", "quick", "elsewhere", "2", "tape", "out"],
+            FRAME,
+            FULL,
+            12,
+            b"",
+        ),
+        (
+            &["sampler", "quick", "frame", "2", "elsewhere", "out"],
+            FRAME,
+            FULL,
+            12,
+            b"",
         ),
     ];
-    for (frame, tape, status) in contents {
-        let outcome = Case::new(QUICK, frame, tape).run(alloc)?;
-        assert_eq!(rt; outcome.status, status, "{frame:?} {tape:?}");
-        assert!(rt; outcome.out.is_none() && outcome.put.as_slice().is_empty());
+    for (words, frame, tape, code, line) in cases {
+        let outcome = Case::new(words, frame, tape).run(alloc)?;
+        assert_eq!(rt; outcome.code, code, "{frame:?} {tape:?}");
+        assert_eq!(rt; outcome.put.as_slice(), line, "{frame:?} {tape:?}");
+        assert!(rt; outcome.out.is_none());
     }
-    let three: &[&str] = &["sampler", "quick", "frame", "3", "tape", "out"];
-    assert_eq!(rt; Case::new(three, FRAME, FULL).run(alloc)?.status.code(), 15);
-    let words: [&[&str]; 15] = [
+    Ok(())
+}
+
+#[test]
+fn words_of_no_command_are_usage(rt: HostRuntime) -> Result<(), Fail> {
+    let alloc = rt.alloc();
+    let words: [&[&str]; 20] = [
         &[],
         &["sampler"],
         &["sampler", "quick", "frame", "2", "tape"],
@@ -184,11 +307,16 @@ fn quick_refuses(rt: HostRuntime) -> Result<(), Fail> {
         &["sampler", "quick", "frame", "2", "frame", "out"],
         &["sampler", "quick", "frame", "2", "tape", "tape"],
         &["sampler", "quick", "frame", "2", "tape", "frame"],
+        &["sampler", "probs", "frame"],
+        &["sampler", "probs", "frame", "2", "tape"],
+        &["sampler", "probs", "-frame", "2"],
+        &["sampler", "probs", "frame", "0"],
+        &["sampler", "check", "frame", "2"],
     ];
     for words in words {
         let outcome = Case::new(words, FRAME, FULL).run(alloc)?;
-        assert_eq!(rt; outcome.status, Status::Usage, "{words:?}");
-        assert!(rt; outcome.out.is_none() && outcome.put.as_slice().is_empty());
+        let is_usage = outcome.code == 2 && outcome.put.as_slice() == USAGE;
+        assert!(rt; is_usage && outcome.out.is_none(), "{words:?}");
     }
     Ok(())
 }
@@ -196,25 +324,29 @@ fn quick_refuses(rt: HostRuntime) -> Result<(), Fail> {
 #[test]
 fn faults_of_the_outside(rt: HostRuntime) -> Result<(), Fail> {
     let alloc = rt.alloc();
-    let cases: [(&[u64], &[u64], Status, bool); 5] = [
-        (&[1], &[], Status::ReadFault, false),
-        (&[2], &[], Status::ReadFault, false),
-        (&[3], &[], Status::WriteFault, false),
-        (&[], &[1], Status::WriteFault, true),
-        (&[5], &[2], Status::Done, true),
+    let probs: &[&str] = &["sampler", "probs", "frame", "2"];
+    let too_many: &[&str] = &["sampler", "quick", "frame", "5", "tape", "out"];
+    // The words, the calls of the store and the puts that fail, the code, and whether the file is written.
+    let cases: [(&[&str], &[u64], &[u64], u8, bool); 9] = [
+        (QUICK, &[1], &[], 12, false),
+        (QUICK, &[2], &[], 12, false),
+        (QUICK, &[3], &[], 13, false),
+        (QUICK, &[], &[1], 13, true),
+        (QUICK, &[5], &[2], 0, true),
+        (probs, &[1], &[], 12, false),
+        (probs, &[], &[1], 13, false),
+        // A line that can't be put leaves the code as it is.
+        (too_many, &[], &[1], 5, false),
+        (&["sampler"], &[], &[1], 2, false),
     ];
-    for (failing_calls, failing_puts, status, written) in cases {
-        let mut case = Case::new(QUICK, FRAME, b"0\n3\n4\n");
+    for (words, failing_calls, failing_puts, code, written) in cases {
+        let mut case = Case::new(words, FRAME, FULL);
         case.failing_calls = failing_calls;
         case.failing_puts = failing_puts;
         let outcome = case.run(alloc)?;
-        assert_eq!(rt; outcome.status, status);
-        assert_eq!(rt; outcome.out.is_some(), written);
+        assert_eq!(rt; outcome.code, code, "{words:?}");
+        assert_eq!(rt; outcome.out.is_some(), written, "{words:?}");
+        assert!(rt; code == 0 || outcome.put.as_slice().is_empty(), "{words:?}");
     }
-    let missing = &["sampler", "quick", "elsewhere", "2", "tape", "out"];
-    assert_eq!(rt;
-        Case::new(missing, FRAME, b"").run(alloc)?.status,
-        Status::ReadFault
-    );
     Ok(())
 }

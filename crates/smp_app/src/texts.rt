@@ -1,13 +1,20 @@
-ghost use Rattle.std.specs.Prelude.{◌≡◌, ℕ, length, IfOk, string_bytes, true};
+ghost use Rattle.std.specs.Prelude.{◌≡◌, ◌++◌, ℕ, ◌^◌, ◌<◌, ◌≤◌, length, slice_index, EachIndex, IfOk, OnOk, string_bytes, true};
+ghost use Rattle.smp_frame.specs.Bounds.{sizes_of};
+ghost use Rattle.smp_prob.specs.Requested.{SameRatio, requested_ratio};
+ghost use Rattle.smp_prob.specs.Requests.{IsRequest};
+ghost use Rattle.smp_prob.specs.Standings.{IsOrdered, asked_ratio};
 ghost use Rattle.smp_app.specs.Texts;
-ghost use Rattle.smp_app.specs.Texts.{ids_from, step_text};
+ghost use Rattle.smp_app.specs.Texts.{ids_from, step_text, field_row, pair_row, probabilities_text};
+ghost use Rattle.smp_frac.specs.Fractions.{decimal_fraction};
 
-use smp_frac::{Bytes, NoMemory};
+use smp_frac::{Bytes, Frac, NoMemory};
 use smp_frame::Unit;
+use smp_prob::Request;
 use smp_split::{Kind, Splitting};
+use smp_weights::push_row;
 use std::alloc::{AllocError, Global};
 
-/// The sample file: the header `id`, then the ids of the selected units in frame order, one a line.
+/// The sample file: CSV with the header `id`, then the ids of the selected rows in frame order.
 pub fn sample_text<S: Splitting>(
     alloc: Global,
     units: &[Unit],
@@ -20,14 +27,19 @@ pub fn sample_text<S: Splitting>(
     ensures { IfOk result (λ text. text ≡ Texts.sample_text (ids_from 0 ((S.tree design.now).selected state.now) units.now)) }
 {
     let mut text = Bytes::new(alloc);
-    text.push_all(b"id\n")?;
+    push_field(alloc, &mut text, "id")?;
     for (place, unit) in units.iter().enumerate() {
         if design.selected(state, place) {
-            text.push_all(unit.id.as_str().as_bytes())?;
-            text.push_all(b"\n")?;
+            push_field(alloc, &mut text, unit.id.as_str())?;
         }
     }
     Ok(text)
+}
+
+fn push_field(alloc: Global, text: &mut Bytes, field: &str) -> Result<(), NoMemory>
+    ensures { OnOk result (text.new ≡ text.old ++ field_row field.now) }
+{
+    push_row(alloc, text, &[field.as_bytes()])
 }
 
 /// The lines of the steps, in order: the word of the kind, the bound and the value that was drawn.
@@ -46,4 +58,48 @@ fn step_line(alloc: Global, step: &(Kind, u128, u128)) -> Result<String, AllocEr
 {
     let (kind, bound, value) = *step;
     format!(in alloc; "{} {bound} {value}\n", kind.word())
+}
+
+/// The requested probabilities: CSV with the header `id,probability`, then the id and the fraction of each row.
+pub fn probabilities_text(
+    alloc: Global,
+    units: &[Unit],
+    n: u32,
+    request: &Request,
+) -> Result<Bytes, NoMemory>
+    requires request { IsRequest request.now }
+    requires ordered { IsOrdered request.now }
+    requires asked { EachIndex (sizes_of units.now) (λ row. SameRatio (asked_ratio request.now row) (requested_ratio n (sizes_of units.now) (slice_index (sizes_of units.now) row))) }
+    ensures { IfOk result (λ text. text ≡ probabilities_text n units.now) }
+{
+    let mut text = Bytes::new(alloc);
+    push_pair(alloc, &mut text, b"id", b"probability")?;
+    for (row, unit) in units.iter().enumerate() {
+        push_probability(alloc, &mut text, unit, request.asked(row))?;
+    }
+    Ok(text)
+}
+
+fn push_pair(alloc: Global, text: &mut Bytes, first: &[u8], second: &[u8]) -> Result<(), NoMemory>
+    ensures { OnOk result (text.new ≡ text.old ++ pair_row first.now second.now) }
+{
+    push_row(alloc, text, &[first, second])
+}
+
+fn push_probability(
+    alloc: Global,
+    text: &mut Bytes,
+    unit: &Unit,
+    probability: Frac,
+) -> Result<(), NoMemory>
+    ensures { OnOk result (text.new ≡ text.old ++ pair_row unit.now.id (decimal_fraction probability)) }
+{
+    let mut fraction = Bytes::new(alloc);
+    probability.write(&mut fraction)?;
+    push_pair(
+        alloc,
+        text,
+        unit.id.as_str().as_bytes(),
+        fraction.as_slice(),
+    )
 }

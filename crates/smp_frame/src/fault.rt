@@ -9,6 +9,9 @@ use std::alloc::AllocError;
 pub enum FrameFault {
     /// The bytes haven't the first form of a frame. Other forms of frames aren't read yet.
     NotYet,
+    /// The frame has the first form, and this row is the first whose id an earlier row has. Rows are counted from 1;
+    /// the header is row 0.
+    RepeatedId { row: u64 },
     /// Memory ran out.
     NoMemory,
 }

@@ -8,7 +8,7 @@ use std::marker::Model;
 pub struct Unit {
     /// 1 to 64 ASCII letters and digits, which no other unit of the frame has.
     pub id: Text,
-    /// The unit's measure of size, from 1 to 2,147,483,647.
+    /// The unit's measure of size, from 0 to 2,147,483,647.
     pub size: u32,
 }
 

@@ -23,10 +23,10 @@ const MAX_SIZE: u128 = 2_147_483_647;
 const MAX_UNITS: usize = 1_000;
 
 /// Reads a frame of the first form: the line `id,size`, then 1 to 1,000 lines, each an id of 1 to 64 ASCII
-/// letters and digits, a comma and a size of 1 to 10 decimal digits with a value from 1 to 2,147,483,647.
-/// Every line ends in a line feed, and no two lines have the same id.
+/// letters and digits, a comma and a size of 1 to 10 decimal digits with a value from 0 to 2,147,483,647.
+/// Every line ends in a line feed. Other bytes are answered by [`FrameFault::NotYet`], whatever ids they repeat.
 ///
-/// Other bytes are answered by [`FrameFault::NotYet`].
+/// Where the bytes have this form and two lines have the same id, the answer is [`FrameFault::RepeatedId`].
 pub fn read_frame(alloc: Global, bytes: &[u8]) -> Result<Frame, FrameFault>
     ensures reads { Reads result (frame_of bytes.now) }
     ensures bounds { IfOk result IsFrame }
@@ -50,8 +50,8 @@ fn first_form(alloc: Global, bytes: &[u8]) -> Result<Frame, FrameFault>
     let Some(units) = units_of(alloc, rows)? else {
         return Err(FrameFault::NotYet);
     };
-    match first_repeated(alloc, units.as_slice())? {
-        Some(_) => Err(FrameFault::NotYet),
+    match first_repeated_row(alloc, units.as_slice())? {
+        Some(row) => Err(FrameFault::RepeatedId { row }),
         None => Ok(Frame::new(units)),
     }
 }
@@ -111,7 +111,7 @@ fn size_of(text: &[u8]) -> Option<u32>
         return None;
     }
     match number(text) {
-        Some(size) if size > 0 && size <= MAX_SIZE => Some(size as u32),
+        Some(size) if size <= MAX_SIZE => Some(size as u32),
         _ => None,
     }
 }
@@ -126,14 +126,14 @@ fn text_of(alloc: Global, id: &[u8]) -> Result<Text, NoMemory>
     }
 }
 
-// The place of the first unit whose id is that of an earlier one.
-fn first_repeated(alloc: Global, units: &[Unit]) -> Result<Option<usize>, NoMemory>
-    ensures { IfOk result (λ o. o ≡ Frames.first_repeated (map (λ u. u.id) units.now)) }
+// The row of the first unit whose id is that of an earlier one.
+fn first_repeated_row(alloc: Global, units: &[Unit]) -> Result<Option<u64>, NoMemory>
+    ensures { IfOk result (λ o. o ≡ Frames.first_repeated_row (map (λ u. u.id) units.now)) }
 {
     let mut seen = IndexSet::new(alloc);
     for (place, unit) in units.iter().enumerate() {
         if !is_new(&mut seen, unit.id.as_str())? {
-            return Ok(Some(place));
+            return Ok(Some(place as u64 + 1));
         }
     }
     Ok(None)

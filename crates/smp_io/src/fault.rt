@@ -1,6 +1,7 @@
 ghost use Rattle.std.specs.Prelude.{◌≡◌};
 
 use smp_frac::NoMemory;
+use std::alloc::AllocError;
 use std::io;
 
 /// Why a store or a sink didn't do what was asked.
@@ -22,7 +23,24 @@ impl From<NoMemory> for StoreFault {
     }
 }
 
+impl From<AllocError> for StoreFault {
+    ghost use Rattle.smp_io.specs.declared.fault.StoreFault.TheVariants as faults;
+
+    ghost from_gives = { λ _ fault. fault ≡ faults.NoMemory };
+
+    fn from(_: AllocError) -> Self {
+        StoreFault::NoMemory
+    }
+}
+
 impl From<io::Error> for StoreFault {
+    ghost use Rattle.std.specs.Prelude.{◌↔◌};
+    ghost use Rattle.std.specs.IoError.{error_kind};
+    ghost use Rattle.std.specs.declared.io.ErrorKind.TheVariants as kinds;
+    ghost use Rattle.smp_io.specs.declared.fault.StoreFault.TheVariants as faults;
+
+    ghost from_gives = { λ error fault. (fault ≡ faults.NoMemory) ↔ (error_kind error ≡ kinds.OutOfMemory) };
+
     fn from(error: io::Error) -> Self {
         if error.kind() == io::ErrorKind::OutOfMemory {
             StoreFault::NoMemory

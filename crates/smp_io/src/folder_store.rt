@@ -1,7 +1,8 @@
-ghost use Rattle.std.specs.Prelude.{◌≡◌, ◌≤◌, None, length, IfOk, IsErrOf};
-ghost use Rattle.smp_io.specs.Counts.{Rose};
-ghost use Rattle.smp_io.specs.Store.{Holds};
+ghost use Rattle.std.specs.Prelude.{◌≡◌, ◌≤◌, None, length, option_map, IfOk, OnOk, OnErr, IsErrOf};
+ghost use Rattle.smp_io.specs.Counts.{Rose, count_after};
+ghost use Rattle.smp_io.specs.Store.{Holds, OthersStay, with_file};
 
+use crate::replacing::write_file;
 use crate::{Store, StoreFault};
 use smp_frac::Bytes;
 use std::alloc::Global;
@@ -13,14 +14,23 @@ use std::rt::Files;
 pub const MAX_FILE_LEN: usize = 1_073_741_824;
 
 /// The files of the present folder. It tells no content, and a file longer than `MAX_FILE_LEN` can't be read.
+///
+/// A write leaves under its name the old file or the whole new one, where the system renames at once. It makes a new
+/// file in the same folder, whose name is the wanted one, `.partial` and the first free number from 1 to 100, with the
+/// permissions of the old file; it writes and syncs that file, and renames it. If this fails, the new file is removed
+/// again. What an ended program left under such a name is never opened: the next number is taken.
+///
+/// So a write fails where no file can be made in the folder, even if the old file could be written, and where the name
+/// has no room for the ending. It also fails where the old file is read-only. A name under which something other than
+/// a regular file stands, as a link or a device, is written in place.
 #[derive(Drop)]
-pub struct FolderStore<'a, R: Files> {
+pub struct FolderStore<'a, R: Files + AllocGlobal> {
     rt: &'a R,
     failed_reads: u64,
     failed_writes: u64,
 }
 
-impl<'a, R: Files> FolderStore<'a, R> {
+impl<'a, R: Files + AllocGlobal> FolderStore<'a, R> {
     /// The files of the folder that the program runs in.
     pub fn new(rt: &'a R) -> FolderStore<'a, R>
         ensures reads { result.failed_reads ≡ 0 }
@@ -46,7 +56,7 @@ fn read_file<R: Files>(rt: &R, alloc: Global, name: &str) -> Result<Bytes, Store
     Ok(Bytes::from_vec(bytes))
 }
 
-impl<'a, R: Files> Store for FolderStore<'a, R> {
+impl<'a, R: Files + AllocGlobal> Store for FolderStore<'a, R> {
     ghost files = { λ _. None };
 
     ghost read_faults = { λ s _. s.failed_reads };
@@ -58,6 +68,8 @@ impl<'a, R: Files> Store for FolderStore<'a, R> {
         ensures reads { self.old.failed_reads ≤ self.new.failed_reads }
         ensures writes { self.old.failed_writes ≤ self.new.failed_writes }
         ensures cause { IsErrOf result StoreFault.Failed → Rose self.old.failed_reads self.new.failed_reads }
+        ensures counted { self.new.failed_reads ≡ count_after result self.old.failed_reads }
+        ensures not_a_write { self.new.failed_writes ≡ self.old.failed_writes }
         ensures within { IfOk result (λ bytes. length bytes ≤ MAX_FILE_LEN) }
     {
         let outcome = read_file(self.rt, alloc, name);
@@ -67,13 +79,19 @@ impl<'a, R: Files> Store for FolderStore<'a, R> {
         outcome
     }
 
-    fn write(&mut self, name: &str, bytes: &[u8]) -> Result<(), StoreFault> {
-        match fs::write(self.rt, name, bytes) {
-            Ok(()) => Ok(()),
-            Err(error) => {
-                self.failed_writes = self.failed_writes.saturating_add(1);
-                Err(StoreFault::from(error))
-            }
+    fn write(&mut self, name: &str, bytes: &[u8]) -> Result<(), StoreFault>
+        ensures written { OnOk result (None ≡ option_map (with_file name.now bytes.now) None) }
+        ensures others { OnErr result (OthersStay name.now None None) }
+        ensures reads { self.old.failed_reads ≤ self.new.failed_reads }
+        ensures writes { self.old.failed_writes ≤ self.new.failed_writes }
+        ensures cause { IsErrOf result StoreFault.Failed → Rose self.old.failed_writes self.new.failed_writes }
+        ensures counted { self.new.failed_writes ≡ count_after result self.old.failed_writes }
+        ensures not_a_read { self.new.failed_reads ≡ self.old.failed_reads }
+    {
+        let outcome = write_file(self.rt, name, bytes);
+        if outcome.is_err() {
+            self.failed_writes = self.failed_writes.saturating_add(1);
         }
+        outcome
     }
 }

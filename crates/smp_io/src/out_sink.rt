@@ -1,4 +1,6 @@
-ghost use Rattle.std.specs.Prelude.{◌≡◌};
+ghost use Rattle.std.specs.Prelude.{◌≡◌, ◌≤◌, None, OnOk, OnErr, IsErrOf};
+ghost use Rattle.smp_io.specs.Counts.{Rose, count_after};
+ghost use Rattle.smp_io.specs.Sink.{with_bytes, AppendsFront};
 
 use crate::{Sink, StoreFault};
 
@@ -19,13 +21,17 @@ impl<'a, R: Print> OutSink<'a, R> {
 }
 
 impl<'a, R: Print> Sink for OutSink<'a, R> {
-    ghost use Rattle.std.specs.Prelude.{None};
-
     ghost written = { λ _. None };
 
     ghost faults = { λ s. s.failed };
 
-    fn put(&mut self, bytes: &[u8]) -> Result<(), StoreFault> {
+    fn put(&mut self, bytes: &[u8]) -> Result<(), StoreFault>
+        ensures ok { OnOk result (None ≡ with_bytes bytes.now None) }
+        ensures err { OnErr result (AppendsFront bytes.now None None) }
+        ensures never_falls { self.old.failed ≤ self.new.failed }
+        ensures cause { IsErrOf result StoreFault.Failed → Rose self.old.failed self.new.failed }
+        ensures counted { self.new.failed ≡ count_after result self.old.failed }
+    {
         match self.rt.write_all(bytes) {
             Ok(()) => Ok(()),
             Err(error) => {

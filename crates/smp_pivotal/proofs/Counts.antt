@@ -1,17 +1,21 @@
 -- A whole sum of values is the number of units that each leaf selects.
 use Rattle.std.proofs.Common.{◌≡◌, ℕ, suc, ◌+◌, ◌-◌, ◌*◌, ◌<◌, ◌≤◌, ◌≢◌, min, true, false, cond, nat_eq, List, [], ◌∷◌, length, get_or, set, arith, refl, ap, ◌∙◌, inl, inr, length-set}
-use Rattle.std.specs.List.{sum, sum_by, count_by}
+use Rattle.std.specs.List.{sum, sum_by, count_by, swap}
 use Rattle.std.proofs.Math.Nat.{mul-le-mul_right}
 use Rattle.std.proofs.lemmas.Bool.{cases_Bool, cases_eq, cases_lt, eqb-true, eqb-false, eq-eqb, ne_eqb, ltb-true, ltb-false}
 use Rattle.std.proofs.lemmas.List.{get_or-set_same, get_or-set_other}
 use Rattle.std.proofs.lemmas.List.Sums.{sum_by-set, sum_by-cons}
-use Rattle.smp_split.specs.Trees.{EachPart, Lawful}
-use Rattle.smp_split.specs.Walks.{Line, Leads}
-use Rattle.smp_split.proofs.Fractions.{cancel}
-use Rattle.smp_split.proofs.Steps.{leads_keep, leads_belong}
+use Rattle.std.proofs.lemmas.List.Sorted.{IsPermutation-swap, sum_by-IsPermutation}
+use Rattle.smp_split.specs.Trees.{EachPart}
+use Rattle.smp_split.specs.Counts.{LeavesSelect}
+use Rattle.smp_split.specs.Orders.{Ordered}
+use Rattle.smp_split.proofs.Counts.{KeepsCount, leaves_select, keeps_count, count_by-indices}
+use Rattle.smp_split.proofs.Settled.{not_fractional, settled_count}
 use Rattle.smp_prob.specs.Shares.{Shares}
-use Rattle.smp_pivotal.specs.Pivots.{IsShares, SumsTo, is_done, has_pair, fractional, first_of, second_of, shares_parts, pivotal_tree}
-use Rattle.smp_pivotal.specs.Places.{fractional_is, not_fractional, before_from, at_from}
+use Rattle.smp_split.specs.Numerators.{fractional}
+use Rattle.smp_pivotal.specs.Steps.{IsShares, AddsUpTo, is_done, has_pair, first_of, second_of, shares_parts, exchanged_shares, steps_tree}
+use Rattle.smp_pivotal.specs.Pivots.{IsPivotal, SumsTo, pivotal_tree}
+use Rattle.smp_pivotal.specs.Places.{fractional_is, before_from, at_from}
 use Rattle.smp_pivotal.specs.Splits.{pivotal_lawful}
 
 two_total : (xs : List ℕ) (i j x y : ℕ) → i < j → j < length xs → x + y ≡ get_or xs i 0 + get_or xs j 0 → sum (set (set xs i x) j y) ≡ sum xs
@@ -86,7 +90,7 @@ module _ (units den n : ℕ) where
       let parts : sum s.numer ≡ s.den * count_by (λ b. nat_eq b s.den) s.numer + sum_by (part_of s.den) s.numer = apart s.den s.numer ok.positive ok.each in
       no_whole n (count_by (λ b. nat_eq b s.den) s.numer) (get_or s.numer (first_of s) 0) s.den in_between.0 in_between.1 (omega arith)
 
-  keep_total : (s : Shares) → IsShares units den s → is_done s ≡ false → SumsTo n s → EachPart (λ p. SumsTo n p.state) (shares_parts s)
+  keep_total : (s : Shares) → IsShares units den s → is_done s ≡ false → AddsUpTo n s → EachPart (λ p. AddsUpTo n p.state) (shares_parts s)
   keep_total s ok going whole_sum =
       elim (cases_Bool (has_pair s)) [
         | inl e ↦
@@ -103,13 +107,25 @@ module _ (units den n : ℕ) where
         | inr e ↦ absurd (lone_never s ok going e whole_sum)
       ]
 
-  -- a whole sum of values is the number of units that each leaf selects
-  pub leaf_count : (from leaf : Shares) (path : List Line) → IsShares units den from → SumsTo n from → Leads (pivotal_tree units) from path leaf → is_done leaf ≡ true → count_by (λ a. nat_eq a leaf.den) leaf.numer ≡ n
-  leaf_count from leaf path ok whole_sum leads done =
-      let lawful : Lawful (pivotal_tree units) (IsShares units den) = pivotal_lawful units den in
-      let kept : SumsTo n leaf = leads_keep (pivotal_tree units) (IsShares units den) lawful (SumsTo n) keep_total path from leaf leads ok whole_sum in
-      let leaf_ok : IsShares units den leaf = leads_belong (pivotal_tree units) (IsShares units den) lawful path from leaf leads ok in
-      let all : first_of leaf ≡ length leaf.numer = eqb-true (first_of leaf) (length leaf.numer) done in
-      let none : sum_by (part_of leaf.den) leaf.numer ≡ 0 = no_parts leaf.den leaf.numer (λ k l. before_from leaf 0 k (omega arith) (omega arith)) in
-      let parts : sum leaf.numer ≡ leaf.den * count_by (λ b. nat_eq b leaf.den) leaf.numer + sum_by (part_of leaf.den) leaf.numer = apart leaf.den leaf.numer leaf_ok.positive leaf_ok.each in
-      cancel (count_by (λ a. nat_eq a leaf.den) leaf.numer) n leaf.den leaf_ok.positive (omega arith)
+-- pivotal steps keep the sum of the values
+steps_count : (units den n : ℕ) → KeepsCount (steps_tree units) (IsShares units den) n (AddsUpTo n)
+steps_count units den n = record {
+  kept = keep_total units den n;
+  leaf = λ s ok done whole.
+      (let all : first_of s ≡ length s.numer = eqb-true (first_of s) (length s.numer) done in
+      count_by-indices (λ a. nat_eq a s.den) s.numer 0 units ok.count
+      ∙ settled_count s.den n s.numer ok.positive (λ k l. not_fractional s.den (get_or s.numer k 0) (ok.each k) (before_from s 0 k (omega arith) (omega arith))) whole);
+}
+
+exchanged_total : (units den n i j : ℕ) (s : Shares) → i < units → j < units → IsShares units den s → AddsUpTo n s → sum (swap s.numer i j) ≡ n * s.den
+exchanged_total units den n i j s hi hj ok whole =
+    let i_in : i < length s.numer = omega (arith, ok.count) in
+    let j_in : j < length s.numer = omega (arith, ok.count) in
+    sum_by-IsPermutation (λ a. a) s.numer (swap s.numer i j) (IsPermutation-swap s.numer (swap s.numer i j) i j i_in j_in refl) ∙ whole
+
+-- a whole sum of values is the number of units that each leaf selects
+pub leaf_count : (units den n : ℕ) (s : Ordered Shares) → IsPivotal units den s → SumsTo n s → LeavesSelect (pivotal_tree units) n s
+leaf_count units den n s ok whole =
+    leaves_select (pivotal_tree units) (IsPivotal units den) (pivotal_lawful units den) n (λ t. AddsUpTo n t.state)
+    (keeps_count (steps_tree units) (IsShares units den) exchanged_shares n (AddsUpTo n) (steps_count units den n) (exchanged_total units den n))
+    s ok whole

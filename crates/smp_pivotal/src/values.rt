@@ -1,10 +1,11 @@
-//! Values of units from 0 to 1, as numerators over one denominator, and a pivotal step on them.
+//! Values from 0 to 1, as numerators over one denominator, and a pivotal step on them.
 #![tactic(auto)]
 
 ghost use Rattle.std.specs.Prelude.{◌≡◌, ℕ, ◌+◌, ◌^◌, ◌<◌, ◌≤◌, IfOk, length, slice_index};
 ghost use Rattle.smp_split.specs.Trees.{weight_sum, picked};
 ghost use Rattle.smp_prob.specs.Shares.{Shares};
-ghost use Rattle.smp_pivotal.specs.Pivots.{fractional, fractional_from, first_of, second_of, shares_parts, is_selected};
+ghost use Rattle.smp_split.specs.Numerators.{fractional};
+ghost use Rattle.smp_pivotal.specs.Steps.{fractional_from, first_of, second_of, shares_parts, is_one, exchanged_shares};
 ghost use Rattle.smp_pivotal.specs.States.{IsGoing, OnlyBefore};
 
 use crate::pairs::{pair_apply, pair_bound};
@@ -12,7 +13,7 @@ use smp_frac::NoMemory;
 use std::alloc::Global;
 use std::marker::Model;
 
-/// The units' values.
+/// Values from 0 to 1 at the places of a row.
 #[derive(Drop)]
 pub(crate) struct Values {
     numer: Vec<u128>,
@@ -43,19 +44,19 @@ impl Values {
         })
     }
 
-    /// The number of units.
+    /// The number of places.
     pub(crate) fn len(&self) -> usize
         ensures { result ≡ length self.now.numer }
     {
         self.numer.len()
     }
 
-    /// Whether a unit's value is 1.
-    pub(crate) fn is_one(&self, unit: usize) -> bool
-        requires { unit < length self.now.numer }
-        ensures { result ≡ is_selected self.now unit }
+    /// Whether the value at a place is 1.
+    pub(crate) fn is_one(&self, place: usize) -> bool
+        requires { place < length self.now.numer }
+        ensures { result ≡ is_one self.now place }
     {
-        self.numer[unit] == self.den
+        self.numer[place] == self.den
     }
 
     /// Whether a unit's value is strictly between 0 and 1.
@@ -77,6 +78,15 @@ impl Values {
             }
         }
         self.numer.len()
+    }
+
+    /// Exchanges the values at two places.
+    pub(crate) fn exchange(&mut self, place: usize, other: usize)
+        requires place { place < length self.old.numer }
+        requires other { other < length self.old.numer }
+        ensures { self.new ≡ exchanged_shares place other self.old }
+    {
+        self.numer.swap(place, other);
     }
 
     /// The first two fractional units after a step on `first` and `second`.

@@ -1,8 +1,10 @@
 pub mod Cuts
 pub mod FallingOrders
 pub mod Fractions
-pub mod FreeRequests
+pub mod ShapeLemmas
 pub mod Least
 pub mod Picks
 pub mod RequestedUnits
 pub mod Sizes
+pub mod Positions
+pub mod LowestTerms

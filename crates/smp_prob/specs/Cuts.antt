@@ -1,7 +1,7 @@
 -- How the request is found: one cut through the sizes in falling order.
 use Rattle.std.specs.Prelude.{◌≡◌, ℕ, zero, suc, ◌+◌, ◌-◌, ◌*◌, ◌≤◌, ◌<◌, true, List, length, slice_index, sum}
 use Rattle.smp_prob.specs.declared.requests.Request.{Request}
-use Rattle.smp_prob.specs.Free.{shape_of}
+use Rattle.smp_prob.specs.Shapes.{shape_of}
 use Rattle.smp_prob.specs.Requested.{is_free, certain_units, open_total}
 
 -- the least size before the cut

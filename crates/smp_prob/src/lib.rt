@@ -2,11 +2,12 @@
 #![tactic(auto)]
 
 mod faults;
-mod free;
 mod lists;
 mod orders;
 mod proportional;
 mod requests;
+mod shapes;
+mod standings;
 #[cfg(test)]
 mod tests;
 
@@ -15,3 +16,4 @@ pub use lists::{Places, Shapes};
 pub use orders::Order;
 pub use proportional::requested;
 pub use requests::Request;
+pub use standings::Standing;

@@ -3,4 +3,6 @@
 pub enum Order {
     /// As they stand in the frame.
     Frame,
+    /// As it is drawn, before anything else.
+    Random,
 }

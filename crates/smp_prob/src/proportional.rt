@@ -1,13 +1,15 @@
-ghost use Rattle.std.specs.Prelude.{◌≡◌, ◌+◌, ◌-◌, ◌*◌, ◌^◌, ◌<◌, ◌≤◌, ℕ, List, Err, length, filter, not, nat_lt, ◌&&◌, slice_index, sum, EachIndex, OnOk, IfOk};
+ghost use Rattle.std.specs.Prelude.{◌≡◌, ◌+◌, ◌-◌, ◌*◌, ◌^◌, ◌<◌, ◌≤◌, ℕ, Bool, List, Err, length, filter, not, nat_lt, ◌&&◌, slice_index, sum, count_by, EachIndex, OnOk, IfOk};
+ghost use Rattle.std.specs.List.{range_with_len};
 ghost use Rattle.std.specs.List.Sorted.{IsPermutation};
 ghost use Rattle.std.specs.Result.{IsOkUnless};
 ghost use Rattle.smp_prob.specs.declared.faults.ProbFault.{ProbFault};
 ghost use Rattle.smp_prob.specs.Cuts as Cuts;
 ghost use Rattle.smp_prob.specs.Cuts.{IsFeasible, border};
-ghost use Rattle.smp_prob.specs.Requested.{is_certain, is_free, certain_units, open_total, positive_units, places, free_sizes, requested_of, IsFalling, IsLeastCut, FirstAreCertain};
+ghost use Rattle.smp_prob.specs.Requested.{is_certain, is_free, certain_units, open_total, positive_units, places, free_sizes, requested_of, SameRatio, requested_ratio, IsFalling, IsLeastCut, FirstAreCertain};
 ghost use Rattle.smp_prob.specs.Requests.{IsRequest};
+ghost use Rattle.smp_prob.specs.Standings.{IsOrdered, count_taken, asked_ratio};
 
-use crate::free::{shape_of, sum_of};
+use crate::shapes::{shape_of, sum_of};
 use crate::{Places, ProbFault, Request, Shapes};
 use smp_frac::NoMemory;
 use std::alloc::Global;
@@ -165,6 +167,13 @@ pub fn requested(alloc: Global, sizes: &[u32], n: u32) -> Result<Request, ProbFa
         ≡ (n - certain_units n sizes.now) * slice_index sizes.now (slice_index request.free i) * request.total)) }
     // the rule of the falling order, whichever of the equal sizes comes first
     ensures first { OnOk result ((zs : List ℕ) → IsPermutation sizes.now zs → IsFalling zs → FirstAreCertain n sizes.now zs) }
+    // each unit has the probability that is requested of its size
+    ensures asked { IfOk result (λ request. EachIndex sizes.now (λ unit.
+        SameRatio (asked_ratio request unit) (requested_ratio n sizes.now (slice_index sizes.now unit)))) }
+    // where r of the free units are selected, n units are selected in all
+    ensures drawn { IfOk result (λ request. (drawn : ℕ → Bool) → count_by drawn (range_with_len 0 (length request.free)) ≡ request.r
+        → count_taken request drawn (length sizes.now) ≡ n) }
+    ensures ordered { IfOk result IsOrdered }
     ensures none_free { IfOk result (λ request.
         length request.free ≡ 0 → (request.r ≡ 0) × (request.total ≡ 0)) }
 {

@@ -1,5 +1,9 @@
-use crate::{Places, Shapes};
-use smp_frac::{NoMemory, gcd};
+ghost use Rattle.std.specs.Prelude.{◌≡◌, ◌≤◌, position, nat_eq};
+ghost use Rattle.smp_frac.specs.Fractions.{IsRatio};
+ghost use Rattle.smp_prob.specs.Standings.{Rises};
+
+use crate::{Places, Shapes, Standing};
+use smp_frac::{Frac, NoMemory, gcd};
 use std::alloc::Global;
 
 /// Requested inclusion probabilities: which units are certain, and which are free.
@@ -20,8 +24,9 @@ pub struct Request {
 }
 
 impl Request {
-    ghost use Rattle.std.specs.Prelude.{◌≡◌, ◌<◌, length, IfOk};
+    ghost use Rattle.std.specs.Prelude.{◌≡◌, IfOk};
     ghost use Rattle.smp_prob.specs.Requests.{IsRequest};
+    ghost use Rattle.smp_prob.specs.Standings.{IsOrdered, standing, asked_ratio};
     ghost use Rattle.smp_prob.specs.Shares.{common_divisor, common_denominator, numerators};
 
     // The divisor that brings r / total to lowest terms.
@@ -58,5 +63,56 @@ impl Request {
             list.push(shape as u128 * factor)?;
         }
         Ok(list)
+    }
+
+    /// Where a unit stands: it is certain, a free unit, or never selected. It takes time logarithmic in their number.
+    pub fn standing(&self, unit: usize) -> Standing
+        requires { IsOrdered self.now }
+        ensures { result ≡ standing self.now unit }
+    {
+        if place_of(self.certain.as_slice(), unit).is_some() {
+            return Standing::Certain;
+        }
+        match place_of(self.free.as_slice(), unit) {
+            Some(place) => Standing::Free(place),
+            None => Standing::Never,
+        }
+    }
+
+    /// The probability of a unit, in lowest terms: 1 where it is certain, `shape * r / total` where it is free, else 0.
+    pub fn asked(&self, unit: usize) -> Frac
+        requires request { IsRequest self.now }
+        requires ordered { IsOrdered self.now }
+        ensures { IsRatio (asked_ratio self.now unit).num (asked_ratio self.now unit).den result }
+    {
+        match self.standing(unit) {
+            Standing::Certain => fraction(1, 1),
+            Standing::Free(place) => {
+                let shape = self.shape.as_slice()[place] as u128;
+                fraction(shape * self.r as u128, self.total as u128)
+            }
+            Standing::Never => fraction(0, 1),
+        }
+    }
+}
+
+fn fraction(num: u128, den: u128) -> Frac
+    requires { 1 ≤ den }
+    ensures { IsRatio num den result }
+{
+    match Frac::new(num, den) {
+        Some(fraction) => fraction,
+        None => unreachable!(),
+    }
+}
+
+// The place of a unit in a list of units that rises.
+fn place_of(units: &[usize], unit: usize) -> Option<usize>
+    requires { Rises units.now }
+    ensures { result ≡ position (nat_eq unit) units.now }
+{
+    match units.binary_search(&unit) {
+        Ok(place) => Some(place),
+        Err(_) => None,
     }
 }

@@ -1,4 +1,4 @@
-ghost use Rattle.std.specs.Prelude.{◌≡◌, ◌*◌, ◌^◌, ◌≤◌, ◌<◌, ◌&&◌, nat_lt, length, IsTrue, IfOk};
+ghost use Rattle.std.specs.Prelude.{◌≡◌, ◌*◌, ◌^◌, ◌≤◌, ◌<◌, ◌&&◌, nat_lt, length, slice_index, EachIndex, IsTrue, IfOk};
 ghost use Rattle.std.specs.List.{list_all};
 ghost use Rattle.smp_prob.specs.Requests.{IsRequest};
 
@@ -56,43 +56,6 @@ fn probabilities_have_one_denominator(rt: HostRuntime) -> Result<(), Fail> {
     Ok(())
 }
 
-fn all_free(alloc: Global, sizes: &[u32], n: u32) -> Result<Option<Request>, NoMemory>
-    requires few { length sizes.now ≤ 200000 }
-    requires small { IsTrue (list_all (λ z. nat_lt z (2 ^ 31)) sizes.now) }
-{
-    Request::all_free(alloc, sizes, n)
-}
-
-#[test]
-fn every_unit_is_free(rt: HostRuntime) -> Result<(), Fail> {
-    let alloc = rt.alloc();
-
-    let coprime = all_free(alloc, &[1, 2, 3, 4], 2)?.expect(&rt, "coprime sizes");
-    let even = all_free(alloc, &[2, 4, 6, 8], 2)?.expect(&rt, "even sizes");
-    for request in [&coprime, &even] {
-        assert!(rt; request.certain.as_slice().is_empty());
-        assert_eq!(rt; request.free.as_slice(), [0, 1, 2, 3].as_slice());
-        assert_eq!(rt; request.shape.as_slice(), [1, 2, 3, 4].as_slice());
-        assert_eq!(rt; request.r, 2);
-        assert_eq!(rt; request.total, 10);
-    }
-
-    let large = all_free(alloc, &[2_147_483_647, 2_147_483_646], 1)?.expect(&rt, "large sizes");
-    assert_eq!(rt;
-        large.shape.as_slice(),
-        [2_147_483_647, 2_147_483_646].as_slice()
-    );
-    assert_eq!(rt; large.total, 4_294_967_293);
-
-    let above_one = all_free(alloc, &[1, 2, 3, 4], 3)?;
-    assert!(rt; above_one.is_none());
-    let size_zero = all_free(alloc, &[3, 5, 0], 1)?;
-    assert!(rt; size_zero.is_none());
-    let one_unit = all_free(alloc, &[7], 1)?;
-    assert!(rt; one_unit.is_none());
-    Ok(())
-}
-
 fn asked(alloc: Global, sizes: &[u32], n: u32) -> Result<Request, ProbFault>
     requires few { length sizes.now ≤ 200000 }
     requires small { IsTrue (list_all (λ z. nat_lt z (2 ^ 31)) sizes.now) }
@@ -133,6 +96,39 @@ fn the_largest_units_are_certain(rt: HostRuntime) -> Result<(), Fail> {
 
     let too_many = asked(alloc, &[0, 1, 0, 1], 3).err();
     assert_eq!(rt; too_many, Some(ProbFault::TooMany { positive: 2 }));
+    Ok(())
+}
+
+// The probabilities that the request for `n` of these sizes gives its units.
+fn probabilities(alloc: Global, sizes: &[u32], n: u32) -> Result<Vec<(u128, u128)>, Fail>
+    requires few { length sizes.now ≤ 200000 }
+    requires small { EachIndex sizes.now (λ i. slice_index sizes.now i < 2 ^ 31) }
+    requires some { 1 ≤ n }
+{
+    let request = requested(alloc, sizes, n)?;
+    let mut fractions = Vec::new(alloc);
+    for unit in 0..sizes.len() {
+        let share = request.asked(unit);
+        fractions.push((share.num, share.den))?;
+    }
+    Ok(fractions)
+}
+
+#[test]
+fn each_unit_has_its_probability(rt: HostRuntime) -> Result<(), Fail> {
+    let alloc = rt.alloc();
+    let cases: [(&[u32], u32, &[(u128, u128)]); 4] = [
+        (&[1, 1, 8], 2, &[(1, 2), (1, 2), (1, 1)]),
+        (&[0, 1, 1], 1, &[(0, 1), (1, 2), (1, 2)]),
+        (&[40, 9, 20, 1], 3, &[(1, 1), (9, 10), (1, 1), (1, 10)]),
+        (&[1, 2, 3, 4], 2, &[(1, 5), (2, 5), (3, 5), (4, 5)]),
+    ];
+    for (sizes, n, wanted) in cases {
+        assert!(rt; sizes.len() <= 200_000 && n >= 1);
+        assert!(rt; sizes.iter().all(|&size| size < 1 << 31));
+        let found = probabilities(alloc, sizes, n)?;
+        assert_eq!(rt; found.as_slice(), wanted, "{sizes:?}");
+    }
     Ok(())
 }
 

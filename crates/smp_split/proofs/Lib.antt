@@ -5,3 +5,8 @@ pub mod Steps
 pub mod Over
 pub mod Runs
 pub mod Ends
+pub mod Parts
+pub mod Orders
+pub mod Counts
+pub mod Mirrors
+pub mod Settled

@@ -4,3 +4,7 @@ pub mod Trees
 pub mod Means
 pub mod Walks
 pub mod Runs
+pub mod Parts
+pub mod Orders
+pub mod Counts
+pub mod Numerators

@@ -1,14 +1,16 @@
 //! Selection designs as trees of weighted parts (Deville and Tillé 1998), the walk down such a tree by draws, and the
 //! theorem that carries every design: over draws that are uniform below each asked bound, the mean of a list over the
-//! selected units is the sum of the list times the values.
+//! selected units is the sum of the list times the values. An order of the units may be drawn before a design's own steps.
 #![tactic(auto)]
 
 mod kind;
+mod order;
 mod splitting;
 mod trace;
 mod walking;
 
 pub use kind::Kind;
+pub use order::UnitOrder;
 pub use splitting::{Splitting, mean_is_value};
 pub use trace::{Lines, NoMemory, NoTrace, Trace};
 pub use walking::{WalkFault, walk, walk_tape};

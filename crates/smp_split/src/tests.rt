@@ -1,4 +1,4 @@
-use super::{Kind, Lines, NoMemory, NoTrace, Trace};
+use super::{Kind, Lines, NoMemory, NoTrace, Trace, UnitOrder};
 use std::test::Fail;
 
 fn two_steps<T: Trace>(trace: &mut T) -> Result<(), NoMemory> {
@@ -30,5 +30,21 @@ fn traces_keep_their_lines(rt: HostRuntime) -> Result<(), Fail> {
     for (kind, word) in words {
         assert_eq!(rt; kind.word(), word);
     }
+    Ok(())
+}
+
+#[test]
+fn orders_are_drawn(rt: HostRuntime) -> Result<(), Fail> {
+    let frame = UnitOrder::in_frame(rt.alloc(), 2)?;
+    assert!(rt; frame.is_drawn());
+    assert_eq!(rt; (frame.place(0), frame.place(1)), (0, 1));
+
+    let mut order = UnitOrder::undrawn(rt.alloc(), 3)?;
+    assert_eq!(rt; order.bound(), 3);
+    assert_eq!(rt; order.exchange(2), (0, 2));
+    assert_eq!(rt; order.bound(), 2);
+    assert_eq!(rt; order.exchange(1), (1, 2));
+    assert!(rt; order.is_drawn());
+    assert_eq!(rt; (order.place(0), order.place(1), order.place(2)), (1, 2, 0));
     Ok(())
 }

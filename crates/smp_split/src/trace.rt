@@ -2,12 +2,18 @@ ghost use Rattle.std.specs.Prelude.{◌≡◌, Bool, true, false, List, [], ◌�
 ghost use Rattle.smp_split.specs.Walks.{Line, and_then};
 
 use crate::Kind;
-use std::alloc::Global;
+use std::alloc::{AllocError, Global};
 use std::marker::Model;
 
 /// There was no memory.
 #[derive(Clone, Copy, Debug, PartialEq, Eq)]
 pub struct NoMemory;
+
+impl From<AllocError> for NoMemory {
+    fn from(_: AllocError) -> NoMemory {
+        NoMemory
+    }
+}
 
 /// What is told of each step of a walk.
 pub trait Trace {

@@ -83,6 +83,8 @@ pub fn walk_tape<S: Splitting, T: Trace>(
     ensures short { result ≡ Err (WalkFault.Draw DrawFault.Short) → run (S.tree design.now) state.old (length tape.old.taken) tape.old.left ≡ short (length tape.old.taken + length tape.old.left) }
     ensures too_big { (place value : ℕ) → result ≡ Err (WalkFault.Draw (DrawFault.TooBig place value)) → run (S.tree design.now) state.old (length tape.old.taken) tape.old.left ≡ too_big place value (weight_sum ((S.tree design.now).parts state.new)) }
     ensures rejected { (bound : ℕ) → result ≢ Err (WalkFault.Draw (DrawFault.Rejected bound)) }
+    // The state is then the one that asked.
+    ensures going { (refusal : DrawFault) → result ≡ Err (WalkFault.Draw refusal) → (S.tree design.now).ended state.new ≡ false }
     ensures may_refuse { result ≡ Err WalkFault.NoMemory → T.may_refuse ≡ true }
     ensures belongs { S.belongs design.now state.new }
 {

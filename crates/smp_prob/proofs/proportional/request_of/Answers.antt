@@ -1,4 +1,4 @@
-use Rattle.smp_prob.proofs.FreeRequests.{shape_small}
+use Rattle.smp_prob.proofs.ShapeLemmas.{shape_small}
 use Rattle.smp_prob.proofs.proportional.request_of.Goals as goal
 
 pub sum_of-total-requires-clause-small : goal.sum_of-total-requires-clause-small

@@ -38,3 +38,6 @@ pub returns-clause-rejected : goal.returns-clause-rejected
 returns-clause-rejected g c bound h =
     let a = c.walk.ensures.refused (Rejected bound) h in
     never_rejected (length c.args.tape.now.taken + 1) bound _ c.args.tape.now.left a.path a.drew
+
+pub returns-clause-going : goal.returns-clause-going
+returns-clause-going g c refusal h = (c.walk.ensures.refused refusal h).going

@@ -1,0 +1,30 @@
+-- The line that is put for a refusal: its number, and what was wrong.
+use Rattle.std.specs.Prelude.{ℕ, List, ◌++◌, Option, Some, None, codes}
+use Rattle.std.specs.Fmt.{decimal}
+use Rattle.smp_frame.specs.declared.fault.FrameFault.{FrameFault}
+use Rattle.smp_frame.specs.declared.fault.FrameFault.TheVariants as frame_fault
+use Rattle.smp_app.specs.declared.misfit.Misfit.{Misfit}
+use Rattle.smp_app.specs.declared.misfit.Misfit.TheVariants as misfits
+use Rattle.smp_app.specs.declared.status.Status.{Status}
+use Rattle.smp_app.specs.declared.status.Status.TheVariants as status
+
+abbrev pub frame_line : FrameFault → Option (List ℕ)
+frame_line (frame_fault.RepeatedId row) = Some (codes "error 4.7 repeated id in row " ++ (decimal row ++ codes "\n"))
+frame_line other = None
+
+abbrev pub misfit_line : Misfit → Option (List ℕ)
+misfit_line (misfits.TooMany stratum n positive) = Some (codes "error 5.4 " ++ (decimal n ++ (codes " asked of " ++ (decimal positive ++ (codes ": " ++ (stratum ++ codes "\n"))))))
+misfit_line misfits.NoMemory = None
+
+abbrev pub usage_line : List ℕ
+usage_line = codes "error 2 usage: sampler COMMAND [OPTIONS], COMMAND is quick, draw, replay, probs, check or demo\n"
+
+abbrev pub fault_line : Status → Option (List ℕ)
+fault_line status.Usage = Some usage_line
+fault_line (status.Frame fault) = frame_line fault
+fault_line (status.Misfit misfit) = misfit_line misfit
+fault_line (status.TapeShort taken) = Some (codes "error 7 tape ends after " ++ (decimal taken ++ codes "\n"))
+fault_line (status.TapeValue place value bound) = Some (codes "error 8 tape value " ++ (decimal place ++ (codes " is " ++ (decimal value ++ (codes ", bound " ++ (decimal bound ++ codes "\n"))))))
+fault_line (status.TapeLong left) = Some (codes "error 9 tape has " ++ (decimal left ++ codes " more\n"))
+fault_line status.NotYet = Some (codes "error 15 not yet\n")
+fault_line other = None

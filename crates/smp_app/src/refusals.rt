@@ -1,0 +1,85 @@
+ghost use Rattle.std.specs.Prelude.{◌≡◌, ◌≤◌, None, Ok, IfOk, option_map, string_bytes};
+ghost use Rattle.smp_app.specs.FaultLines;
+ghost use Rattle.smp_app.specs.FaultLines.{fault_line, frame_line, misfit_line};
+ghost use Rattle.smp_app.specs.Answers.{Reports};
+
+use crate::{Misfit, Status};
+use smp_frame::FrameFault;
+use smp_io::{Sink, StoreFault};
+use std::alloc::{AllocError, Global};
+
+/// Puts the line of a refusal, and answers how the call ended: as it did before, unless there is no memory for the line.
+pub fn report<S: Sink>(alloc: Global, status: Status, out: &mut S) -> Status
+    ensures line { Reports (fault_line status) status result (S.written out.old) (S.written out.new) (S.faults out.old) (S.faults out.new) }
+    ensures puts { S.faults out.old ≤ S.faults out.new }
+{
+    match line_for(alloc, &status) {
+        Ok(None) => status,
+        Ok(Some(line)) => match out.put(line.as_bytes()) {
+            Ok(()) | Err(StoreFault::Failed) => status,
+            Err(StoreFault::NoMemory) => Status::NoMemory,
+        },
+        Err(_) => Status::NoMemory,
+    }
+}
+
+// The line of a refusal; none for a status that has none.
+fn line_for(alloc: Global, status: &Status) -> Result<Option<String>, AllocError>
+    ensures line { IfOk result (λ line. option_map string_bytes line ≡ fault_line status.now) }
+    ensures none { fault_line status.now ≡ None → result ≡ Ok None }
+{
+    match status {
+        Status::Usage => Ok(Some(usage_line(alloc)?)),
+        Status::Frame(fault) => frame_line(alloc, fault),
+        Status::Misfit(misfit) => misfit_line(alloc, misfit),
+        Status::TapeShort { taken } => {
+            Ok(Some(format!(in alloc; "error 7 tape ends after {taken}\n")?))
+        }
+        Status::TapeValue {
+            place,
+            value,
+            bound,
+        } => Ok(Some(format!(in alloc; "error 8 tape value {place} is {value}, bound {bound}\n")?)),
+        Status::TapeLong { left } => Ok(Some(format!(in alloc; "error 9 tape has {left} more\n")?)),
+        Status::NotYet => Ok(Some(String::from_str(alloc, "error 15 not yet\n")?)),
+        Status::Done | Status::ReadFault | Status::WriteFault | Status::NoMemory => Ok(None),
+    }
+}
+
+fn usage_line(alloc: Global) -> Result<String, AllocError>
+    ensures { IfOk result (λ line. string_bytes line ≡ FaultLines.usage_line) }
+{
+    String::from_str(
+        alloc,
+        "error 2 usage: sampler COMMAND [OPTIONS], COMMAND is quick, draw, replay, probs, check or demo\n",
+    )
+}
+
+fn frame_line(alloc: Global, fault: &FrameFault) -> Result<Option<String>, AllocError>
+    ensures line { IfOk result (λ line. option_map string_bytes line ≡ frame_line fault.now) }
+    ensures none { frame_line fault.now ≡ None → result ≡ Ok None }
+{
+    match fault {
+        FrameFault::RepeatedId { row } => {
+            Ok(Some(format!(in alloc; "error 4.7 repeated id in row {row}\n")?))
+        }
+        FrameFault::NotYet | FrameFault::NoMemory => Ok(None),
+    }
+}
+
+fn misfit_line(alloc: Global, misfit: &Misfit) -> Result<Option<String>, AllocError>
+    ensures line { IfOk result (λ line. option_map string_bytes line ≡ misfit_line misfit.now) }
+    ensures none { misfit_line misfit.now ≡ None → result ≡ Ok None }
+{
+    match misfit {
+        Misfit::TooMany {
+            stratum,
+            n,
+            positive,
+        } => Ok(Some(format!(in alloc;
+            "error 5.4 {n} asked of {positive}: {}\n",
+            stratum.as_str()
+        )?)),
+        Misfit::NoMemory => Ok(None),
+    }
+}

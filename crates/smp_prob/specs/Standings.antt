@@ -1,0 +1,46 @@
+-- Where the units stand in a request, and the probability that it gives each of them.
+use Rattle.std.specs.Prelude.{ℕ, ◌*◌, ◌<◌, Bool, true, false, nat_eq, List, length, slice_index, position, is_some, Option, Some, None, if◌then◌else◌}
+use Rattle.std.specs.List.{count_by, range_with_len}
+use Rattle.smp_prob.specs.declared.requests.Request.{Request}
+use Rattle.smp_prob.specs.declared.standings.Standing.{Standing}
+use Rattle.smp_prob.specs.declared.standings.Standing.TheVariants.{Certain, Free, Never}
+use Rattle.smp_prob.specs.Requested.{Ratio}
+
+-- each number is below the later ones
+abbrev pub Rises : List ℕ → Type 0
+Rises units = (i j : ℕ) → i < j → j < length units → slice_index units i < slice_index units j
+
+-- the certain units and the free ones stand in their order
+pub record IsOrdered (request : Request) : Type 0 where
+  pub certain : Rises request.certain
+  pub free : Rises request.free
+
+-- a unit that isn't certain is one of the free units, or is never selected
+abbrev pub free_or_never : Option ℕ → Standing
+free_or_never (Some place) = Free place
+free_or_never None = Never
+
+-- where a unit stands: it is certain, or the free unit at a place, or never selected
+abbrev pub standing : Request → ℕ → Standing
+standing request unit =
+    if is_some (position (nat_eq unit) request.certain) then Certain else free_or_never (position (nat_eq unit) request.free)
+
+-- whether a unit is selected, where `drawn` says which of the free units are
+abbrev pub is_taken : (ℕ → Bool) → Standing → Bool
+is_taken drawn Certain = true
+is_taken drawn (Free place) = drawn place
+is_taken drawn Never = false
+
+-- how many of the units below a number are selected
+abbrev pub count_taken : Request → (ℕ → Bool) → ℕ → ℕ
+count_taken request drawn units = count_by (λ unit. is_taken drawn (standing request unit)) (range_with_len 0 units)
+
+-- the probability of a unit that stands so: 1, shape * r / total, or 0
+abbrev pub ratio_at : Request → Standing → Ratio
+ratio_at request Certain = record { num = 1; den = 1 }
+ratio_at request (Free place) = record { num = slice_index request.shape place * request.r; den = request.total }
+ratio_at request Never = record { num = 0; den = 1 }
+
+-- the probability that the request gives a unit
+abbrev pub asked_ratio : Request → ℕ → Ratio
+asked_ratio request unit = ratio_at request (standing request unit)

@@ -1,0 +1,13 @@
+use Rattle.smp_split.proofs.Fractions.{same_trans}
+use Rattle.smp_rows.proofs.Asked.{value_is_asked, rows_select}
+use Rattle.smp_rows.proofs.rows.Rows.select_as_asked.Goals as goal
+
+pub returns-clause-probability : goal.returns-clause-probability
+returns-clause-probability g c row here =
+    let design = c.args.self.now in
+    same_trans (c.mean_is_value.ensures.probability row here) (value_is_asked design.rows design.request.now (g.D.Splitting.tree design.design) c.args.state.now c.requires.serves row)
+
+pub returns-clause-count : goal.returns-clause-count
+returns-clause-count g c n fills =
+    let design = c.args.self.now in
+    rows_select design.rows design.request.now (g.D.Splitting.tree design.design) c.args.state.now c.requires.serves n c.requires.belongs.paired fills

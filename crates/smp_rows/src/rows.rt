@@ -1,0 +1,74 @@
+ghost use Rattle.std.specs.Prelude.{ℕ, ◌<◌};
+ghost use Rattle.smp_split.specs.Counts.{LeavesSelect};
+ghost use Rattle.smp_split.specs.Fractions.{Same};
+ghost use Rattle.smp_split.specs.Means.{inclusion_probability};
+ghost use Rattle.smp_rows.specs.Rows.{rows_tree, asked_fraction, BelongsToRows, Serves, Fills};
+ghost use Rattle.smp_rows.specs.Laws.{rows_lawful};
+
+use smp_prob::{Request, Standing};
+use smp_split::{Kind, Splitting, mean_is_value};
+
+/// A design over the free units of a request, as one over all rows of the frame.
+#[derive(Drop)]
+pub struct Rows<'a, D: Splitting> {
+    /// The design, whose units are the request's free units.
+    pub design: D,
+    /// Which rows are certain, free, or neither.
+    pub request: &'a Request,
+    /// How many rows there are.
+    pub rows: usize,
+}
+
+impl<'a, D: Splitting> Rows<'a, D> {
+    /// Where the design serves its request from a state on, each row is selected with the probability that the request
+    /// gives it, and each leaf selects the rows that the request fills. It runs nothing: its contract is the theorem.
+    pub fn select_as_asked(&self, state: &D::State)
+        requires belongs { BelongsToRows self.now.request.now (D.tree self.now.design) (D.belongs self.now.design) state.now }
+        requires serves { Serves self.now.request.now (D.tree self.now.design) state.now }
+        ensures probability { (row : ℕ) → row < self.now.rows → Same
+            (inclusion_probability (rows_tree self.now.rows self.now.request.now (D.tree self.now.design)) state.now row)
+            (asked_fraction self.now.request.now row) }
+        ensures count { (n : ℕ) → Fills self.now.request.now self.now.rows n →
+            LeavesSelect (rows_tree self.now.rows self.now.request.now (D.tree self.now.design)) n state.now }
+    {
+        mean_is_value(self, state);
+    }
+}
+
+impl<'a, D: Splitting> Splitting for Rows<'a, D> {
+    type State = D::State;
+
+    ghost tree = { λ r. rows_tree r.rows r.request.now (D.tree r.design) };
+
+    ghost belongs = { λ r. BelongsToRows r.request.now (D.tree r.design) (D.belongs r.design) };
+
+    ghost lawful = { λ r. rows_lawful r.rows r.request.now (D.tree r.design) (D.belongs r.design) (D.lawful r.design) };
+
+    fn units(&self) -> usize {
+        self.rows
+    }
+
+    fn done(&self, state: &D::State) -> bool {
+        self.design.done(state)
+    }
+
+    fn kind(&self, state: &D::State) -> Kind {
+        self.design.kind(state)
+    }
+
+    fn bound(&self, state: &D::State) -> u128 {
+        self.design.bound(state)
+    }
+
+    fn advance(&self, state: &mut D::State, draw: u128) {
+        self.design.advance(state, draw);
+    }
+
+    fn selected(&self, state: &D::State, unit: usize) -> bool {
+        match self.request.standing(unit) {
+            Standing::Certain => true,
+            Standing::Free(unit) => self.design.selected(state, unit),
+            Standing::Never => false,
+        }
+    }
+}

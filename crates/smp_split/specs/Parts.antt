@@ -1,0 +1,12 @@
+-- Lists of parts.
+use Rattle.std.specs.Prelude.{ℕ, List, map}
+use Rattle.std.specs.List.{range_with_len}
+use Rattle.smp_split.specs.Trees.{Part}
+
+-- a part of weight 1 for each of n draws, from 0 on
+abbrev pub equal_parts : {State : Type 0} → ℕ → (ℕ → State) → List (Part State)
+equal_parts n f = map (λ draw. record { weight = 1; state = f draw }) (range_with_len 0 n)
+
+-- the same parts, with their states put into f
+abbrev pub moved : {Inner Outer : Type 0} → (Inner → Outer) → List (Part Inner) → List (Part Outer)
+moved f parts = map (λ part. record { weight = part.weight; state = f part.state }) parts

@@ -1,0 +1,4 @@
+pub mod Sampling
+pub mod Counts
+pub mod Steps
+pub mod Requests

@@ -1,0 +1,3 @@
+pub mod Systematic
+pub mod Points
+pub mod Splits

@@ -1,0 +1,4 @@
+pub mod Chosen
+pub mod Counted
+pub mod Terms
+pub mod Values

@@ -1,0 +1,4 @@
+pub mod Chosen
+pub mod Sample
+pub mod Totals
+pub mod Values

@@ -1,0 +1,15 @@
+//! The texts and the totals of a drawn sample: rows of CSV, the sample file with its design
+//! weights, and the weighted total of a value.
+#![tactic(auto)]
+
+mod rows;
+mod sample;
+mod totals;
+mod weights;
+
+pub use rows::push_row;
+pub use sample::sample_bytes;
+pub use totals::estimate;
+
+#[cfg(test)]
+mod tests;
