@@ -23,10 +23,10 @@ module _ (answer : Status) (words : List (List ℕ)) (before now : Outside) (wri
   says status.Usage work reports = refusal_ends status.Usage answer words before now written faults le work reports (λ r. r)
   says (status.Frame fault) work reports = refusal_ends (status.Frame fault) answer words before now written faults le work reports (λ r. r)
   says (status.Misfit misfit) work reports = refusal_ends (status.Misfit misfit) answer words before now written faults le work reports (λ r. r)
+  says (status.TapeText line) work reports = refusal_ends (status.TapeText line) answer words before now written faults le work reports (λ r. r)
   says (status.TapeShort taken) work reports = refusal_ends (status.TapeShort taken) answer words before now written faults le work reports (λ r. r)
   says (status.TapeValue place value bound) work reports = refusal_ends (status.TapeValue place value bound) answer words before now written faults le work reports (λ r. r)
   says (status.TapeLong left) work reports = refusal_ends (status.TapeLong left) answer words before now written faults le work reports (λ r. r)
-  says status.NotYet work reports = refusal_ends status.NotYet answer words before now written faults le work reports (λ r. r)
 
 -- ---- words of no command
 
@@ -42,10 +42,10 @@ usage status.ReadFault words before now says none = absurd (unasked words says.c
 usage status.WriteFault words before now says none = absurd (unasked words says.command none says.stopped.asked)
 usage (status.Frame fault) words before now says none = absurd (unasked words says.refused.command none says.refused.asked)
 usage (status.Misfit misfit) words before now says none = absurd (unasked words says.refused.command none says.refused.asked)
+usage (status.TapeText line) words before now says none = absurd (unasked words says.refused.command none says.refused.asked)
 usage (status.TapeShort taken) words before now says none = absurd (unasked words says.refused.command none says.refused.asked)
 usage (status.TapeValue place value bound) words before now says none = absurd (unasked words says.refused.command none says.refused.asked)
 usage (status.TapeLong left) words before now says none = absurd (unasked words says.refused.command none says.refused.asked)
-usage status.NotYet words before now says none = absurd (unasked words says.refused.command none says.refused.asked)
 
 -- ---- a command that nothing disturbs
 
@@ -63,10 +63,10 @@ complete status.WriteFault words before now says command asked fs told calm =
 complete status.Usage words before now says command asked fs told calm = absurd (unasked words command says.refused asked)
 complete (status.Frame fault) words before now says command asked fs told calm = says.refused.verdict_is fs told
 complete (status.Misfit misfit) words before now says command asked fs told calm = says.refused.verdict_is fs told
+complete (status.TapeText line) words before now says command asked fs told calm = says.refused.verdict_is fs told
 complete (status.TapeShort taken) words before now says command asked fs told calm = says.refused.verdict_is fs told
 complete (status.TapeValue place value bound) words before now says command asked fs told calm = says.refused.verdict_is fs told
 complete (status.TapeLong left) words before now says command asked fs told calm = says.refused.verdict_is fs told
-complete status.NotYet words before now says command asked fs told calm = says.refused.verdict_is fs told
 
 pub is_answer : (answer : Status) (words : List (List ℕ)) (before now : Outside) → Says answer words before now → IsAnswer answer words before now
 is_answer answer words before now says = record { says = says; usage = usage answer words before now says; complete = complete answer words before now says }

@@ -38,10 +38,10 @@ module _ (words : List (List ℕ)) (command : Command) (before now : Outside) (a
   refusal_says status.WriteFault kind follows cause same = absurd kind
   refusal_says (status.Frame fault) kind follows cause same = record { refused = refused_by (status.Frame fault) follows; lined = kind; same = same }
   refusal_says (status.Misfit misfit) kind follows cause same = record { refused = refused_by (status.Misfit misfit) follows; lined = kind; same = same }
+  refusal_says (status.TapeText line) kind follows cause same = record { refused = refused_by (status.TapeText line) follows; lined = kind; same = same }
   refusal_says (status.TapeShort taken) kind follows cause same = record { refused = refused_by (status.TapeShort taken) follows; lined = kind; same = same }
   refusal_says (status.TapeValue place value bound) kind follows cause same = record { refused = refused_by (status.TapeValue place value bound) follows; lined = kind; same = same }
   refusal_says (status.TapeLong left) kind follows cause same = record { refused = refused_by (status.TapeLong left) follows; lined = kind; same = same }
-  refusal_says status.NotYet kind follows cause same = record { refused = refused_by status.NotYet follows; lined = kind; same = same }
   refusal_says status.ReadFault kind follows cause same =
       let failed = cause refl in
       record {

@@ -1,8 +1,8 @@
 -- The stages of a command's work, one after another.
 use Rattle.std.proofs.Common.{◌≡◌, ℕ, ◌<◌, Bool, true, false, nat_lt, List, length, get_or, Option, Some, None, Result, Ok, Err, refl, sym, ap, ◌∙◌}
-use Rattle.std.specs.Prelude.{if◌then◌else◌, option_map, option_and_then, Contains}
+use Rattle.std.specs.Prelude.{if◌then◌else◌, option_map, Contains}
 use Rattle.smp_io.specs.Store.{Files, Holds}
-use Rattle.smp_tape.specs.Tapes.{values_of}
+use Rattle.smp_tape.specs.TapeText.{tape_of}
 use Rattle.smp_split.specs.Runs.{Outcome, run, leaf, short, too_big, long}
 use Rattle.smp_frame.specs.declared.frame.Unit as unit
 use Rattle.smp_frame.specs.declared.fault.FrameFault.{FrameFault}
@@ -12,7 +12,7 @@ use Rattle.smp_prob.specs.Requested.{positive_units}
 use Rattle.smp_prob.specs.Shares.{Shares}
 use Rattle.smp_split.specs.Orders.{Ordered}
 use Rattle.smp_app.specs.Words.{QuickArguments, ProbsArguments, Quick, Probs, IsAsked}
-use Rattle.smp_app.specs.Plans.{Plan, tree_of, start_of}
+use Rattle.smp_app.specs.Plans.{Plan, asked_columns, tree_of, start_of}
 use Rattle.smp_app.specs.Verdict.{Stop, Missing, ◌>>=◌, content, or_frame_fault, without, Drawn, drawn_of, plan_stage, drawn_stage, outputs_stage}
 use Rattle.smp_app.specs.Answers.{HoldsFrame, IsDraw}
 use Rattle.smp_app.proofs.CommandWords.{same_bytes, tape_apart}
@@ -72,10 +72,10 @@ pub of_frame : (frame : List ℕ) (n : ℕ) (fs : Files) (plan : Plan) → plan_
 unfolding plan_stage
 of_frame frame n fs plan h =
     let bytes = step (content (fs frame) frame) _ plan h in
-    let units = step (or_frame_fault (frame_of bytes.value)) _ plan bytes.then_is in
+    let units = step (or_frame_fault (frame_of asked_columns bytes.value)) _ plan bytes.then_is in
     let is : record { units = units.value; n = n } ≡ plan = plan_is (nat_lt (positive_units (sizes_of units.value)) n) _ (record { units = units.value; n = n }) plan units.then_is in
-    let read : option_map frame_of (fs frame) ≡ Some (Ok units.value) =
-    ap (option_map frame_of) (content_is (fs frame) frame bytes.value bytes.first_is) ∙ ap Some (frame_is (frame_of bytes.value) units.value units.first_is) in
+    let read : option_map (frame_of asked_columns) (fs frame) ≡ Some (Ok units.value) =
+    ap (option_map (frame_of asked_columns)) (content_is (fs frame) frame bytes.value bytes.first_is) ∙ ap Some (frame_is (frame_of asked_columns bytes.value) units.value units.first_is) in
     record { units = read ∙ ap (λ (p : Plan). Some (Ok p.units)) is; count = ap (λ (p : Plan). p.n) (sym is) }
 
 at_leaf : (plan : Plan) (outcome : Outcome (Ordered Shares)) (drawn : Drawn) → drawn_of plan outcome ≡ Ok drawn → outcome ≡ leaf drawn.state drawn.path
@@ -88,7 +88,7 @@ at_leaf plan (too_big place value bound) drawn h = absurd (cc)
 at_leaf plan (long left) drawn h = absurd (cc)
 
 pub is_draw : (a : QuickArguments) (fs : Files) (told : Option Files) (drawn : Drawn) (bytes values : List ℕ)
-    → told ≡ Some fs → plan_stage a.frame a.n fs ≡ Ok drawn.plan → Holds told a.tape bytes → values_of bytes ≡ Some values
+    → told ≡ Some fs → plan_stage a.frame a.n fs ≡ Ok drawn.plan → Holds told a.tape bytes → tape_of bytes ≡ Ok values
     → drawn_of drawn.plan (run (tree_of drawn.plan) (start_of drawn.plan) 0 values) ≡ Ok drawn → IsDraw a fs drawn
 is_draw a fs told drawn bytes values is planned held read ran =
     let frame = of_frame a.frame a.n fs drawn.plan planned in
@@ -97,7 +97,7 @@ is_draw a fs told drawn bytes values is planned held read ran =
       units = frame.units;
       count = frame.count;
       values = values;
-      tape = ap (option_and_then values_of) tape ∙ read;
+      tape = ap (option_map tape_of) tape ∙ ap Some read;
       ran = at_leaf drawn.plan (run (tree_of drawn.plan) (start_of drawn.plan) 0 values) drawn ran;
     }
 

@@ -1,9 +1,9 @@
 -- What each answer of a call says.
-use Rattle.std.specs.Prelude.{◌≡◌, ◌⊎◌, ℕ, List, Option, Some, None, option_map, option_and_then, is_ok, true, Result, Ok, Err}
+use Rattle.std.specs.Prelude.{◌≡◌, ◌⊎◌, ℕ, List, Option, Some, None, option_map, is_ok, true, Result, Ok, Err}
 use Rattle.smp_io.specs.Counts.{Rose}
 use Rattle.smp_io.specs.Sink.{with_bytes, AppendsFront}
 use Rattle.smp_io.specs.Store.{Files}
-use Rattle.smp_tape.specs.Tapes.{values_of}
+use Rattle.smp_tape.specs.TapeText.{tape_of}
 use Rattle.smp_split.specs.Runs.{run, leaf}
 use Rattle.smp_frame.specs.Frames.{frame_of}
 use Rattle.smp_frame.specs.declared.frame.Unit as unit
@@ -11,7 +11,7 @@ use Rattle.smp_app.specs.declared.status.Status.{Status}
 use Rattle.smp_app.specs.declared.status.Status.TheVariants as status
 use Rattle.smp_app.specs.Words.{QuickArguments, ProbsArguments, Command, Quick, Probs, command_of, inputs_of, outputs_of}
 use Rattle.smp_app.specs.FaultLines.{fault_line}
-use Rattle.smp_app.specs.Plans.{Plan, tree_of, start_of}
+use Rattle.smp_app.specs.Plans.{Plan, asked_columns, tree_of, start_of}
 use Rattle.smp_app.specs.Verdict.{Stop, Refused, Missing, Drawn, without, quick_outputs, probs_outputs, verdict}
 use Rattle.smp_app.specs.Jobs.{IsDrawnBy, HasLine}
 use Rattle.smp_app.specs.Deliveries.{Outputs, SomeRose, names_of, with_files, StopsAt}
@@ -43,7 +43,7 @@ pub record Untouched (before now : Outside) : Type 0 where
 
 -- the units of the frame under a name
 abbrev pub HoldsFrame : Files → List ℕ → List unit.Unit → Type 0
-HoldsFrame fs name units = option_map frame_of (fs name) ≡ Some (Ok units)
+HoldsFrame fs name units = option_map (frame_of asked_columns) (fs name) ≡ Some (Ok units)
 
 -- What is drawn, by the words and the files: from the units of the frame as many as was asked, at the leaf to which the values of
 -- the tape lead from the start of the design's draw tree, each of them taken and each below its bound.
@@ -51,7 +51,7 @@ pub record IsDraw (arguments : QuickArguments) (fs : Files) (drawn : Drawn) : Ty
   pub units : HoldsFrame fs arguments.frame drawn.plan.units
   pub count : drawn.plan.n ≡ arguments.n
   pub values : List ℕ
-  pub tape : option_and_then values_of (fs arguments.tape) ≡ Some values
+  pub tape : option_map tape_of (fs arguments.tape) ≡ Some (Ok values)
   pub ran : run (tree_of drawn.plan) (start_of drawn.plan) 0 values ≡ leaf drawn.state drawn.path
 
 -- The ids and the step lines are those of the leaf of the tape in the design's draw tree, in which each row's probability of selection,

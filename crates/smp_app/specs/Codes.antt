@@ -2,8 +2,8 @@
 use Rattle.std.specs.Prelude.{ℕ}
 use Rattle.smp_frame.specs.declared.fault.FrameFault.{FrameFault}
 use Rattle.smp_frame.specs.declared.fault.FrameFault.TheVariants as frame_fault
-use Rattle.smp_tape.specs.declared.tape.TapeFault.{TapeFault}
-use Rattle.smp_tape.specs.declared.tape.TapeFault.TheVariants as tape_fault
+use Rattle.smp_tape.specs.declared.fault.TapeFault.{TapeFault}
+use Rattle.smp_tape.specs.declared.fault.TapeFault.TheVariants as tape_fault
 use Rattle.smp_app.specs.declared.misfit.Misfit.{Misfit}
 use Rattle.smp_app.specs.declared.misfit.Misfit.TheVariants as misfits
 use Rattle.smp_app.specs.declared.status.Status.{Status}
@@ -14,17 +14,15 @@ code_of status.Done = 0
 code_of status.Usage = 2
 code_of (status.Frame fault) = 4
 code_of (status.Misfit misfit) = 5
+code_of (status.TapeText line) = 6
 code_of (status.TapeShort taken) = 7
 code_of (status.TapeValue place value bound) = 8
 code_of (status.TapeLong left) = 9
 code_of status.ReadFault = 12
 code_of status.WriteFault = 13
 code_of status.NoMemory = 14
-code_of status.NotYet = 15
 
--- a frame that isn't of the first form isn't served yet; its other faults are its own
 abbrev pub frame_status : FrameFault → Status
-frame_status frame_fault.NotYet = status.NotYet
 frame_status frame_fault.NoMemory = status.NoMemory
 frame_status fault = status.Frame fault
 
@@ -33,5 +31,5 @@ misfit_status misfits.NoMemory = status.NoMemory
 misfit_status misfit = status.Misfit misfit
 
 abbrev pub tape_status : TapeFault → Status
-tape_status tape_fault.NotYet = status.NotYet
+tape_status (tape_fault.Line line) = status.TapeText line
 tape_status tape_fault.NoMemory = status.NoMemory

@@ -9,8 +9,17 @@ use Rattle.smp_app.specs.declared.status.Status.{Status}
 use Rattle.smp_app.specs.declared.status.Status.TheVariants as status
 
 abbrev pub frame_line : FrameFault → Option (List ℕ)
+frame_line frame_fault.NoHeader = Some (codes "error 4.1 no header\n")
+frame_line (frame_fault.MissingColumn name) = Some (codes "error 4.2 missing column " ++ (name ++ codes "\n"))
+frame_line (frame_fault.RepeatedColumn name) = Some (codes "error 4.3 repeated column " ++ (name ++ codes "\n"))
+frame_line (frame_fault.RowLength row) = Some (codes "error 4.4 length of row " ++ (decimal row ++ codes "\n"))
+frame_line (frame_fault.NotNumber row column) = Some (codes "error 4.5 no number in row " ++ (decimal row ++ (codes " column " ++ (column ++ codes "\n"))))
+frame_line (frame_fault.TooLarge row column) = Some (codes "error 4.6 number too large in row " ++ (decimal row ++ (codes " column " ++ (column ++ codes "\n"))))
 frame_line (frame_fault.RepeatedId row) = Some (codes "error 4.7 repeated id in row " ++ (decimal row ++ codes "\n"))
-frame_line other = None
+frame_line frame_fault.TooManyRows = Some (codes "error 4.8 too many rows\n")
+frame_line (frame_fault.NotText row) = Some (codes "error 4.9 row " ++ (decimal row ++ codes " isn't UTF-8\n"))
+frame_line frame_fault.NoRows = Some (codes "error 4.10 no rows\n")
+frame_line frame_fault.NoMemory = None
 
 abbrev pub misfit_line : Misfit → Option (List ℕ)
 misfit_line (misfits.TooMany stratum n positive) = Some (codes "error 5.4 " ++ (decimal n ++ (codes " asked of " ++ (decimal positive ++ (codes ": " ++ (stratum ++ codes "\n"))))))
@@ -23,8 +32,8 @@ abbrev pub fault_line : Status → Option (List ℕ)
 fault_line status.Usage = Some usage_line
 fault_line (status.Frame fault) = frame_line fault
 fault_line (status.Misfit misfit) = misfit_line misfit
+fault_line (status.TapeText line) = Some (codes "error 6 tape line " ++ (decimal line ++ codes " isn't a number\n"))
 fault_line (status.TapeShort taken) = Some (codes "error 7 tape ends after " ++ (decimal taken ++ codes "\n"))
 fault_line (status.TapeValue place value bound) = Some (codes "error 8 tape value " ++ (decimal place ++ (codes " is " ++ (decimal value ++ (codes ", bound " ++ (decimal bound ++ codes "\n"))))))
 fault_line (status.TapeLong left) = Some (codes "error 9 tape has " ++ (decimal left ++ codes " more\n"))
-fault_line status.NotYet = Some (codes "error 15 not yet\n")
 fault_line other = None

@@ -1,7 +1,8 @@
 -- What is drawn: a sequential pivotal sample of n units, with probabilities in proportion to their sizes.
-use Rattle.std.specs.Prelude.{ℕ, List, length, slice_index}
+use Rattle.std.specs.Prelude.{ℕ, List, [], length, slice_index, Some, None, codes}
 use Rattle.smp_split.specs.Fractions.{Fraction, over}
 use Rattle.smp_split.specs.Trees.{Tree}
+use Rattle.smp_frame.specs.declared.columns.Columns.{Columns}
 use Rattle.smp_frame.specs.declared.frame.Unit as unit
 use Rattle.smp_frame.specs.Bounds.{sizes_of}
 use Rattle.smp_prob.specs.declared.requests.Request.{Request}
@@ -12,6 +13,10 @@ use Rattle.smp_split.specs.Orders.{Ordered}
 use Rattle.smp_pivotal.specs.Pivots.{pivotal_tree, started}
 use Rattle.smp_rows.specs.Rows.{rows_tree}
 use Rattle.smp_app.specs.Texts.{ids_from}
+
+-- the columns that are asked of a frame: `id` and `size`
+abbrev pub asked_columns : Columns
+asked_columns = record { id = codes "id"; stratum = None; psu = None; size = Some (codes "size"); second_size = None; values = [] }
 
 -- the units of a frame, and how many of them are to be drawn
 pub record Plan : Type 0 where

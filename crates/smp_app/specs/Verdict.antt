@@ -2,7 +2,8 @@
 use Rattle.std.specs.Prelude.{ℕ, List, [], ◌∷◌, nat_lt, Option, Some, None, Result, Ok, Err, if◌then◌else◌}
 use Rattle.std.specs.Str.{bytes_eq}
 use Rattle.smp_io.specs.Store.{Files}
-use Rattle.smp_tape.specs.Tapes.{values_of}
+use Rattle.smp_tape.specs.TapeText.{tape_of}
+use Rattle.smp_tape.specs.declared.fault.TapeFault.{TapeFault}
 use Rattle.smp_split.specs.Runs.{Outcome, run, leaf, short, too_big, long}
 use Rattle.smp_split.specs.Orders.{Ordered}
 use Rattle.smp_split.specs.Walks.{Line}
@@ -14,10 +15,10 @@ use Rattle.smp_prob.specs.Requested.{positive_units}
 use Rattle.smp_prob.specs.Shares.{Shares}
 use Rattle.smp_app.specs.declared.misfit.Misfit.TheVariants.{TooMany}
 use Rattle.smp_app.specs.declared.status.Status.{Status}
-use Rattle.smp_app.specs.declared.status.Status.TheVariants.{Usage, Misfit, TapeShort, TapeValue, TapeLong, NotYet}
-use Rattle.smp_app.specs.Codes.{frame_status}
+use Rattle.smp_app.specs.declared.status.Status.TheVariants.{Usage, Misfit, TapeShort, TapeValue, TapeLong}
+use Rattle.smp_app.specs.Codes.{frame_status, tape_status}
 use Rattle.smp_app.specs.Deliveries.{Outputs}
-use Rattle.smp_app.specs.Plans.{Plan, tree_of, start_of, drawn_ids}
+use Rattle.smp_app.specs.Plans.{Plan, asked_columns, tree_of, start_of, drawn_ids}
 use Rattle.smp_app.specs.Texts.{sample_text, steps_text, probabilities_text}
 use Rattle.smp_app.specs.Words.{QuickArguments, Command, Quick, Probs, command_of}
 
@@ -49,6 +50,10 @@ abbrev pub or_frame_fault : Result (List unit.Unit) FrameFault → Result (List 
 or_frame_fault (Ok units) = Ok units
 or_frame_fault (Err fault) = Err (Refused (frame_status fault))
 
+abbrev pub or_tape_fault : Result (List ℕ) TapeFault → Result (List ℕ) Stop
+or_tape_fault (Ok values) = Ok values
+or_tape_fault (Err fault) = Err (Refused (tape_status fault))
+
 -- the units and how many of them to draw, unless more are asked than have a size; the one stratum has the empty name
 abbrev pub plan_of : List unit.Unit → ℕ → Result Plan Stop
 plan_of units n =
@@ -71,7 +76,7 @@ drawn_of plan (long left) = Err (Refused (TapeLong left))
 unfoldable pub plan_stage : List ℕ → ℕ → Files → Result Plan Stop
 plan_stage frame n fs = do
   bytes ← content (fs frame) frame
-  units ← or_frame_fault (frame_of bytes)
+  units ← or_frame_fault (frame_of asked_columns bytes)
   plan_of units n
 
 -- then the tape, and the run on it
@@ -79,7 +84,7 @@ unfoldable pub drawn_stage : QuickArguments → Files → Result Drawn Stop
 drawn_stage arguments fs = do
   plan ← plan_stage arguments.frame arguments.n fs
   bytes ← content (fs arguments.tape) arguments.tape
-  values ← or_refused NotYet (values_of bytes)
+  values ← or_tape_fault (tape_of bytes)
   drawn_of plan (run (tree_of plan) (start_of plan) 0 values)
 
 -- the ids that are drawn go into a file, and the step lines are put

@@ -2,12 +2,13 @@ ghost use Rattle.std.specs.Prelude.{◌≡◌, ◌⊎◌, ℕ, ◌≤◌, map, S
 ghost use Rattle.smp_io.specs.Counts.{Rose, NeverFalls};
 ghost use Rattle.smp_io.specs.Store.{Files, Holds};
 ghost use Rattle.smp_frame.specs.Bounds.{IsFrame, sizes_of};
+ghost use Rattle.smp_app.specs.Plans.{asked_columns};
 ghost use Rattle.smp_app.specs.Verdict.{plan_of, plan_stage};
 ghost use Rattle.smp_app.specs.Jobs.{Follows, GivesPlan, IsOfInputs, IsPlanned, plan_view, result_view};
 
 use crate::{Misfit, Status};
 use smp_frac::{Bytes, NoMemory, Text};
-use smp_frame::{Frame, Unit, read_frame};
+use smp_frame::{Columns, Frame, Names, Unit, read_frame};
 use smp_io::{Store, StoreFault};
 use smp_prob::{ProbFault, Request, requested};
 use std::alloc::Global;
@@ -34,6 +35,20 @@ pub fn read_input<K: Store>(alloc: Global, store: &mut K, name: &str) -> Result<
         Err(StoreFault::Failed) => Err(Status::ReadFault),
         Err(StoreFault::NoMemory) => Err(Status::NoMemory),
     }
+}
+
+// The columns that are asked of a frame.
+fn columns(alloc: Global) -> Result<Columns, NoMemory>
+    ensures { IfOk result (λ columns. columns ≡ asked_columns) }
+{
+    Ok(Columns {
+        id: Text::from_str(alloc, "id")?,
+        stratum: None,
+        psu: None,
+        size: Some(Text::from_str(alloc, "size")?),
+        second_size: None,
+        values: Names::from_vec(Vec::new(alloc)),
+    })
 }
 
 fn sizes(alloc: Global, units: &[Unit]) -> Result<Vec<u32>, NoMemory>
@@ -82,6 +97,7 @@ pub fn plan_from<K: Store>(
     ensures planned { IfOk result IsPlanned }
 {
     let bytes = read_input(alloc, store, frame)?;
-    let frame = read_frame(alloc, bytes.as_slice())?;
+    let columns = columns(alloc)?;
+    let frame = read_frame(alloc, bytes.as_slice(), &columns)?;
     Ok(plan_for(alloc, frame, n)?)
 }

@@ -32,6 +32,9 @@ fn line_for(alloc: Global, status: &Status) -> Result<Option<String>, AllocError
         Status::Usage => Ok(Some(usage_line(alloc)?)),
         Status::Frame(fault) => frame_line(alloc, fault),
         Status::Misfit(misfit) => misfit_line(alloc, misfit),
+        Status::TapeText { line } => {
+            Ok(Some(format!(in alloc; "error 6 tape line {line} isn't a number\n")?))
+        }
         Status::TapeShort { taken } => {
             Ok(Some(format!(in alloc; "error 7 tape ends after {taken}\n")?))
         }
@@ -41,7 +44,6 @@ fn line_for(alloc: Global, status: &Status) -> Result<Option<String>, AllocError
             bound,
         } => Ok(Some(format!(in alloc; "error 8 tape value {place} is {value}, bound {bound}\n")?)),
         Status::TapeLong { left } => Ok(Some(format!(in alloc; "error 9 tape has {left} more\n")?)),
-        Status::NotYet => Ok(Some(String::from_str(alloc, "error 15 not yet\n")?)),
         Status::Done | Status::ReadFault | Status::WriteFault | Status::NoMemory => Ok(None),
     }
 }
@@ -60,10 +62,33 @@ fn frame_line(alloc: Global, fault: &FrameFault) -> Result<Option<String>, Alloc
     ensures none { frame_line fault.now ≡ None → result ≡ Ok None }
 {
     match fault {
+        FrameFault::NoHeader => Ok(Some(String::from_str(alloc, "error 4.1 no header\n")?)),
+        FrameFault::MissingColumn { name } => {
+            Ok(Some(format!(in alloc; "error 4.2 missing column {}\n", name.as_str())?))
+        }
+        FrameFault::RepeatedColumn { name } => {
+            Ok(Some(format!(in alloc; "error 4.3 repeated column {}\n", name.as_str())?))
+        }
+        FrameFault::RowLength { row } => {
+            Ok(Some(format!(in alloc; "error 4.4 length of row {row}\n")?))
+        }
+        FrameFault::NotNumber { row, column } => Ok(Some(format!(in alloc;
+            "error 4.5 no number in row {row} column {}\n",
+            column.as_str()
+        )?)),
+        FrameFault::TooLarge { row, column } => Ok(Some(format!(in alloc;
+            "error 4.6 number too large in row {row} column {}\n",
+            column.as_str()
+        )?)),
         FrameFault::RepeatedId { row } => {
             Ok(Some(format!(in alloc; "error 4.7 repeated id in row {row}\n")?))
         }
-        FrameFault::NotYet | FrameFault::NoMemory => Ok(None),
+        FrameFault::TooManyRows => Ok(Some(String::from_str(alloc, "error 4.8 too many rows\n")?)),
+        FrameFault::NotText { row } => {
+            Ok(Some(format!(in alloc; "error 4.9 row {row} isn't UTF-8\n")?))
+        }
+        FrameFault::NoRows => Ok(Some(String::from_str(alloc, "error 4.10 no rows\n")?)),
+        FrameFault::NoMemory => Ok(None),
     }
 }
 

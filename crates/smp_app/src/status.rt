@@ -18,6 +18,10 @@ pub enum Status {
     Frame(FrameFault),
     /// The frame doesn't serve the number of units that is asked.
     Misfit(Misfit),
+    /// This line of the tape, counted from 1, is the first that isn't a number.
+    TapeText {
+        line: u64,
+    },
     /// The walk asks for a value and the tape has none left; so many were taken.
     TapeShort {
         taken: u64,
@@ -38,8 +42,6 @@ pub enum Status {
     WriteFault,
     /// Memory ran out.
     NoMemory,
-    /// The inputs are of a kind that isn't served yet.
-    NotYet,
 }
 
 impl Status {
@@ -52,13 +54,13 @@ impl Status {
             Status::Usage => 2,
             Status::Frame(_) => 4,
             Status::Misfit(_) => 5,
+            Status::TapeText { .. } => 6,
             Status::TapeShort { .. } => 7,
             Status::TapeValue { .. } => 8,
             Status::TapeLong { .. } => 9,
             Status::ReadFault => 12,
             Status::WriteFault => 13,
             Status::NoMemory => 14,
-            Status::NotYet => 15,
         }
     }
 }
@@ -76,7 +78,6 @@ impl From<FrameFault> for Status {
 
     fn from(fault: FrameFault) -> Status {
         match fault {
-            FrameFault::NotYet => Status::NotYet,
             FrameFault::NoMemory => Status::NoMemory,
             fault => Status::Frame(fault),
         }
@@ -99,7 +100,7 @@ impl From<TapeFault> for Status {
 
     fn from(fault: TapeFault) -> Status {
         match fault {
-            TapeFault::NotYet => Status::NotYet,
+            TapeFault::Line { line } => Status::TapeText { line },
             TapeFault::NoMemory => Status::NoMemory,
         }
     }

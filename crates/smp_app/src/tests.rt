@@ -81,7 +81,7 @@ const QUICK_THREE: &[&str] = &["sampler", "quick", "frame", "3", "tape", "out"];
 #[test]
 fn quick_draws_and_probs_lists(rt: HostRuntime) -> Result<(), Fail> {
     let alloc = rt.alloc();
-    let draws: [(&[&str], &[u8], &[u8], &[u8], &[u8]); 9] = [
+    let draws: [(&[&str], &[u8], &[u8], &[u8], &[u8]); 11] = [
         (
             QUICK,
             FRAME,
@@ -133,6 +133,22 @@ fn quick_draws_and_probs_lists(rt: HostRuntime) -> Result<(), Fail> {
             b"id\na\nc\n",
             b"pivot 2 0\n",
         ),
+        // An id in quotes, and no line end after the last row.
+        (
+            QUICK_ONE,
+            b"id,size\n\"x,1\",1\ny,1",
+            b"0",
+            b"id\n\"x,1\"\n",
+            b"pivot 2 0\n",
+        ),
+        // A byte order mark, line ends as spreadsheets write them, and the columns in another order.
+        (
+            QUICK_ONE,
+            b"\xef\xbb\xbfsize,farm,id\r\n001,p,x\r\n1,q,y\r\n",
+            b"01\r\n",
+            b"id\ny\n",
+            b"pivot 2 1\n",
+        ),
         // The two largest units are certain.
         (QUICK_THREE, FRAME, b"2\n", b"id\nb\nc\nd\n", b"pivot 3 2\n"),
         (
@@ -179,7 +195,6 @@ fn quick_draws_and_probs_lists(rt: HostRuntime) -> Result<(), Fail> {
 #[test]
 fn refusals_put_their_line(rt: HostRuntime) -> Result<(), Fail> {
     let alloc = rt.alloc();
-    let not_yet: &[u8] = b"error 15 not yet\n";
     let cases: [(&[&str], &[u8], &[u8], u8, &[u8]); 23] = [
         (QUICK, FRAME, b"0\n3\n", 7, b"error 7 tape ends after 2\n"),
         (QUICK, FRAME, b"", 7, b"error 7 tape ends after 0\n"),
@@ -204,29 +219,71 @@ fn refusals_put_their_line(rt: HostRuntime) -> Result<(), Fail> {
             8,
             b"error 8 tape value 1 is 3, bound 3\n",
         ),
-        (QUICK, FRAME, b"0\n3\n4", 15, not_yet),
-        (QUICK, FRAME, b"0\n3x\n4\n", 15, not_yet),
         (
             QUICK,
             FRAME,
-            b"000000000000000000000000000000000000000\n3\n4\n",
-            15,
-            not_yet,
+            b"0\n3x\n",
+            6,
+            b"error 6 tape line 2 isn't a number\n",
         ),
-        (QUICK, b"", FULL, 15, not_yet),
-        (QUICK, b"id,size\n", FULL, 15, not_yet),
-        (QUICK, b"id,size\na,1\nb,2\nc,3\nd,4", FULL, 15, not_yet),
-        (QUICK, b"id,size\na,00000000001\nb,2\n", FULL, 15, not_yet),
-        (QUICK, b"id,size\na,2147483648\nb,2\n", FULL, 15, not_yet),
-        (QUICK, b"id,weight\na,1\nb,2\n", FULL, 15, not_yet),
-        (QUICK, b"id,size\r\na,1\r\nb,2\r\n", FULL, 15, not_yet),
+        (
+            QUICK,
+            FRAME,
+            b"0\n\n3\n4\n",
+            6,
+            b"error 6 tape line 2 isn't a number\n",
+        ),
+        (QUICK, b"", FULL, 4, b"error 4.1 no header\n"),
+        (
+            QUICK,
+            b"id,weight\na,1\nb,2\n",
+            FULL,
+            4,
+            b"error 4.2 missing column size\n",
+        ),
+        (
+            QUICK,
+            b"id;size\na;1\n",
+            FULL,
+            4,
+            b"error 4.2 missing column id\n",
+        ),
+        (
+            QUICK,
+            b"id,size,size\na,1,1\n",
+            FULL,
+            4,
+            b"error 4.3 repeated column size\n",
+        ),
+        (
+            QUICK,
+            b"id,size\na,1,2\n",
+            FULL,
+            4,
+            b"error 4.4 length of row 1\n",
+        ),
         (
             &["sampler", "probs", "frame", "1"],
-            b"id;size\na;1\n",
+            b"id,size\na,1.5\n",
             b"",
-            15,
-            not_yet,
+            4,
+            b"error 4.5 no number in row 1 column size\n",
         ),
+        (
+            QUICK,
+            b"id,size\na,1\nb,2147483648\n",
+            FULL,
+            4,
+            b"error 4.6 number too large in row 2 column size\n",
+        ),
+        (
+            QUICK,
+            b"id,size\na,1\n\xff,2\n",
+            FULL,
+            4,
+            b"error 4.9 row 2 isn't UTF-8\n",
+        ),
+        (QUICK, b"id,size\n", FULL, 4, b"error 4.10 no rows\n"),
         (
             QUICK_ONE,
             b"id,size\na,1\na,2\n",

@@ -1,81 +1,144 @@
--- Every frame that is read has few units with small sizes.
-use Rattle.std.proofs.Common.{◌≡◌, ℕ, ◌^◌, ◌<◌, ◌≤◌, true, false, Bool, List, [], ◌∷◌, length, map, Option, Some, None, Result, Ok, Err, IfOk, refl, subst, arith, nat_lt, nat_le, ◌&&◌}
-use Rattle.std.specs.Prelude.{if◌then◌else◌, codes}
-use Rattle.std.specs.Str.{bytes_eq}
+-- Every frame that is read has few units, with small sizes and values.
+use Rattle.std.proofs.Common.{◌≡◌, ℕ, zero, suc, ◌+◌, ◌^◌, ◌<◌, ◌≤◌, ℤ, pos, neg_ℤ, nat_abs, Bool, true, false, cond, not, ◌==◌, nat_lt, nat_le, List, [], ◌∷◌, length, Option, Some, None, Result, Ok, Err, IfOk, All, refl, subst, arith}
+use Rattle.std.specs.List.{list_all, list_any}
+use Rattle.std.specs.Str.{bytes_eq, is_utf8}
 use Rattle.std.specs.Str.Parse.{digits_value}
-use Rattle.std.proofs.lemmas.Bool.{and_parts, ltb-true, leb-true}
+use Rattle.std.proofs.lemmas.Bool.{ltb-true, leb-true}
 use Rattle.std.proofs.lemmas.List.{get_or-map}
-use Rattle.smp_lines.specs.Decimals.{is_decimal, number_below}
-use Rattle.smp_lines.specs.Lines.{cut_at, lines_of, each_some}
-use Rattle.smp_lines.proofs.EachSome.{goes_on, mapped, length-each_some, each_some_all}
-use Rattle.smp_frame.specs.declared.frame.Unit as unit
-use Rattle.smp_frame.specs.Frames.{is_id, size_of, unit_of_fields, unit_of, units_of, units_below, form_of, first_repeated_row, unless_repeated, with_own_ids, frame_of}
-use Rattle.smp_frame.specs.declared.fault.FrameFault.{FrameFault}
+use Rattle.std.proofs.lemmas.List.Elements.{All-cons}
+use Rattle.smp_lines.specs.Decimals.{is_decimal}
+use Rattle.smp_frame.specs.Steps.{◌>>=◌, guard}
+use Rattle.smp_frame.specs.Records.{field, records_of}
+use Rattle.smp_frame.specs.Fields.{size_of, size_in, is_minus, without_minus, value_of, values_in}
+use Rattle.smp_frame.specs.Layouts.{layout_of}
+use Rattle.smp_frame.specs.Frames.{unit_of, units_from, units_of, frame_of}
+use Rattle.smp_frame.specs.Bounds.{AreNear, IsFrame}
 use Rattle.smp_frame.specs.Reads.{Reads}
-use Rattle.smp_frame.specs.Bounds.{IsFrame}
+use Rattle.smp_frame.specs.declared.columns.Columns.{Columns}
+use Rattle.smp_frame.specs.declared.layout.Column.{Column}
+use Rattle.smp_frame.specs.declared.layout.Layout.{Layout}
+use Rattle.smp_frame.specs.declared.frame.Unit as unit
+use Rattle.smp_frame.specs.declared.fault.FrameFault.{FrameFault}
+use Rattle.smp_frame.specs.declared.fault.FrameFault.TheVariants.{RowLength, NotText, RepeatedId}
 
--- a test that let something through held
-pub record Passes {A : Type 0} (test : Bool) (then_ : Option A) (y : A) : Type 0 where
-  pub holds : test ≡ true
-  pub gives : then_ ≡ Some y
+-- a reading that has no fault, and the reading before it
+record GoesOn {A B : Type 0} (next : A → Result B FrameFault) (reading : Result A FrameFault) (y : B) : Type 0 where
+  value : A
+  is : reading ≡ Ok value
+  gives : next value ≡ Ok y
 
-passes : {A : Type 0} (test : Bool) (then_ : Option A) (y : A) → (if test then then_ else None) ≡ Some y → Passes test then_ y
-passes true then_ y h = record { holds = refl; gives = h }
-passes false then_ y h = absurd (cc)
+goes_on : {A B : Type 0} (next : A → Result B FrameFault) (reading : Result A FrameFault) (y : B) → (reading >>= next) ≡ Ok y → GoesOn next reading y
+goes_on next (Ok x) y h = record { value = x; is = refl; gives = h }
+goes_on next (Err fault) y h = absurd (cc h)
 
-number_is_below : (bound : ℕ) (text : List ℕ) (n : ℕ) → number_below bound text ≡ Some n → n < bound
-number_is_below bound text n h =
-    let test = passes (is_decimal text && nat_lt (digits_value 10 text) bound) (Some (digits_value 10 text)) n h in
-    let parts = and_parts (is_decimal text) (nat_lt (digits_value 10 text) bound) test.holds in
-    let is : digits_value 10 text ≡ n = (let same : ◌≡◌ {A = Option ℕ} (Some (digits_value 10 text)) (Some n) = test.gives in cc) in
-    subst (λ (m : ℕ). m < bound) is (ltb-true (digits_value 10 text) bound parts.1)
+record Passes {B : Type 0} (test : Bool) (next : Result B FrameFault) (y : B) : Type 0 where
+  holds : test ≡ true
+  gives : next ≡ Ok y
 
-size_is_small : (text : List ℕ) (size : ℕ) → size_of text ≡ Some size → size < 2 ^ 31
-size_is_small text size h = number_is_below (2 ^ 31) text size (passes (nat_le (length text) 10) (number_below (2 ^ 31) text) size h).gives
+passes : {B : Type 0} (test : Bool) (fault : FrameFault) (next : Result B FrameFault) (y : B) → (guard test fault >>= λ _. next) ≡ Ok y → Passes test next y
+passes true fault next y h = record { holds = refl; gives = h }
+passes false fault next y h = absurd (cc h)
 
-unit_is_small : (row : List ℕ) (u : unit.Unit) → unit_of row ≡ Some u → u.size < 2 ^ 31
-unit_is_small row u h =
-    let fields = goes_on unit_of_fields (cut_at 44 row) u h in
-    let test = passes (is_id fields.value.0) _ u fields.gives in
-    let size = mapped (λ (size : ℕ). record { id = fields.value.0; size = size }) (size_of fields.value.1) u test.gives in
-    let is : record { id = fields.value.0; size = size.value } ≡ u = (let same : ◌≡◌ {A = Option unit.Unit} (Some (record { id = fields.value.0; size = size.value })) (Some u) = size.gives in cc) in
-    subst (λ (v : unit.Unit). v.size < 2 ^ 31) is (size_is_small fields.value.1 size.value size.is)
+ok_is : {A : Type 0} (x y : A) → ◌≡◌ {A = Result A FrameFault} (Ok x) (Ok y) → x ≡ y
+ok_is x y h = cc h
 
-rows_are_frame : (rows : List (List ℕ)) (units : List unit.Unit) → units_of rows ≡ Some units → IsFrame units
-rows_are_frame rows units h =
-    let test = passes (nat_le 1 (length rows) && nat_le (length rows) 1000) (each_some unit_of rows) units h in
-    let counts = and_parts (nat_le 1 (length rows)) (nat_le (length rows) 1000) test.holds in
-    let least : 1 ≤ length rows = leb-true 1 (length rows) counts.0 in
-    let most : length rows ≤ 1000 = leb-true (length rows) 1000 counts.1 in
+size_is_small : (number : ℕ) (name text : List ℕ) (size : ℕ) → size_of number name text ≡ Ok size → size < 2 ^ 31
+unfolding size_of
+size_is_small number name text size h =
+    let digits = passes (is_decimal text) _ _ size h in
+    let small = passes (nat_lt (digits_value 10 text) (2 ^ 31)) _ _ size digits.gives in
+    subst (λ (n : ℕ). n < 2 ^ 31) (ok_is _ _ small.gives) (ltb-true (digits_value 10 text) (2 ^ 31) small.holds)
+
+asked_size_is_small : (number : ℕ) (row : List (List ℕ)) (column : Option Column) (size : ℕ) → size_in number row column ≡ Ok size → size < 2 ^ 31
+asked_size_is_small number row None size h = subst (λ (n : ℕ). n < 2 ^ 31) (ok_is _ _ h) (omega arith)
+asked_size_is_small number row (Some column) size h = size_is_small number column.name (field row column.place) size h
+
+abs_neg : (n : ℕ) → nat_abs (neg_ℤ (pos n)) ≡ n
+abs_neg zero = refl
+abs_neg (suc n) = refl
+
+either_sign : (minus : Bool) (n : ℕ) → n < 2 ^ 31 → nat_abs (cond minus (neg_ℤ (pos n)) (pos n)) < 2 ^ 31
+either_sign true n h = rw (abs_neg n) h
+either_sign false n h = h
+
+value_is_near : (number : ℕ) (name text : List ℕ) (value : ℤ) → value_of number name text ≡ Ok value → nat_abs value < 2 ^ 31
+value_is_near number name text value h =
+    let size = goes_on _ (size_of number name (without_minus text)) value h in
+    subst (λ (z : ℤ). nat_abs z < 2 ^ 31) (ok_is _ _ size.gives) (either_sign (is_minus text) size.value (size_is_small number name (without_minus text) size.value size.is))
+
+values_are_near : (number : ℕ) (row : List (List ℕ)) (columns : List Column) (values : List ℤ) → values_in number row columns ≡ Ok values → AreNear values
+values_are_near number row [] values h = subst AreNear (ok_is _ _ h) (λ k d within. absurd (omega arith))
+values_are_near number row (column ∷ columns) values h =
+    let first = goes_on _ (value_of number column.name (field row column.place)) values h in
+    let more = goes_on _ (values_in number row columns) values first.gives in
+    subst AreNear (ok_is _ _ more.gives) (All-cons (λ (z : ℤ). nat_abs z < 2 ^ 31) first.value more.value (value_is_near number column.name (field row column.place) first.value first.is) (values_are_near number row columns more.value more.is))
+
+-- a unit with small sizes and values
+record IsSmall (u : unit.Unit) : Type 0 where
+  size : u.size < 2 ^ 31
+  second : u.second_size < 2 ^ 31
+  near : AreNear u.values
+
+unit_is_small : (layout : Layout) (number : ℕ) (ids row : List (List ℕ)) (u : unit.Unit) → unit_of layout number ids row ≡ Ok u → IsSmall u
+unfolding unit_of
+unit_is_small layout number ids row u h =
+    let width = passes (length row == layout.width) (RowLength number) _ u h in
+    let text = passes (list_all is_utf8 row) (NotText number) _ u width.gives in
+    let new = passes (not (list_any (bytes_eq (field row layout.id.place)) ids)) (RepeatedId number) _ u text.gives in
+    let size = goes_on _ (size_in number row layout.size) u new.gives in
+    let second = goes_on _ (size_in number row layout.second_size) u size.gives in
+    let values = goes_on _ (values_in number row layout.values) u second.gives in
+    subst IsSmall (ok_is _ _ values.gives) (record {
+      size = asked_size_is_small number row layout.size size.value size.is;
+      second = asked_size_is_small number row layout.second_size second.value second.is;
+      near = values_are_near number row layout.values values.value values.is;
+    })
+
+-- units behind a row with this number
+record AreUnits (number : ℕ) (units : List unit.Unit) : Type 0 where
+  few : length units + number ≤ 100001
+  small : All IsSmall units
+
+units_are_small : (layout : Layout) (number : ℕ) (ids : List (List ℕ)) (rows : List (List (List ℕ))) (units : List unit.Unit) → number ≤ 100001 → units_from layout number ids rows ≡ Ok units → AreUnits number units
+units_are_small layout number ids [] units within h = subst (AreUnits number) (ok_is _ _ h) (record { few = omega (arith, within); small = λ k d beyond. absurd (omega arith) })
+units_are_small layout number ids (row ∷ rows) units within h =
+    let limit = passes (nat_le number 100000) _ _ units h in
+    let here : number ≤ 100000 = leb-true number 100000 limit.holds in
+    let first = goes_on _ (unit_of layout number ids row) units limit.gives in
+    let more = goes_on _ (units_from layout (number + 1) _ rows) units first.gives in
+    let rest = units_are_small layout (number + 1) _ rows more.value (omega (arith, here)) more.is in
+    subst (AreUnits number) (ok_is _ _ more.gives) (record {
+      few = omega (arith, rest.few);
+      small = All-cons IsSmall first.value more.value (unit_is_small layout number ids row first.value first.is) rest.small;
+    })
+
+no_unit : unit.Unit
+no_unit = record { id = []; stratum = []; psu = []; size = 0; second_size = 0; values = [] }
+
+small_units_are_frame : (units : List unit.Unit) → 0 < length units → AreUnits 1 units → IsFrame units
+small_units_are_frame units some are =
+    let few = are.few in
     record {
-      some = omega (arith, length-each_some unit_of rows units test.gives, least);
-      few = omega (arith, length-each_some unit_of rows units test.gives, most);
-      small = λ i within. rw (get_or-map (λ (u : unit.Unit). u.size) units i (record { id = []; size = 0 }) 0 within) (each_some_all (λ (u : unit.Unit). u.size < 2 ^ 31) (record { id = []; size = 0 }) unit_of unit_is_small rows units test.gives i within);
+      some = omega arith;
+      few = omega arith;
+      small = λ i within. rw (get_or-map (λ (u : unit.Unit). u.size) units i no_unit 0 within) (are.small i no_unit within).size;
+      second_small = λ i within. rw (get_or-map (λ (u : unit.Unit). u.second_size) units i no_unit 0 within) (are.small i no_unit within).second;
+      near = λ k d within. (are.small k d within).near;
     }
 
-lines_are_frame : (lines : List (List ℕ)) (units : List unit.Unit) → units_below lines ≡ Some units → IsFrame units
-lines_are_frame [] units h = absurd (cc)
-lines_are_frame (header ∷ rows) units h =
-    let test = passes (bytes_eq header (codes "id,size")) (units_of rows) units h in
-    rows_are_frame rows units test.gives
+units_are_frame : (columns : Columns) (rows : List (List (List ℕ))) (units : List unit.Unit) → units_of columns rows ≡ Ok units → IsFrame units
+units_are_frame columns [] units h = absurd (cc h)
+units_are_frame columns (header ∷ rows) units h =
+    let text = passes (list_all is_utf8 header) _ _ units h in
+    let layout = goes_on _ (layout_of columns header) units text.gives in
+    let found = goes_on _ (units_from layout.value 1 [] rows) units layout.gives in
+    let some = passes (nat_lt 0 (length found.value)) _ _ units found.gives in
+    subst IsFrame (ok_is _ _ some.gives) (small_units_are_frame found.value (ltb-true 0 (length found.value) some.holds) (units_are_small layout.value 1 [] rows found.value (omega arith) found.is))
 
-form_is_frame : (bytes : List ℕ) (units : List unit.Unit) → form_of bytes ≡ Some units → IsFrame units
-form_is_frame bytes units h =
-    let lines = goes_on units_below (lines_of bytes) units h in
-    lines_are_frame lines.value units lines.gives
-
-own_ids : (form : Option (List unit.Unit)) (units : List unit.Unit) → with_own_ids form ≡ Ok units → form ≡ Some units
-own_ids None units h = absurd (cc)
-own_ids (Some found) units h = none_repeated found units (first_repeated_row (map (λ u. u.id) found)) h
-  where
-    none_repeated : (found units : List unit.Unit) (row : Option ℕ) → unless_repeated found row ≡ Ok units → Some found ≡ Some units
-    none_repeated found units None h = cc
-    none_repeated found units (Some row) h = absurd (cc)
-
-pub frame_is : (bytes : List ℕ) (units : List unit.Unit) → frame_of bytes ≡ Ok units → IsFrame units
+frame_is : (columns : Columns) (bytes : List ℕ) (units : List unit.Unit) → frame_of columns bytes ≡ Ok units → IsFrame units
 unfolding frame_of
-frame_is bytes units h = form_is_frame bytes units (own_ids (form_of bytes) units h)
+frame_is columns bytes units h = units_are_frame columns (records_of bytes) units h
 
-pub read_bounds : (bytes : List ℕ) (result : Result (List unit.Unit) FrameFault) → Reads result (frame_of bytes) → IfOk result IsFrame
-read_bounds bytes (Ok units) h = frame_is bytes units h
-read_bounds bytes (Err fault) h = tt
+pub read_bounds : (columns : Columns) (bytes : List ℕ) (result : Result (List unit.Unit) FrameFault) → Reads result (frame_of columns bytes) → IfOk result IsFrame
+read_bounds columns bytes (Ok units) h = frame_is columns bytes units h
+read_bounds columns bytes (Err fault) h = tt

@@ -1,2 +1,9 @@
-pub mod Ids
 pub mod FrameBounds
+pub mod Front
+pub mod Ids
+pub mod Machine
+pub mod Marks
+pub mod NextUnit
+pub mod Places
+pub mod RecordFields
+pub mod Rows

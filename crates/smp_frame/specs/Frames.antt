@@ -1,61 +1,47 @@
--- The first form of a frame of units, and what a frame of this form is.
-use Rattle.std.specs.Prelude.{ℕ, ◌+◌, ◌^◌, List, [], ◌∷◌, Bool, ◌&&◌, nat_lt, nat_le, length, map, take, find, Option, Some, None, option_map, option_and_then, Result, Ok, Err, if◌then◌else◌, codes}
-use Rattle.std.specs.List.{list_all, list_any, enumerate_from}
-use Rattle.std.specs.Str.{bytes_eq}
-use Rattle.std.specs.Char.{is_ascii_alphanumeric}
-use Rattle.smp_lines.specs.Decimals.{number_below}
-use Rattle.smp_lines.specs.Lines.{cut_at, lines_of, each_some}
+-- Which bytes are a frame, and of which units.
+use Rattle.std.specs.Prelude.{ℕ, ◌+◌, List, [], ◌∷◌, ◌++◌, ◌==◌, not, nat_lt, nat_le, length, Result, Ok, Err}
+use Rattle.std.specs.List.{list_all, list_any}
+use Rattle.std.specs.Str.{bytes_eq, is_utf8}
+use Rattle.smp_frame.specs.Steps.{◌>>=◌, guard}
+use Rattle.smp_frame.specs.Records.{records_of, field}
+use Rattle.smp_frame.specs.Layouts.{layout_of}
+use Rattle.smp_frame.specs.Fields.{text_in, size_in, values_in}
+use Rattle.smp_frame.specs.declared.columns.Columns.{Columns}
+use Rattle.smp_frame.specs.declared.layout.Layout.{Layout}
 use Rattle.smp_frame.specs.declared.frame.Unit as unit
 use Rattle.smp_frame.specs.declared.fault.FrameFault.{FrameFault}
-use Rattle.smp_frame.specs.declared.fault.FrameFault.TheVariants.{NotYet, RepeatedId}
+use Rattle.smp_frame.specs.declared.fault.FrameFault.TheVariants.{NoHeader, NotText, TooManyRows, RowLength, RepeatedId, NoRows}
 
--- 1 to 64 ASCII letters and digits
-abbrev pub is_id : List ℕ → Bool
-is_id text = nat_lt 0 (length text) && nat_le (length text) 64 && list_all is_ascii_alphanumeric text
+-- the unit of a row with this number, where earlier rows have these ids
+unfoldable pub unit_of : Layout → ℕ → List (List ℕ) → List (List ℕ) → Result unit.Unit FrameFault
+unit_of layout number ids row = do
+  _ ← guard (length row == layout.width) (RowLength number)
+  _ ← guard (list_all is_utf8 row) (NotText number)
+  _ ← guard (not (list_any (bytes_eq (field row layout.id.place)) ids)) (RepeatedId number)
+  size ← size_in number row layout.size
+  second_size ← size_in number row layout.second_size
+  values ← values_in number row layout.values
+  Ok (record { id = field row layout.id.place; stratum = text_in row layout.stratum; psu = text_in row layout.psu; size = size; second_size = second_size; values = values })
 
--- the size that 1 to 10 digits write, where it is at most 2,147,483,647
-abbrev pub size_of : List ℕ → Option ℕ
-size_of text = if nat_le (length text) 10 then number_below (2 ^ 31) text else None
+-- the units of rows, of which the first has this number, where earlier rows have these ids
+abbrev pub units_from : Layout → ℕ → List (List ℕ) → List (List (List ℕ)) → Result (List unit.Unit) FrameFault
+units_from layout number ids [] = Ok []
+units_from layout number ids (row ∷ rows) = do
+  _ ← guard (nat_le number 100000) TooManyRows
+  first ← unit_of layout number ids row
+  units ← units_from layout (number + 1) (ids ++ first.id ∷ []) rows
+  Ok (first ∷ units)
 
--- the unit of the fields before and after a comma
-abbrev pub unit_of_fields : List ℕ × List ℕ → Option unit.Unit
-unit_of_fields fields = if is_id fields.0 then option_map (λ size. record { id = fields.0; size = size }) (size_of fields.1) else None
+-- the units of records: a header, which is row 0, and then one or more rows
+abbrev pub units_of : Columns → List (List (List ℕ)) → Result (List unit.Unit) FrameFault
+units_of columns [] = Err NoHeader
+units_of columns (header ∷ rows) = do
+  _ ← guard (list_all is_utf8 header) (NotText 0)
+  layout ← layout_of columns header
+  units ← units_from layout 1 [] rows
+  _ ← guard (nat_lt 0 (length units)) NoRows
+  Ok units
 
--- the unit of a row: its id, a comma (the byte 44) and its size
-abbrev pub unit_of : List ℕ → Option unit.Unit
-unit_of row = option_and_then unit_of_fields (cut_at 44 row)
-
--- the units of 1 to 1,000 rows
-abbrev pub units_of : List (List ℕ) → Option (List unit.Unit)
-units_of rows = if nat_le 1 (length rows) && nat_le (length rows) 1000 then each_some unit_of rows else None
-
--- the units of the rows below the header
-abbrev pub units_below : List (List ℕ) → Option (List unit.Unit)
-units_below [] = None
-units_below (header ∷ rows) = if bytes_eq header (codes "id,size") then units_of rows else None
-
--- the units of bytes of the first form, in the order of their rows
-abbrev pub form_of : List ℕ → Option (List unit.Unit)
-form_of bytes = option_and_then units_below (lines_of bytes)
-
--- whether an id with its place stands at an earlier place too
-abbrev pub is_repeated : List (List ℕ) → ℕ × List ℕ → Bool
-is_repeated ids placed = list_any (bytes_eq placed.1) (take placed.0 ids)
-
--- the first row whose id an earlier row has: the header is row 0, so the unit at place 0 stands in row 1
-abbrev pub first_repeated_row : List (List ℕ) → Option ℕ
-first_repeated_row ids = option_map (λ placed. placed.0 + 1) (find (is_repeated ids) (enumerate_from 0 ids))
-
--- units and the first row that repeats an id: a fault where there is such a row
-abbrev pub unless_repeated : List unit.Unit → Option ℕ → Result (List unit.Unit) FrameFault
-unless_repeated units None = Ok units
-unless_repeated units (Some row) = Err (RepeatedId row)
-
--- units of the first form, or the first fault
-abbrev pub with_own_ids : Option (List unit.Unit) → Result (List unit.Unit) FrameFault
-with_own_ids None = Err NotYet
-with_own_ids (Some units) = unless_repeated units (first_repeated_row (map (λ u. u.id) units))
-
--- the units of a frame, each with an id of its own; or else the first fault, of which the form comes before ids
-unfoldable pub frame_of : List ℕ → Result (List unit.Unit) FrameFault
-frame_of bytes = with_own_ids (form_of bytes)
+-- the units of a frame, or its first fault
+unfoldable pub frame_of : Columns → List ℕ → Result (List unit.Unit) FrameFault
+frame_of columns bytes = units_of columns (records_of bytes)

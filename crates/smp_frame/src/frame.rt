@@ -1,15 +1,25 @@
 ghost use Rattle.std.specs.Prelude.{◌≡◌};
 
+use crate::Numbers;
 use smp_frac::Text;
 use std::marker::Model;
 
-/// A unit of a frame.
+/// A unit of a frame: what its row says in the columns that were asked for.
 #[derive(Drop)]
 pub struct Unit {
-    /// 1 to 64 ASCII letters and digits, which no other unit of the frame has.
+    /// A text, which no other unit of the frame has.
     pub id: Text,
-    /// The unit's measure of size, from 0 to 2,147,483,647.
+    /// The name of the unit's stratum; the empty text where no column of strata was asked for.
+    pub stratum: Text,
+    /// The name of the first stage unit that the unit belongs to; the empty text where no column of those was
+    /// asked for.
+    pub psu: Text,
+    /// The measure of size, from 0 to 2,147,483,647; 1 where no column of sizes was asked for.
     pub size: u32,
+    /// The measure of size in the second stage, from 0 to 2,147,483,647; 1 where no column of those was asked for.
+    pub second_size: u32,
+    /// The balancing values or coordinates in the order of their columns, each from -2,147,483,647 to 2,147,483,647.
+    pub values: Numbers,
 }
 
 /// The units of a frame in the order of its rows.

@@ -1,93 +1,321 @@
-use super::{FrameFault, read_frame};
+use super::{Columns, Frame, FrameFault, Names, Numbers, read_frame};
+use smp_frac::{NoMemory, Text};
 use std::alloc::{AllocError, Global};
 use std::fmt::Write;
+use std::process::Abort;
 use std::test::Fail;
 
-// The bytes of a frame of that many rows.
+fn text(alloc: Global, name: &str) -> Result<Text, NoMemory> {
+    Text::from_str(alloc, name)
+}
+
+// The columns id and size.
+fn two_columns(alloc: Global) -> Result<Columns, NoMemory> {
+    Ok(Columns {
+        id: text(alloc, "id")?,
+        stratum: None,
+        psu: None,
+        size: Some(text(alloc, "size")?),
+        second_size: None,
+        values: Names::from_vec(Vec::new(alloc)),
+    })
+}
+
+// A column of each kind, and two columns of values, of which the second is the column of sizes.
+fn all_columns(alloc: Global) -> Result<Columns, NoMemory> {
+    let mut values = Vec::new(alloc);
+    values.push(text(alloc, "x")?)?;
+    values.push(text(alloc, "size")?)?;
+    Ok(Columns {
+        id: text(alloc, "id")?,
+        stratum: Some(text(alloc, "region")?),
+        psu: Some(text(alloc, "village")?),
+        size: Some(text(alloc, "size")?),
+        second_size: Some(text(alloc, "farms")?),
+        values: Names::from_vec(values),
+    })
+}
+
+// The units, or the fault.
+fn shown(alloc: Global, answer: &Result<Frame, FrameFault>) -> Result<String, AllocError> {
+    let mut told = String::new(alloc);
+    match answer {
+        Err(fault) => write!(told, "{fault:?}")?,
+        Ok(frame) => {
+            for unit in frame.units() {
+                let (id, stratum, psu) = (
+                    unit.id.as_str(),
+                    unit.stratum.as_str(),
+                    unit.psu.as_str(),
+                );
+                let (size, second, values) = (unit.size, unit.second_size, unit.values.as_slice());
+                write!(told, "{id}/{stratum}/{psu} {size} {second} {values:?};")?;
+            }
+        }
+    }
+    Ok(told)
+}
+
+// Reads each frame, and compares what is shown of the answer.
+fn check(
+    rt: &impl Abort,
+    alloc: Global,
+    columns: &Columns,
+    frames: &[(&[u8], &str)],
+) -> Result<(), Fail> {
+    for (bytes, wanted) in frames {
+        let told = shown(alloc, &read_frame(alloc, bytes, columns))?;
+        assert_eq!(rt; told.as_str(), *wanted, "{bytes:?}");
+    }
+    Ok(())
+}
+
+// 400 times the same digit, between a front and an end.
+fn long(alloc: Global, front: &str, digit: char, end: &str) -> Result<String, AllocError> {
+    let mut text = String::from_str(alloc, front)?;
+    for _ in 0..400 {
+        text.push(digit)?;
+    }
+    text.push_str(end)?;
+    Ok(text)
+}
+
+// A header and that many rows.
 fn rows(alloc: Global, count: u32) -> Result<String, AllocError> {
     let mut text = String::from_str(alloc, "id,size\n")?;
     for row in 0..count {
-        write!(text, "U{row},{row}1\n")?;
+        write!(text, "U{row},{row}\n")?;
     }
     Ok(text)
 }
 
 #[test]
-fn reads_units(rt: HostRuntime) -> Result<(), Fail> {
-    let longest = "abcdefghijklmnopqrstuvwxyzABCDEFGHIJKLMNOPQRSTUVWXYZ012345678901";
-    let bytes =
-        b"id,size\nA,7\nb2,0000000001\nabcdefghijklmnopqrstuvwxyzABCDEFGHIJKLMNOPQRSTUVWXYZ012345678901,5\n0,2147483647\na,0\n00,0000000000\n";
-    let frame = read_frame(rt.alloc(), bytes)?;
-    let wanted = [
-        ("A", 7),
-        ("b2", 1),
-        (longest, 5),
-        ("0", 2_147_483_647),
-        ("a", 0),
-        ("00", 0),
+fn units_have_ids_and_sizes(rt: HostRuntime) -> Result<(), Fail> {
+    let alloc = rt.alloc();
+    let five = long(alloc, "id,size\na,", '0', "5")?;
+    let frames: [(&[u8], &str); 14] = [
+        (b"id,size\na,1", "a// 1 1 [];"),
+        (b"id,size\na,0\n", "a// 0 1 [];"),
+        (b"id,size\na,2147483647\n", "a// 2147483647 1 [];"),
+        (five.as_bytes(), "a// 5 1 [];"),
+        (b"size,id\r\n1,a\r\n2,b", "a// 1 1 [];b// 2 1 [];"),
+        (b"\n\nid,size\n\na,1\n\r\n\n", "a// 1 1 [];"),
+        (b"id,size\n\"x,1\",1\ny,1", "x,1// 1 1 [];y// 1 1 [];"),
+        (
+            b"\xef\xbb\xbfid,size\n\"x,1\",1\ny,1",
+            "x,1// 1 1 [];y// 1 1 [];",
+        ),
+        (b"\xef\xbb\xbf\xef\xbb\xbfid,size\na,1\n", "a// 1 1 [];"),
+        (b"id,size\n\"a \"\"b\"\"\n\",\"1\"\n", "a \"b\"\n// 1 1 [];"),
+        (b"id,size\na,1\nb,\"2", "a// 1 1 [];b// 2 1 [];"),
+        (
+            b"id,size\n,1\n a,2\nA,3\na,4\n",
+            "// 1 1 []; a// 2 1 [];A// 3 1 [];a// 4 1 [];",
+        ),
+        (b"note,id,note,size\n,a,,1\n", "a// 1 1 [];"),
+        (b"id,size\n\xc3\xa4,1\n", "\u{e4}// 1 1 [];"),
     ];
-    assert_eq!(rt; frame.units().len(), wanted.len());
-    for (unit, (id, size)) in frame.units().iter().zip(wanted) {
-        assert_eq!(rt; unit.id.as_str(), id);
-        assert_eq!(rt; unit.size, size);
-    }
-    let largest = read_frame(rt.alloc(), rows(rt.alloc(), 1_000)?.as_bytes())?;
-    assert_eq!(rt; largest.units().len(), 1_000);
+    let columns = two_columns(alloc)?;
+    check(&rt, alloc, &columns, frames.as_slice())
+}
+
+#[test]
+fn units_have_all_asked_columns(rt: HostRuntime) -> Result<(), Fail> {
+    let alloc = rt.alloc();
+    let frames: [(&[u8], &str); 4] = [
+        (
+            b"x,size,id,farms,region,village\n-5,7,a,3,north,v1\n0012,0,b,0,,\n",
+            "a/north/v1 7 3 [-5, 7];b// 0 0 [12, 0];",
+        ),
+        (
+            b"id,region,village,size,farms,x\na,r,v,1,2,-2147483647\nb,r,v,1,2,2147483647\n",
+            "a/r/v 1 2 [-2147483647, 1];b/r/v 1 2 [2147483647, 1];",
+        ),
+        (
+            b"id,region,village,size,farms,x\na,r,v,1,2,-0\nb,r,v,1,2,-00000000000000000000000000000000000000000001\n",
+            "a/r/v 1 2 [0, 1];b/r/v 1 2 [-1, 1];",
+        ),
+        (
+            b"id,region,village,size,farms,x\na,\"r\r\n1\",\"\",1,2,3\n",
+            "a/r\r\n1/ 1 2 [3, 1];",
+        ),
+    ];
+    let columns = all_columns(alloc)?;
+    check(&rt, alloc, &columns, frames.as_slice())?;
+    let numbers = Numbers::from_slice(alloc, &[1, -1])?;
+    assert_eq!(rt; numbers.as_slice(), [1, -1].as_slice());
     Ok(())
 }
 
 #[test]
-fn refuses_other_bytes(rt: HostRuntime) -> Result<(), Fail> {
-    let refused: [&[u8]; 19] = [
-        b"",
-        b"id,size\n",
-        b"id,size\nA,1",
-        b"id,size\nA,1\n\n",
-        b"id,size\nA,1\nA,2\nB\n",
-        b"id,size\nA,1\nA,2",
-        b"id,size\nA,\n",
-        b"id,size\nA,+1\n",
-        b"id,size\nA,2147483648\n",
-        b"id,size\nA,00000000001\n",
-        b"id,size\nA,1\r\n",
-        b"id,size\r\nA,1\n",
-        b"id;size\nA,1\n",
-        b"id,size\nA\n",
-        b"id,size\nA,1,1\n",
-        b"id,size\n,1\n",
-        b"id,size\nA b,1\n",
-        b"id,size\n\xc3\xa4,1\n",
-        b"id,size\nabcdefghijklmnopqrstuvwxyzABCDEFGHIJKLMNOPQRSTUVWXYZ0123456789012,1\n",
+fn faults_of_two_columns(rt: HostRuntime) -> Result<(), Fail> {
+    let alloc = rt.alloc();
+    let large = long(alloc, "id,size\na,", '9', "")?;
+    let letter = long(alloc, "id,size\na,", '0', "x")?;
+    let missing = "MissingColumn { name: Text { text: \"size\" } }";
+    let no_number = "NotNumber { row: 1, column: Text { text: \"size\" } }";
+    let too_large = "TooLarge { row: 1, column: Text { text: \"size\" } }";
+    let frames: [(&[u8], &str); 29] = [
+        (b"", "NoHeader"),
+        (b"\xef\xbb\xbf", "NoHeader"),
+        (b"\r\n\n\n", "NoHeader"),
+        (b"id,size\n", "NoRows"),
+        (b"id,size\n\n\n", "NoRows"),
+        (b"id,weight\na,1\n", missing),
+        (b"id,Size\na,1\n", missing),
+        (b"id, size\na,1\n", missing),
+        (b"id\n", missing),
+        (b"\"id\n", "MissingColumn { name: Text { text: \"id\" } }"),
+        (b"\xefid,size\na,1\n", "NotText { row: 0 }"),
+        (
+            b"size\na,1,2\n",
+            "MissingColumn { name: Text { text: \"id\" } }",
+        ),
+        (
+            b"id,size,size\na,1,1\n",
+            "RepeatedColumn { name: Text { text: \"size\" } }",
+        ),
+        (
+            b"size,id,id,size\na\n",
+            "RepeatedColumn { name: Text { text: \"id\" } }",
+        ),
+        (b"id,size\na,1,2\n", "RowLength { row: 1 }"),
+        (b"id,size\na,1\n\nb\n", "RowLength { row: 2 }"),
+        (b"id,size\na,1\na,2\n", "RepeatedId { row: 2 }"),
+        (
+            b"id,size\na,1\nb,2\nA,3\n\"a\",3\n",
+            "RepeatedId { row: 4 }",
+        ),
+        (b"id,size\na,1.5\n", no_number),
+        (b"id,size\na,1.0\n", no_number),
+        (b"id,size\na,+1\n", no_number),
+        (b"id,size\na,-1\n", no_number),
+        (b"id,size\na, 1\n", no_number),
+        (b"id,size\na,1 \n", no_number),
+        (b"id,size\na,\n", no_number),
+        (letter.as_bytes(), no_number),
+        (b"id,size\na,2147483648\n", too_large),
+        (
+            b"id,size\na,340282366920938463463374607431768211456\n",
+            too_large,
+        ),
+        (large.as_bytes(), too_large),
     ];
-    for bytes in refused {
-        assert_eq!(rt;
-            read_frame(rt.alloc(), bytes).err(),
-            Some(FrameFault::NotYet),
-            "{bytes:?}"
-        );
-    }
-    let too_many = rows(rt.alloc(), 1_001)?;
-    assert_eq!(rt;
-        read_frame(rt.alloc(), too_many.as_bytes()).err(),
-        Some(FrameFault::NotYet)
-    );
-    Ok(())
+    let columns = two_columns(alloc)?;
+    check(&rt, alloc, &columns, frames.as_slice())
+}
+
+// Frames that have two faults each.
+#[test]
+fn the_first_fault_is_told(rt: HostRuntime) -> Result<(), Fail> {
+    let alloc = rt.alloc();
+    let frames: [(&[u8], &str); 22] = [
+        // The header, and then its columns in the order in which they are asked.
+        (b"id,\xff\n", "NotText { row: 0 }"),
+        (
+            b"region,size,size\n",
+            "MissingColumn { name: Text { text: \"id\" } }",
+        ),
+        (
+            b"id,id,village,size\n",
+            "RepeatedColumn { name: Text { text: \"id\" } }",
+        ),
+        (
+            b"id,village,village,size\n",
+            "MissingColumn { name: Text { text: \"region\" } }",
+        ),
+        (
+            b"id,region,region,size\n",
+            "RepeatedColumn { name: Text { text: \"region\" } }",
+        ),
+        (
+            b"id,region,village,x\n",
+            "MissingColumn { name: Text { text: \"size\" } }",
+        ),
+        (
+            b"id,region,village,size,x,x\n",
+            "MissingColumn { name: Text { text: \"farms\" } }",
+        ),
+        (
+            b"id,region,village,size,farms,x,x\na\n",
+            "RepeatedColumn { name: Text { text: \"x\" } }",
+        ),
+        (
+            b"id,region,village,size,farms\n",
+            "MissingColumn { name: Text { text: \"x\" } }",
+        ),
+        // Within one row.
+        (
+            b"id,region,village,size,farms,x\na,r,v,1,2\xff\n",
+            "RowLength { row: 1 }",
+        ),
+        (
+            b"id,region,village,size,farms,x\na,r,v,1,2,3\na,r,v,1,2,3,4\n",
+            "RowLength { row: 2 }",
+        ),
+        (
+            b"id,region,village,size,farms,x\na,r,v,1,2,3\na,r,\xff,1,2,3\n",
+            "NotText { row: 2 }",
+        ),
+        (
+            b"id,region,village,size,farms,x\na,r,v,x,2,\xff\n",
+            "NotText { row: 1 }",
+        ),
+        (
+            b"id,region,village,size,farms,x\na,r,v,1,2,3\na,r,v,,2,3\n",
+            "RepeatedId { row: 2 }",
+        ),
+        (
+            b"id,region,village,size,farms,x\na,r,v,9999999999,x,3\n",
+            "TooLarge { row: 1, column: Text { text: \"size\" } }",
+        ),
+        (
+            b"id,region,village,size,farms,x\na,r,v,x,9999999999,3\n",
+            "NotNumber { row: 1, column: Text { text: \"size\" } }",
+        ),
+        (
+            b"id,region,village,size,farms,x\na,r,v,1,-2,--3\n",
+            "NotNumber { row: 1, column: Text { text: \"farms\" } }",
+        ),
+        (
+            b"id,region,village,size,farms,x\na,r,v,1,2,-\n",
+            "NotNumber { row: 1, column: Text { text: \"x\" } }",
+        ),
+        (
+            b"id,region,village,size,farms,x\na,r,v,1,2,-2147483648\n",
+            "TooLarge { row: 1, column: Text { text: \"x\" } }",
+        ),
+        // Row by row.
+        (
+            b"id,region,village,size,farms,x\na,r,v,1,2,+3\nb\n",
+            "NotNumber { row: 1, column: Text { text: \"x\" } }",
+        ),
+        (
+            b"id,region,village,size,farms,x\na,r,v,1,2,3\nb\na,r,v,1,2,3\n",
+            "RowLength { row: 2 }",
+        ),
+        (
+            b"id,region,village,size,farms,x\na,r,v,1,2,3\na,r,v,1,2,3\nb\n",
+            "RepeatedId { row: 2 }",
+        ),
+    ];
+    let columns = all_columns(alloc)?;
+    check(&rt, alloc, &columns, frames.as_slice())
 }
 
 #[test]
-fn names_the_first_repeated_row(rt: HostRuntime) -> Result<(), Fail> {
-    let repeated: [(&[u8], u64); 4] = [
-        (b"id,size\na,1\na,2\n", 2),
-        (b"id,size\na,1\nb,2\nA,3\na,3\n", 4),
-        (b"id,size\na,1\nb,2\nb,3\na,3\n", 3),
-        (b"id,size\na,0\na,0\na,0\n", 2),
+fn a_frame_has_at_most_100000_rows(rt: HostRuntime) -> Result<(), Fail> {
+    let alloc = rt.alloc();
+    let columns = two_columns(alloc)?;
+    let most = read_frame(alloc, rows(alloc, 100_000)?.as_bytes(), &columns)?;
+    assert_eq!(rt; most.units().len(), 100_000);
+    let mut more = rows(alloc, 100_000)?;
+    more.push_str("U0\n")?;
+    let mut earlier = rows(alloc, 99_999)?;
+    earlier.push_str("U0\nV,1\n")?;
+    let frames = [
+        (more.as_bytes(), "TooManyRows"),
+        (earlier.as_bytes(), "RowLength { row: 100000 }"),
     ];
-    for (bytes, row) in repeated {
-        assert_eq!(rt;
-            read_frame(rt.alloc(), bytes).err(),
-            Some(FrameFault::RepeatedId { row }),
-            "{bytes:?}"
-        );
-    }
-    Ok(())
+    check(&rt, alloc, &columns, frames.as_slice())
 }

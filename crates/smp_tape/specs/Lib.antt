@@ -1,3 +1,4 @@
 pub mod Reads
 pub mod Settled
+pub mod TapeText
 pub mod Tapes

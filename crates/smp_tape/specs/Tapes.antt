@@ -1,7 +1,5 @@
 -- What a tape is, and what it answers to bounds that are asked one after another.
-use Rattle.std.specs.Prelude.{ℕ, ◌+◌, ◌^◌, cond, nat_lt, nat_le, length, if◌then◌else◌, List, [], ◌∷◌, Option, None, option_and_then, Result, Ok, Err}
-use Rattle.smp_lines.specs.Lines.{lines_of, each_some}
-use Rattle.smp_lines.specs.Decimals.{number_below}
+use Rattle.std.specs.Prelude.{ℕ, ◌+◌, cond, nat_lt, List, [], ◌∷◌, Result, Ok, Err}
 use Rattle.smp_tape.specs.declared.draws.DrawFault.{DrawFault}
 use Rattle.smp_tape.specs.declared.draws.DrawFault.TheVariants.{Short, TooBig}
 
@@ -9,14 +7,6 @@ use Rattle.smp_tape.specs.declared.draws.DrawFault.TheVariants.{Short, TooBig}
 pub record Values : Type 0 where
   pub taken : List ℕ
   pub left : List ℕ
-
--- a line of 1 to 38 decimal digits, and the value that they write
-abbrev pub value_of : List ℕ → Option ℕ
-value_of line = if nat_le (length line) 38 then number_below (2 ^ 128) line else None
-
--- the values of a tape of the first form: one on each line, and each line ended
-abbrev pub values_of : List ℕ → Option (List ℕ)
-values_of bytes = option_and_then (each_some value_of) (lines_of bytes)
 
 -- the answer to one bound, where `place` is that of the first value left
 abbrev pub tape_draw : ℕ → List ℕ → ℕ → Result ℕ DrawFault

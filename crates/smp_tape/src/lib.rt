@@ -2,10 +2,13 @@
 #![tactic(auto)]
 
 mod draws;
+mod fault;
+mod reading;
 mod tape;
 
 pub use draws::{DrawFault, Draws};
-pub use tape::{NoMemory, Tape, TapeFault};
+pub use fault::TapeFault;
+pub use tape::{NoMemory, Tape};
 
 #[cfg(test)]
 mod tests;

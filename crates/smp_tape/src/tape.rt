@@ -1,39 +1,18 @@
 ghost use Rattle.std.specs.Prelude.{◌≡◌, ℕ, ◌+◌, ◌-◌, ◌^◌, ◌<◌, ◌≤◌, List, [], ◌∷◌, ◌++◌, length, take, drop, map, option_map, IfOk, IfErr, OnErr, Result, Ok, Err, refl};
 ghost use Rattle.smp_tape.specs.declared.draws.DrawFault.{DrawFault};
-ghost use Rattle.smp_lines.specs.Lines.{each_some};
-ghost use Rattle.smp_tape.specs.Tapes;
-ghost use Rattle.smp_tape.specs.Tapes.{Values, tape_draw, tape_answers, values_of};
+ghost use Rattle.smp_tape.specs.Tapes.{Values, tape_draw, tape_answers};
+ghost use Rattle.smp_tape.specs.TapeText.{tape_of};
 ghost use Rattle.smp_tape.specs.Reads.{ReadsTape};
-ghost use Rattle.smp_tape.specs.declared.tape.TapeFault.TheVariants as fault;
 ghost use Rattle.smp_tape.specs.Settled.{tape_settled};
 
-use crate::{DrawFault, Draws};
-use smp_lines::{lines, number};
-use std::alloc::{AllocError, Global};
+use crate::reading::values_in;
+use crate::{DrawFault, Draws, TapeFault};
+use std::alloc::Global;
 use std::marker::Model;
 
 /// There was no memory.
 #[derive(Clone, Copy, Debug, PartialEq, Eq)]
 pub struct NoMemory;
-
-/// Why no tape was read.
-#[derive(Clone, Copy, Debug, PartialEq, Eq)]
-pub enum TapeFault {
-    /// The bytes haven't the first form of a tape. Other forms of tapes aren't read yet.
-    NotYet,
-    /// There was no memory.
-    NoMemory,
-}
-
-impl From<AllocError> for TapeFault {
-    ghost from_gives = { λ _ f. f ≡ fault.NoMemory };
-
-    fn from(_: AllocError) -> TapeFault {
-        TapeFault::NoMemory
-    }
-}
-
-const MAX_VALUE_DIGITS: usize = 38;
 
 /// Values that are drawn in their order. It is seen as the values taken and the values left.
 #[derive(Drop)]
@@ -51,17 +30,17 @@ impl Model for Tape {
 }
 
 impl Tape {
-    /// Reads a tape of the first form: lines of 1 to 38 decimal digits, each ended by a line feed, a value a line. No
-    /// line at all is a tape without values. Other bytes are answered by [`TapeFault::NotYet`].
+    /// Reads a tape: a value a line, each of one or more decimal digits with a value below 2^128. Leading zeros are
+    /// allowed. A line ends in a line feed, which the last one may lack, and one carriage return may stand at its
+    /// end. No bytes are a tape without values.
+    ///
+    /// [`TapeFault::Line`] names the first line that isn't such a number, an empty line among them.
     pub fn read(alloc: Global, bytes: &[u8]) -> Result<Tape, TapeFault>
-        ensures { ReadsTape result (values_of bytes.now) }
+        ensures { ReadsTape result (tape_of bytes.now) }
     {
-        let Some(lines) = lines(alloc, bytes)? else {
-            return Err(TapeFault::NotYet);
-        };
-        match values_in(alloc, lines.as_slice())? {
-            Some(values) => Ok(Tape { values, next: 0 }),
-            None => Err(TapeFault::NotYet),
+        match values_in(alloc, bytes) {
+            Ok(values) => Ok(Tape { values, next: 0 }),
+            Err(fault) => Err(fault),
         }
     }
 
@@ -88,28 +67,6 @@ impl Tape {
     {
         self.next as u64
     }
-}
-
-fn value_of(line: &[u8]) -> Option<u128>
-    ensures { result ≡ Tapes.value_of line.now }
-{
-    if line.len() > MAX_VALUE_DIGITS {
-        return None;
-    }
-    number(line)
-}
-
-fn values_in(alloc: Global, lines: &[&[u8]]) -> Result<Option<Vec<u128>>, AllocError>
-    ensures { IfOk result (λ o. option_map (λ v. v.items) o ≡ each_some Tapes.value_of (map (λ line. line.now) lines.now)) }
-{
-    let mut values = Vec::new(alloc);
-    for line in lines {
-        match value_of(line) {
-            Some(value) => values.push(value)?,
-            None => return Ok(None),
-        }
-    }
-    Ok(Some(values))
 }
 
 impl Draws for Tape {

@@ -1,32 +1,78 @@
+use super::reading::values_in;
 use super::{DrawFault, Draws, Tape, TapeFault};
+use std::alloc::{AllocError, Global};
 use std::test::Fail;
+
+// 400 zeros, and then this end.
+fn behind_zeros(alloc: Global, end: &str) -> Result<String, AllocError> {
+    let mut text = String::new(alloc);
+    for _ in 0..400 {
+        text.push('0')?;
+    }
+    text.push_str(end)?;
+    Ok(text)
+}
 
 #[test]
 fn tapes_are_read(rt: HostRuntime) -> Result<(), Fail> {
     let alloc = rt.alloc();
-    let good: [(&[u8], u64); 4] = [
-        (b"", 0),
-        (b"0\n3\n4\n", 3),
-        (b"007\n", 1),
-        (b"99999999999999999999999999999999999999\n", 1),
+    let seven = behind_zeros(alloc, "7")?;
+    let tapes: [(&[u8], &[u128]); 11] = [
+        (b"", &[]),
+        (b"3", &[3]),
+        (b"0\n3\n4\n", &[0, 3, 4]),
+        (b"0\n3\n4", &[0, 3, 4]),
+        (b"5\r\n6\r", &[5, 6]),
+        (b"5\r\n6\r\n", &[5, 6]),
+        (b"007\n", &[7]),
+        (seven.as_bytes(), &[7]),
+        (
+            b"340282366920938463463374607431768211455\n1",
+            &[u128::MAX, 1],
+        ),
+        (b"0340282366920938463463374607431768211455\r", &[u128::MAX]),
+        (b"0\n0\n0\n0\n", &[0, 0, 0, 0]),
     ];
-    for (bytes, count) in good {
+    for (bytes, wanted) in tapes {
         let tape = Tape::read(alloc, bytes)?;
-        assert_eq!(rt; (tape.taken(), tape.left()), (0, count), "{bytes:?}");
+        assert_eq!(rt;
+            (tape.taken(), tape.left()),
+            (0, wanted.len() as u64),
+            "{bytes:?}"
+        );
+        assert_eq!(rt; values_in(alloc, bytes)?.as_slice(), wanted, "{bytes:?}");
     }
-    let refused: [&[u8]; 7] = [
-        b"3",
-        b"0\n3",
-        b"\n",
-        b"3x\n",
-        b"3\r\n",
-        b"-1\n",
-        b"000000000000000000000000000000000000001\n",
+    Ok(())
+}
+
+#[test]
+fn the_first_line_that_is_no_number_is_named(rt: HostRuntime) -> Result<(), Fail> {
+    let alloc = rt.alloc();
+    let letter = behind_zeros(alloc, "x")?;
+    let refused: [(&[u8], u64); 18] = [
+        (b"0\n3x\n", 2),
+        (b"\n", 1),
+        (b"\r", 1),
+        (b"\r\n1\n", 1),
+        (b"0\n\n", 2),
+        (b"0\n\n1\n", 2),
+        (b"0\n1\r\r\n", 2),
+        (b"0\n1\r2\n", 2),
+        (b"0\n1\n2\n3\n4 ", 5),
+        (b" 1\n", 1),
+        (b"+1\n", 1),
+        (b"1\n-1\n", 2),
+        (b"1.0\n", 1),
+        (b"1\n\n\n", 2),
+        (b"\xef\xbb\xbf1\n", 1),
+        (b"1\n2\n340282366920938463463374607431768211456\n", 3),
+        (b"999999999999999999999999999999999999999999\n", 1),
+        (letter.as_bytes(), 1),
     ];
-    for bytes in refused {
+    for (bytes, line) in refused {
         match Tape::read(alloc, bytes) {
-            Err(TapeFault::NotYet) => {}
-            _ => assert!(rt; false, "{bytes:?}"),
+            Err(fault) => assert_eq!(rt; fault, TapeFault::Line { line }, "{bytes:?}"),
+            Ok(_) => assert!(rt; false, "{bytes:?}"),
         }
     }
     Ok(())

@@ -2,4 +2,4 @@ use Rattle.smp_frame.proofs.FrameBounds.{read_bounds}
 use Rattle.smp_frame.proofs.reading.read_frame.Goals as goal
 
 pub returns-clause-bounds : goal.returns-clause-bounds
-returns-clause-bounds c = read_bounds c.args.bytes.now c.first_form.result c.first_form.ensures
+returns-clause-bounds c = read_bounds c.args.columns.now c.args.bytes.now c.frame_in.result c.frame_in.ensures

@@ -1,0 +1,145 @@
+-- Every design that was read keeps the ranges, and its parts go together.
+use Rattle.std.proofs.Common.{◌≡◌, ℕ, ◌≤◌, Bool, true, false, not, ◌&&◌, List, [], length, Option, Some, None, IfSome, IfOk, Result, Ok, Err, codes, refl, sym, ap, ◌∙◌, subst, arith, inl, inr}
+use Rattle.std.specs.Prelude.{IfNone, OnSome, option_and_then, is_some, unwrap_or}
+use Rattle.std.proofs.lemmas.Bool.{cases_Bool}
+use Rattle.toml.specs.Data.{Members, get_member}
+use Rattle.smp_prob.specs.declared.orders.Order.{Order}
+use Rattle.smp_prob.specs.declared.orders.Order.TheVariants as the_order
+use Rattle.smp_design.specs.declared.design.Design.{Design}
+use Rattle.smp_design.specs.declared.method.Method.{Method}
+use Rattle.smp_design.specs.declared.method.Method.TheVariants.{Pivotal, Systematic, MinimumSupport, Brewer, LocalPivotal, Cube}
+use Rattle.smp_design.specs.declared.fault.DesignFault.{DesignFault}
+use Rattle.smp_design.specs.declared.fault.DesignFault.TheVariants.{Version, UnknownKey, MissingKey, Clash}
+use Rattle.smp_design.specs.declared.reading.UnitColumns.{UnitColumns}
+use Rattle.smp_design.specs.declared.reading.SampleSize.{SampleSize}
+use Rattle.smp_design.specs.declared.reading.SecondStage.{SecondStage}
+use Rattle.smp_design.specs.Bounds.{IsDesign, Ascend, least_values, most_values}
+use Rattle.smp_design.specs.Designs.{document, unit_columns, sample_size, value_columns, second_stage, values, design_of, is_version_1}
+use Rattle.smp_design.specs.Keys
+use Rattle.smp_design.specs.Keys.{has, lacks, unknown_key, missing_key}
+use Rattle.smp_design.specs.Reads.{Reads, good, holds, none_found}
+use Rattle.smp_design.specs.Values.{method}
+use Rattle.smp_design.specs.Words.{takes_order, is_cube, is_local_pivotal}
+use Rattle.smp_design.proofs.Went.{went, is_good, found_none}
+use Rattle.smp_design.proofs.ValueBounds.{Few}
+use Rattle.smp_design.proofs.Stages.{NoneMissing, none_missing, NoClash, no_clash, stratum_there, SampleFacts, sample_facts, ValueFacts, value_facts, SecondFacts, second_facts, has_cube, has_local_pivotal}
+
+-- the number of columns that a method takes
+record Fits (m : Method) (columns : List (List ℕ)) : Type 0 where
+  pub some : least_values m ≤ length columns
+  pub few : length columns ≤ most_values m
+
+fits_none : (m : Method) → least_values m ≡ 0 → (b n : Option (List (List ℕ))) → (is_some b && true) ≡ false → (is_some n && true) ≡ false → Fits m (unwrap_or b (unwrap_or n []))
+fits_none m none None None h k = record { some = omega arith; few = omega arith }
+fits_none m none (Some xs) n h k = absurd (cc)
+fits_none m none None (Some xs) h k = absurd (cc)
+
+fits : (m : Method) (b n : Option (List (List ℕ))) → IfSome b (Few 15) → IfSome n (Few 4) → (is_some b && not (is_cube m)) ≡ false → (is_some n && not (is_local_pivotal m)) ≡ false
+    → (m ≡ Cube → is_some b ≡ true) → (m ≡ LocalPivotal → is_some n ≡ true) → Fits m (unwrap_or b (unwrap_or n []))
+fits Cube (Some xs) n few few' h k cube local = record { some = few.0; few = few.1 }
+fits Cube None n few few' h k cube local = absurd (let there = cube refl in cc)
+fits LocalPivotal (Some xs) n few few' h k cube local = absurd (cc)
+fits LocalPivotal None (Some xs) few few' h k cube local = record { some = few'.0; few = few'.1 }
+fits LocalPivotal None None few few' h k cube local = absurd (let there = local refl in cc)
+fits Pivotal b n few few' h k cube local = fits_none Pivotal refl b n h k
+fits Systematic b n few few' h k cube local = fits_none Systematic refl b n h k
+fits MinimumSupport b n few few' h k cube local = fits_none MinimumSupport refl b n h k
+fits Brewer b n few few' h k cube local = fits_none Brewer refl b n h k
+
+-- one of two tests holds, where not both fail
+both : (a b : Bool) → (a && not b) ≡ false → a ≡ true → b ≡ true
+both true true h k = refl
+both true false h k = absurd (cc)
+both false b h k = absurd (cc)
+
+one_of : (a b : Bool) → (not a && not b) ≡ false → a ≡ false → b ≡ true
+one_of true b h k = absurd (cc)
+one_of false true h k = refl
+one_of false false h k = absurd (cc)
+
+not_both : (a b : Bool) → (a && b) ≡ false → a ≡ true → b ≡ false
+not_both true b h k = h
+not_both false b h k = absurd (cc)
+
+on_some : {A : Type 0} (o : Option A) (P : Type 0) → (is_some o ≡ true → P) → OnSome o P
+on_some None P h = tt
+on_some (Some x) P h = h refl
+
+if_none : {A : Type 0} (o : Option A) (P : Type 0) → (is_some o ≡ false → P) → IfNone o P
+if_none None P h = h refl
+if_none (Some x) P h = tt
+
+not_random : (o : Order) → o ≡ the_order.Frame → o ≡ the_order.Random → ⊥
+not_random o h k = absurd (cc)
+
+-- the design of its parts
+abbrev parts : Method → UnitColumns → SampleSize → List (List ℕ) → SecondStage → Design
+parts m unit sample columns second = record {
+  method = m;
+  order = sample.order;
+  columns = record { id = unit.id; stratum = unit.stratum; psu = second.psu; size = unit.size; second_size = second.size; values = columns };
+  n = sample.n;
+  sizes = sample.sizes;
+  second = second.second;
+}
+
+parts_are_design : (t : Members) (m : Method) (unit : UnitColumns) (sample : SampleSize) (columns : List (List ℕ)) (second : SecondStage) → NoneMissing t
+    → option_and_then method (get_member (codes "method") t) ≡ Some m → is_some unit.stratum ≡ has (codes "stratum") t → SampleFacts t sample → ValueFacts t columns → SecondFacts (get_member (codes "second") t) second
+    → NoClash t m → Ascend sample.sizes → IsDesign (parts m unit sample columns second)
+parts_are_design t m unit sample columns second missing method_is stratum s v w clash ascend =
+    let f = subst (λ (xs : List (List ℕ)). Fits m xs) v.is (fits m v.balance v.near v.balance_few v.near_few
+    (ap (λ b. b && not (is_cube m)) v.balance_there ∙ clash.balance)
+    (ap (λ b. b && not (is_local_pivotal m)) v.near_there ∙ clash.near)
+    (λ cube. v.balance_there ∙ both _ (has (codes "balance") t) missing.balance (has_cube t (method_is ∙ ap Some cube)))
+    (λ local. v.near_there ∙ both _ (has (codes "near") t) missing.near (has_local_pivotal t (method_is ∙ ap Some local)))) in
+    record {
+      size = s.size;
+      quotas = s.quotas;
+      ascending = ascend;
+      one_size = on_some sample.n _ (λ there. s.no_sizes (not_both (has (codes "n") t) (has (codes "sizes") t) clash.one_size (sym s.n_there ∙ there)));
+      strata = if_none sample.n _ (λ none. stratum ∙ both (has (codes "sizes") t) (has (codes "stratum") t) clash.strata (one_of (has (codes "n") t) (has (codes "sizes") t) missing.sized (sym s.n_there ∙ none)));
+      order = λ random. elim (cases_Bool (has (codes "order") t)) [
+        | inl there ↦ both (has (codes "order") t) (takes_order m) clash.order there
+        | inr none ↦ absurd (not_random sample.order (s.no_order none) random)
+      ];
+      some_values = f.some;
+      few_values = f.few;
+      second_size = w.size;
+      second_method = w.method;
+      second_first = on_some second.second _ (λ there. not_both (has (codes "second") t) (is_local_pivotal m) clash.second (sym w.there ∙ there));
+      psu = w.psu;
+      second_sizes = w.sizes;
+    }
+
+values_are_design : (t : Members) (d : Design) → NoneMissing t → values t ≡ Ok d → NoClash t d.method → Ascend d.sizes → IsDesign d
+unfolding values
+values_are_design t d missing h clash ascend =
+    let m = went (good (codes "method") (option_and_then method (get_member (codes "method") t))) _ d h in
+    let unit = went (unit_columns t) _ d m.gives in
+    let sample = went (sample_size t) _ d unit.gives in
+    let columns = went (value_columns t) _ d sample.gives in
+    let second = went (second_stage (get_member (codes "second") t)) _ d columns.gives in
+    let s = sample_facts t sample.value sample.is in
+    let v = value_facts t columns.value columns.is in
+    let w = second_facts (get_member (codes "second") t) second.value second.is in
+    let is : parts m.value unit.value sample.value columns.value second.value ≡ d = (let same : ◌≡◌ {A = Result Design _} (Ok (parts m.value unit.value sample.value columns.value second.value)) (Ok d) = second.gives in cc) in
+    subst (λ (e : Design). NoClash t e.method → Ascend e.sizes → IsDesign e) is
+    (parts_are_design t m.value unit.value sample.value columns.value second.value missing (is_good (codes "method") (option_and_then method (get_member (codes "method") t)) m.value m.is) (stratum_there t unit.value unit.is) s v w) clash ascend
+
+pub is_design : (bytes : List ℕ) (d : Design) → design_of bytes ≡ Ok d → Ascend d.sizes → IsDesign d
+unfolding design_of
+is_design bytes d h ascend =
+    let t = went (document bytes) _ d h in
+    let version = went (holds (is_version_1 t.value) Version) _ d t.gives in
+    let unknown = went (none_found UnknownKey (unknown_key t.value)) _ d version.gives in
+    let missing = went (none_found MissingKey (missing_key t.value)) _ d unknown.gives in
+    let design = went (values t.value) _ d missing.gives in
+    let clash = went (none_found (λ keys. Clash keys.0 keys.1) (Keys.clash t.value design.value.method)) _ d design.gives in
+    let is : design.value ≡ d = (let same : ◌≡◌ {A = Result Design _} (Ok design.value) (Ok d) = clash.gives in cc) in
+    subst (λ (e : Design). Ascend e.sizes → IsDesign e) is
+    (values_are_design t.value design.value (none_missing t.value (found_none MissingKey (missing_key t.value) missing.value missing.is)) design.is (no_clash t.value design.value.method (found_none (λ keys. Clash keys.0 keys.1) (Keys.clash t.value design.value.method) clash.value clash.is))) ascend
+
+-- what was read is a design
+pub read_is_design : (bytes : List ℕ) (result : Result Design DesignFault) → Reads result (design_of bytes) → IfOk result (λ d. Ascend d.sizes) → IfOk result IsDesign
+read_is_design bytes (Ok d) h ascend = is_design bytes d h ascend
+read_is_design bytes (Err fault) h ascend = tt

@@ -1,0 +1,7 @@
+pub mod FirstKeys
+pub mod Documents
+pub mod QuotasOf
+pub mod Went
+pub mod ValueBounds
+pub mod Stages
+pub mod DesignBounds

@@ -1,0 +1,192 @@
+-- What is true of each part of a design that was read.
+use Rattle.std.proofs.Common.{◌≡◌, ℕ, Bool, true, false, cond, not, ◌&&◌, List, [], Option, Some, None, IfSome, Result, Ok, codes, refl, ap, ◌∙◌, subst, arith}
+use Rattle.std.specs.Prelude.{All, IfNone, option_and_then, is_some, unwrap_or}
+use Rattle.toml.specs.Data.{Data, Members, get_member, as_str, as_table}
+use Rattle.smp_prob.specs.declared.orders.Order.TheVariants as the_order
+use Rattle.smp_design.specs.declared.design.Quota as quota
+use Rattle.smp_design.specs.declared.method.Method.{Method}
+use Rattle.smp_design.specs.declared.method.Method.TheVariants.{Pivotal, Systematic, MinimumSupport, Brewer, LocalPivotal, Cube}
+use Rattle.smp_design.specs.declared.reading.UnitColumns.{UnitColumns}
+use Rattle.smp_design.specs.declared.reading.SampleSize.{SampleSize}
+use Rattle.smp_design.specs.declared.reading.SecondStage.{SecondStage}
+use Rattle.smp_design.specs.Bounds.{InRange, is_second_method}
+use Rattle.smp_design.specs.Designs.{unit_columns, sample_size, value_columns, second_stage_of, second_stage}
+use Rattle.smp_design.specs.Keys.{has, lacks, has_method, is_word, missing_key, clash}
+use Rattle.smp_design.specs.Reads.{good}
+use Rattle.smp_design.specs.Values.{number, method, second_method, order, names, quotas, optional}
+use Rattle.smp_design.specs.Words.{meaning, methods, takes_order, is_cube, is_local_pivotal}
+use Rattle.smp_design.proofs.Went.{went, is_good, first_fails, goes_on}
+use Rattle.smp_design.proofs.ValueBounds.{Few, number-range, quotas-range, names-few, second_method-is, optional-holds, optional-there}
+
+-- no needed key is missing
+pub record NoneMissing (t : Members) : Type 0 where
+  pub sized : (lacks (codes "n") t && lacks (codes "sizes") t) ≡ false
+  pub balance : (has_method (codes "cube") t && lacks (codes "balance") t) ≡ false
+  pub near : (has_method (codes "local_pivotal") t && lacks (codes "near") t) ≡ false
+
+pub none_missing : (t : Members) → missing_key t ≡ None → NoneMissing t
+unfolding missing_key
+none_missing t h =
+    let a = first_fails (lacks (codes "method") t) (codes "method") _ h in
+    let b = first_fails (lacks (codes "id") t) (codes "id") _ a.others in
+    let c = first_fails (lacks (codes "n") t && lacks (codes "sizes") t) (codes "n") _ b.others in
+    let d = first_fails (has_method (codes "cube") t && lacks (codes "balance") t) (codes "balance") _ c.others in
+    let e = first_fails (has_method (codes "local_pivotal") t && lacks (codes "near") t) (codes "near") _ d.others in
+    record { sized = c.fails; balance = d.fails; near = e.fails }
+
+-- no two keys clash
+pub record NoClash (t : Members) (m : Method) : Type 0 where
+  pub one_size : (has (codes "n") t && has (codes "sizes") t) ≡ false
+  pub strata : (has (codes "sizes") t && lacks (codes "stratum") t) ≡ false
+  pub order : (has (codes "order") t && not (takes_order m)) ≡ false
+  pub balance : (has (codes "balance") t && not (is_cube m)) ≡ false
+  pub near : (has (codes "near") t && not (is_local_pivotal m)) ≡ false
+  pub second : (has (codes "second") t && is_local_pivotal m) ≡ false
+
+pub no_clash : (t : Members) (m : Method) → clash t m ≡ None → NoClash t m
+unfolding clash
+no_clash t m h =
+    let a = first_fails (has (codes "n") t && has (codes "sizes") t) (codes "n", codes "sizes") _ h in
+    let b = first_fails (has (codes "sizes") t && lacks (codes "stratum") t) (codes "sizes", codes "stratum") _ a.others in
+    let c = first_fails (has (codes "order") t && not (takes_order m)) (codes "order", codes "method") _ b.others in
+    let d = first_fails (has (codes "balance") t && not (is_cube m)) (codes "balance", codes "method") _ c.others in
+    let e = first_fails (has (codes "near") t && not (is_local_pivotal m)) (codes "near", codes "method") _ d.others in
+    let f = first_fails (has (codes "second") t && is_local_pivotal m) (codes "second", codes "method") _ e.others in
+    record { one_size = a.fails; strata = b.fails; order = c.fails; balance = d.fails; near = e.fails; second = f.fails }
+
+pub stratum_there : (t : Members) (u : UnitColumns) → unit_columns t ≡ Ok u → is_some u.stratum ≡ has (codes "stratum") t
+unfolding unit_columns
+stratum_there t u h =
+    let id = went (good (codes "id") (option_and_then as_str (get_member (codes "id") t))) _ u h in
+    let stratum = went (good (codes "stratum") (optional as_str (get_member (codes "stratum") t))) _ u id.gives in
+    let size = went (good (codes "size") (optional as_str (get_member (codes "size") t))) _ u stratum.gives in
+    let is : record { id = id.value; stratum = stratum.value; size = size.value } ≡ u = (let same : ◌≡◌ {A = Result UnitColumns _} (Ok (record { id = id.value; stratum = stratum.value; size = size.value })) (Ok u) = size.gives in cc) in
+    subst (λ (v : UnitColumns). is_some v.stratum ≡ has (codes "stratum") t) is (optional-there as_str (get_member (codes "stratum") t) stratum.value (is_good (codes "stratum") (optional as_str (get_member (codes "stratum") t)) stratum.value stratum.is))
+
+-- the numbers of units and the order
+pub record SampleFacts (t : Members) (s : SampleSize) : Type 0 where
+  pub size : IfSome s.n InRange
+  pub quotas : All (λ q. InRange q.n) s.sizes
+  pub n_there : is_some s.n ≡ has (codes "n") t
+  pub no_sizes : has (codes "sizes") t ≡ false → s.sizes ≡ []
+  pub no_order : has (codes "order") t ≡ false → s.order ≡ the_order.Frame
+
+nothing_there : {A : Type 0} (o : Option A) (default : A) → is_some o ≡ false → unwrap_or o default ≡ default
+nothing_there None default h = refl
+nothing_there (Some x) default h = absurd (cc)
+
+all_or_none : {A : Type 0} (P : List A → Type 0) → P [] → (o : Option (List A)) → IfSome o P → P (unwrap_or o [])
+all_or_none P none None h = none
+all_or_none P none (Some xs) h = h
+
+pub sample_facts : (t : Members) (s : SampleSize) → sample_size t ≡ Ok s → SampleFacts t s
+unfolding sample_size
+sample_facts t s h =
+    let n = went (good (codes "n") (optional number (get_member (codes "n") t))) _ s h in
+    let sizes = went (good (codes "sizes") (optional quotas (get_member (codes "sizes") t))) _ s n.gives in
+    let o = went (good (codes "order") (optional order (get_member (codes "order") t))) _ s sizes.gives in
+    let n_is = is_good (codes "n") (optional number (get_member (codes "n") t)) n.value n.is in
+    let sizes_is = is_good (codes "sizes") (optional quotas (get_member (codes "sizes") t)) sizes.value sizes.is in
+    let o_is = is_good (codes "order") (optional order (get_member (codes "order") t)) o.value o.is in
+    let is : record { n = n.value; sizes = unwrap_or sizes.value []; order = unwrap_or o.value the_order.Frame } ≡ s = (let same : ◌≡◌ {A = Result SampleSize _} (Ok (record { n = n.value; sizes = unwrap_or sizes.value []; order = unwrap_or o.value the_order.Frame })) (Ok s) = o.gives in cc) in
+    subst (λ (v : SampleSize). SampleFacts t v) is record {
+      size = optional-holds InRange number number-range (get_member (codes "n") t) n.value n_is;
+      quotas = all_or_none (λ (qs : List quota.Quota). All (λ q. InRange q.n) qs) (λ k d within. absurd (omega arith)) sizes.value (optional-holds (λ (qs : List quota.Quota). All (λ q. InRange q.n) qs) quotas quotas-range (get_member (codes "sizes") t) sizes.value sizes_is);
+      n_there = optional-there number (get_member (codes "n") t) n.value n_is;
+      no_sizes = λ none. nothing_there sizes.value [] (optional-there quotas (get_member (codes "sizes") t) sizes.value sizes_is ∙ none);
+      no_order = λ none. nothing_there o.value the_order.Frame (optional-there order (get_member (codes "order") t) o.value o_is ∙ none);
+    }
+
+-- the columns of `balance` and of `near`
+pub record ValueFacts (t : Members) (columns : List (List ℕ)) : Type 0 where
+  pub balance : Option (List (List ℕ))
+  pub near : Option (List (List ℕ))
+  pub balance_few : IfSome balance (Few 15)
+  pub near_few : IfSome near (Few 4)
+  pub balance_there : is_some balance ≡ has (codes "balance") t
+  pub near_there : is_some near ≡ has (codes "near") t
+  pub is : unwrap_or balance (unwrap_or near []) ≡ columns
+
+pub value_facts : (t : Members) (columns : List (List ℕ)) → value_columns t ≡ Ok columns → ValueFacts t columns
+unfolding value_columns
+value_facts t columns h =
+    let balance = went (good (codes "balance") (optional (names 15) (get_member (codes "balance") t))) _ columns h in
+    let near = went (good (codes "near") (optional (names 4) (get_member (codes "near") t))) _ columns balance.gives in
+    let balance_is = is_good (codes "balance") (optional (names 15) (get_member (codes "balance") t)) balance.value balance.is in
+    let near_is = is_good (codes "near") (optional (names 4) (get_member (codes "near") t)) near.value near.is in
+    record {
+      balance = balance.value;
+      near = near.value;
+      balance_few = optional-holds (Few 15) (names 15) (names-few 15) (get_member (codes "balance") t) balance.value balance_is;
+      near_few = optional-holds (Few 4) (names 4) (names-few 4) (get_member (codes "near") t) near.value near_is;
+      balance_there = optional-there (names 15) (get_member (codes "balance") t) balance.value balance_is;
+      near_there = optional-there (names 4) (get_member (codes "near") t) near.value near_is;
+      is = let same : ◌≡◌ {A = Result (List (List ℕ)) _} (Ok (unwrap_or balance.value (unwrap_or near.value []))) (Ok columns) = near.gives in cc;
+    }
+
+-- the second stage
+pub record SecondFacts (o : Option Data) (s : SecondStage) : Type 0 where
+  pub size : IfSome s.second (λ x. InRange x.n)
+  pub method : IfSome s.second (λ x. is_second_method x.method ≡ true)
+  pub psu : is_some s.psu ≡ is_some s.second
+  pub sizes : IfNone s.second (s.size ≡ None)
+  pub there : is_some s.second ≡ is_some o
+
+second_facts_of : (t : Members) (value : Data) (s : SecondStage) → second_stage_of t ≡ Ok s → SecondFacts (Some value) s
+unfolding second_stage_of
+second_facts_of t value s h =
+    let psu = went (good (codes "second.psu") (option_and_then as_str (get_member (codes "psu") t))) _ s h in
+    let m = went (good (codes "second.method") (option_and_then second_method (get_member (codes "method") t))) _ s psu.gives in
+    let n = went (good (codes "second.n") (option_and_then number (get_member (codes "n") t))) _ s m.gives in
+    let size = went (good (codes "second.size") (optional as_str (get_member (codes "size") t))) _ s n.gives in
+    let m_is = goes_on second_method (get_member (codes "method") t) m.value (is_good (codes "second.method") (option_and_then second_method (get_member (codes "method") t)) m.value m.is) in
+    let n_is = goes_on number (get_member (codes "n") t) n.value (is_good (codes "second.n") (option_and_then number (get_member (codes "n") t)) n.value n.is) in
+    let is : record { psu = Some psu.value; size = size.value; second = Some (record { method = m.value; n = n.value }) } ≡ s = (let same : ◌≡◌ {A = Result SecondStage _} (Ok (record { psu = Some psu.value; size = size.value; second = Some (record { method = m.value; n = n.value }) })) (Ok s) = size.gives in cc) in
+    subst (λ (v : SecondStage). SecondFacts (Some value) v) is record {
+      size = number-range n_is.value n.value n_is.gives;
+      method = second_method-is m_is.value m.value m_is.gives;
+      psu = refl;
+      sizes = tt;
+      there = refl;
+    }
+
+pub second_facts : (o : Option Data) (s : SecondStage) → second_stage o ≡ Ok s → SecondFacts o s
+second_facts None s h =
+    let is : record { psu = None; size = None; second = None } ≡ s = (let same : ◌≡◌ {A = Result SecondStage _} (Ok (record { psu = None; size = None; second = None })) (Ok s) = h in cc) in
+    subst (λ (v : SecondStage). SecondFacts None v) is record { size = tt; method = tt; psu = refl; sizes = refl; there = refl }
+second_facts (Some value) s h =
+    let table = went (good (codes "second") (as_table value)) second_stage_of s h in
+    second_facts_of table.value value s table.gives
+
+-- a method that is the cube, or the local pivotal method, has its word
+cube_word : (b1 b2 b3 b4 b5 b6 : Bool) → cond b1 (Some Pivotal) (cond b2 (Some Systematic) (cond b3 (Some MinimumSupport) (cond b4 (Some Brewer) (cond b5 (Some LocalPivotal) (cond b6 (Some Cube) None))))) ≡ Some Cube → b6 ≡ true
+cube_word true b2 b3 b4 b5 b6 h = absurd (cc)
+cube_word false true b3 b4 b5 b6 h = absurd (cc)
+cube_word false false true b4 b5 b6 h = absurd (cc)
+cube_word false false false true b5 b6 h = absurd (cc)
+cube_word false false false false true b6 h = absurd (cc)
+cube_word false false false false false true h = refl
+cube_word false false false false false false h = absurd (cc)
+
+local_word : (b1 b2 b3 b4 b5 b6 : Bool) → cond b1 (Some Pivotal) (cond b2 (Some Systematic) (cond b3 (Some MinimumSupport) (cond b4 (Some Brewer) (cond b5 (Some LocalPivotal) (cond b6 (Some Cube) None))))) ≡ Some LocalPivotal → b5 ≡ true
+local_word true b2 b3 b4 b5 b6 h = absurd (cc)
+local_word false true b3 b4 b5 b6 h = absurd (cc)
+local_word false false true b4 b5 b6 h = absurd (cc)
+local_word false false false true b5 b6 h = absurd (cc)
+local_word false false false false true b6 h = refl
+local_word false false false false false true h = absurd (cc)
+local_word false false false false false false h = absurd (cc)
+
+pub has_cube : (t : Members) → option_and_then method (get_member (codes "method") t) ≡ Some Cube → has_method (codes "cube") t ≡ true
+has_cube t h =
+    let value = goes_on method (get_member (codes "method") t) Cube h in
+    let text = goes_on (meaning methods) (as_str value.value) Cube value.gives in
+    let word : option_and_then as_str (get_member (codes "method") t) ≡ Some text.value = ap (option_and_then as_str) value.is ∙ text.is in
+    ap (is_word (codes "cube")) word ∙ cube_word _ _ _ _ _ _ text.gives
+
+pub has_local_pivotal : (t : Members) → option_and_then method (get_member (codes "method") t) ≡ Some LocalPivotal → has_method (codes "local_pivotal") t ≡ true
+has_local_pivotal t h =
+    let value = goes_on method (get_member (codes "method") t) LocalPivotal h in
+    let text = goes_on (meaning methods) (as_str value.value) LocalPivotal value.gives in
+    let word : option_and_then as_str (get_member (codes "method") t) ≡ Some text.value = ap (option_and_then as_str) value.is ∙ text.is in
+    ap (is_word (codes "local_pivotal")) word ∙ local_word _ _ _ _ _ _ text.gives

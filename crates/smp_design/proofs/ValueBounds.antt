@@ -1,0 +1,84 @@
+-- What is true of the values that keys have.
+use Rattle.std.proofs.Common.{◌≡◌, ℕ, ℤ, pos, negsuc, ◌≤◌, Bool, true, false, cond, ◌&&◌, nat_le, List, [], ◌∷◌, length, Option, Some, None, option_map, IfSome, sym, ap, subst}
+use Rattle.std.specs.Prelude.{All, option_and_then, is_some}
+use Rattle.std.proofs.lemmas.Bool.{and_parts, leb-true}
+use Rattle.std.proofs.lemmas.List.Elements.{All-nil, All-cons}
+use Rattle.toml.specs.Data.{Data, Members, no_members, member, as_integer, as_str, as_array, as_table}
+use Rattle.smp_design.specs.declared.design.Quota as quota
+use Rattle.smp_design.specs.declared.method.Method.{Method}
+use Rattle.smp_design.specs.declared.method.Method.TheVariants.{Pivotal, Systematic, MinimumSupport, Brewer}
+use Rattle.smp_design.specs.Bounds.{InRange, is_second_method}
+use Rattle.smp_design.specs.Values.{number_of, number, second_method, few, names, strings, quotas_of, quotas, optional}
+use Rattle.smp_design.specs.Words.{meaning, second_methods}
+use Rattle.smp_design.proofs.Went.{goes_on, mapped, passes}
+
+number_of-range : (z : ℤ) (n : ℕ) → number_of z ≡ Some n → InRange n
+number_of-range (pos m) n h =
+    let test = passes (nat_le 1 m && nat_le m 100000) (Some m) n h in
+    let parts = and_parts (nat_le 1 m) (nat_le m 100000) test.holds in
+    let is : m ≡ n = (let same : ◌≡◌ {A = Option ℕ} (Some m) (Some n) = test.gives in cc) in
+    subst (λ (k : ℕ). InRange k) is (leb-true 1 m parts.0, leb-true m 100000 parts.1)
+number_of-range (negsuc m) n h = absurd (cc)
+
+pub number-range : (value : Data) (n : ℕ) → number value ≡ Some n → InRange n
+number-range value n h =
+    let step = goes_on number_of (as_integer value) n h in
+    number_of-range step.value n step.gives
+
+quotas_of-range : (t : Members) (qs : List quota.Quota) → quotas_of t ≡ Some qs → All (λ q. InRange q.n) qs
+quotas_of-range no_members qs h =
+    let is : [] ≡ qs = (let same : ◌≡◌ {A = Option (List quota.Quota)} (Some []) (Some qs) = h in cc) in
+    subst (λ (ys : List quota.Quota). All (λ q. InRange q.n) ys) is (All-nil (λ (q : quota.Quota). InRange q.n))
+quotas_of-range (member stratum value rest) qs h =
+    let first = goes_on (λ n. option_map (λ more. record { stratum = stratum; n = n } ∷ more) (quotas_of rest)) (number value) qs h in
+    let more = mapped (λ (more : List quota.Quota). record { stratum = stratum; n = first.value } ∷ more) (quotas_of rest) qs first.gives in
+    let is : record { stratum = stratum; n = first.value } ∷ more.value ≡ qs = (let same : ◌≡◌ {A = Option (List quota.Quota)} (Some (record { stratum = stratum; n = first.value } ∷ more.value)) (Some qs) = more.gives in cc) in
+    subst (λ (ys : List quota.Quota). All (λ q. InRange q.n) ys) is
+    (All-cons (λ (q : quota.Quota). InRange q.n) (record { stratum = stratum; n = first.value }) more.value (number-range value first.value first.is) (quotas_of-range rest more.value more.is))
+
+pub quotas-range : (value : Data) (qs : List quota.Quota) → quotas value ≡ Some qs → All (λ q. InRange q.n) qs
+quotas-range value qs h =
+    let step = goes_on quotas_of (as_table value) qs h in
+    quotas_of-range step.value qs step.gives
+
+-- 1 to `most` names
+abbrev pub Few : ℕ → List (List ℕ) → Type 0
+Few most xs = (1 ≤ length xs) × (length xs ≤ most)
+
+pub names-few : (most : ℕ) (value : Data) (xs : List (List ℕ)) → names most value ≡ Some xs → Few most xs
+names-few most value xs h =
+    let step = goes_on (few most) (option_and_then strings (as_array value)) xs h in
+    let test = passes (nat_le 1 (length step.value) && nat_le (length step.value) most) (Some step.value) xs step.gives in
+    let parts = and_parts (nat_le 1 (length step.value)) (nat_le (length step.value) most) test.holds in
+    let is : step.value ≡ xs = (let same : ◌≡◌ {A = Option (List (List ℕ))} (Some step.value) (Some xs) = test.gives in cc) in
+    subst (λ (ys : List (List ℕ)). Few most ys) is (leb-true 1 (length step.value) parts.0, leb-true (length step.value) most parts.1)
+
+-- a word that stands first means this, or one of the others does
+means_second : (b1 b2 b3 b4 : Bool) (m : Method) → cond b1 (Some Pivotal) (cond b2 (Some Systematic) (cond b3 (Some MinimumSupport) (cond b4 (Some Brewer) None))) ≡ Some m → is_second_method m ≡ true
+means_second true b2 b3 b4 m h = let is : Pivotal ≡ m = cc in ap is_second_method (sym is)
+means_second false true b3 b4 m h = let is : Systematic ≡ m = cc in ap is_second_method (sym is)
+means_second false false true b4 m h = let is : MinimumSupport ≡ m = cc in ap is_second_method (sym is)
+means_second false false false true m h = let is : Brewer ≡ m = cc in ap is_second_method (sym is)
+means_second false false false false m h = absurd (cc)
+
+pub second_method-is : (value : Data) (m : Method) → second_method value ≡ Some m → is_second_method m ≡ true
+second_method-is value m h =
+    let step = goes_on (meaning second_methods) (as_str value) m h in
+    means_second _ _ _ _ m step.gives
+
+-- an optional value: what holds of every good one, and whether it is there
+pub optional-holds : {A : Type 0} (P : A → Type 0) (read : Data → Option A) → ((value : Data) (x : A) → read value ≡ Some x → P x) → (o : Option Data) (x : Option A) → optional read o ≡ Some x → IfSome x P
+optional-holds P read holds None None h = tt
+optional-holds P read holds None (Some x) h = absurd (let same : ◌≡◌ {A = Option (Option _)} (Some None) (Some (Some x)) = h in cc)
+optional-holds P read holds (Some value) None h = tt
+optional-holds {A} P read holds (Some value) (Some x) h =
+    let step = mapped (λ (y : A). Some y) (read value) (Some x) h in
+    let is : step.value ≡ x = (let same : ◌≡◌ {A = Option (Option A)} (Some (Some step.value)) (Some (Some x)) = step.gives in cc) in
+    subst P is (holds value step.value step.is)
+
+pub optional-there : {A : Type 0} (read : Data → Option A) (o : Option Data) (x : Option A) → optional read o ≡ Some x → is_some x ≡ is_some o
+optional-there {A} read None x h = let is : ◌≡◌ {A = Option A} None x = (let same : ◌≡◌ {A = Option (Option A)} (Some None) (Some x) = h in cc) in ap is_some (sym is)
+optional-there {A} read (Some value) x h =
+    let step = mapped (λ (y : A). Some y) (read value) x h in
+    let is : Some step.value ≡ x = (let same : ◌≡◌ {A = Option (Option A)} (Some (Some step.value)) (Some x) = step.gives in cc) in
+    ap is_some (sym is)

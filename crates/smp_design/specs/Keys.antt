@@ -1,0 +1,100 @@
+-- The keys of a design: which there can be, which have to be there, and which don't go together.
+use Rattle.std.specs.Prelude.{ℕ, List, [], ◌∷◌, ◌++◌, Bool, false, ◌&&◌, not, Option, Some, None, is_some, option_map, option_and_then, if◌then◌else◌, codes, filter}
+use Rattle.std.specs.Ordering.{nat_cmp, is_lt}
+use Rattle.std.specs.Cmp.Lexicographic.{slice_cmp}
+use Rattle.std.specs.Str.{bytes_eq}
+use Rattle.std.specs.List.{list_any}
+use Rattle.toml.specs.Data.{Members, no_members, member, get_member, as_str, as_table}
+use Rattle.smp_design.specs.declared.method.Method.{Method}
+use Rattle.smp_design.specs.Words.{takes_order, is_cube, is_local_pivotal}
+
+-- the keys of a design
+abbrev pub known_keys : List (List ℕ)
+known_keys = codes "version" ∷ codes "method" ∷ codes "id" ∷ codes "stratum" ∷ codes "size" ∷ codes "n" ∷ codes "sizes" ∷ codes "order" ∷ codes "balance" ∷ codes "near" ∷ codes "second" ∷ []
+
+-- the keys of its table `second`
+abbrev pub second_keys : List (List ℕ)
+second_keys = codes "psu" ∷ codes "method" ∷ codes "n" ∷ codes "size" ∷ []
+
+-- the keys of a table
+abbrev pub keys_of : Members → List (List ℕ)
+keys_of no_members = []
+keys_of (member key value rest) = key ∷ keys_of rest
+
+-- the first of a key and another, by their bytes
+abbrev pub earlier : List ℕ → Option (List ℕ) → List ℕ
+earlier key None = key
+earlier key (Some other) = if is_lt (slice_cmp nat_cmp other key) then other else key
+
+-- the first of some keys, by their bytes
+abbrev pub first_key : List (List ℕ) → Option (List ℕ)
+first_key [] = None
+first_key (key ∷ rest) = Some (earlier key (first_key rest))
+
+-- the first key of a table, by its bytes, that isn't among these
+abbrev pub first_unknown : List (List ℕ) → Members → Option (List ℕ)
+first_unknown known t = first_key (filter (λ key. not (list_any (bytes_eq key) known)) (keys_of t))
+
+-- the table `second` of a design, where `second` is a table
+abbrev pub second_table : Members → Option Members
+second_table t = option_and_then as_table (get_member (codes "second") t)
+
+-- the first, or else the other
+abbrev pub or_else : {A : Type 0} → Option A → Option A → Option A
+or_else (Some x) other = Some x
+or_else None other = other
+
+-- the first unknown key of a design; one of the table `second` comes after those of the design itself
+unfoldable pub unknown_key : Members → Option (List ℕ)
+unknown_key t = or_else (first_unknown known_keys t) (option_map (λ key. codes "second." ++ key) (option_and_then (first_unknown second_keys) (second_table t)))
+
+-- a key is there
+abbrev pub has : List ℕ → Members → Bool
+has key t = is_some (get_member key t)
+
+-- a key isn't there
+abbrev pub lacks : List ℕ → Members → Bool
+lacks key t = not (has key t)
+
+-- a table is there and lacks a key
+abbrev pub table_lacks : List ℕ → Option Members → Bool
+table_lacks key None = false
+table_lacks key (Some t) = lacks key t
+
+-- a value is the string of this word
+abbrev pub is_word : List ℕ → Option (List ℕ) → Bool
+is_word word None = false
+is_word word (Some text) = bytes_eq text word
+
+-- `method` is the string of this word
+abbrev pub has_method : List ℕ → Members → Bool
+has_method word t = is_word word (option_and_then as_str (get_member (codes "method") t))
+
+-- what stands beside the first test that holds
+abbrev pub first_where : {A : Type 0} → List (Bool × A) → Option A
+first_where [] = None
+first_where (case ∷ rest) = if case.0 then Some case.1 else first_where rest
+
+-- the first key that is needed and isn't there
+unfoldable pub missing_key : Members → Option (List ℕ)
+missing_key t = first_where (
+    (lacks (codes "method") t, codes "method")
+    ∷ (lacks (codes "id") t, codes "id")
+    ∷ (lacks (codes "n") t && lacks (codes "sizes") t, codes "n")
+    ∷ (has_method (codes "cube") t && lacks (codes "balance") t, codes "balance")
+    ∷ (has_method (codes "local_pivotal") t && lacks (codes "near") t, codes "near")
+    ∷ (table_lacks (codes "psu") (second_table t), codes "second.psu")
+    ∷ (table_lacks (codes "method") (second_table t), codes "second.method")
+    ∷ (table_lacks (codes "n") (second_table t), codes "second.n")
+    ∷ [])
+
+-- the first two keys of a design with this method that don't go together
+unfoldable pub clash : Members → Method → Option (List ℕ × List ℕ)
+clash t method = first_where (
+    (has (codes "n") t && has (codes "sizes") t, (codes "n", codes "sizes"))
+    ∷ (has (codes "sizes") t && lacks (codes "stratum") t, (codes "sizes", codes "stratum"))
+    ∷ (has (codes "order") t && not (takes_order method), (codes "order", codes "method"))
+    ∷ (has (codes "balance") t && not (is_cube method), (codes "balance", codes "method"))
+    ∷ (has (codes "near") t && not (is_local_pivotal method), (codes "near", codes "method"))
+    ∷ (has (codes "second") t && is_local_pivotal method, (codes "second", codes "method"))
+    ∷ [])

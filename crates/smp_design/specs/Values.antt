@@ -1,0 +1,55 @@
+-- What the values of a design's keys mean.
+use Rattle.std.specs.Prelude.{ℕ, ℤ, pos, negsuc, List, [], ◌∷◌, ◌&&◌, nat_le, length, Option, Some, None, option_map, option_and_then, if◌then◌else◌}
+use Rattle.toml.specs.Data.{Data, Items, no_items, item, Members, no_members, member, as_integer, as_str, as_array, as_table}
+use Rattle.smp_prob.specs.declared.orders.Order.{Order}
+use Rattle.smp_design.specs.declared.method.Method.{Method}
+use Rattle.smp_design.specs.declared.design.Quota as quota
+use Rattle.smp_design.specs.Words.{meaning, methods, second_methods, orders}
+
+-- a whole number from 1 to 100,000
+abbrev pub number_of : ℤ → Option ℕ
+number_of (pos n) = if nat_le 1 n && nat_le n 100000 then Some n else None
+number_of (negsuc n) = None
+
+-- an integer from 1 to 100,000
+abbrev pub number : Data → Option ℕ
+number value = option_and_then number_of (as_integer value)
+
+-- the word of a method
+abbrev pub method : Data → Option Method
+method value = option_and_then (meaning methods) (as_str value)
+
+-- the word of a method that a second stage can have
+abbrev pub second_method : Data → Option Method
+second_method value = option_and_then (meaning second_methods) (as_str value)
+
+-- the word of an order
+abbrev pub order : Data → Option Order
+order value = option_and_then (meaning orders) (as_str value)
+
+-- values that are all strings
+abbrev pub strings : Items → Option (List (List ℕ))
+strings no_items = Some []
+strings (item value rest) = option_and_then (λ name. option_map (λ more. name ∷ more) (strings rest)) (as_str value)
+
+-- 1 to `most` names
+abbrev pub few : ℕ → List (List ℕ) → Option (List (List ℕ))
+few most names = if nat_le 1 (length names) && nat_le (length names) most then Some names else None
+
+-- an array of 1 to `most` strings
+abbrev pub names : ℕ → Data → Option (List (List ℕ))
+names most value = option_and_then (few most) (option_and_then strings (as_array value))
+
+-- the quotas of a table's entries, in their order
+abbrev pub quotas_of : Members → Option (List quota.Quota)
+quotas_of no_members = Some []
+quotas_of (member stratum value rest) = option_and_then (λ n. option_map (λ more. record { stratum = stratum; n = n } ∷ more) (quotas_of rest)) (number value)
+
+-- a table of strata's names and integers from 1 to 100,000
+abbrev pub quotas : Data → Option (List quota.Quota)
+quotas value = option_and_then quotas_of (as_table value)
+
+-- a value that may be left out: nothing where it is, and what it means where it isn't
+abbrev pub optional : {A : Type 0} → (Data → Option A) → Option Data → Option (Option A)
+optional read None = Some None
+optional read (Some value) = option_map Some (read value)

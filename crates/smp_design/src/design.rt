@@ -1,0 +1,76 @@
+//! A design and its parts.
+
+ghost use Rattle.std.specs.Prelude.{◌≡◌};
+
+use crate::Method;
+use smp_frac::Text;
+use smp_frame::Columns;
+use smp_prob::Order;
+use std::marker::Model;
+
+/// The design of a sample.
+#[derive(Drop)]
+pub struct Design {
+    /// How the first stage units of each stratum are drawn.
+    pub method: Method,
+    /// In which order the method takes the units.
+    pub order: Order,
+    /// The columns of the frame. The values are those to balance with the cube method, and the coordinates with
+    /// the local pivotal method.
+    pub columns: Columns,
+    /// How many first stage units are drawn from all strata together, where it isn't said for each stratum.
+    pub n: Option<u32>,
+    /// How many first stage units are drawn from each stratum, in byte order of the strata's names.
+    pub sizes: Quotas,
+    /// How units are drawn from each first stage unit that was drawn.
+    pub second: Option<Second>,
+}
+
+/// The second stage of a design, which takes the units in frame order.
+#[derive(Clone, Copy, Debug, PartialEq, Eq)]
+pub struct Second {
+    /// How units are drawn from a first stage unit.
+    pub method: Method,
+    /// How many units are drawn from a first stage unit.
+    pub n: u32,
+}
+
+/// How many first stage units are drawn from a stratum.
+#[derive(Debug, Drop)]
+pub struct Quota {
+    /// The stratum's name.
+    pub stratum: Text,
+    /// The number of units.
+    pub n: u32,
+}
+
+/// Quotas in a list.
+#[derive(Drop)]
+pub struct Quotas {
+    items: Vec<Quota>,
+}
+
+impl Model for Quotas {
+    ghost use Rattle.std.specs.Prelude.{List};
+    ghost use Rattle.smp_design.specs.declared.design.Quota as quota;
+
+    ghost Value = { List quota.Quota };
+
+    ghost view = { λ quotas. quotas.items.items };
+}
+
+impl Quotas {
+    /// The quotas of a vector.
+    pub fn from_vec(items: Vec<Quota>) -> Quotas
+        ensures { result ≡ items.items }
+    {
+        Quotas { items }
+    }
+
+    /// The quotas in their order.
+    pub fn as_slice(&self) -> &[Quota]
+        ensures { result.now ≡ self.now }
+    {
+        self.items.as_slice()
+    }
+}

@@ -1,0 +1,122 @@
+//! What stands at a key of a table. `None` is a bad value; at an optional key, `Some(None)` says that the key isn't
+//! there.
+
+ghost use Rattle.std.specs.Prelude.{◌≡◌, IfOk, IfSome, option_and_then};
+ghost use Rattle.toml.specs.Data.{as_str, get_member};
+ghost use Rattle.toml.specs.View.{table_view};
+ghost use Rattle.smp_design.specs.Bounds.{Ascend};
+ghost use Rattle.smp_design.specs.Values;
+ghost use Rattle.smp_design.specs.Values.{optional};
+
+use crate::keys::value_at;
+use crate::values::{method, names, number, order, quotas, second_method, text};
+use crate::{Method, Quotas};
+use smp_frac::{NoMemory, Text};
+use smp_frame::Names;
+use smp_prob::Order;
+use std::alloc::Global;
+use toml::Table;
+
+pub(crate) fn text_at(alloc: Global, table: &Table, key: &str) -> Result<Option<Text>, NoMemory>
+    ensures { IfOk result (λ o. o ≡ option_and_then as_str (get_member key.now (table_view table.now))) }
+{
+    match value_at(table, key) {
+        Some(value) => text(alloc, value),
+        None => Ok(None),
+    }
+}
+
+pub(crate) fn number_at(table: &Table, key: &str) -> Option<u32>
+    ensures { result ≡ option_and_then Values.number (get_member key.now (table_view table.now)) }
+{
+    match value_at(table, key) {
+        Some(value) => number(value),
+        None => None,
+    }
+}
+
+pub(crate) fn method_at(table: &Table, key: &str) -> Option<Method>
+    ensures { result ≡ option_and_then Values.method (get_member key.now (table_view table.now)) }
+{
+    match value_at(table, key) {
+        Some(value) => method(value),
+        None => None,
+    }
+}
+
+pub(crate) fn second_method_at(table: &Table, key: &str) -> Option<Method>
+    ensures { result ≡ option_and_then Values.second_method (get_member key.now (table_view table.now)) }
+{
+    match value_at(table, key) {
+        Some(value) => second_method(value),
+        None => None,
+    }
+}
+
+pub(crate) fn optional_text_at(
+    alloc: Global,
+    table: &Table,
+    key: &str,
+) -> Result<Option<Option<Text>>, NoMemory>
+    ensures { IfOk result (λ o. o ≡ optional as_str (get_member key.now (table_view table.now))) }
+{
+    let Some(value) = value_at(table, key) else {
+        return Ok(Some(None));
+    };
+    match text(alloc, value)? {
+        Some(text) => Ok(Some(Some(text))),
+        None => Ok(None),
+    }
+}
+
+pub(crate) fn optional_number_at(table: &Table, key: &str) -> Option<Option<u32>>
+    ensures { result ≡ optional Values.number (get_member key.now (table_view table.now)) }
+{
+    match value_at(table, key) {
+        Some(value) => number(value).map(Some),
+        None => Some(None),
+    }
+}
+
+pub(crate) fn optional_order_at(table: &Table, key: &str) -> Option<Option<Order>>
+    ensures { result ≡ optional Values.order (get_member key.now (table_view table.now)) }
+{
+    match value_at(table, key) {
+        Some(value) => order(value).map(Some),
+        None => Some(None),
+    }
+}
+
+pub(crate) fn optional_quotas_at(
+    alloc: Global,
+    table: &Table,
+    key: &str,
+) -> Result<Option<Option<Quotas>>, NoMemory>
+    ensures value { IfOk result (λ o. o ≡ optional Values.quotas (get_member key.now (table_view table.now))) }
+    ensures ascending { IfOk result (λ o. IfSome o (λ quotas. IfSome quotas Ascend)) }
+{
+    let Some(value) = value_at(table, key) else {
+        return Ok(Some(None));
+    };
+    match quotas(alloc, value)? {
+        Some(quotas) => Ok(Some(Some(quotas))),
+        None => Ok(None),
+    }
+}
+
+pub(crate) fn optional_names_at(
+    alloc: Global,
+    table: &Table,
+    key: &str,
+    most: usize,
+) -> Result<Option<Option<Names>>, NoMemory>
+    ensures { IfOk result (λ o. o ≡ optional (Values.names most) (get_member key.now (table_view table.now))) }
+{
+    let Some(value) = value_at(table, key) else {
+        return Ok(Some(None));
+    };
+    match names(alloc, value, most)? {
+        Some(names) => Ok(Some(Some(names))),
+        None => Ok(None),
+    }
+}

@@ -1,0 +1,12 @@
+use Rattle.std.proofs.Common.{◌≡◌, [], map, string_bytes}
+use Rattle.smp_frame.specs.Frames.{units_from}
+use Rattle.smp_frame.specs.Readers.{IsReading, rows_left}
+use Rattle.smp_frame.proofs.Front.{with_front}
+use Rattle.smp_frame.proofs.units.units_left.Given as goal
+
+abbrev pub invariant-loop-number : goal.invariant-loop-number
+invariant-loop-number l =
+    record {
+      reading : IsReading l.reader;
+      units : with_front l.units.items (units_from l.layout l.number (map string_bytes l.seen.keys) (rows_left l.reader)) ≡ units_from l.layout 1 [] (rows_left l.fn.reader);
+    }

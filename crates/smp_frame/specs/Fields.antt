@@ -1,0 +1,48 @@
+-- What the fields of a row write.
+use Rattle.std.specs.Prelude.{ℕ, ◌^◌, ℤ, pos, neg_ℤ, Bool, false, List, [], ◌∷◌, Option, Some, None, ◌==◌, nat_lt, Result, Ok, if◌then◌else◌}
+use Rattle.std.specs.Str.Parse.{digits_value}
+use Rattle.smp_lines.specs.Decimals.{is_decimal}
+use Rattle.smp_frame.specs.Steps.{◌>>=◌, guard}
+use Rattle.smp_frame.specs.Records.{field}
+use Rattle.smp_frame.specs.declared.layout.Column.{Column}
+use Rattle.smp_frame.specs.declared.fault.FrameFault.{FrameFault}
+use Rattle.smp_frame.specs.declared.fault.FrameFault.TheVariants.{NotNumber, TooLarge}
+
+-- the text in an asked column, or the empty text
+abbrev pub text_in : List (List ℕ) → Option Column → List ℕ
+text_in row None = []
+text_in row (Some column) = field row column.place
+
+-- a size: one or more decimal digits, with a value below 2^31
+unfoldable pub size_of : ℕ → List ℕ → List ℕ → Result ℕ FrameFault
+size_of number name text = do
+  _ ← guard (is_decimal text) (NotNumber number name)
+  _ ← guard (nat_lt (digits_value 10 text) (2 ^ 31)) (TooLarge number name)
+  Ok (digits_value 10 text)
+
+-- the size in an asked column, or 1
+abbrev pub size_in : ℕ → List (List ℕ) → Option Column → Result ℕ FrameFault
+size_in number row None = Ok 1
+size_in number row (Some column) = size_of number column.name (field row column.place)
+
+-- whether a minus, the byte 45, stands in front
+abbrev pub is_minus : List ℕ → Bool
+is_minus [] = false
+is_minus (b ∷ digits) = b == 45
+
+-- a text without a minus in front
+abbrev pub without_minus : List ℕ → List ℕ
+without_minus [] = []
+without_minus (b ∷ digits) = if b == 45 then digits else b ∷ digits
+
+-- a value: written as a size is, and one minus may stand in front
+abbrev pub value_of : ℕ → List ℕ → List ℕ → Result ℤ FrameFault
+value_of number name text = size_of number name (without_minus text) >>= λ size. Ok (if is_minus text then neg_ℤ (pos size) else pos size)
+
+-- the values in asked columns
+abbrev pub values_in : ℕ → List (List ℕ) → List Column → Result (List ℤ) FrameFault
+values_in number row [] = Ok []
+values_in number row (column ∷ columns) = do
+  value ← value_of number column.name (field row column.place)
+  values ← values_in number row columns
+  Ok (value ∷ values)

@@ -1,0 +1,121 @@
+//! Where the asked columns stand in the rows of a frame.
+
+ghost use Rattle.std.specs.Prelude.{◌≡◌, [], map};
+ghost use Rattle.csv.specs.Records.{fields_of};
+ghost use Rattle.smp_frame.specs.Layouts;
+ghost use Rattle.smp_frame.specs.Reads.{Gives, Reads};
+
+use crate::records::field;
+use crate::{Columns, FrameFault};
+use csv::ByteRecord;
+use smp_frac::{NoMemory, Text};
+use std::alloc::Global;
+use std::marker::Model;
+
+/// An asked column.
+#[derive(Drop)]
+pub(crate) struct Column {
+    pub name: Text,
+    /// The place of its field in each row, counted from 0.
+    pub place: usize,
+}
+
+/// Columns in a list.
+#[derive(Drop)]
+pub(crate) struct ColumnList {
+    items: Vec<Column>,
+}
+
+impl Model for ColumnList {
+    ghost use Rattle.std.specs.Prelude.{List};
+    ghost use Rattle.smp_frame.specs.declared.layout.Column as column;
+
+    ghost Value = { List column.Column };
+
+    ghost view = { λ columns. columns.items.items };
+}
+
+impl ColumnList {
+    pub fn as_slice(&self) -> &[Column]
+        ensures { result.now ≡ self.now }
+    {
+        self.items.as_slice()
+    }
+}
+
+/// How many fields each row has, and the asked columns.
+#[derive(Drop)]
+pub(crate) struct Layout {
+    pub width: usize,
+    pub id: Column,
+    pub stratum: Option<Column>,
+    pub psu: Option<Column>,
+    pub size: Option<Column>,
+    pub second_size: Option<Column>,
+    pub values: ColumnList,
+}
+
+/// Looks for the asked columns in a header.
+#[tactic(auto, unfolding(crate::specs::Layouts::layout_of))]
+pub(crate) fn layout_of(
+    alloc: Global,
+    columns: &Columns,
+    header: &ByteRecord,
+) -> Result<Layout, FrameFault>
+    ensures { Reads result (Layouts.layout_of columns.now (fields_of header.now)) }
+{
+    Ok(Layout {
+        width: header.len(),
+        id: column_in(alloc, header, &columns.id)?,
+        stratum: asked_in(alloc, header, &columns.stratum)?,
+        psu: asked_in(alloc, header, &columns.psu)?,
+        size: asked_in(alloc, header, &columns.size)?,
+        second_size: asked_in(alloc, header, &columns.second_size)?,
+        values: columns_in(alloc, header, columns.values.as_slice())?,
+    })
+}
+
+#[tactic(auto, using(crate::proofs::RecordFields::drop_field))]
+fn column_in(alloc: Global, header: &ByteRecord, name: &Text) -> Result<Column, FrameFault>
+    ensures { Reads result (Layouts.column_in (fields_of header.now) name.now) }
+{
+    let mut found = None;
+    for place in 0..header.len() {
+        if field(header, place) == name.as_str().as_bytes() {
+            if found.is_some() {
+                return Err(FrameFault::RepeatedColumn {
+                    name: name.copy(alloc)?,
+                });
+            }
+            found = Some(place);
+        }
+    }
+    let name = name.copy(alloc)?;
+    match found {
+        Some(place) => Ok(Column { name, place }),
+        None => Err(FrameFault::MissingColumn { name }),
+    }
+}
+
+fn asked_in(
+    alloc: Global,
+    header: &ByteRecord,
+    name: &Option<Text>,
+) -> Result<Option<Column>, FrameFault>
+    ensures { Reads result (Layouts.asked_in (fields_of header.now) name.now) }
+{
+    match name {
+        Some(name) => Ok(Some(column_in(alloc, header, name)?)),
+        None => Ok(None),
+    }
+}
+
+fn columns_in(alloc: Global, header: &ByteRecord, names: &[Text]) -> Result<ColumnList, FrameFault>
+    ensures { Reads result (Layouts.columns_in (fields_of header.now) names.now) }
+{
+    let mut items = Vec::new(alloc);
+    for name in names {
+        items.push(column_in(alloc, header, name)?)?;
+    }
+    Ok(ColumnList { items })
+}
