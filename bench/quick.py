@@ -1,7 +1,7 @@
 #!/usr/bin/env python3
 """Times `sampler quick` on made-up frames and prints rows, steps and seconds. It is no test.
 
-    bench/quick.py [ROWS ..]      1,000 rows where none are given, the most that the first form of a frame has
+    bench/quick.py [ROWS ..]      100,000 rows where none are given, the most that a frame has
 
 Each frame is drawn with two tapes: one of the least value of every draw, one of the greatest.
 """
@@ -50,7 +50,7 @@ def main():
     program = os.path.join(TOP, "sampler")
     subprocess.run([program], stdout=subprocess.DEVNULL)
     print("rows steps draws seconds")
-    for rows in [int(word) for word in sys.argv[1:]] or [1000]:
+    for rows in [int(word) for word in sys.argv[1:]] or [100_000]:
         sizes = made_up_sizes(rows)
         n = max(1, rows // 10)
         frame = os.path.join(work, "frame.csv")
