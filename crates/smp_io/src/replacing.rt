@@ -13,7 +13,7 @@ const MAX_PARTIAL_FILES: u32 = 100;
 
 // Sets the content of a file: as a whole where it is a regular file or none is there, in place where it is anything
 // else, as a link or a device. A read-only file is left alone.
-pub fn write_file<R: Files + AllocGlobal>(
+pub(crate) fn write_file<R: Files + AllocGlobal>(
     rt: &R,
     name: &str,
     bytes: &[u8],
