@@ -5,7 +5,8 @@ use Rattle.smp_io.specs.Store.{Files}
 use Rattle.smp_app.specs.declared.status.Status.{Status}
 use Rattle.smp_app.specs.declared.status.Status.TheVariants as status
 use Rattle.smp_app.specs.FaultLines.{fault_line}
-use Rattle.smp_app.specs.Words.{Command, command_of}
+use Rattle.smp_words.specs.declared.command.Command.{Command}
+use Rattle.smp_words.specs.Words.{command_of}
 use Rattle.smp_app.specs.Verdict.{verdict}
 use Rattle.smp_app.specs.Answers.{Outside, Undisturbed, WorkSays, Says, Reports, IsUsage, IsVerdict, IsAnswer}
 use Rattle.smp_app.proofs.Ends.{refusal_ends, no_line}
@@ -23,6 +24,8 @@ module _ (answer : Status) (words : List (List ℕ)) (before now : Outside) (wri
   says status.Usage work reports = refusal_ends status.Usage answer words before now written faults le work reports (λ r. r)
   says (status.Frame fault) work reports = refusal_ends (status.Frame fault) answer words before now written faults le work reports (λ r. r)
   says (status.Misfit misfit) work reports = refusal_ends (status.Misfit misfit) answer words before now written faults le work reports (λ r. r)
+  says (status.Design fault) work reports = refusal_ends (status.Design fault) answer words before now written faults le work reports (λ r. r)
+  says status.NotYet work reports = refusal_ends status.NotYet answer words before now written faults le work reports (λ r. r)
   says (status.TapeText line) work reports = refusal_ends (status.TapeText line) answer words before now written faults le work reports (λ r. r)
   says (status.TapeShort taken) work reports = refusal_ends (status.TapeShort taken) answer words before now written faults le work reports (λ r. r)
   says (status.TapeValue place value bound) work reports = refusal_ends (status.TapeValue place value bound) answer words before now written faults le work reports (λ r. r)
@@ -42,6 +45,8 @@ usage status.ReadFault words before now says none = absurd (unasked words says.c
 usage status.WriteFault words before now says none = absurd (unasked words says.command none says.stopped.asked)
 usage (status.Frame fault) words before now says none = absurd (unasked words says.refused.command none says.refused.asked)
 usage (status.Misfit misfit) words before now says none = absurd (unasked words says.refused.command none says.refused.asked)
+usage (status.Design fault) words before now says none = absurd (unasked words says.refused.command none says.refused.asked)
+usage status.NotYet words before now says none = absurd (unasked words says.refused.command none says.refused.asked)
 usage (status.TapeText line) words before now says none = absurd (unasked words says.refused.command none says.refused.asked)
 usage (status.TapeShort taken) words before now says none = absurd (unasked words says.refused.command none says.refused.asked)
 usage (status.TapeValue place value bound) words before now says none = absurd (unasked words says.refused.command none says.refused.asked)
@@ -63,6 +68,8 @@ complete status.WriteFault words before now says command asked fs told calm =
 complete status.Usage words before now says command asked fs told calm = absurd (unasked words command says.refused asked)
 complete (status.Frame fault) words before now says command asked fs told calm = says.refused.verdict_is fs told
 complete (status.Misfit misfit) words before now says command asked fs told calm = says.refused.verdict_is fs told
+complete (status.Design fault) words before now says command asked fs told calm = says.refused.verdict_is fs told
+complete status.NotYet words before now says command asked fs told calm = says.refused.verdict_is fs told
 complete (status.TapeText line) words before now says command asked fs told calm = says.refused.verdict_is fs told
 complete (status.TapeShort taken) words before now says command asked fs told calm = says.refused.verdict_is fs told
 complete (status.TapeValue place value bound) words before now says command asked fs told calm = says.refused.verdict_is fs told

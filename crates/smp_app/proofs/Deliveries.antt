@@ -50,3 +50,7 @@ one_file name name' bytes bytes' put put' files files_are name_is bytes_are put_
     ∙ ap (λ n. record { files = record { name = n; bytes = bytes } ∷ []; put = put }) name_is
     ∙ ap (λ b. record { files = record { name = name'; bytes = b } ∷ []; put = put }) bytes_are
     ∙ ap (λ p. record { files = record { name = name'; bytes = bytes' } ∷ []; put = p }) put_is
+
+-- outputs of no file
+pub no_file : (outputs : Outputs) (put put' : List ℕ) → outputs ≡ record { files = []; put = put } → put ≡ put' → outputs ≡ record { files = []; put = put' }
+no_file outputs put put' outputs_are put_is = outputs_are ∙ ap (λ p. record { files = []; put = p }) put_is

@@ -6,7 +6,8 @@ use Rattle.smp_io.specs.Sink.{with_bytes, AppendsFront}
 use Rattle.smp_io.specs.Store.{Files}
 use Rattle.smp_app.specs.declared.status.Status.{Status}
 use Rattle.smp_app.specs.declared.status.Status.TheVariants as status
-use Rattle.smp_app.specs.Words.{Command, command_of, outputs_of}
+use Rattle.smp_words.specs.declared.command.Command.{Command}
+use Rattle.smp_words.specs.Words.{command_of, inputs_of, outputs_of}
 use Rattle.smp_app.specs.FaultLines.{fault_line}
 use Rattle.smp_app.specs.Verdict.{Stop, Refused, ◌>>=◌, or_refused, without, outputs_stage, verdict}
 use Rattle.smp_app.specs.Jobs.{Follows, IsOfInputs, ReadCause}
@@ -30,7 +31,7 @@ module _ (words : List (List ℕ)) (command : Command) (before now : Outside) (a
       (refusal : Status)
       → IsOfInputs refusal
       → ((fs : Files) → before.files ≡ Some fs → Follows {A = Outputs} (Err refusal) (outputs_stage command fs))
-      → (refusal ≡ status.ReadFault → ReadCause command before.files before.read_faults now.read_faults)
+      → (refusal ≡ status.ReadFault → ReadCause (inputs_of command) (outputs_stage command) before.files before.read_faults now.read_faults)
       → Untouched before now
       → WorkSays refusal words before now
   refusal_says status.Done kind follows cause same = absurd kind
@@ -38,6 +39,8 @@ module _ (words : List (List ℕ)) (command : Command) (before now : Outside) (a
   refusal_says status.WriteFault kind follows cause same = absurd kind
   refusal_says (status.Frame fault) kind follows cause same = record { refused = refused_by (status.Frame fault) follows; lined = kind; same = same }
   refusal_says (status.Misfit misfit) kind follows cause same = record { refused = refused_by (status.Misfit misfit) follows; lined = kind; same = same }
+  refusal_says (status.Design fault) kind follows cause same = record { refused = refused_by (status.Design fault) follows; lined = kind; same = same }
+  refusal_says status.NotYet kind follows cause same = record { refused = refused_by status.NotYet follows; lined = kind; same = same }
   refusal_says (status.TapeText line) kind follows cause same = record { refused = refused_by (status.TapeText line) follows; lined = kind; same = same }
   refusal_says (status.TapeShort taken) kind follows cause same = record { refused = refused_by (status.TapeShort taken) follows; lined = kind; same = same }
   refusal_says (status.TapeValue place value bound) kind follows cause same = record { refused = refused_by (status.TapeValue place value bound) follows; lined = kind; same = same }

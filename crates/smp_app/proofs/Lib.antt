@@ -1,6 +1,5 @@
 pub mod Deliveries
 pub mod Written
-pub mod CommandWords
 pub mod Stages
 pub mod Selections
 pub mod Ends

@@ -1,15 +1,28 @@
 -- Texts that are written row by row.
-use Rattle.std.proofs.Common.{◌≡◌, ℕ, ◌+◌, ◌<◌, suc, List, ◌∷◌, ◌++◌, length, get_or, drop, append_assoc, arith, sym, ap, ◌∙◌, drop-cons}
-use Rattle.std.specs.List.{flat_map}
+use Rattle.std.proofs.Common.{◌≡◌, ℕ, length-append, ◌+◌, ◌*◌, ◌<◌, ◌≤◌, suc, zero, Bool, true, false, List, [], ◌∷◌, ◌++◌, length, get_or, drop, append_assoc, arith, refl, sym, ap, ◌∙◌, drop-cons, inl, inr, eq-zero-or-pos, mul-pos, true≢false}
+use Rattle.std.specs.List.{All, flat_map}
 use Rattle.std.specs.Prelude.{slice_index}
-use Rattle.std.proofs.lemmas.List.{get_or-map}
+use Rattle.std.proofs.lemmas.Grind.{flat_map-append}
+use Rattle.std.proofs.lemmas.List.{get_or-map, append-nil, drop_all}
+use Rattle.std.proofs.lemmas.List.Elements.{All-append}
+use Rattle.std.proofs.lemmas.Nat.Gcd.{IsGcd-swap}
+use Rattle.smp_frac.proofs.Lowest.{lowest_from_coprime, coprime_from_lowest}
 use Rattle.smp_frac.specs.declared.fractions.Frac.{Frac}
 use Rattle.smp_frac.specs.Fractions.{IsRatio, decimal_fraction}
 use Rattle.smp_frame.specs.declared.frame.Unit as unit
 use Rattle.smp_frame.specs.Bounds.{sizes_of}
-use Rattle.smp_prob.specs.Requested.{Ratio, SameRatio, ratio_text, requested_ratio}
+use Rattle.smp_prob.specs.declared.requests.Request.{Request}
+use Rattle.smp_prob.specs.declared.standings.Standing.{Standing}
+use Rattle.smp_prob.specs.declared.standings.Standing.TheVariants.{Certain, Free, Never}
+use Rattle.smp_prob.specs.Requested.{Ratio, SameRatio, ratio_text}
+use Rattle.smp_prob.specs.Requests.{IsRequest}
+use Rattle.smp_prob.specs.Standings.{standing, is_taken, ratio_at, asked_ratio}
 use Rattle.smp_prob.proofs.LowestTerms.{decimal_fraction-ratio, IsRatio-same}
-use Rattle.smp_app.specs.Texts.{pair_row, probability_row}
+use Rattle.smp_rows.specs.Laws.{free_within}
+use Rattle.smp_weights.specs.Chosen.{Chosen, chosen_units}
+use Rattle.smp_weights.specs.Sample.{sample_row}
+use Rattle.smp_app.specs.Plans.{Plan, ratio_of, chosen_from}
+use Rattle.smp_app.specs.Texts.{pair_row, probability_row, weight_of, weight_row}
 
 -- the row of one more element
 pub next_row : {A : Type 0} (row : A → List ℕ) (xs : List A) (i : ℕ) (x : A) (text next whole : List ℕ) → i < length xs → x ≡ get_or xs i x → next ≡ text ++ row x → text ++ flat_map row (drop i xs) ≡ whole → next ++ flat_map row (drop (i + 1) xs) ≡ whole
@@ -22,12 +35,123 @@ next_row row xs i x text next whole within is written so_far =
     ∙ ap (λ rest. text ++ flat_map row rest) (sym here)
     ∙ so_far
 
--- the row of a unit with its probability
-pub probability_row-is : (n : ℕ) (units : List unit.Unit) (i : ℕ) (u : unit.Unit) (asked : Ratio) (f : Frac) → i < length units → u ≡ get_or units i u
-    → SameRatio asked (requested_ratio n (sizes_of units) (slice_index (sizes_of units) i)) → IsRatio asked.num asked.den f → pair_row u.id (decimal_fraction f) ≡ probability_row n (sizes_of units) u
-probability_row-is n units i u asked f within is same value =
-    let size : slice_index (sizes_of units) i ≡ u.size = get_or-map (λ (v : unit.Unit). v.size) units i u 0 within ∙ ap (λ (v : unit.Unit). v.size) (sym is) in
-    let ratio : Ratio = requested_ratio n (sizes_of units) (slice_index (sizes_of units) i) in
-    let text : decimal_fraction f ≡ ratio_text (requested_ratio n (sizes_of units) (slice_index (sizes_of units) i)) =
-    decimal_fraction-ratio f (requested_ratio n (sizes_of units) (slice_index (sizes_of units) i)) same.second (IsRatio-same f asked _ same value) in
-    ap (pair_row u.id) text ∙ ap (λ z. pair_row u.id (ratio_text (requested_ratio n (sizes_of units) z))) size
+-- ---- probabilities and weights
+
+module _ (plan : Plan) (i : ℕ) (u : unit.Unit) (within : i < length plan.units) (is : u ≡ get_or plan.units i u) (asked : Ratio) (f : Frac)
+    (same : SameRatio asked (ratio_of plan (slice_index (sizes_of plan.units) i))) (value : IsRatio asked.num asked.den f) where
+  size_is : slice_index (sizes_of plan.units) i ≡ u.size
+  size_is = get_or-map (λ (v : unit.Unit). v.size) plan.units i u 0 within ∙ ap (λ (v : unit.Unit). v.size) (sym is)
+
+  -- the row of a unit with its probability
+  pub probability_row-is : pair_row u.id (decimal_fraction f) ≡ probability_row plan u
+  probability_row-is =
+      ap (pair_row u.id) (decimal_fraction-ratio f (ratio_of plan (slice_index (sizes_of plan.units) i)) same.second (IsRatio-same f asked _ same value))
+      ∙ ap (λ z. pair_row u.id (ratio_text (ratio_of plan z))) size_is
+
+  abbrev inverse : 1 ≤ f.num → Frac
+  inverse some = record {
+    num = f.den;
+    den = f.num;
+    positive = some;
+    lowest = lowest_from_coprime _ _ (IsGcd-swap _ _ _ (coprime_from_lowest f.num f.den f.lowest));
+  }
+
+  positive_ratio : (n d : ℕ) → 1 ≤ f.num → 1 ≤ d → f.num * d ≡ n * f.den → 1 ≤ n
+  positive_ratio zero d some positive is_value = absurd (let product : 0 < f.num * d = mul-pos some positive in omega (arith, is_value, product))
+  positive_ratio (suc n) d some positive is_value = omega arith
+
+  crossed : (p q n d : ℕ) → p * d ≡ n * q → q * n ≡ d * p
+  crossed p q n d h = omega (arith, h)
+
+  -- the row of a unit with its weight
+  pub weight_row-is : 1 ≤ f.num → sample_row (record { value = u.id; asked = f }) ≡ weight_row plan u
+  weight_row-is some =
+      let ratio : Ratio = ratio_of plan (slice_index (sizes_of plan.units) i) in
+      let of_ratio : IsRatio (ratio_of plan (slice_index (sizes_of plan.units) i)).num (ratio_of plan (slice_index (sizes_of plan.units) i)).den f = IsRatio-same f asked _ same value in
+      ap (pair_row u.id) (decimal_fraction-ratio (inverse some) (weight_of (ratio_of plan (slice_index (sizes_of plan.units) i))) (positive_ratio _ _ some same.second of_ratio) (crossed f.num f.den _ _ of_ratio))
+      ∙ ap (λ z. pair_row u.id (ratio_text (weight_of (ratio_of plan z)))) size_is
+
+-- ---- a drawn row has a positive probability
+
+module _ (request : Request) (is : IsRequest request) (chosen : ℕ → Bool) where
+  positive_at : (stands : Standing) → ((unit : ℕ) → stands ≡ Free unit → unit < length request.free) → is_taken chosen stands ≡ true → 1 ≤ (ratio_at request stands).num
+  positive_at Certain within taken = omega arith
+  positive_at (Free unit) within taken =
+      let here : unit < length request.free = within unit refl in
+      let one : 1 ≤ length request.free = omega (arith, here) in
+      mul-pos (is.positive unit (omega (arith, here, is.paired))) (is.drawn one)
+  positive_at Never within taken = absurd (true≢false (sym taken))
+
+  pub drawn_positive : (row : ℕ) (f : Frac) → is_taken chosen (standing request row) ≡ true → IsRatio (asked_ratio request row).num (asked_ratio request row).den f → 1 ≤ f.num
+  drawn_positive row f taken value =
+      let some : 1 ≤ (asked_ratio request row).num = positive_at (standing request row) (free_within request row) taken in
+      elim (eq-zero-or-pos f.num) [
+        | inl none ↦ absurd (let product : 0 < (asked_ratio request row).num * f.den = mul-pos some f.positive in let zeroed : 0 * (asked_ratio request row).den ≡ (asked_ratio request row).num * f.den = rw none at value in omega (arith, product, zeroed))
+        | inr positive ↦ omega (arith, positive)
+      ]
+
+-- ---- the drawn rows, so far
+
+chosen_push : (ids : List (List ℕ)) (asked : List Frac) (flags : List Bool) (id : List ℕ) (f : Frac) → length asked ≡ length ids → length flags ≡ length ids
+    → chosen_units (ids ++ id ∷ []) (asked ++ f ∷ []) (flags ++ true ∷ []) ≡ chosen_units ids asked flags ++ record { value = id; asked = f } ∷ []
+chosen_push [] [] [] id f h k = refl
+chosen_push [] [] (flag ∷ flags) id f h k = absurd (omega (arith, k))
+chosen_push [] (g ∷ asked) flags id f h k = absurd (omega (arith, h))
+chosen_push (i ∷ ids) [] flags id f h k = absurd (omega (arith, h))
+chosen_push (i ∷ ids) (g ∷ asked) [] id f h k = absurd (omega (arith, k))
+chosen_push (i ∷ ids) (g ∷ asked) (true ∷ flags) id f h k =
+    ap (λ (rest : List (Chosen (List ℕ))). record { value = i; asked = g } ∷ rest) (chosen_push ids asked flags id f (omega (arith, h)) (omega (arith, k)))
+chosen_push (i ∷ ids) (g ∷ asked) (false ∷ flags) id f h k = chosen_push ids asked flags id f (omega (arith, h)) (omega (arith, k))
+
+-- the drawn rows before a place are gathered, and with those from it on they are the whole
+pub record IsSoFar (plan : Plan) (chosen : ℕ → Bool) (whole : List ℕ) (i : ℕ) (ids : List (List ℕ)) (asked : List Frac) (flags : List Bool) : Type 0 where
+  pub asked_paired : length asked ≡ length ids
+  pub flags_paired : length flags ≡ length ids
+  pub positive : All (λ p. 1 ≤ p.num) asked
+  pub rows : flat_map sample_row (chosen_units ids asked flags) ++ flat_map (weight_row plan) (chosen_from i chosen (drop i plan.units)) ≡ whole
+
+-- at the end all of them are gathered
+pub all_gathered : (plan : Plan) (chosen : ℕ → Bool) (whole : List ℕ) (i : ℕ) (ids : List (List ℕ)) (asked : List Frac) (flags : List Bool) → IsSoFar plan chosen whole i ids asked flags → length plan.units ≤ i
+    → flat_map sample_row (chosen_units ids asked flags) ≡ whole
+all_gathered plan chosen whole i ids asked flags so_far ended =
+    sym (append-nil (flat_map sample_row (chosen_units ids asked flags))) ∙ (rw (drop_all i plan.units ended) at so_far.rows)
+
+module _ (plan : Plan) (chosen : ℕ → Bool) (whole : List ℕ) (i : ℕ) (u : unit.Unit) (within : i < length plan.units) (here_is : u ≡ get_or plan.units i u)
+    (ids : List (List ℕ)) (asked : List Frac) (flags : List Bool) (so_far : IsSoFar plan chosen whole i ids asked flags) where
+  here : drop i plan.units ≡ u ∷ drop (i + 1) plan.units
+  here =
+      let on : suc i ≡ i + 1 = omega arith in
+      drop-cons plan.units i u within ∙ ap (λ y. y ∷ drop (suc i) plan.units) (sym here_is) ∙ ap (λ n. u ∷ drop n plan.units) on
+
+  pub skipped : chosen i ≡ false → IsSoFar plan chosen whole (i + 1) ids asked flags
+  skipped none = record {
+    asked_paired = so_far.asked_paired;
+    flags_paired = so_far.flags_paired;
+    positive = so_far.positive;
+    rows = rw (here, none) at so_far.rows;
+  }
+
+  pub gathered : (f : Frac) → chosen i ≡ true → 1 ≤ f.num → sample_row (record { value = u.id; asked = f }) ≡ weight_row plan u
+      → (ids' : List (List ℕ)) (asked' : List Frac) (flags' : List Bool) → ids' ≡ ids ++ u.id ∷ [] → asked' ≡ asked ++ f ∷ [] → flags' ≡ flags ++ true ∷ []
+      → IsSoFar plan chosen whole (i + 1) ids' asked' flags'
+  gathered f taken some row_is ids' asked' flags' ids_are asked_are flags_are =
+      let rows : flat_map sample_row (chosen_units ids asked flags) ++ (weight_row plan u ++ flat_map (weight_row plan) (chosen_from (i + 1) chosen (drop (i + 1) plan.units))) ≡ whole = rw (here, taken) at so_far.rows in
+      let pushed : flat_map sample_row (chosen_units (ids ++ u.id ∷ []) (asked ++ f ∷ []) (flags ++ true ∷ [])) ≡ flat_map sample_row (chosen_units ids asked flags) ++ weight_row plan u =
+      ap (flat_map sample_row) (chosen_push ids asked flags u.id f so_far.asked_paired so_far.flags_paired)
+      ∙ flat_map-append sample_row (chosen_units ids asked flags) (record { value = u.id; asked = f } ∷ [])
+      ∙ ap (λ r. flat_map sample_row (chosen_units ids asked flags) ++ r) (append-nil (sample_row (record { value = u.id; asked = f })) ∙ row_is) in
+      rw (ids_are, asked_are, flags_are) (record {
+        asked_paired = length_push asked ids f u.id so_far.asked_paired;
+        flags_paired = length_push flags ids true u.id so_far.flags_paired;
+        positive = All-append (λ (p : Frac). 1 ≤ p.num) asked (f ∷ []) so_far.positive (lone f some);
+        rows = ap (λ t. t ++ flat_map (weight_row plan) (chosen_from (i + 1) chosen (drop (i + 1) plan.units))) pushed
+            ∙ append_assoc (flat_map sample_row (chosen_units ids asked flags)) (weight_row plan u) (flat_map (weight_row plan) (chosen_from (i + 1) chosen (drop (i + 1) plan.units)))
+            ∙ rows;
+      })
+    where
+      length_push : {A B : Type 0} (xs : List A) (ys : List B) (x : A) (y : B) → length xs ≡ length ys → length (xs ++ x ∷ []) ≡ length (ys ++ y ∷ [])
+      length_push xs ys x y h = simp length-append (ap (λ n. n + 1) h)
+
+      lone : (f : Frac) → 1 ≤ f.num → All (λ (p : Frac). 1 ≤ p.num) (f ∷ [])
+      lone f some zero d l = some
+      lone f some (suc k) d l = absurd (omega (arith, l))

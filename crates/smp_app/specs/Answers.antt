@@ -6,13 +6,17 @@ use Rattle.smp_io.specs.Store.{Files}
 use Rattle.smp_tape.specs.TapeText.{tape_of}
 use Rattle.smp_split.specs.Runs.{run, leaf}
 use Rattle.smp_frame.specs.Frames.{frame_of}
-use Rattle.smp_frame.specs.declared.frame.Unit as unit
 use Rattle.smp_app.specs.declared.status.Status.{Status}
 use Rattle.smp_app.specs.declared.status.Status.TheVariants as status
-use Rattle.smp_app.specs.Words.{QuickArguments, ProbsArguments, Command, Quick, Probs, command_of, inputs_of, outputs_of}
+use Rattle.smp_design.specs.Designs.{design_of}
+use Rattle.smp_design.specs.declared.design.Design.{Design}
+use Rattle.smp_words.specs.declared.command.Command.{Command}
+use Rattle.smp_words.specs.declared.command.Command.TheVariants as commands
+use Rattle.smp_words.specs.Words.{command_of, inputs_of, outputs_of}
+use Rattle.smp_app.specs.declared.asked.Asked.{Asked}
 use Rattle.smp_app.specs.FaultLines.{fault_line}
-use Rattle.smp_app.specs.Plans.{Plan, asked_columns, tree_of, start_of}
-use Rattle.smp_app.specs.Verdict.{Stop, Refused, Missing, Drawn, without, quick_outputs, probs_outputs, verdict}
+use Rattle.smp_app.specs.Plans.{Plan, quick_asked, asked_of, tree_of, start_of}
+use Rattle.smp_app.specs.Verdict.{Stop, Refused, Missing, Drawn, without, quick_outputs, draw_outputs, probs_outputs, check_outputs, verdict}
 use Rattle.smp_app.specs.Jobs.{IsDrawnBy, HasLine}
 use Rattle.smp_app.specs.Deliveries.{Outputs, SomeRose, names_of, with_files, StopsAt}
 
@@ -41,38 +45,53 @@ pub record Untouched (before now : Outside) : Type 0 where
 
 -- ---- all was done
 
--- the units of the frame under a name
-abbrev pub HoldsFrame : Files → List ℕ → List unit.Unit → Type 0
-HoldsFrame fs name units = option_map (frame_of asked_columns) (fs name) ≡ Some (Ok units)
+-- what the design under a name asks
+pub record HoldsAsked (fs : Files) (name : List ℕ) (asked : Asked) : Type 0 where
+  pub design : Design
+  pub held : option_map design_of (fs name) ≡ Some (Ok design)
+  pub asks : asked_of design ≡ Some asked
 
--- What is drawn, by the words and the files: from the units of the frame as many as was asked, at the leaf to which the values of
--- the tape lead from the start of the design's draw tree, each of them taken and each below its bound.
-pub record IsDraw (arguments : QuickArguments) (fs : Files) (drawn : Drawn) : Type 0 where
-  pub units : HoldsFrame fs arguments.frame drawn.plan.units
-  pub count : drawn.plan.n ≡ arguments.n
+-- a plan for the units of the frame under a name, as it is asked
+pub record IsPlan (asked : Asked) (frame : List ℕ) (fs : Files) (plan : Plan) : Type 0 where
+  pub units : option_map (frame_of asked.columns) (fs frame) ≡ Some (Ok plan.units)
+  pub procedure : plan.procedure ≡ asked.procedure
+  pub count : plan.n ≡ asked.n
+
+-- What is drawn by a tape: the leaf to which its values lead from the start of the plan's draw tree, each of them taken and each below
+-- its bound.
+pub record IsDraw (tape : List ℕ) (fs : Files) (drawn : Drawn) : Type 0 where
   pub values : List ℕ
-  pub tape : option_map tape_of (fs arguments.tape) ≡ Some (Ok values)
+  pub held : option_map tape_of (fs tape) ≡ Some (Ok values)
   pub ran : run (tree_of drawn.plan) (start_of drawn.plan) 0 values ≡ leaf drawn.state drawn.path
 
--- The ids and the step lines are those of the leaf of the tape in the design's draw tree, in which each row's probability of selection,
--- over draws that are uniform below each asked bound, is exactly the requested fraction. There are as many ids as was asked.
-pub record IsDrawn (arguments : QuickArguments) (fs : Files) (outputs : Outputs) : Type 0 where
+-- The outputs are those of the leaf of the tape in the plan's draw tree, in which each row's probability of selection, over draws that
+-- are uniform below each asked bound, is exactly the requested fraction. There are as many drawn units as was asked.
+pub record IsDrawn (asked : Asked) (frame tape : List ℕ) (fs : Files) (outputs_of_drawn : Drawn → Outputs) (outputs : Outputs) : Type 0 where
   pub drawn : Drawn
-  pub draw : IsDraw arguments fs drawn
+  pub plan : IsPlan asked frame fs drawn.plan
+  pub draw : IsDraw tape fs drawn
   pub by_plan : IsDrawnBy drawn.plan drawn
-  pub outputs_are : outputs ≡ quick_outputs arguments drawn
+  pub outputs_are : outputs ≡ outputs_of_drawn drawn
 
--- The probabilities are those that are requested of the units of the frame.
-pub record IsListed (arguments : ProbsArguments) (fs : Files) (outputs : Outputs) : Type 0 where
+-- The outputs are those of the plan.
+pub record IsListed (asked : Asked) (frame : List ℕ) (fs : Files) (outputs_of_plan : Plan → Outputs) (outputs : Outputs) : Type 0 where
   pub plan : Plan
-  pub units : HoldsFrame fs arguments.frame plan.units
-  pub count : plan.n ≡ arguments.n
-  pub outputs_are : outputs ≡ probs_outputs plan
+  pub is_plan : IsPlan asked frame fs plan
+  pub outputs_are : outputs ≡ outputs_of_plan plan
+
+-- it is so for what the design under a name asks
+pub record IsDesigned (design : List ℕ) (fs : Files) (Is : Asked → Type 0) : Type 0 where
+  pub asked : Asked
+  pub held : HoldsAsked fs design asked
+  pub is : Is asked
 
 -- what the outputs of a command are
 abbrev pub Means : Command → Files → Outputs → Type 0
-Means (Quick arguments) fs outputs = IsDrawn arguments fs outputs
-Means (Probs arguments) fs outputs = IsListed arguments fs outputs
+Means (commands.Quick a) fs outputs = IsDrawn (quick_asked a.n) a.frame a.tape fs (quick_outputs a) outputs
+Means (commands.Draw a) fs outputs = IsDesigned a.design fs (λ asked. IsDrawn asked a.frame a.tape fs (draw_outputs a) outputs)
+Means (commands.Probs a) fs outputs = IsDesigned a.design fs (λ asked. IsListed asked a.frame fs probs_outputs outputs)
+Means (commands.Check a) fs outputs = IsDesigned a.design fs (λ asked. IsListed asked a.frame fs check_outputs outputs)
+Means commands.NotYet fs outputs = ⊥
 
 -- All outputs are written and put, and they are those that the verdict accepts.
 pub record IsWork (words : List (List ℕ)) (command : Command) (fs : Files) (before now : Outside) : Type 0 where

@@ -1,5 +1,7 @@
 -- The exit codes, and the statuses of faults.
 use Rattle.std.specs.Prelude.{ℕ}
+use Rattle.smp_design.specs.declared.fault.DesignFault.{DesignFault}
+use Rattle.smp_design.specs.declared.fault.DesignFault.TheVariants as design_fault
 use Rattle.smp_frame.specs.declared.fault.FrameFault.{FrameFault}
 use Rattle.smp_frame.specs.declared.fault.FrameFault.TheVariants as frame_fault
 use Rattle.smp_tape.specs.declared.fault.TapeFault.{TapeFault}
@@ -12,6 +14,7 @@ use Rattle.smp_app.specs.declared.status.Status.TheVariants as status
 abbrev pub code_of : Status → ℕ
 code_of status.Done = 0
 code_of status.Usage = 2
+code_of (status.Design fault) = 3
 code_of (status.Frame fault) = 4
 code_of (status.Misfit misfit) = 5
 code_of (status.TapeText line) = 6
@@ -21,6 +24,11 @@ code_of (status.TapeLong left) = 9
 code_of status.ReadFault = 12
 code_of status.WriteFault = 13
 code_of status.NoMemory = 14
+code_of status.NotYet = 15
+
+abbrev pub design_status : DesignFault → Status
+design_status design_fault.NoMemory = status.NoMemory
+design_status fault = status.Design fault
 
 abbrev pub frame_status : FrameFault → Status
 frame_status frame_fault.NoMemory = status.NoMemory

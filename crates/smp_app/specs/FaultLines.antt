@@ -1,12 +1,23 @@
 -- The line that is put for a refusal: its number, and what was wrong.
 use Rattle.std.specs.Prelude.{ℕ, List, ◌++◌, Option, Some, None, codes}
 use Rattle.std.specs.Fmt.{decimal}
+use Rattle.smp_design.specs.declared.fault.DesignFault.{DesignFault}
+use Rattle.smp_design.specs.declared.fault.DesignFault.TheVariants as design_fault
 use Rattle.smp_frame.specs.declared.fault.FrameFault.{FrameFault}
 use Rattle.smp_frame.specs.declared.fault.FrameFault.TheVariants as frame_fault
 use Rattle.smp_app.specs.declared.misfit.Misfit.{Misfit}
 use Rattle.smp_app.specs.declared.misfit.Misfit.TheVariants as misfits
 use Rattle.smp_app.specs.declared.status.Status.{Status}
 use Rattle.smp_app.specs.declared.status.Status.TheVariants as status
+
+abbrev pub design_line : DesignFault → Option (List ℕ)
+design_line design_fault.Syntax = Some (codes "error 3.1 design isn't TOML\n")
+design_line design_fault.Version = Some (codes "error 3.2 version\n")
+design_line (design_fault.UnknownKey name) = Some (codes "error 3.3 unknown key " ++ (name ++ codes "\n"))
+design_line (design_fault.MissingKey name) = Some (codes "error 3.4 missing key " ++ (name ++ codes "\n"))
+design_line (design_fault.BadValue key) = Some (codes "error 3.5 bad value of " ++ (key ++ codes "\n"))
+design_line (design_fault.Clash first second) = Some (codes "error 3.6 " ++ (first ++ (codes " clashes with " ++ (second ++ codes "\n"))))
+design_line design_fault.NoMemory = None
 
 abbrev pub frame_line : FrameFault → Option (List ℕ)
 frame_line frame_fault.NoHeader = Some (codes "error 4.1 no header\n")
@@ -30,10 +41,12 @@ usage_line = codes "error 2 usage: sampler COMMAND [OPTIONS], COMMAND is quick, 
 
 abbrev pub fault_line : Status → Option (List ℕ)
 fault_line status.Usage = Some usage_line
+fault_line (status.Design fault) = design_line fault
 fault_line (status.Frame fault) = frame_line fault
 fault_line (status.Misfit misfit) = misfit_line misfit
 fault_line (status.TapeText line) = Some (codes "error 6 tape line " ++ (decimal line ++ codes " isn't a number\n"))
 fault_line (status.TapeShort taken) = Some (codes "error 7 tape ends after " ++ (decimal taken ++ codes "\n"))
 fault_line (status.TapeValue place value bound) = Some (codes "error 8 tape value " ++ (decimal place ++ (codes " is " ++ (decimal value ++ (codes ", bound " ++ (decimal bound ++ codes "\n"))))))
 fault_line (status.TapeLong left) = Some (codes "error 9 tape has " ++ (decimal left ++ codes " more\n"))
+fault_line status.NotYet = Some (codes "error 15 not yet\n")
 fault_line other = None

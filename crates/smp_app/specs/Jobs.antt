@@ -8,23 +8,22 @@ use Rattle.smp_frame.specs.Bounds.{IsFrame, sizes_of}
 use Rattle.smp_prob.specs.Requested.{SameRatio, requested_ratio}
 use Rattle.smp_prob.specs.Requests.{IsRequest}
 use Rattle.smp_prob.specs.Standings.{IsOrdered, asked_ratio}
-use Rattle.smp_pivotal.specs.Pivots.{IsPivotal, pivotal_tree}
+use Rattle.smp_stage.specs.Stages.{BelongsToStage, IsWhole, stage_tree}
 use Rattle.smp_rows.specs.Rows.{rows_tree, BelongsToRows, Fills}
 use Rattle.smp_app.specs.declared.misfit.Misfit.{Misfit}
 use Rattle.smp_app.specs.declared.misfit.Misfit.TheVariants as misfits
 use Rattle.smp_app.specs.declared.status.Status.{Status}
 use Rattle.smp_app.specs.declared.status.Status.TheVariants as status
-use Rattle.smp_app.specs.declared.inputs.FramePlan.{FramePlan}
+use Rattle.smp_app.specs.declared.plan.FramePlan.{FramePlan}
 use Rattle.smp_app.specs.declared.selection.Selection.{Selection}
 use Rattle.smp_app.specs.FaultLines.{fault_line}
-use Rattle.smp_app.specs.Plans.{Plan, request_of, tree_of, start_of, requested_fraction, drawn_ids}
-use Rattle.smp_app.specs.Verdict.{Stop, Refused, Missing, Drawn, without, outputs_stage}
-use Rattle.smp_app.specs.Words.{Command, inputs_of}
+use Rattle.smp_app.specs.Plans.{Plan, request_of, tree_of, start_of, requested_fraction, drawn_units}
+use Rattle.smp_app.specs.Verdict.{Stop, Refused, Missing, Drawn, without}
 
 -- ---- values of the code as the definitions see them
 
 abbrev pub plan_view : FramePlan → Plan
-plan_view plan = record { units = plan.frame; n = plan.n }
+plan_view plan = record { procedure = plan.procedure; units = plan.frame; n = plan.n }
 
 abbrev pub selection_view : Plan → Selection → Drawn
 selection_view plan selection = record { plan = plan; state = selection.state; path = selection.lines }
@@ -70,31 +69,32 @@ IsOfInputs status.ReadFault = Unit {0}
 IsOfInputs status.NoMemory = Unit {0}
 IsOfInputs refusal = HasLine refusal
 
--- A read of an input failed. Where the files are told, no refusal stands before that reading: were the file not there, it would be missing.
-pub record ReadCause (command : Command) (told : Option Files) (before now : List ℕ → ℕ) : Type 0 where
+-- A read of one of these inputs failed. Where the files are told, no refusal stands before that reading: were the file not there, it would
+-- be missing.
+pub record ReadCause {A : Type 0} (inputs : List (List ℕ)) (stage : Files → Result A Stop) (told : Option Files) (before now : List ℕ → ℕ) : Type 0 where
   pub name : List ℕ
-  pub is_input : Contains (inputs_of command) name
+  pub is_input : Contains inputs name
   pub rose : Rose (before name) (now name)
-  pub first : (fs : Files) → told ≡ Some fs → outputs_stage command (without name fs) ≡ Err (Missing name)
+  pub first : (fs : Files) → told ≡ Some fs → stage (without name fs) ≡ Err (Missing name)
 
 -- the request of a plan is that of its sizes
 pub record IsPlanned (plan : FramePlan) : Type 0 where
   pub frame : IsFrame plan.frame
   pub request_is : plan.request ≡ request_of (plan_view plan)
   pub is_request : IsRequest plan.request
+  pub whole : IsWhole plan.request
   pub ordered : IsOrdered plan.request
   pub asked : EachIndex (sizes_of plan.frame) (λ row. SameRatio (asked_ratio plan.request row) (requested_ratio plan.n (sizes_of plan.frame) (slice_index (sizes_of plan.frame) row)))
   pub fills : Fills plan.request (length (sizes_of plan.frame)) plan.n
-  pub none_free : length plan.request.free ≡ 0 → plan.request.r ≡ 0
 
 -- what a selection by a plan has: as many rows are selected as was asked, and in its draw tree each row has the requested probability
 pub record IsDrawnBy (plan : Plan) (drawn : Drawn) : Type 0 where
-  pub size : length (drawn_ids plan drawn.state) ≡ plan.n
+  pub size : length (drawn_units plan drawn.state) ≡ plan.n
   pub probability : (row : ℕ) → row < length plan.units → Same (inclusion_probability (tree_of plan) (start_of plan) row) (requested_fraction plan row)
 
 -- a done state of the plan's design over the rows
 pub record IsSelection (plan : Plan) (selection : Selection) : Type 0 where
-  pub tree : rows_tree selection.design.rows selection.design.request.now (pivotal_tree (length selection.design.design.state.numer)) ≡ tree_of plan
-  pub belongs : BelongsToRows selection.design.request.now (pivotal_tree (length selection.design.design.state.numer)) (IsPivotal (length selection.design.design.state.numer) selection.design.design.state.den) selection.state
+  pub tree : rows_tree selection.design.rows selection.design.request.now (stage_tree selection.design.design) ≡ tree_of plan
+  pub belongs : BelongsToRows selection.design.request.now (stage_tree selection.design.design) (BelongsToStage selection.design.design) selection.state
   pub ended : (tree_of plan).ended selection.state ≡ true
   pub drawn : IsDrawnBy plan (selection_view plan selection)

@@ -6,5 +6,3 @@ pub mod Jobs
 pub mod Plans
 pub mod Texts
 pub mod Verdict
-pub mod Views
-pub mod Words

@@ -1,25 +1,56 @@
--- What is drawn: a sequential pivotal sample of n units, with probabilities in proportion to their sizes.
-use Rattle.std.specs.Prelude.{ℕ, List, [], length, slice_index, Some, None, codes}
+-- What is asked of a frame, and the draw that follows from it.
+use Rattle.std.specs.Prelude.{ℕ, List, [], ◌∷◌, Bool, ◌&&◌, is_none, length, slice_index, ◌+◌, Option, Some, None, if◌then◌else◌, codes}
 use Rattle.smp_split.specs.Fractions.{Fraction, over}
 use Rattle.smp_split.specs.Trees.{Tree}
 use Rattle.smp_frame.specs.declared.columns.Columns.{Columns}
 use Rattle.smp_frame.specs.declared.frame.Unit as unit
 use Rattle.smp_frame.specs.Bounds.{sizes_of}
-use Rattle.smp_prob.specs.declared.requests.Request.{Request}
-use Rattle.smp_prob.specs.Requested.{requested_of, requested_ratio}
-use Rattle.smp_prob.specs.Shares.{Shares}
+use Rattle.smp_prob.specs.declared.orders.Order.{Order}
 use Rattle.smp_prob.specs.declared.orders.Order.TheVariants.{Frame}
-use Rattle.smp_split.specs.Orders.{Ordered}
-use Rattle.smp_pivotal.specs.Pivots.{pivotal_tree, started}
+use Rattle.smp_prob.specs.declared.requests.Request.{Request}
+use Rattle.smp_prob.specs.Requested.{Ratio, requested_of, requested_ratio}
+use Rattle.smp_design.specs.declared.method.Method.{Method}
+use Rattle.smp_design.specs.declared.method.Method.TheVariants as methods
+use Rattle.smp_design.specs.declared.design.Design.{Design}
+use Rattle.smp_stage.specs.declared.procedure.Procedure.{Procedure}
+use Rattle.smp_stage.specs.declared.procedure.Procedure.TheVariants as procedure
+use Rattle.smp_stage.specs.declared.stage.Stage.{Stage}
+use Rattle.smp_stage.specs.declared.stage.StageState.{StageState}
+use Rattle.smp_stage.specs.Stages.{stage_of, first_state, stage_tree}
 use Rattle.smp_rows.specs.Rows.{rows_tree}
-use Rattle.smp_app.specs.Texts.{ids_from}
+use Rattle.smp_app.specs.declared.asked.Asked.{Asked}
 
--- the columns that are asked of a frame: `id` and `size`
-abbrev pub asked_columns : Columns
-asked_columns = record { id = codes "id"; stratum = None; psu = None; size = Some (codes "size"); second_size = None; values = [] }
+-- ---- what is asked
 
--- the units of a frame, and how many of them are to be drawn
+-- `quick`: pivotal steps in frame order, with the columns `id` and `size`
+abbrev pub quick_columns : Columns
+quick_columns = record { id = codes "id"; stratum = None; psu = None; size = Some (codes "size"); second_size = None; values = [] }
+
+abbrev pub quick_asked : ℕ → Asked
+quick_asked n = record { procedure = procedure.Pivotal Frame; columns = quick_columns; n = n }
+
+-- the procedure of a method that is served
+abbrev pub procedure_of : Method → Order → Option Procedure
+procedure_of methods.Pivotal order = Some (procedure.Pivotal order)
+procedure_of methods.Systematic order = Some (procedure.Systematic order)
+procedure_of other order = None
+
+abbrev pub asked_by : Option Procedure → Columns → Option ℕ → Option Asked
+asked_by (Some way) columns (Some n) = Some (record { procedure = way; columns = columns; n = n })
+asked_by None columns n = None
+asked_by (Some way) columns None = None
+
+-- What a design asks, where it is served: it has neither strata nor a second stage, and a method that is built. A design without strata has
+-- a number of units.
+abbrev pub asked_of : Design → Option Asked
+asked_of design =
+    if is_none design.columns.stratum && is_none design.second then asked_by (procedure_of design.method design.order) design.columns design.n else None
+
+-- ---- the draw
+
+-- the units of a frame, how they are drawn, and how many
 pub record Plan : Type 0 where
+  pub procedure : Procedure
   pub units : List unit.Unit
   pub n : ℕ
 
@@ -27,18 +58,30 @@ pub record Plan : Type 0 where
 abbrev pub request_of : Plan → Request
 request_of plan = requested_of (sizes_of plan.units) plan.n
 
--- the draw tree, whose units are the rows of the frame, and the state from which a draw starts
-abbrev pub tree_of : Plan → Tree (Ordered Shares)
-tree_of plan = rows_tree (length plan.units) (request_of plan) (pivotal_tree (length (request_of plan).free))
+-- the design of the free units
+abbrev pub stage_of_plan : Plan → Stage
+stage_of_plan plan = stage_of plan.procedure (request_of plan)
 
-abbrev pub start_of : Plan → Ordered Shares
-start_of plan = started (request_of plan) Frame
+-- the draw tree, whose units are the rows of the frame, and the state from which a draw starts
+abbrev pub tree_of : Plan → Tree StageState
+tree_of plan = rows_tree (length plan.units) (request_of plan) (stage_tree (stage_of_plan plan))
+
+abbrev pub start_of : Plan → StageState
+start_of plan = first_state (stage_of_plan plan)
+
+-- the probability that is requested of a unit of this size
+abbrev pub ratio_of : Plan → ℕ → Ratio
+ratio_of plan size = requested_ratio plan.n (sizes_of plan.units) size
 
 -- the probability that is requested of a row
 abbrev pub requested_fraction : Plan → ℕ → Fraction
-requested_fraction plan row =
-    let ratio = requested_ratio plan.n (sizes_of plan.units) (slice_index (sizes_of plan.units) row) in over ratio.num ratio.den
+requested_fraction plan row = let ratio = ratio_of plan (slice_index (sizes_of plan.units) row) in over ratio.num ratio.den
 
--- the ids of the rows that a leaf selects, in frame order
-abbrev pub drawn_ids : Plan → Ordered Shares → List (List ℕ)
-drawn_ids plan leaf = ids_from 0 ((tree_of plan).selected leaf) plan.units
+-- the units at whose places `chosen` says so, where the first of them stands at this place
+abbrev pub chosen_from : ℕ → (ℕ → Bool) → List unit.Unit → List unit.Unit
+chosen_from place chosen [] = []
+chosen_from place chosen (u ∷ units) = if chosen place then u ∷ chosen_from (place + 1) chosen units else chosen_from (place + 1) chosen units
+
+-- the units that a leaf selects, in frame order
+abbrev pub drawn_units : Plan → StageState → List unit.Unit
+drawn_units plan leaf = chosen_from 0 ((tree_of plan).selected leaf) plan.units

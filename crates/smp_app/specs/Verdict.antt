@@ -1,26 +1,29 @@
 -- What a call is to answer, by its words and the files: the first refusal in the order of work, or what it is to write and put.
-use Rattle.std.specs.Prelude.{ℕ, List, [], ◌∷◌, nat_lt, Option, Some, None, Result, Ok, Err, if◌then◌else◌}
+use Rattle.std.specs.Prelude.{ℕ, List, [], ◌∷◌, length, nat_lt, Option, Some, None, Result, Ok, Err, if◌then◌else◌}
 use Rattle.std.specs.Str.{bytes_eq}
 use Rattle.smp_io.specs.Store.{Files}
 use Rattle.smp_tape.specs.TapeText.{tape_of}
-use Rattle.smp_tape.specs.declared.fault.TapeFault.{TapeFault}
 use Rattle.smp_split.specs.Runs.{Outcome, run, leaf, short, too_big, long}
-use Rattle.smp_split.specs.Orders.{Ordered}
 use Rattle.smp_split.specs.Walks.{Line}
 use Rattle.smp_frame.specs.Frames.{frame_of}
 use Rattle.smp_frame.specs.Bounds.{sizes_of}
 use Rattle.smp_frame.specs.declared.frame.Unit as unit
-use Rattle.smp_frame.specs.declared.fault.FrameFault.{FrameFault}
+use Rattle.smp_design.specs.Designs.{design_of}
 use Rattle.smp_prob.specs.Requested.{positive_units}
-use Rattle.smp_prob.specs.Shares.{Shares}
+use Rattle.smp_stage.specs.declared.stage.StageState.{StageState}
+use Rattle.smp_words.specs.declared.command.QuickArguments.{QuickArguments}
+use Rattle.smp_words.specs.declared.command.DrawArguments.{DrawArguments}
+use Rattle.smp_words.specs.declared.command.Command.{Command}
+use Rattle.smp_words.specs.declared.command.Command.TheVariants as commands
+use Rattle.smp_words.specs.Words.{command_of}
+use Rattle.smp_app.specs.declared.asked.Asked.{Asked}
 use Rattle.smp_app.specs.declared.misfit.Misfit.TheVariants.{TooMany}
 use Rattle.smp_app.specs.declared.status.Status.{Status}
-use Rattle.smp_app.specs.declared.status.Status.TheVariants.{Usage, Misfit, TapeShort, TapeValue, TapeLong}
-use Rattle.smp_app.specs.Codes.{frame_status, tape_status}
+use Rattle.smp_app.specs.declared.status.Status.TheVariants.{Usage, Misfit, TapeShort, TapeValue, TapeLong, NotYet}
+use Rattle.smp_app.specs.Codes.{design_status, frame_status, tape_status}
 use Rattle.smp_app.specs.Deliveries.{Outputs}
-use Rattle.smp_app.specs.Plans.{Plan, asked_columns, tree_of, start_of, drawn_ids}
-use Rattle.smp_app.specs.Texts.{sample_text, steps_text, probabilities_text}
-use Rattle.smp_app.specs.Words.{QuickArguments, Command, Quick, Probs, command_of}
+use Rattle.smp_app.specs.Plans.{Plan, quick_asked, asked_of, tree_of, start_of, drawn_units}
+use Rattle.smp_app.specs.Texts.{ids_text, sample_text, steps_text, report_text, probabilities_text, accepted_text}
 
 -- why a call doesn't go on to its writes
 pub data Stop : Type 0 where
@@ -46,61 +49,87 @@ content None name = Err (Missing name)
 abbrev pub without : List ℕ → Files → Files
 without name fs = λ other. if bytes_eq name other then None else fs other
 
-abbrev pub or_frame_fault : Result (List unit.Unit) FrameFault → Result (List unit.Unit) Stop
-or_frame_fault (Ok units) = Ok units
-or_frame_fault (Err fault) = Err (Refused (frame_status fault))
+-- what was read, or the refusal of its fault
+abbrev pub or_fault : {A Fault : Type 0} → (Fault → Status) → Result A Fault → Result A Stop
+or_fault status (Ok x) = Ok x
+or_fault status (Err fault) = Err (Refused (status fault))
 
-abbrev pub or_tape_fault : Result (List ℕ) TapeFault → Result (List ℕ) Stop
-or_tape_fault (Ok values) = Ok values
-or_tape_fault (Err fault) = Err (Refused (tape_status fault))
-
--- the units and how many of them to draw, unless more are asked than have a size; the one stratum has the empty name
-abbrev pub plan_of : List unit.Unit → ℕ → Result Plan Stop
-plan_of units n =
-    if nat_lt (positive_units (sizes_of units)) n then Err (Refused (Misfit (TooMany [] n (positive_units (sizes_of units)))))
-    else Ok (record { units = units; n = n })
+-- the units and how to draw them, unless more are asked than have a size; the one stratum has the empty name
+abbrev pub plan_of : Asked → List unit.Unit → Result Plan Stop
+plan_of asked units =
+    if nat_lt (positive_units (sizes_of units)) asked.n then Err (Refused (Misfit (TooMany [] asked.n (positive_units (sizes_of units)))))
+    else Ok (record { procedure = asked.procedure; units = units; n = asked.n })
 
 -- what is drawn: the leaf to which the values of the tape lead, and the path to it
 pub record Drawn : Type 0 where
   pub plan : Plan
-  pub state : Ordered Shares
+  pub state : StageState
   pub path : List Line
 
-abbrev pub drawn_of : Plan → Outcome (Ordered Shares) → Result Drawn Stop
+abbrev pub drawn_of : Plan → Outcome StageState → Result Drawn Stop
 drawn_of plan (leaf state path) = Ok (record { plan = plan; state = state; path = path })
 drawn_of plan (short taken) = Err (Refused (TapeShort taken))
 drawn_of plan (too_big place value bound) = Err (Refused (TapeValue place value bound))
 drawn_of plan (long left) = Err (Refused (TapeLong left))
 
--- the frame, read first, and its plan
-unfoldable pub plan_stage : List ℕ → ℕ → Files → Result Plan Stop
-plan_stage frame n fs = do
-  bytes ← content (fs frame) frame
-  units ← or_frame_fault (frame_of asked_columns bytes)
-  plan_of units n
+-- ---- the order of work
 
--- then the tape, and the run on it
-unfoldable pub drawn_stage : QuickArguments → Files → Result Drawn Stop
-drawn_stage arguments fs = do
-  plan ← plan_stage arguments.frame arguments.n fs
-  bytes ← content (fs arguments.tape) arguments.tape
-  values ← or_tape_fault (tape_of bytes)
+-- the design, and what it asks
+unfoldable pub asked_stage : List ℕ → Files → Result Asked Stop
+asked_stage design fs = do
+  bytes ← content (fs design) design
+  read ← or_fault design_status (design_of bytes)
+  or_refused NotYet (asked_of read)
+
+-- the frame, and the plan
+unfoldable pub plan_stage : Asked → List ℕ → Files → Result Plan Stop
+plan_stage asked frame fs = do
+  bytes ← content (fs frame) frame
+  units ← or_fault frame_status (frame_of asked.columns bytes)
+  plan_of asked units
+
+-- the tape, and the run on it
+unfoldable pub drawn_stage : Plan → List ℕ → Files → Result Drawn Stop
+drawn_stage plan tape fs = do
+  bytes ← content (fs tape) tape
+  values ← or_fault tape_status (tape_of bytes)
   drawn_of plan (run (tree_of plan) (start_of plan) 0 values)
 
--- the ids that are drawn go into a file, and the step lines are put
+-- ---- what is written and put
+
+-- `quick`: the ids that are drawn go into a file, and the step lines are put.
 abbrev pub quick_outputs : QuickArguments → Drawn → Outputs
 quick_outputs arguments drawn = record {
-  files = record { name = arguments.out; bytes = sample_text (drawn_ids drawn.plan drawn.state) } ∷ [];
+  files = record { name = arguments.out; bytes = ids_text (drawn_units drawn.plan drawn.state) } ∷ [];
   put = steps_text drawn.path;
 }
 
--- the requested probabilities are put
+-- `draw`: the log and then the sample are written, and the report is put.
+abbrev pub draw_outputs : DrawArguments → Drawn → Outputs
+draw_outputs arguments drawn = record {
+  files = record { name = arguments.log; bytes = steps_text drawn.path } ∷ record { name = arguments.sample; bytes = sample_text drawn.plan (drawn_units drawn.plan drawn.state) } ∷ [];
+  put = report_text (length (drawn_units drawn.plan drawn.state)) (length drawn.plan.units) (length drawn.path);
+}
+
+-- `probs` and `check` put a text.
 abbrev pub probs_outputs : Plan → Outputs
-probs_outputs plan = record { files = []; put = probabilities_text plan.n plan.units }
+probs_outputs plan = record { files = []; put = probabilities_text plan }
+
+abbrev pub check_outputs : Plan → Outputs
+check_outputs plan = record { files = []; put = accepted_text plan }
+
+-- ---- the verdict
+
+-- the plan of a design and a frame
+abbrev pub designed_stage : List ℕ → List ℕ → Files → Result Plan Stop
+designed_stage design frame fs = asked_stage design fs >>= λ asked. plan_stage asked frame fs
 
 unfoldable pub outputs_stage : Command → Files → Result Outputs Stop
-outputs_stage (Quick arguments) fs = drawn_stage arguments fs >>= λ drawn. Ok (quick_outputs arguments drawn)
-outputs_stage (Probs arguments) fs = plan_stage arguments.frame arguments.n fs >>= λ plan. Ok (probs_outputs plan)
+outputs_stage (commands.Quick a) fs = plan_stage (quick_asked a.n) a.frame fs >>= λ plan. drawn_stage plan a.tape fs >>= λ drawn. Ok (quick_outputs a drawn)
+outputs_stage (commands.Draw a) fs = designed_stage a.design a.frame fs >>= λ plan. drawn_stage plan a.tape fs >>= λ drawn. Ok (draw_outputs a drawn)
+outputs_stage (commands.Probs a) fs = designed_stage a.design a.frame fs >>= λ plan. Ok (probs_outputs plan)
+outputs_stage (commands.Check a) fs = designed_stage a.design a.frame fs >>= λ plan. Ok (check_outputs plan)
+outputs_stage commands.NotYet fs = Err (Refused NotYet)
 
 -- the first refusal in the order of work, or what is to be written and put
 unfoldable pub verdict : List (List ℕ) → Files → Result Outputs Stop

@@ -1,17 +1,21 @@
 ghost use Rattle.std.specs.Prelude.{◌≡◌, ◌≤◌, map, string_bytes};
 ghost use Rattle.smp_app.specs.Answers.{IsAnswer, WorkSays, outside};
 
+use crate::Status;
 use crate::commands::outputs_for;
 use crate::refusals::report;
-use crate::{Status, command_from};
 use smp_io::{Sink, Store, StoreFault};
+use smp_words::command_from;
 use std::alloc::Global;
 
 /// Does what the words of a command line ask for, the program's name first, and answers how it went.
 ///
-/// `quick FRAME N TAPE OUT` reads the files FRAME and TAPE, selects N units of the frame by sequential pivotal steps with
-/// the values of the tape, writes the ids of the selected units to the file OUT, and puts the lines of the steps.
-/// `probs FRAME N` reads the file FRAME and puts the probabilities with which N of its units are to be selected.
+/// - `draw --design D --frame F --tape T --log L --sample S` reads the design D, the frame F and the tape T, draws the sample of the design
+///   with the values of the tape, writes the lines of the steps to L and the drawn units with their weights to S, and puts a report.
+/// - `probs --design D --frame F` puts the probabilities with which the units of F are to be selected.
+/// - `check --design D --frame F` puts how many units are accepted.
+/// - `quick FRAME N TAPE OUT` needs no design: it draws N units by sequential pivotal steps, writes their ids to OUT and puts the lines of
+///   the steps.
 ///
 /// After a refusal no file has changed, and a line was put that says what was wrong.
 pub fn sampler<K: Store, S: Sink>(
@@ -35,8 +39,10 @@ fn work<K: Store, S: Sink>(alloc: Global, words: &[String], store: &mut K, out: 
         (outside K.files K.read_faults K.write_faults S.written S.faults store.new out.new) }
     ensures puts { S.faults out.old ≤ S.faults out.new }
 {
-    let Some(command) = command_from(words) else {
-        return Status::Usage;
+    let command = match command_from(alloc, words) {
+        Ok(Some(command)) => command,
+        Ok(None) => return Status::Usage,
+        Err(_) => return Status::NoMemory,
     };
     let outputs = match outputs_for(alloc, store, &command) {
         Ok(outputs) => outputs,

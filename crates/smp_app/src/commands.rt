@@ -1,117 +1,186 @@
-ghost use Rattle.std.specs.Prelude.{◌≡◌, ◌++◌, ℕ, ◌≤◌, Some, true, IfOk, IfErr, IsErrOf};
-ghost use Rattle.smp_io.specs.Counts.{Rose, NeverFalls};
+ghost use Rattle.std.specs.Prelude.{◌≡◌, [], Some, IfOk, IfErr, IsErrOf};
+ghost use Rattle.smp_io.specs.Counts.{NeverFalls};
 ghost use Rattle.smp_io.specs.Store.{Files};
+ghost use Rattle.smp_words.specs.declared.command.Command.TheVariants as commands;
+ghost use Rattle.smp_words.specs.Words.{IsAsked, inputs_of, outputs_of};
 ghost use Rattle.smp_app.specs.Answers.{Means};
 ghost use Rattle.smp_app.specs.Deliveries.{outputs_view, names_of};
-ghost use Rattle.smp_app.specs.Jobs.{Follows, IsOfInputs, ReadCause, IsPlanned, IsSelection, plan_view, selection_view, result_view};
-ghost use Rattle.smp_app.specs.Verdict.{outputs_stage, drawn_stage, quick_outputs, probs_outputs};
-ghost use Rattle.smp_app.specs.Views.{command_view, quick_view, probs_view};
-ghost use Rattle.smp_app.specs.Words.{Quick, Probs, IsAsked, outputs_of};
+ghost use Rattle.smp_app.specs.Jobs.{Follows, IsOfInputs, IsPlanned, ReadCause, IsSelection, plan_view, selection_view, result_view};
+ghost use Rattle.smp_app.specs.Verdict;
+ghost use Rattle.smp_app.specs.Verdict.{outputs_stage};
 
-use crate::inputs::{FramePlan, plan_from, read_input};
-use crate::selection::{Selection, select};
-use crate::{
-    Command, OutputFile, Outputs, ProbsArguments, QuickArguments, Status, probabilities_text,
-    sample_text, steps_text,
+use crate::plan::{FramePlan, designed_plan, plan_from};
+use crate::selection::{Selection, selection_from};
+use crate::texts::{
+    accepted_text, ids_text, probabilities_text, report_text, sample_text, steps_text,
 };
-use smp_frac::{NoMemory, Text};
+use crate::{Asked, OutputFile, Outputs, Status};
+use smp_frac::{Bytes, NoMemory, Text};
 use smp_io::Store;
-use smp_tape::Tape;
+use smp_words::{Command, DesignArguments, DrawArguments, QuickArguments};
 use std::alloc::Global;
 
 /// Reads the inputs of a command, and does all of its work but to write and put its outputs.
+#[tactic(auto, unfolding(crate::specs::Verdict::outputs_stage))]
 pub fn outputs_for<K: Store>(
     alloc: Global,
     store: &mut K,
     command: &Command,
 ) -> Result<Outputs, Status>
-    requires { IsAsked (command_view command.now) }
-    ensures follows { (fs : Files) → K.files store.old ≡ Some fs → Follows (result_view outputs_view result) (outputs_stage (command_view command.now) fs) }
-    ensures means { (fs : Files) → K.files store.old ≡ Some fs → IfOk result (λ outputs. Means (command_view command.now) fs (outputs_view outputs)) }
-    ensures named { IfOk result (λ outputs. names_of (outputs_view outputs).files ≡ outputs_of (command_view command.now)) }
+    requires { IsAsked command.now }
+    ensures follows { (fs : Files) → K.files store.old ≡ Some fs → Follows (result_view outputs_view result) (outputs_stage command.now fs) }
+    ensures means { (fs : Files) → K.files store.old ≡ Some fs → IfOk result (λ outputs. Means command.now fs (outputs_view outputs)) }
+    ensures named { IfOk result (λ outputs. names_of (outputs_view outputs).files ≡ outputs_of command.now) }
     ensures same { K.files store.new ≡ K.files store.old }
     ensures writes { NeverFalls (K.write_faults store.old) (K.write_faults store.new) }
     ensures kinds { IfErr result IsOfInputs }
-    ensures cause { IsErrOf result Status.ReadFault → ReadCause (command_view command.now) (K.files store.old) (K.read_faults store.old) (K.read_faults store.new) }
+    ensures cause { IsErrOf result Status.ReadFault → ReadCause (inputs_of command.now) (outputs_stage command.now) (K.files store.old) (K.read_faults store.old) (K.read_faults store.new) }
 {
     match command {
-        Command::Quick(arguments) => quick_outputs(alloc, store, arguments),
-        Command::Probs(arguments) => probs_outputs(alloc, store, arguments),
+        Command::Quick(arguments) => quick(alloc, store, arguments),
+        Command::Draw(arguments) => draw(alloc, store, arguments),
+        Command::Probs(arguments) => probs(alloc, store, arguments),
+        Command::Check(arguments) => check(alloc, store, arguments),
+        Command::NotYet => Err(Status::NotYet),
     }
 }
 
-#[tactic(auto, unfolding(crate::specs::Verdict::outputs_stage, crate::specs::Verdict::drawn_stage))]
-fn quick_outputs<K: Store>(
+#[tactic(auto, unfolding(crate::specs::Verdict::outputs_stage))]
+fn quick<K: Store>(
     alloc: Global,
     store: &mut K,
     arguments: &QuickArguments,
 ) -> Result<Outputs, Status>
-    requires { IsAsked (Quick (quick_view arguments.now)) }
-    ensures follows { (fs : Files) → K.files store.old ≡ Some fs → Follows (result_view outputs_view result) (outputs_stage (Quick (quick_view arguments.now)) fs) }
-    ensures means { (fs : Files) → K.files store.old ≡ Some fs → IfOk result (λ outputs. Means (Quick (quick_view arguments.now)) fs (outputs_view outputs)) }
-    ensures named { IfOk result (λ outputs. names_of (outputs_view outputs).files ≡ outputs_of (Quick (quick_view arguments.now))) }
+    requires { IsAsked (commands.Quick arguments.now) }
+    ensures follows { (fs : Files) → K.files store.old ≡ Some fs → Follows (result_view outputs_view result) (outputs_stage (commands.Quick arguments.now) fs) }
+    ensures means { (fs : Files) → K.files store.old ≡ Some fs → IfOk result (λ outputs. Means (commands.Quick arguments.now) fs (outputs_view outputs)) }
+    ensures named { IfOk result (λ outputs. names_of (outputs_view outputs).files ≡ outputs_of (commands.Quick arguments.now)) }
     ensures same { K.files store.new ≡ K.files store.old }
     ensures writes { NeverFalls (K.write_faults store.old) (K.write_faults store.new) }
     ensures kinds { IfErr result IsOfInputs }
-    ensures cause { IsErrOf result Status.ReadFault → ReadCause (Quick (quick_view arguments.now)) (K.files store.old) (K.read_faults store.old) (K.read_faults store.new) }
+    ensures cause { IsErrOf result Status.ReadFault → ReadCause (inputs_of (commands.Quick arguments.now)) (outputs_stage (commands.Quick arguments.now)) (K.files store.old) (K.read_faults store.old) (K.read_faults store.new) }
 {
-    let plan = plan_from(alloc, store, arguments.frame, arguments.n)?;
-    let bytes = read_input(alloc, store, arguments.tape)?;
-    let tape = Tape::read(alloc, bytes.as_slice())?;
-    let selection = select(alloc, &plan, tape)?;
-    Ok(drawn_outputs(alloc, arguments, &plan, &selection)?)
+    let asked = Asked::by_quick(alloc, arguments.n)?;
+    let plan = plan_from(alloc, store, &asked, arguments.frame.as_str())?;
+    let selection = selection_from(alloc, store, &plan, arguments.tape.as_str())?;
+    Ok(quick_outputs(alloc, arguments, &plan, &selection)?)
 }
 
-fn drawn_outputs(
+// The drawn ids go into a file, and the step lines are put.
+fn quick_outputs(
     alloc: Global,
     arguments: &QuickArguments,
     plan: &FramePlan,
     selection: &Selection,
 ) -> Result<Outputs, NoMemory>
     requires { IsSelection (plan_view plan.now) selection.now }
-    ensures { IfOk result (λ outputs. outputs_view outputs ≡ quick_outputs (quick_view arguments.now) (selection_view (plan_view plan.now) selection.now)) }
+    ensures { IfOk result (λ outputs. outputs_view outputs ≡ Verdict.quick_outputs arguments.now (selection_view (plan_view plan.now) selection.now)) }
 {
-    let sample = sample_text(
-        alloc,
-        plan.frame.units(),
-        &selection.design,
-        &selection.state,
-    )?;
+    let ids = ids_text(alloc, plan, selection)?;
     let mut files = Vec::new(alloc);
-    files.push(OutputFile {
-        name: Text::from_str(alloc, arguments.out)?,
-        bytes: sample,
-    })?;
+    files.push(output_file(alloc, &arguments.out, ids)?)?;
     let put = steps_text(alloc, selection.lines.as_slice())?;
     Ok(Outputs { files, put })
 }
 
 #[tactic(auto, unfolding(crate::specs::Verdict::outputs_stage))]
-fn probs_outputs<K: Store>(
+fn draw<K: Store>(
     alloc: Global,
     store: &mut K,
-    arguments: &ProbsArguments,
+    arguments: &DrawArguments,
 ) -> Result<Outputs, Status>
-    requires { IsAsked (Probs (probs_view arguments.now)) }
-    ensures follows { (fs : Files) → K.files store.old ≡ Some fs → Follows (result_view outputs_view result) (outputs_stage (Probs (probs_view arguments.now)) fs) }
-    ensures means { (fs : Files) → K.files store.old ≡ Some fs → IfOk result (λ outputs. Means (Probs (probs_view arguments.now)) fs (outputs_view outputs)) }
-    ensures named { IfOk result (λ outputs. names_of (outputs_view outputs).files ≡ outputs_of (Probs (probs_view arguments.now))) }
+    requires { IsAsked (commands.Draw arguments.now) }
+    ensures follows { (fs : Files) → K.files store.old ≡ Some fs → Follows (result_view outputs_view result) (outputs_stage (commands.Draw arguments.now) fs) }
+    ensures means { (fs : Files) → K.files store.old ≡ Some fs → IfOk result (λ outputs. Means (commands.Draw arguments.now) fs (outputs_view outputs)) }
+    ensures named { IfOk result (λ outputs. names_of (outputs_view outputs).files ≡ outputs_of (commands.Draw arguments.now)) }
     ensures same { K.files store.new ≡ K.files store.old }
     ensures writes { NeverFalls (K.write_faults store.old) (K.write_faults store.new) }
     ensures kinds { IfErr result IsOfInputs }
-    ensures cause { IsErrOf result Status.ReadFault → ReadCause (Probs (probs_view arguments.now)) (K.files store.old) (K.read_faults store.old) (K.read_faults store.new) }
+    ensures cause { IsErrOf result Status.ReadFault → ReadCause (inputs_of (commands.Draw arguments.now)) (outputs_stage (commands.Draw arguments.now)) (K.files store.old) (K.read_faults store.old) (K.read_faults store.new) }
 {
-    let plan = plan_from(alloc, store, arguments.frame, arguments.n)?;
-    Ok(listed_outputs(alloc, &plan)?)
+    let design = arguments.design.as_str();
+    let plan = designed_plan(alloc, store, design, arguments.frame.as_str())?;
+    let selection = selection_from(alloc, store, &plan, arguments.tape.as_str())?;
+    Ok(draw_outputs(alloc, arguments, &plan, &selection)?)
 }
 
-fn listed_outputs(alloc: Global, plan: &FramePlan) -> Result<Outputs, NoMemory>
-    requires { IsPlanned plan.now }
-    ensures { IfOk result (λ outputs. outputs_view outputs ≡ probs_outputs (plan_view plan.now)) }
+// The log and then the sample go into files, and the report is put.
+fn draw_outputs(
+    alloc: Global,
+    arguments: &DrawArguments,
+    plan: &FramePlan,
+    selection: &Selection,
+) -> Result<Outputs, NoMemory>
+    requires planned { IsPlanned plan.now }
+    requires selection { IsSelection (plan_view plan.now) selection.now }
+    ensures { IfOk result (λ outputs. outputs_view outputs ≡ Verdict.draw_outputs arguments.now (selection_view (plan_view plan.now) selection.now)) }
 {
-    let put = probabilities_text(alloc, plan.frame.units(), plan.n, &plan.request)?;
-    Ok(Outputs {
+    let log = steps_text(alloc, selection.lines.as_slice())?;
+    let sample = sample_text(alloc, plan, selection)?;
+    let mut files = Vec::new(alloc);
+    files.push(output_file(alloc, &arguments.log, log)?)?;
+    files.push(output_file(alloc, &arguments.sample, sample)?)?;
+    let put = report_text(alloc, plan, selection)?;
+    Ok(Outputs { files, put })
+}
+
+fn output_file(alloc: Global, name: &Text, bytes: Bytes) -> Result<OutputFile, NoMemory>
+    ensures { IfOk result (λ file. file ≡ record { name = name.now; bytes = bytes }) }
+{
+    Ok(OutputFile {
+        name: name.copy(alloc)?,
+        bytes,
+    })
+}
+
+#[tactic(auto, unfolding(crate::specs::Verdict::outputs_stage))]
+fn probs<K: Store>(
+    alloc: Global,
+    store: &mut K,
+    arguments: &DesignArguments,
+) -> Result<Outputs, Status>
+    requires { IsAsked (commands.Probs arguments.now) }
+    ensures follows { (fs : Files) → K.files store.old ≡ Some fs → Follows (result_view outputs_view result) (outputs_stage (commands.Probs arguments.now) fs) }
+    ensures means { (fs : Files) → K.files store.old ≡ Some fs → IfOk result (λ outputs. Means (commands.Probs arguments.now) fs (outputs_view outputs)) }
+    ensures named { IfOk result (λ outputs. names_of (outputs_view outputs).files ≡ outputs_of (commands.Probs arguments.now)) }
+    ensures same { K.files store.new ≡ K.files store.old }
+    ensures writes { NeverFalls (K.write_faults store.old) (K.write_faults store.new) }
+    ensures kinds { IfErr result IsOfInputs }
+    ensures cause { IsErrOf result Status.ReadFault → ReadCause (inputs_of (commands.Probs arguments.now)) (outputs_stage (commands.Probs arguments.now)) (K.files store.old) (K.read_faults store.old) (K.read_faults store.new) }
+{
+    let design = arguments.design.as_str();
+    let plan = designed_plan(alloc, store, design, arguments.frame.as_str())?;
+    let put = probabilities_text(alloc, &plan)?;
+    Ok(only_put(alloc, put))
+}
+
+#[tactic(auto, unfolding(crate::specs::Verdict::outputs_stage))]
+fn check<K: Store>(
+    alloc: Global,
+    store: &mut K,
+    arguments: &DesignArguments,
+) -> Result<Outputs, Status>
+    requires { IsAsked (commands.Check arguments.now) }
+    ensures follows { (fs : Files) → K.files store.old ≡ Some fs → Follows (result_view outputs_view result) (outputs_stage (commands.Check arguments.now) fs) }
+    ensures means { (fs : Files) → K.files store.old ≡ Some fs → IfOk result (λ outputs. Means (commands.Check arguments.now) fs (outputs_view outputs)) }
+    ensures named { IfOk result (λ outputs. names_of (outputs_view outputs).files ≡ outputs_of (commands.Check arguments.now)) }
+    ensures same { K.files store.new ≡ K.files store.old }
+    ensures writes { NeverFalls (K.write_faults store.old) (K.write_faults store.new) }
+    ensures kinds { IfErr result IsOfInputs }
+    ensures cause { IsErrOf result Status.ReadFault → ReadCause (inputs_of (commands.Check arguments.now)) (outputs_stage (commands.Check arguments.now)) (K.files store.old) (K.read_faults store.old) (K.read_faults store.new) }
+{
+    let design = arguments.design.as_str();
+    let plan = designed_plan(alloc, store, design, arguments.frame.as_str())?;
+    let put = accepted_text(alloc, &plan)?;
+    Ok(only_put(alloc, put))
+}
+
+// A text is put, and no file is written.
+fn only_put(alloc: Global, put: Bytes) -> Outputs
+    ensures { outputs_view result ≡ record { files = []; put = put } }
+{
+    Outputs {
         files: Vec::new(alloc),
         put,
-    })
+    }
 }

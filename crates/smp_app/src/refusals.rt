@@ -1,9 +1,10 @@
 ghost use Rattle.std.specs.Prelude.{◌≡◌, ◌≤◌, None, Ok, IfOk, option_map, string_bytes};
 ghost use Rattle.smp_app.specs.FaultLines;
-ghost use Rattle.smp_app.specs.FaultLines.{fault_line, frame_line, misfit_line};
+ghost use Rattle.smp_app.specs.FaultLines.{fault_line, design_line, frame_line, misfit_line};
 ghost use Rattle.smp_app.specs.Answers.{Reports};
 
 use crate::{Misfit, Status};
+use smp_design::DesignFault;
 use smp_frame::FrameFault;
 use smp_io::{Sink, StoreFault};
 use std::alloc::{AllocError, Global};
@@ -30,6 +31,7 @@ fn line_for(alloc: Global, status: &Status) -> Result<Option<String>, AllocError
 {
     match status {
         Status::Usage => Ok(Some(usage_line(alloc)?)),
+        Status::Design(fault) => design_line(alloc, fault),
         Status::Frame(fault) => frame_line(alloc, fault),
         Status::Misfit(misfit) => misfit_line(alloc, misfit),
         Status::TapeText { line } => {
@@ -44,6 +46,7 @@ fn line_for(alloc: Global, status: &Status) -> Result<Option<String>, AllocError
             bound,
         } => Ok(Some(format!(in alloc; "error 8 tape value {place} is {value}, bound {bound}\n")?)),
         Status::TapeLong { left } => Ok(Some(format!(in alloc; "error 9 tape has {left} more\n")?)),
+        Status::NotYet => Ok(Some(String::from_str(alloc, "error 15 not yet\n")?)),
         Status::Done | Status::ReadFault | Status::WriteFault | Status::NoMemory => Ok(None),
     }
 }
@@ -55,6 +58,31 @@ fn usage_line(alloc: Global) -> Result<String, AllocError>
         alloc,
         "error 2 usage: sampler COMMAND [OPTIONS], COMMAND is quick, draw, replay, probs, check or demo\n",
     )
+}
+
+fn design_line(alloc: Global, fault: &DesignFault) -> Result<Option<String>, AllocError>
+    ensures line { IfOk result (λ line. option_map string_bytes line ≡ design_line fault.now) }
+    ensures none { design_line fault.now ≡ None → result ≡ Ok None }
+{
+    match fault {
+        DesignFault::Syntax => Ok(Some(String::from_str(alloc, "error 3.1 design isn't TOML\n")?)),
+        DesignFault::Version => Ok(Some(String::from_str(alloc, "error 3.2 version\n")?)),
+        DesignFault::UnknownKey { name } => {
+            Ok(Some(format!(in alloc; "error 3.3 unknown key {}\n", name.as_str())?))
+        }
+        DesignFault::MissingKey { name } => {
+            Ok(Some(format!(in alloc; "error 3.4 missing key {}\n", name.as_str())?))
+        }
+        DesignFault::BadValue { key } => {
+            Ok(Some(format!(in alloc; "error 3.5 bad value of {}\n", key.as_str())?))
+        }
+        DesignFault::Clash { first, second } => Ok(Some(format!(in alloc;
+            "error 3.6 {} clashes with {}\n",
+            first.as_str(),
+            second.as_str()
+        )?)),
+        DesignFault::NoMemory => Ok(None),
+    }
 }
 
 fn frame_line(alloc: Global, fault: &FrameFault) -> Result<Option<String>, AllocError>

@@ -1,27 +1,29 @@
-ghost use Rattle.std.specs.Prelude.{◌≡◌, [], IfOk, IfErr};
+ghost use Rattle.std.specs.Prelude.{◌≡◌, [], Some, IfOk, IfErr, IsErrOf};
+ghost use Rattle.smp_io.specs.Counts.{Rose, NeverFalls};
+ghost use Rattle.smp_io.specs.Store.{Files};
 ghost use Rattle.smp_split.specs.Runs.{run};
 ghost use Rattle.smp_app.specs.Plans.{tree_of, start_of};
-ghost use Rattle.smp_app.specs.Verdict.{drawn_of};
-ghost use Rattle.smp_app.specs.Jobs.{Follows, IsOfContent, IsPlanned, IsSelection, plan_view, selection_view, result_view};
+ghost use Rattle.smp_app.specs.Verdict.{drawn_of, drawn_stage};
+ghost use Rattle.smp_app.specs.Jobs.{Follows, IsOfContent, IsOfInputs, IsPlanned, IsSelection, plan_view, selection_view, result_view};
 
 use crate::Status;
-use crate::inputs::FramePlan;
-use smp_pivotal::{Pivotal, PivotalState};
-use smp_prob::Order;
+use crate::plan::{FramePlan, read_input};
+use smp_io::Store;
 use smp_rows::Rows;
 use smp_split::{Lines, Splitting, WalkFault, walk_tape};
+use smp_stage::{Stage, StageState, Started};
 use smp_tape::{DrawFault, Tape};
 use std::alloc::Global;
 
 /// A design over the rows of a frame, the done state at which a walk ended, and the lines of its steps.
 #[derive(Drop)]
 pub struct Selection<'a> {
-    pub design: Rows<'a, Pivotal>,
-    pub state: PivotalState,
+    pub design: Rows<'a, Stage>,
+    pub state: StageState,
     pub lines: Lines,
 }
 
-/// Selects by sequential pivotal steps in frame order, with the values of a tape. All values are taken, or it is refused.
+/// Selects by a plan with the values of a tape. All values are taken, or it is refused.
 pub fn select<'a>(alloc: Global, plan: &'a FramePlan, tape: Tape) -> Result<Selection<'a>, Status>
     requires planned { IsPlanned plan.now }
     requires whole { tape.taken ≡ [] }
@@ -29,10 +31,9 @@ pub fn select<'a>(alloc: Global, plan: &'a FramePlan, tape: Tape) -> Result<Sele
     ensures kinds { IfErr result IsOfContent }
     ensures selection { IfOk result (IsSelection (plan_view plan.now)) }
 {
-    let pivotal = Pivotal::new(alloc, &plan.request, Order::Frame)?;
-    let mut state = pivotal.start(alloc)?;
+    let Started { stage, mut state } = Started::new(alloc, plan.procedure, &plan.request)?;
     let design = Rows {
-        design: pivotal,
+        design: stage,
         request: &plan.request,
         rows: plan.frame.units().len(),
     };
@@ -63,4 +64,26 @@ pub fn select<'a>(alloc: Global, plan: &'a FramePlan, tape: Tape) -> Result<Sele
         state,
         lines,
     })
+}
+
+/// Reads a tape, and selects by a plan with its values.
+#[tactic(auto, unfolding(crate::specs::Verdict::drawn_stage))]
+pub fn selection_from<'a, K: Store>(
+    alloc: Global,
+    store: &mut K,
+    plan: &'a FramePlan,
+    tape: &str,
+) -> Result<Selection<'a>, Status>
+    requires { IsPlanned plan.now }
+    ensures follows { (fs : Files) → K.files store.old ≡ Some fs → Follows (result_view (selection_view (plan_view plan.now)) result) (drawn_stage (plan_view plan.now) tape.now fs) }
+    ensures same { K.files store.new ≡ K.files store.old }
+    ensures reads { NeverFalls (K.read_faults store.old) (K.read_faults store.new) }
+    ensures writes { NeverFalls (K.write_faults store.old) (K.write_faults store.new) }
+    ensures kinds { IfErr result IsOfInputs }
+    ensures cause { IsErrOf result Status.ReadFault → Rose (K.read_faults store.old tape.now) (K.read_faults store.new tape.now) }
+    ensures selection { IfOk result (IsSelection (plan_view plan.now)) }
+{
+    let bytes = read_input(alloc, store, tape)?;
+    let tape = Tape::read(alloc, bytes.as_slice())?;
+    select(alloc, plan, tape)
 }

@@ -1,8 +1,9 @@
 ghost use Rattle.std.specs.Prelude.{◌≡◌};
-ghost use Rattle.smp_app.specs.Codes.{code_of, frame_status, misfit_status, tape_status};
+ghost use Rattle.smp_app.specs.Codes.{code_of, design_status, frame_status, misfit_status, tape_status};
 ghost use Rattle.smp_app.specs.declared.status.Status.TheVariants as status;
 
 use crate::Misfit;
+use smp_design::DesignFault;
 use smp_frac::NoMemory;
 use smp_frame::FrameFault;
 use smp_tape::TapeFault;
@@ -14,6 +15,8 @@ pub enum Status {
     Done,
     /// The words haven't the form of a command.
     Usage,
+    /// The design has this fault.
+    Design(DesignFault),
     /// The frame has this fault.
     Frame(FrameFault),
     /// The frame doesn't serve the number of units that is asked.
@@ -42,6 +45,8 @@ pub enum Status {
     WriteFault,
     /// Memory ran out.
     NoMemory,
+    /// What is asked isn't built yet.
+    NotYet,
 }
 
 impl Status {
@@ -52,6 +57,7 @@ impl Status {
         match self {
             Status::Done => 0,
             Status::Usage => 2,
+            Status::Design(_) => 3,
             Status::Frame(_) => 4,
             Status::Misfit(_) => 5,
             Status::TapeText { .. } => 6,
@@ -61,6 +67,7 @@ impl Status {
             Status::ReadFault => 12,
             Status::WriteFault => 13,
             Status::NoMemory => 14,
+            Status::NotYet => 15,
         }
     }
 }
@@ -70,6 +77,17 @@ impl From<NoMemory> for Status {
 
     fn from(_: NoMemory) -> Status {
         Status::NoMemory
+    }
+}
+
+impl From<DesignFault> for Status {
+    ghost from_gives = { λ fault answer. answer ≡ design_status fault };
+
+    fn from(fault: DesignFault) -> Status {
+        match fault {
+            DesignFault::NoMemory => Status::NoMemory,
+            fault => Status::Design(fault),
+        }
     }
 }
 

@@ -1,35 +1,36 @@
-ghost use Rattle.std.specs.Prelude.{◌≡◌, ◌++◌, ℕ, ◌^◌, ◌<◌, ◌≤◌, length, slice_index, EachIndex, IfOk, OnOk, string_bytes, true};
-ghost use Rattle.smp_frame.specs.Bounds.{sizes_of};
-ghost use Rattle.smp_prob.specs.Requested.{SameRatio, requested_ratio};
-ghost use Rattle.smp_prob.specs.Requests.{IsRequest};
-ghost use Rattle.smp_prob.specs.Standings.{IsOrdered, asked_ratio};
+ghost use Rattle.std.specs.Prelude.{◌≡◌, ◌++◌, ◌<◌, length, IfOk, OnOk, string_bytes};
 ghost use Rattle.smp_app.specs.Texts;
-ghost use Rattle.smp_app.specs.Texts.{ids_from, step_text, field_row, pair_row, probabilities_text};
+ghost use Rattle.smp_app.specs.Texts.{step_text, field_row, pair_row};
+ghost use Rattle.smp_app.specs.Plans.{tree_of, drawn_units};
+ghost use Rattle.smp_app.specs.Jobs.{IsPlanned, IsSelection, plan_view};
 ghost use Rattle.smp_frac.specs.Fractions.{decimal_fraction};
 
+use crate::plan::FramePlan;
+use crate::selection::Selection;
 use smp_frac::{Bytes, Frac, NoMemory};
 use smp_frame::Unit;
-use smp_prob::Request;
 use smp_split::{Kind, Splitting};
-use smp_weights::push_row;
+use smp_weights::{push_row, sample_bytes};
 use std::alloc::{AllocError, Global};
 
-/// The sample file: CSV with the header `id`, then the ids of the selected rows in frame order.
-pub fn sample_text<S: Splitting>(
-    alloc: Global,
-    units: &[Unit],
-    design: &S,
-    state: &S::State,
-) -> Result<Bytes, NoMemory>
-    requires belongs { S.belongs design.now state.now }
-    requires done { (S.tree design.now).ended state.now ≡ true }
-    requires units { (S.tree design.now).units ≡ length units.now }
-    ensures { IfOk result (λ text. text ≡ Texts.sample_text (ids_from 0 ((S.tree design.now).selected state.now) units.now)) }
+// Whether a row is drawn.
+fn is_drawn(plan: &FramePlan, selection: &Selection, row: usize) -> bool
+    requires selection { IsSelection (plan_view plan.now) selection.now }
+    requires row { row < length plan.now.frame }
+    ensures { result ≡ (tree_of (plan_view plan.now)).selected selection.now.state row }
+{
+    selection.design.selected(&selection.state, row)
+}
+
+/// The ids of the drawn units: CSV with the header `id`, then an id a row, in frame order.
+pub fn ids_text(alloc: Global, plan: &FramePlan, selection: &Selection) -> Result<Bytes, NoMemory>
+    requires { IsSelection (plan_view plan.now) selection.now }
+    ensures { IfOk result (λ text. text ≡ Texts.ids_text (drawn_units (plan_view plan.now) selection.now.state)) }
 {
     let mut text = Bytes::new(alloc);
     push_field(alloc, &mut text, "id")?;
-    for (place, unit) in units.iter().enumerate() {
-        if design.selected(state, place) {
+    for (row, unit) in plan.frame.units().iter().enumerate() {
+        if is_drawn(plan, selection, row) {
             push_field(alloc, &mut text, unit.id.as_str())?;
         }
     }
@@ -40,6 +41,29 @@ fn push_field(alloc: Global, text: &mut Bytes, field: &str) -> Result<(), NoMemo
     ensures { OnOk result (text.new ≡ text.old ++ field_row field.now) }
 {
     push_row(alloc, text, &[field.as_bytes()])
+}
+
+/// The sample file: the drawn units with their design weights.
+pub fn sample_text(
+    alloc: Global,
+    plan: &FramePlan,
+    selection: &Selection,
+) -> Result<Bytes, NoMemory>
+    requires planned { IsPlanned plan.now }
+    requires selection { IsSelection (plan_view plan.now) selection.now }
+    ensures { IfOk result (λ text. text ≡ Texts.sample_text (plan_view plan.now) (drawn_units (plan_view plan.now) selection.now.state)) }
+{
+    let mut ids = Vec::new(alloc);
+    let mut asked = Vec::new(alloc);
+    let mut chosen = Vec::new(alloc);
+    for (row, unit) in plan.frame.units().iter().enumerate() {
+        if is_drawn(plan, selection, row) {
+            ids.push(unit.id.copy(alloc)?)?;
+            asked.push(plan.request.asked(row))?;
+            chosen.push(true)?;
+        }
+    }
+    sample_bytes(alloc, ids.as_slice(), asked.as_slice(), chosen.as_slice())
 }
 
 /// The lines of the steps, in order: the word of the kind, the bound and the value that was drawn.
@@ -60,22 +84,39 @@ fn step_line(alloc: Global, step: &(Kind, u128, u128)) -> Result<String, AllocEr
     format!(in alloc; "{} {bound} {value}\n", kind.word())
 }
 
-/// The requested probabilities: CSV with the header `id,probability`, then the id and the fraction of each row.
-pub fn probabilities_text(
+/// The report of a draw: how many units were drawn of how many, and in how many steps.
+pub fn report_text(
     alloc: Global,
-    units: &[Unit],
-    n: u32,
-    request: &Request,
+    plan: &FramePlan,
+    selection: &Selection,
 ) -> Result<Bytes, NoMemory>
-    requires request { IsRequest request.now }
-    requires ordered { IsOrdered request.now }
-    requires asked { EachIndex (sizes_of units.now) (λ row. SameRatio (asked_ratio request.now row) (requested_ratio n (sizes_of units.now) (slice_index (sizes_of units.now) row))) }
-    ensures { IfOk result (λ text. text ≡ probabilities_text n units.now) }
+    requires { IsSelection (plan_view plan.now) selection.now }
+    ensures { IfOk result (λ text. text ≡ Texts.report_text (length (drawn_units (plan_view plan.now) selection.now.state)) (length plan.now.frame) (length selection.now.lines)) }
+{
+    let drawn = plan.n;
+    let units = plan.frame.units().len();
+    let steps = selection.lines.as_slice().len();
+    let report = format!(in alloc; "selected {drawn} of {units}\nsteps {steps}\n")?;
+    bytes_of(alloc, &report)
+}
+
+fn bytes_of(alloc: Global, text: &str) -> Result<Bytes, NoMemory>
+    ensures { IfOk result (λ bytes. bytes ≡ text.now) }
+{
+    let mut bytes = Bytes::new(alloc);
+    bytes.push_all(text.as_bytes())?;
+    Ok(bytes)
+}
+
+/// The requested probabilities: CSV with the header `id,probability`, then the id and the fraction of each row.
+pub fn probabilities_text(alloc: Global, plan: &FramePlan) -> Result<Bytes, NoMemory>
+    requires { IsPlanned plan.now }
+    ensures { IfOk result (λ text. text ≡ Texts.probabilities_text (plan_view plan.now)) }
 {
     let mut text = Bytes::new(alloc);
     push_pair(alloc, &mut text, b"id", b"probability")?;
-    for (row, unit) in units.iter().enumerate() {
-        push_probability(alloc, &mut text, unit, request.asked(row))?;
+    for (row, unit) in plan.frame.units().iter().enumerate() {
+        push_probability(alloc, &mut text, unit, plan.request.asked(row))?;
     }
     Ok(text)
 }
@@ -102,4 +143,13 @@ fn push_probability(
         unit.id.as_str().as_bytes(),
         fraction.as_slice(),
     )
+}
+
+/// What is said of a design and a frame that are accepted: how many units there are, and in how many strata.
+pub fn accepted_text(alloc: Global, plan: &FramePlan) -> Result<Bytes, NoMemory>
+    ensures { IfOk result (λ text. text ≡ Texts.accepted_text (plan_view plan.now)) }
+{
+    let units = plan.frame.units().len();
+    let accepted = format!(in alloc; "accepted {units} units in 1 strata\n")?;
+    bytes_of(alloc, &accepted)
 }

@@ -1,9 +1,10 @@
-use Rattle.std.proofs.Common.{◌≡◌, ◌++◌, drop}
 use Rattle.std.specs.List.{flat_map}
-use Rattle.smp_app.specs.Texts.{ids_from, field_row, sample_text}
+use Rattle.smp_app.specs.Jobs.{plan_view}
+use Rattle.smp_app.specs.Plans.{tree_of, drawn_units}
+use Rattle.smp_app.specs.Texts.{weight_row}
+use Rattle.smp_app.proofs.Written.{IsSoFar}
 use Rattle.smp_app.proofs.texts.sample_text.Given as goal
 
-abbrev pub invariant-loop-place : goal.invariant-loop-place
-invariant-loop-place g l =
-    let chosen = (g.S.Splitting.tree l.design).selected l.state in
-    l.text ++ flat_map field_row (ids_from l.place chosen (drop l.place l.units)) ≡ sample_text (ids_from 0 chosen l.units)
+abbrev pub invariant-loop-row : goal.invariant-loop-row
+invariant-loop-row l =
+    IsSoFar (plan_view l.plan) ((tree_of (plan_view l.plan)).selected l.selection.state) (flat_map (weight_row (plan_view l.plan)) (drawn_units (plan_view l.plan) l.selection.state)) l.row l.ids.items l.asked.items l.chosen.items

@@ -1,0 +1,108 @@
+-- What is known of a command that the words give: its files have names of their own, and its numbers lie in their ranges.
+use Rattle.std.proofs.Common.{◌≡◌, ℕ, ◌≤◌, Bool, true, false, List, [], ◌∷◌, Option, Some, None, refl, nat_le, ◌&&◌, ◌^◌, codes}
+use Rattle.std.specs.Prelude.{if◌then◌else◌, option_map, IfSome}
+use Rattle.std.specs.Str.{bytes_eq}
+use Rattle.std.proofs.lemmas.Bool.{and_parts, leb-true}
+use Rattle.smp_lines.specs.Decimals.{number_below}
+use Rattle.smp_words.specs.declared.command.DesignArguments.{DesignArguments}
+use Rattle.smp_words.specs.declared.command.Command.TheVariants.{Probs, Check, NotYet}
+use Rattle.smp_words.specs.Words.{Given, DrawFiles, IsAsked, ◌>>=◌, when, in_range, number_from, all_distinct, is_empty, none_given, is_seed, quick_words, quick, demo_words, demo, design_arguments, draw_files, draw_by, draw, replay, by_name, command_given}
+
+-- ---- what holds of something that may not be there
+
+module _ {A : Type 0} (P : A → Type 0) where
+  when_some : (test : Bool) (o : Option A) → (test ≡ true → IfSome o P) → IfSome (when test o) P
+  when_some true o h = h refl
+  when_some false o h = tt
+
+  either_some : (test : Bool) (a b : Option A) → IfSome a P → IfSome b P → IfSome (if test then a else b) P
+  either_some true a b p q = p
+  either_some false a b p q = q
+
+  some_after : {B : Type 0} (Q : B → Type 0) (o : Option B) (f : B → Option A) → IfSome o Q → ((x : B) → Q x → IfSome (f x) P) → IfSome (o >>= f) P
+  some_after Q (Some x) f q h = h x q
+  some_after Q None f q h = tt
+
+  some_then : {B : Type 0} (o : Option B) (f : B → Option A) → ((x : B) → IfSome (f x) P) → IfSome (o >>= f) P
+  some_then (Some x) f h = h x
+  some_then None f h = tt
+
+  some_map : {B : Type 0} (f : B → A) (o : Option B) → IfSome o (λ x. P (f x)) → IfSome (option_map f o) P
+  some_map f (Some x) h = h
+  some_map f None h = tt
+
+-- ---- numbers in a range
+
+abbrev Between : ℕ → ℕ → ℕ → Type 0
+Between least most n = (least ≤ n) × (n ≤ most)
+
+ranged : (least most n : ℕ) → IfSome (in_range least most n) (Between least most)
+ranged least most n =
+    when_some (Between least most) (nat_le least n && nat_le n most) (Some n) (λ e. (leb-true least n (and_parts _ _ e).0, leb-true n most (and_parts _ _ e).1))
+
+number_ranged : (least most : ℕ) (text : List ℕ) → IfSome (number_from least most text) (Between least most)
+number_ranged least most text = some_then (Between least most) (number_below (2 ^ 128) text) (in_range least most) (ranged least most)
+
+-- ---- the commands
+
+not_yet : IsAsked NotYet
+not_yet = record { distinct = refl; sized = tt }
+
+quick_asked : (words : List (List ℕ)) → IfSome (quick_words words) IsAsked
+quick_asked [] = tt
+quick_asked (frame ∷ []) = tt
+quick_asked (frame ∷ n ∷ []) = tt
+quick_asked (frame ∷ n ∷ tape ∷ []) = tt
+quick_asked (frame ∷ n ∷ tape ∷ out ∷ []) =
+    when_some IsAsked (all_distinct (frame ∷ tape ∷ out ∷ [])) _ (λ apart.
+    some_after IsAsked (Between 1 100000) (number_from 1 100000 n) _ (number_ranged 1 100000 n) (λ size within. record { distinct = apart; sized = within }))
+quick_asked (frame ∷ n ∷ tape ∷ out ∷ fifth ∷ more) = tt
+
+demo_asked : (words : List (List ℕ)) → IfSome (demo_words words) IsAsked
+demo_asked [] = tt
+demo_asked (n ∷ []) = tt
+demo_asked (n ∷ seed ∷ []) =
+    some_then IsAsked (number_from 30 100000 n) _ (λ units. some_then IsAsked (number_from 0 18446744073709551615 seed) _ (λ start. not_yet))
+demo_asked (n ∷ seed ∷ third ∷ more) = tt
+
+draw_asked : (files : DrawFiles) (tape seed : Option (List ℕ)) → IfSome (draw_by files tape seed) IsAsked
+draw_asked files (Some tape) None = when_some IsAsked (all_distinct (files.design ∷ files.frame ∷ tape ∷ files.log ∷ files.sample ∷ [])) _ (λ apart. record { distinct = apart; sized = tt })
+draw_asked files None (Some seed) = when_some IsAsked (is_seed seed && all_distinct (files.design ∷ files.frame ∷ files.log ∷ files.sample ∷ [])) (Some NotYet) (λ good. not_yet)
+draw_asked files None None = tt
+draw_asked files (Some tape) (Some seed) = tt
+
+-- the two files have names of their own
+abbrev Apart : DesignArguments → Type 0
+Apart arguments = all_distinct (arguments.design ∷ arguments.frame ∷ []) ≡ true
+
+design_apart : (g : Given) → IfSome (design_arguments g) Apart
+design_apart g =
+    when_some Apart (is_empty g.rest && none_given (g.tape ∷ g.seed ∷ g.log ∷ g.sample ∷ []))
+    (g.design >>= λ design. g.frame >>= λ frame. when (all_distinct (design ∷ frame ∷ [])) (Some (record { design = design; frame = frame })))
+    (λ only. some_then Apart g.design (λ design. g.frame >>= λ frame. when (all_distinct (design ∷ frame ∷ [])) (Some (record { design = design; frame = frame })))
+    (λ design. some_then Apart g.frame (λ frame. when (all_distinct (design ∷ frame ∷ [])) (Some (record { design = design; frame = frame })))
+    (λ frame. when_some Apart (all_distinct (design ∷ frame ∷ [])) (Some (record { design = design; frame = frame })) (λ apart. apart))))
+
+if_some : {A : Type 0} (P Q : A → Type 0) (o : Option A) → IfSome o P → ((x : A) → P x → Q x) → IfSome o Q
+if_some P Q (Some x) p h = h x p
+if_some P Q None p h = tt
+
+probs_asked : (g : Given) → IfSome (design_arguments g) (λ arguments. IsAsked (Probs arguments))
+probs_asked g = if_some Apart _ (design_arguments g) (design_apart g) (λ arguments apart. record { distinct = apart; sized = tt })
+
+check_asked : (g : Given) → IfSome (design_arguments g) (λ arguments. IsAsked (Check arguments))
+check_asked g = if_some Apart _ (design_arguments g) (design_apart g) (λ arguments apart. record { distinct = apart; sized = tt })
+
+named_asked : (name : List ℕ) (g : Given) → IfSome (by_name name g) IsAsked
+named_asked name g =
+    either_some IsAsked (bytes_eq name (codes "quick")) (quick g) _ (when_some IsAsked (none_given (g.design ∷ g.frame ∷ g.tape ∷ g.seed ∷ g.log ∷ g.sample ∷ [])) (quick_words g.rest) (λ none. quick_asked g.rest))
+    (either_some IsAsked (bytes_eq name (codes "draw")) (draw g) _ (some_then IsAsked (draw_files g) (λ files. draw_by files g.tape g.seed) (λ files. draw_asked files g.tape g.seed))
+    (either_some IsAsked (bytes_eq name (codes "replay")) (replay g) _ (some_then IsAsked (draw_files g) (λ files. when (none_given (g.tape ∷ g.seed ∷ []) && all_distinct (files.design ∷ files.frame ∷ files.log ∷ files.sample ∷ [])) (Some NotYet)) (λ files. when_some IsAsked (none_given (g.tape ∷ g.seed ∷ []) && all_distinct (files.design ∷ files.frame ∷ files.log ∷ files.sample ∷ [])) (Some NotYet) (λ good. not_yet)))
+    (either_some IsAsked (bytes_eq name (codes "probs")) (option_map Probs (design_arguments g)) _ (some_map IsAsked Probs (design_arguments g) (probs_asked g))
+    (either_some IsAsked (bytes_eq name (codes "check")) (option_map Check (design_arguments g)) _ (some_map IsAsked Check (design_arguments g) (check_asked g))
+    (either_some IsAsked (bytes_eq name (codes "demo")) (demo g) None (when_some IsAsked (none_given (g.design ∷ g.frame ∷ g.tape ∷ g.seed ∷ g.log ∷ g.sample ∷ [])) (demo_words g.rest) (λ none. demo_asked g.rest))
+    tt)))))
+
+pub given_asked : (g : Given) → IfSome (command_given g) IsAsked
+unfolding command_given
+given_asked g = some_then IsAsked g.command _ (λ name. named_asked name g)

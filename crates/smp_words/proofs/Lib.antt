@@ -1,0 +1,4 @@
+pub mod Refused
+pub mod Rows
+pub mod Examples
+pub mod Asked

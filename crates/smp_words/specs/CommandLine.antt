@@ -1,0 +1,42 @@
+-- The command line as one simple command of the crate clap: a command and up to four further words, and options with one value each.
+use Rattle.std.specs.Prelude.{ℕ, List, [], ◌∷◌, Option, Some, None, codes, true}
+use Rattle.clap.specs.Words.{App, Row, Rule, Kinds, new_app, new_rule, with_rule, fault_of, matches_of}
+use Rattle.clap.specs.declared.builder.ArgAction.TheVariants.{Set, Append}
+
+-- an option with one value
+abbrev pub option_rule : List ℕ → Rule
+option_rule name = record (new_rule name) { long = Some name; action = Some Set }
+
+abbrev pub command_rule : Rule
+command_rule = record (new_rule (codes "command")) { action = Some Set }
+
+-- the words after the command, up to four
+abbrev pub rest_rule : Rule
+rest_rule = record (new_rule (codes "rest")) { action = Some Append; range = Some (record { start_inclusive = 0; end_inclusive = 4 }) }
+
+abbrev pub plain_app : App
+plain_app = let a = new_app (codes "sampler") in record a { top = record a.top { disable_help_flag = true; disable_version_flag = true } }
+
+abbrev pub with_option : App → List ℕ → App
+with_option app name = with_rule app (option_rule name)
+
+abbrev pub with_positionals : App → App
+with_positionals app = with_rule (with_rule app command_rule) rest_rule
+
+abbrev pub with_inputs : App → App
+with_inputs app = with_option (with_option (with_option (with_option app (codes "design")) (codes "frame")) (codes "tape")) (codes "seed")
+
+abbrev pub with_outputs : App → App
+with_outputs app = with_option (with_option app (codes "log")) (codes "sample")
+
+abbrev pub sampler_app : App
+sampler_app = with_outputs (with_inputs (with_positionals plain_app))
+
+-- the matches where no fault is found, and else nothing
+abbrev pub without_fault : Kinds → List Row → Option (List Row)
+without_fault [] rows = Some rows
+without_fault (kind ∷ kinds) rows = None
+
+-- what clap promises of some words, the program's name first: the values of each argument, or nothing where it finds a fault
+unfoldable pub words_of : List (List ℕ) → Option (List Row)
+words_of words = without_fault (fault_of sampler_app words) (matches_of sampler_app words)

@@ -1,0 +1,28 @@
+-- What is given, as the definitions see it.
+use Rattle.std.specs.Prelude.{ℕ, List, [], map, Option, Some, None, option_map}
+use Rattle.std.specs.Borrow.{Bor}
+use Rattle.smp_words.specs.Words.{Given, DrawFiles}
+use Rattle.smp_words.specs.declared.given.Given as code
+use Rattle.smp_words.specs.declared.words.DrawFiles as draw_files
+
+abbrev pub option_view : Option (Bor (List ℕ)) → Option (List ℕ)
+option_view o = option_map (λ text. text.now) o
+
+abbrev pub rest_view : Option (Bor (List (Bor (List ℕ)))) → List (List ℕ)
+rest_view (Some words) = map (λ word. word.now) words.now
+rest_view None = []
+
+abbrev pub given_view : code.Given → Given
+given_view g = record {
+  command = option_view g.command;
+  rest = rest_view g.rest;
+  design = option_view g.design;
+  frame = option_view g.frame;
+  tape = option_view g.tape;
+  seed = option_view g.seed;
+  log = option_view g.log;
+  sample = option_view g.sample;
+}
+
+abbrev pub files_view : draw_files.DrawFiles → DrawFiles
+files_view files = record { design = files.design.now; frame = files.frame.now; log = files.log.now; sample = files.sample.now }

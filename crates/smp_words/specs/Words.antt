@@ -1,0 +1,176 @@
+-- What the words of a command line ask for: the table of the commands.
+use Rattle.std.specs.Prelude.{◌≡◌, ℕ, ◌^◌, ◌≤◌, List, [], ◌∷◌, ◌++◌, length, Bool, true, false, not, ◌&&◌, ◌||◌, ◌==◌, nat_le, Option, Some, None, option_map, unwrap_or, if◌then◌else◌, codes}
+use Rattle.std.specs.List.{list_any, list_all}
+use Rattle.std.specs.Str.{bytes_eq}
+use Rattle.clap.specs.Words.{Row, first_of, all_of}
+use Rattle.smp_lines.specs.Decimals.{number_below}
+use Rattle.smp_words.specs.CommandLine.{words_of}
+use Rattle.smp_words.specs.declared.command.DesignArguments.{DesignArguments}
+use Rattle.smp_words.specs.declared.command.Command.{Command}
+use Rattle.smp_words.specs.declared.command.Command.TheVariants.{Quick, Draw, Probs, Check, NotYet}
+
+-- what a command line gives: the command, the words after it, and the value of each option that is there
+pub record Given : Type 0 where
+  pub command : Option (List ℕ)
+  pub rest : List (List ℕ)
+  pub design : Option (List ℕ)
+  pub frame : Option (List ℕ)
+  pub tape : Option (List ℕ)
+  pub seed : Option (List ℕ)
+  pub log : Option (List ℕ)
+  pub sample : Option (List ℕ)
+
+abbrev pub given_of : List Row → Given
+given_of rows = record {
+  command = first_of (codes "command") rows;
+  rest = unwrap_or (all_of (codes "rest") rows) [];
+  design = first_of (codes "design") rows;
+  frame = first_of (codes "frame") rows;
+  tape = first_of (codes "tape") rows;
+  seed = first_of (codes "seed") rows;
+  log = first_of (codes "log") rows;
+  sample = first_of (codes "sample") rows;
+}
+
+infixl 10 ◌>>=◌
+abbrev pub ◌>>=◌ : {A B : Type 0} → Option A → (A → Option B) → Option B
+(Some x) >>= f = f x
+None >>= f = None
+
+-- something, where a condition holds
+abbrev pub when : {A : Type 0} → Bool → Option A → Option A
+when true x = x
+when false x = None
+
+-- no such option is there
+abbrev pub is_absent : Option (List ℕ) → Bool
+is_absent None = true
+is_absent (Some value) = false
+
+abbrev pub none_given : List (Option (List ℕ)) → Bool
+none_given options = list_all is_absent options
+
+abbrev pub is_empty : List (List ℕ) → Bool
+is_empty [] = true
+is_empty (word ∷ words) = false
+
+-- no two texts are the same
+abbrev pub all_distinct : List (List ℕ) → Bool
+all_distinct [] = true
+all_distinct (name ∷ names) = not (list_any (bytes_eq name) names) && all_distinct names
+
+-- the number that decimal digits write, if it lies in a range
+abbrev pub in_range : ℕ → ℕ → ℕ → Option ℕ
+in_range least most n = when (nat_le least n && nat_le n most) (Some n)
+
+abbrev pub number_from : ℕ → ℕ → List ℕ → Option ℕ
+number_from least most text = number_below (2 ^ 128) text >>= in_range least most
+
+-- a hexadecimal digit in either case
+abbrev pub is_hex_digit : ℕ → Bool
+is_hex_digit byte = (nat_le 48 byte && nat_le byte 57) || ((nat_le 65 byte && nat_le byte 70) || (nat_le 97 byte && nat_le byte 102))
+
+-- the key of a generator in 64 hexadecimal digits
+abbrev pub is_seed : List ℕ → Bool
+is_seed text = (length text == 64) && list_all is_hex_digit text
+
+-- ---- the table of the commands
+
+-- FRAME N TAPE OUT, with N from 1 to 100,000
+abbrev pub quick_words : List (List ℕ) → Option Command
+quick_words (frame ∷ n ∷ tape ∷ out ∷ []) =
+    when (all_distinct (frame ∷ tape ∷ out ∷ [])) (number_from 1 100000 n >>= λ size. Some (Quick (record { frame = frame; n = size; tape = tape; out = out })))
+quick_words other = None
+
+abbrev pub quick : Given → Option Command
+quick g = when (none_given (g.design ∷ g.frame ∷ g.tape ∷ g.seed ∷ g.log ∷ g.sample ∷ [])) (quick_words g.rest)
+
+-- N SEED, with N from 30 to 100,000 and SEED below 2^64
+abbrev pub demo_words : List (List ℕ) → Option Command
+demo_words (n ∷ seed ∷ []) = number_from 30 100000 n >>= λ units. number_from 0 18446744073709551615 seed >>= λ start. Some NotYet
+demo_words other = None
+
+abbrev pub demo : Given → Option Command
+demo g = when (none_given (g.design ∷ g.frame ∷ g.tape ∷ g.seed ∷ g.log ∷ g.sample ∷ [])) (demo_words g.rest)
+
+-- the files of a design and a frame, and no others
+abbrev pub design_arguments : Given → Option DesignArguments
+design_arguments g = when (is_empty g.rest && none_given (g.tape ∷ g.seed ∷ g.log ∷ g.sample ∷ [])) (do
+  design ← g.design
+  frame ← g.frame
+  when (all_distinct (design ∷ frame ∷ [])) (Some (record { design = design; frame = frame })))
+
+-- the files that both `draw` and `replay` name
+pub record DrawFiles : Type 0 where
+  pub design : List ℕ
+  pub frame : List ℕ
+  pub log : List ℕ
+  pub sample : List ℕ
+
+abbrev pub draw_files : Given → Option DrawFiles
+draw_files g = when (is_empty g.rest) (do
+  design ← g.design
+  frame ← g.frame
+  log ← g.log
+  sample ← g.sample
+  Some (record { design = design; frame = frame; log = log; sample = sample }))
+
+-- exactly one of a tape and a seed
+abbrev pub draw_by : DrawFiles → Option (List ℕ) → Option (List ℕ) → Option Command
+draw_by files (Some tape) None =
+    when (all_distinct (files.design ∷ files.frame ∷ tape ∷ files.log ∷ files.sample ∷ []))
+    (Some (Draw (record { design = files.design; frame = files.frame; tape = tape; log = files.log; sample = files.sample })))
+draw_by files None (Some seed) = when (is_seed seed && all_distinct (files.design ∷ files.frame ∷ files.log ∷ files.sample ∷ [])) (Some NotYet)
+draw_by files None None = None
+draw_by files (Some tape) (Some seed) = None
+
+abbrev pub draw : Given → Option Command
+draw g = draw_files g >>= λ files. draw_by files g.tape g.seed
+
+abbrev pub replay : Given → Option Command
+replay g = draw_files g >>= λ files.
+    when (none_given (g.tape ∷ g.seed ∷ []) && all_distinct (files.design ∷ files.frame ∷ files.log ∷ files.sample ∷ [])) (Some NotYet)
+
+-- what stands beside the word of a command
+abbrev pub by_name : List ℕ → Given → Option Command
+by_name name g =
+    if bytes_eq name (codes "quick") then quick g
+    else if bytes_eq name (codes "draw") then draw g
+    else if bytes_eq name (codes "replay") then replay g
+    else if bytes_eq name (codes "probs") then option_map Probs (design_arguments g)
+    else if bytes_eq name (codes "check") then option_map Check (design_arguments g)
+    else if bytes_eq name (codes "demo") then demo g
+    else None
+
+-- what is given asks for
+unfoldable pub command_given : Given → Option Command
+command_given g = g.command >>= λ name. by_name name g
+
+-- the command that some words give, the program's name first
+unfoldable pub command_of : List (List ℕ) → Option Command
+command_of words = words_of words >>= λ rows. command_given (given_of rows)
+
+-- ---- the files of a command
+
+-- the files that a command reads, and those that it writes, in the order of its work
+abbrev pub inputs_of : Command → List (List ℕ)
+inputs_of (Quick arguments) = arguments.frame ∷ arguments.tape ∷ []
+inputs_of (Draw arguments) = arguments.design ∷ arguments.frame ∷ arguments.tape ∷ []
+inputs_of (Probs arguments) = arguments.design ∷ arguments.frame ∷ []
+inputs_of (Check arguments) = arguments.design ∷ arguments.frame ∷ []
+inputs_of NotYet = []
+
+abbrev pub outputs_of : Command → List (List ℕ)
+outputs_of (Quick arguments) = arguments.out ∷ []
+outputs_of (Draw arguments) = arguments.log ∷ arguments.sample ∷ []
+outputs_of other = []
+
+-- how many units a command itself asks for
+abbrev pub IsSized : Command → Type 0
+IsSized (Quick arguments) = (1 ≤ arguments.n) × (arguments.n ≤ 100000)
+IsSized other = Unit {0}
+
+-- no two files of a command have the same name, and `quick` asks for 1 to 100,000 units
+pub record IsAsked (command : Command) : Type 0 where
+  pub distinct : all_distinct (inputs_of command ++ outputs_of command) ≡ true
+  pub sized : IsSized command

@@ -1,0 +1,178 @@
+//! The table of the commands.
+
+ghost use Rattle.std.specs.Prelude.{◌≡◌, map, IfOk, IfSome, Some, None, string_bytes, option_map};
+ghost use Rattle.smp_words.specs.Views.{given_view, files_view};
+ghost use Rattle.smp_words.specs.Words;
+ghost use Rattle.smp_words.specs.Words.{command_of, command_given, draw_by, IsAsked};
+
+use crate::command_line::matches_from;
+use crate::given::{Given, are_absent, are_distinct, is_seed, number_from};
+use crate::{Command, DesignArguments, DrawArguments, QuickArguments};
+use smp_frac::{NoMemory, Text};
+use std::alloc::Global;
+
+const MAX_UNITS: u128 = 100_000;
+
+const MIN_DEMO_UNITS: u128 = 30;
+
+const MAX_DEMO_SEED: u128 = u64::MAX as u128;
+
+/// What the words of a command line, the program's name first, ask for. `None` where they are those of no command:
+/// the usage of the program.
+#[tactic(auto, unfolding(crate::specs::Words::command_of))]
+pub fn command_from(alloc: Global, words: &[String]) -> Result<Option<Command>, NoMemory>
+    ensures command { IfOk result (λ command. command ≡ command_of (map string_bytes words.now)) }
+    ensures asked { IfOk result (λ command. IfSome command IsAsked) }
+{
+    match matches_from(alloc, words)? {
+        Some(matches) => command_given(alloc, &Given::from_matches(&matches)),
+        None => Ok(None),
+    }
+}
+
+#[tactic(auto, unfolding(crate::specs::Words::command_given))]
+fn command_given(alloc: Global, given: &Given) -> Result<Option<Command>, NoMemory>
+    ensures command { IfOk result (λ command. command ≡ command_given (given_view given.now)) }
+{
+    match given.command {
+        Some("quick") => quick(alloc, given),
+        Some("draw") => draw(alloc, given),
+        Some("replay") => Ok(replay(given)),
+        Some("probs") => Ok(design_arguments(alloc, given)?.map(Command::Probs)),
+        Some("check") => Ok(design_arguments(alloc, given)?.map(Command::Check)),
+        Some("demo") => Ok(demo(given)),
+        _ => Ok(None),
+    }
+}
+
+fn quick(alloc: Global, given: &Given) -> Result<Option<Command>, NoMemory>
+    ensures { IfOk result (λ command. command ≡ Words.quick (given_view given.now)) }
+{
+    if !given.has_no_option() {
+        return Ok(None);
+    }
+    match given.rest {
+        Some([frame, n, tape, out]) if are_distinct(&[frame, tape, out]) => {
+            let Some(n) = number_from(1, MAX_UNITS, n) else {
+                return Ok(None);
+            };
+            Ok(Some(Command::Quick(QuickArguments {
+                frame: Text::from_str(alloc, frame)?,
+                n: n as u32,
+                tape: Text::from_str(alloc, tape)?,
+                out: Text::from_str(alloc, out)?,
+            })))
+        }
+        _ => Ok(None),
+    }
+}
+
+fn demo(given: &Given) -> Option<Command>
+    ensures { result ≡ Words.demo (given_view given.now) }
+{
+    if !given.has_no_option() {
+        return None;
+    }
+    let rest = given.rest?;
+    let [n, seed] = rest else {
+        return None;
+    };
+    number_from(MIN_DEMO_UNITS, MAX_UNITS, n)?;
+    number_from(0, MAX_DEMO_SEED, seed)?;
+    Some(Command::NotYet)
+}
+
+fn design_arguments(alloc: Global, given: &Given) -> Result<Option<DesignArguments>, NoMemory>
+    ensures { IfOk result (λ arguments. arguments ≡ Words.design_arguments (given_view given.now)) }
+{
+    if !given.has_no_rest() || !are_absent(&[given.tape, given.seed, given.log, given.sample]) {
+        return Ok(None);
+    }
+    let Some(design) = given.design else {
+        return Ok(None);
+    };
+    let Some(frame) = given.frame else {
+        return Ok(None);
+    };
+    if !are_distinct(&[design, frame]) {
+        return Ok(None);
+    }
+    Ok(Some(DesignArguments {
+        design: Text::from_str(alloc, design)?,
+        frame: Text::from_str(alloc, frame)?,
+    }))
+}
+
+// The four files that `draw` and `replay` name by options.
+#[derive(Clone, Copy)]
+struct DrawFiles<'a> {
+    design: &'a str,
+    frame: &'a str,
+    log: &'a str,
+    sample: &'a str,
+}
+
+fn draw_files<'a>(given: &Given<'_, 'a>) -> Option<DrawFiles<'a>>
+    ensures { option_map files_view result ≡ Words.draw_files (given_view given.now) }
+{
+    if !given.has_no_rest() {
+        return None;
+    }
+    Some(DrawFiles {
+        design: given.design?,
+        frame: given.frame?,
+        log: given.log?,
+        sample: given.sample?,
+    })
+}
+
+fn draw(alloc: Global, given: &Given) -> Result<Option<Command>, NoMemory>
+    ensures { IfOk result (λ command. command ≡ Words.draw (given_view given.now)) }
+{
+    let Some(files) = draw_files(given) else {
+        return Ok(None);
+    };
+    match (given.tape, given.seed) {
+        (Some(tape), None) => draw_by_tape(alloc, &files, tape),
+        (None, Some(seed)) => Ok(draw_by_seed(&files, seed)),
+        _ => Ok(None),
+    }
+}
+
+fn draw_by_tape(alloc: Global, files: &DrawFiles, tape: &str) -> Result<Option<Command>, NoMemory>
+    ensures { IfOk result (λ command. command ≡ draw_by (files_view files.now) (Some tape.now) None) }
+{
+    if !are_distinct(&[files.design, files.frame, tape, files.log, files.sample]) {
+        return Ok(None);
+    }
+    Ok(Some(Command::Draw(DrawArguments {
+        design: Text::from_str(alloc, files.design)?,
+        frame: Text::from_str(alloc, files.frame)?,
+        tape: Text::from_str(alloc, tape)?,
+        log: Text::from_str(alloc, files.log)?,
+        sample: Text::from_str(alloc, files.sample)?,
+    })))
+}
+
+fn draw_by_seed(files: &DrawFiles, seed: &str) -> Option<Command>
+    ensures { result ≡ draw_by (files_view files.now) None (Some seed.now) }
+{
+    if is_seed(seed) && are_distinct(&[files.design, files.frame, files.log, files.sample]) {
+        Some(Command::NotYet)
+    } else {
+        None
+    }
+}
+
+fn replay(given: &Given) -> Option<Command>
+    ensures { result ≡ Words.replay (given_view given.now) }
+{
+    let files = draw_files(given)?;
+    if are_absent(&[given.tape, given.seed])
+        && are_distinct(&[files.design, files.frame, files.log, files.sample])
+    {
+        Some(Command::NotYet)
+    } else {
+        None
+    }
+}
