@@ -58,10 +58,26 @@ def random_tape(sizes, n, choose):
     return [choose(places - i) for i in range(places - 1)] + systematic_tape(sizes, n, choose)
 
 
+def support_tape(sizes, n, choose):
+    numer, den = numerators(sizes, n)
+    numer, values = sorted(numer), []
+    small, large = numer[: len(numer) - n], numer[len(numer) - n :]
+    while any(0 < value < den for value in (small[-1], large[0])):
+        weight = min(den - small[-1], large[0])
+        values.append(choose(den))
+        if values[-1] < weight:
+            break
+        large, den = [value - weight for value in large], den - weight
+        numer = sorted(small + large)
+        small, large = numer[: len(numer) - n], numer[len(numer) - n :]
+    return values
+
+
 METHODS = [
     ("pivotal", "frame", pivotal_tape),
     ("systematic", "frame", systematic_tape),
     ("systematic", "random", random_tape),
+    ("minimum_support", None, support_tape),
 ]
 
 
@@ -90,7 +106,8 @@ def main():
         n = max(1, rows // 10)
         frame = write(work, "frame.csv", "id,size\n" + "".join(f"U{i},{size}\n" for i, size in enumerate(sizes)))
         for method, order, full_tape in METHODS:
-            text = f'version = 1\nmethod = "{method}"\norder = "{order}"\nid = "id"\nsize = "size"\nn = {n}\n'
+            text = f'version = 1\nmethod = "{method}"\nid = "id"\nsize = "size"\nn = {n}\n'
+            text += f'order = "{order}"\n' if order else ""
             design = write(work, "design.toml", text)
             for name, choose in [("least", lambda bound: 0), ("greatest", lambda bound: bound - 1)]:
                 values = full_tape(sizes, n, choose)

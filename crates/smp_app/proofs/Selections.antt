@@ -77,20 +77,20 @@ module _ (plan : Plan) (tree : Tree StageState) (tree_is : tree ≡ tree_of plan
 -- ---- the design of a plan
 
 module _ (plan : FramePlan) (planned : IsPlanned plan) where
-  pub starts_so : (stage : Stage) → stage ≡ stage_of plan.procedure plan.request → first_state stage ≡ start_of (plan_view plan)
-  starts_so stage is = ap first_state is ∙ ap (λ (r : Request). first_state (stage_of plan.procedure r)) planned.request_is
+  pub starts_so : (stage : Stage) → stage ≡ stage_of plan.procedure plan.request plan.frame → first_state stage ≡ start_of (plan_view plan)
+  starts_so stage is = ap first_state is ∙ ap (λ (r : Request). first_state (stage_of plan.procedure r plan.frame)) planned.request_is
 
-  pub tree_is : (rows : ℕ) (stage : Stage) → rows ≡ length plan.frame → stage ≡ stage_of plan.procedure plan.request → rows_tree rows plan.request (stage_tree stage) ≡ tree_of (plan_view plan)
+  pub tree_is : (rows : ℕ) (stage : Stage) → rows ≡ length plan.frame → stage ≡ stage_of plan.procedure plan.request plan.frame → rows_tree rows plan.request (stage_tree stage) ≡ tree_of (plan_view plan)
   tree_is rows stage rows_are is =
       ap (λ n. rows_tree n plan.request (stage_tree stage)) rows_are
       ∙ ap (λ (s : Stage). rows_tree (length plan.frame) plan.request (stage_tree s)) is
-      ∙ ap (λ (r : Request). rows_tree (length plan.frame) r (stage_tree (stage_of plan.procedure r))) planned.request_is
+      ∙ ap (λ (r : Request). rows_tree (length plan.frame) r (stage_tree (stage_of plan.procedure r plan.frame))) planned.request_is
 
-  pub in_rows : (stage : Stage) (state : StageState) → stage ≡ stage_of plan.procedure plan.request → BelongsToStage (stage_of plan.procedure plan.request) state → BelongsToRows plan.request (stage_tree stage) (BelongsToStage stage) state
+  pub in_rows : (stage : Stage) (state : StageState) → stage ≡ stage_of plan.procedure plan.request plan.frame → BelongsToStage (stage_of plan.procedure plan.request plan.frame) state → BelongsToRows plan.request (stage_tree stage) (BelongsToStage stage) state
   in_rows stage state is belongs = record {
     member = subst (λ (s : Stage). BelongsToStage s state) (sym is) belongs;
     ordered = planned.ordered;
-    paired = sym (ap (λ (s : Stage). (stage_tree s).units) is ∙ stage_units plan.procedure plan.request planned.is_request);
+    paired = sym (ap (λ (s : Stage). (stage_tree s).units) is ∙ stage_units plan.procedure plan.request plan.frame planned.is_request);
   }
 
   pub fills : (rows : ℕ) → rows ≡ length plan.frame → Fills plan.request rows plan.n

@@ -1,5 +1,5 @@
 -- What is asked of a frame, and the draw that follows from it.
-use Rattle.std.specs.Prelude.{ℕ, List, [], ◌∷◌, Bool, ◌&&◌, is_none, length, slice_index, ◌+◌, Option, Some, None, if◌then◌else◌, codes}
+use Rattle.std.specs.Prelude.{ℕ, List, [], ◌∷◌, Bool, ◌&&◌, is_none, length, slice_index, ◌+◌, Option, Some, None, option_map, if◌then◌else◌, codes}
 use Rattle.smp_split.specs.Fractions.{Fraction, over}
 use Rattle.smp_split.specs.Trees.{Tree}
 use Rattle.smp_frame.specs.declared.columns.Columns.{Columns}
@@ -16,6 +16,7 @@ use Rattle.smp_stage.specs.declared.procedure.Procedure.{Procedure}
 use Rattle.smp_stage.specs.declared.procedure.Procedure.TheVariants as procedure
 use Rattle.smp_stage.specs.declared.stage.Stage.{Stage}
 use Rattle.smp_stage.specs.declared.stage.StageState.{StageState}
+use Rattle.smp_stage.specs.Coordinates.{dimensions_of}
 use Rattle.smp_stage.specs.Stages.{stage_of, first_state, stage_tree}
 use Rattle.smp_rows.specs.Rows.{rows_tree}
 use Rattle.smp_app.specs.declared.asked.Asked.{Asked}
@@ -29,11 +30,14 @@ quick_columns = record { id = codes "id"; stratum = None; psu = None; size = Som
 abbrev pub quick_asked : ℕ → Asked
 quick_asked n = record { procedure = procedure.Pivotal Frame; columns = quick_columns; n = n }
 
--- the procedure of a method that is served
-abbrev pub procedure_of : Method → Order → Option Procedure
-procedure_of methods.Pivotal order = Some (procedure.Pivotal order)
-procedure_of methods.Systematic order = Some (procedure.Systematic order)
-procedure_of other order = None
+-- the procedure of a method that is served, where so many columns of values are asked
+abbrev pub procedure_of : Method → Order → ℕ → Option Procedure
+procedure_of methods.Pivotal order columns = Some (procedure.Pivotal order)
+procedure_of methods.Systematic order columns = Some (procedure.Systematic order)
+procedure_of methods.MinimumSupport order columns = Some procedure.MinimumSupport
+procedure_of methods.Brewer order columns = Some procedure.Brewer
+procedure_of methods.LocalPivotal order columns = option_map procedure.LocalPivotal (dimensions_of columns)
+procedure_of other order columns = None
 
 abbrev pub asked_by : Option Procedure → Columns → Option ℕ → Option Asked
 asked_by (Some way) columns (Some n) = Some (record { procedure = way; columns = columns; n = n })
@@ -44,7 +48,7 @@ asked_by (Some way) columns None = None
 -- a number of units.
 abbrev pub asked_of : Design → Option Asked
 asked_of design =
-    if is_none design.columns.stratum && is_none design.second then asked_by (procedure_of design.method design.order) design.columns design.n else None
+    if is_none design.columns.stratum && is_none design.second then asked_by (procedure_of design.method design.order (length design.columns.values)) design.columns design.n else None
 
 -- ---- the draw
 
@@ -60,7 +64,7 @@ request_of plan = requested_of (sizes_of plan.units) plan.n
 
 -- the design of the free units
 abbrev pub stage_of_plan : Plan → Stage
-stage_of_plan plan = stage_of plan.procedure (request_of plan)
+stage_of_plan plan = stage_of plan.procedure (request_of plan) plan.units
 
 -- the draw tree, whose units are the rows of the frame, and the state from which a draw starts
 abbrev pub tree_of : Plan → Tree StageState

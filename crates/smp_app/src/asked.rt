@@ -4,7 +4,7 @@ ghost use Rattle.smp_app.specs.Plans.{quick_columns, quick_asked, procedure_of, 
 use smp_design::{Design, Method, Order};
 use smp_frac::{NoMemory, Text};
 use smp_frame::{Columns, Names};
-use smp_stage::Procedure;
+use smp_stage::{Dimensions, Procedure};
 use std::alloc::Global;
 
 /// What is asked of a frame.
@@ -37,7 +37,11 @@ impl Asked {
         if design.columns.stratum.is_some() || design.second.is_some() {
             return None;
         }
-        let procedure = procedure_for(design.method, design.order)?;
+        let procedure = procedure_for(
+            design.method,
+            design.order,
+            design.columns.values.as_slice().len(),
+        )?;
         let n = design.n?;
         Some(Asked {
             procedure,
@@ -60,12 +64,15 @@ fn columns_of_quick(alloc: Global) -> Result<Columns, NoMemory>
     })
 }
 
-fn procedure_for(method: Method, order: Order) -> Option<Procedure>
-    ensures { result ≡ procedure_of method order }
+fn procedure_for(method: Method, order: Order, columns: usize) -> Option<Procedure>
+    ensures { result ≡ procedure_of method order columns }
 {
     match method {
         Method::Pivotal => Some(Procedure::Pivotal(order)),
         Method::Systematic => Some(Procedure::Systematic(order)),
-        Method::MinimumSupport | Method::Brewer | Method::LocalPivotal | Method::Cube => None,
+        Method::MinimumSupport => Some(Procedure::MinimumSupport),
+        Method::Brewer => Some(Procedure::Brewer),
+        Method::LocalPivotal => Some(Procedure::LocalPivotal(Dimensions::of_coordinates(columns)?)),
+        Method::Cube => None,
     }
 }

@@ -31,11 +31,12 @@ pub fn select<'a>(alloc: Global, plan: &'a FramePlan, tape: Tape) -> Result<Sele
     ensures kinds { IfErr result IsOfContent }
     ensures selection { IfOk result (IsSelection (plan_view plan.now)) }
 {
-    let Started { stage, mut state } = Started::new(alloc, plan.procedure, &plan.request)?;
+    let units = plan.frame.units();
+    let Started { stage, mut state } = Started::new(alloc, plan.procedure, &plan.request, units)?;
     let design = Rows {
         design: stage,
         request: &plan.request,
-        rows: plan.frame.units().len(),
+        rows: units.len(),
     };
     design.select_as_asked(&state);
     let mut tape = tape;

@@ -110,13 +110,18 @@ fn draw_writes_the_log_and_the_sample(rt: HostRuntime) -> Result<(), Fail> {
     let alloc = rt.alloc();
     let random: &[u8] =
         b"version = 1\nmethod = \"systematic\"\nid = \"id\"\nsize = \"size\"\nn = 2\norder = \"random\"\n";
+    let support: &[u8] =
+        b"version = 1\nmethod = \"minimum_support\"\nid = \"id\"\nsize = \"size\"\nn = 2\n";
+    let brewer: &[u8] = b"version = 1\nmethod = \"brewer\"\nid = \"id\"\nsize = \"size\"\nn = 2\n";
+    let local: &[u8] =
+        b"version = 1\nmethod = \"local_pivotal\"\nid = \"id\"\nnear = [\"x\"]\nn = 2\n";
     let one: &[u8] = b"version = 1\nmethod = \"pivotal\"\nid = \"id\"\nsize = \"size\"\nn = 1\n";
     let all: &[u8] = b"version = 1\nmethod = \"pivotal\"\nid = \"id\"\nsize = \"size\"\nn = 4\n";
     let sizes_one: &[u8] = b"version = 1\nmethod = \"systematic\"\nid = \"id\"\nn = 2\n";
     let quoted: &[u8] = b"id,size\n\"x,1\",1\ny,1";
     let marked: &[u8] = b"\xef\xbb\xbfid,size\n\"x,1\",1\ny,1";
     // The design, the frame, the tape, the log, the sample and the report.
-    let cases: [(&[u8], &[u8], &[u8], &[u8], &[u8], &[u8]); 14] = [
+    let cases: [(&[u8], &[u8], &[u8], &[u8], &[u8], &[u8]); 17] = [
         (
             PIVOTAL,
             FRAME,
@@ -171,6 +176,32 @@ fn draw_writes_the_log_and_the_sample(rt: HostRuntime) -> Result<(), Fail> {
             b"3\n0\n0\n0\n",
             b"order 4 3\norder 3 0\norder 2 0\nsystem 5 0\n",
             b"id,weight\nb,5/2\nd,5/4\n",
+            b"selected 2 of 4\nsteps 4\n",
+        ),
+        (
+            support,
+            FRAME,
+            b"3\n0\n",
+            b"support 5 3\nsupport 2 0\n",
+            b"id,weight\nb,5/2\nd,5/4\n",
+            b"selected 2 of 4\nsteps 2\n",
+        ),
+        // The first offer is refused.
+        (
+            brewer,
+            FRAME,
+            b"0\n20\n9\n5\n3\n0\n",
+            b"offer 10 0\ntake 48 20\noffer 10 9\ntake 12 5\noffer 6 3\ntake 9 0\n",
+            b"id,weight\nc,5/3\nd,5/4\n",
+            b"selected 2 of 4\nsteps 6\n",
+        ),
+        // Unit b is chosen, and a and c are equally near.
+        (
+            local,
+            b"id,x\na,0\nb,2\nc,4\nd,9\n",
+            b"1\n1\n0\n0\n",
+            b"choose 4 1\npivot 2 1\nchoose 2 0\npivot 2 0\n",
+            b"id,weight\na,2/1\nc,2/1\n",
             b"selected 2 of 4\nsteps 4\n",
         ),
         // All units are certain, and nothing is drawn.
@@ -401,7 +432,7 @@ fn refusals_put_their_line(rt: HostRuntime) -> Result<(), Fail> {
     let alloc = rt.alloc();
     let five: &[u8] = b"version = 1\nmethod = \"pivotal\"\nid = \"id\"\nsize = \"size\"\nn = 5\n";
     // The design, the frame, the tape, the code and the line.
-    let cases: [(&[u8], &[u8], &[u8], u8, &[u8]); 31] = [
+    let cases: [(&[u8], &[u8], &[u8], u8, &[u8]); 28] = [
         (
             b"version = ",
             FRAME,
@@ -442,27 +473,6 @@ fn refusals_put_their_line(rt: HostRuntime) -> Result<(), Fail> {
         (
             b"version = 1\nmethod = \"cube\"\nid = \"id\"\nn = 2\nbalance = [\"x\"]\n",
             b"",
-            FULL,
-            15,
-            b"error 15 not yet\n",
-        ),
-        (
-            b"version = 1\nmethod = \"minimum_support\"\nid = \"id\"\nn = 2\n",
-            FRAME,
-            FULL,
-            15,
-            b"error 15 not yet\n",
-        ),
-        (
-            b"version = 1\nmethod = \"brewer\"\nid = \"id\"\nn = 2\n",
-            FRAME,
-            FULL,
-            15,
-            b"error 15 not yet\n",
-        ),
-        (
-            b"version = 1\nmethod = \"local_pivotal\"\nid = \"id\"\nn = 2\nnear = [\"x\"]\n",
-            FRAME,
             FULL,
             15,
             b"error 15 not yet\n",

@@ -1,5 +1,5 @@
 -- A stage serves its request, since its method's design does.
-use Rattle.std.proofs.Common.{◌≡◌, ℕ, suc, zero, ◌*◌, ◌<◌, ◌≤◌, true, Bool, List, [], ◌∷◌, length, slice_index, Option, Some, arith, refl, sym, subst, ◌∙◌, inl, inr}
+use Rattle.std.proofs.Common.{◌≡◌, ℕ, suc, zero, ◌*◌, ◌<◌, ◌≤◌, true, Bool, List, [], ◌∷◌, length, slice_index, Option, Some, arith, refl, sym, ap, subst, ◌∙◌, inl, inr}
 use Rattle.std.specs.List.{count_by, range_with_len}
 use Rattle.std.proofs.lemmas.Bool.{cases_eq}
 use Rattle.smp_prob.specs.declared.requests.Request.{Request}
@@ -9,10 +9,12 @@ use Rattle.smp_split.specs.Trees.{Tree, picked}
 use Rattle.smp_split.specs.Walks.{Line, IsStep, Leads}
 use Rattle.smp_split.proofs.Parts.{weight_sum-moved, picked-moved}
 use Rattle.smp_rows.specs.Rows.{Serves}
-use Rattle.smp_stage.specs.Embeds.{embedded}
+use Rattle.smp_stage.specs.Embeds.{embedded, Inside}
 use Rattle.smp_stage.specs.Stages.{IsWhole, stage_of, stage_tree}
 use Rattle.smp_stage.specs.declared.procedure.Procedure.{Procedure}
 use Rattle.smp_stage.specs.declared.procedure.Procedure.TheVariants as procedure
+use Rattle.smp_stage.specs.declared.procedure.Dimensions.TheVariants.{One, Two, Three, Four}
+use Rattle.smp_frame.specs.declared.frame.Unit as unit
 use Rattle.smp_prob.specs.Requests.{IsRequest}
 use Rattle.smp_prob.proofs.Fractions.{length-numerators}
 
@@ -36,9 +38,15 @@ module _ {State : Type 0} (request : Request) (whole : IsWhole request) (tree : 
   }
 
 -- the units of a stage are the free units of its request
-pub stage_units : (way : Procedure) (request : Request) → IsRequest request → (stage_tree (stage_of way request)).units ≡ length request.free
-stage_units (procedure.Pivotal order) request is = length-numerators request is
-stage_units (procedure.Systematic order) request is = length-numerators request is
+pub stage_units : (way : Procedure) (request : Request) (units : List unit.Unit) → IsRequest request → (stage_tree (stage_of way request units)).units ≡ length request.free
+stage_units (procedure.Pivotal order) request units is = length-numerators request is
+stage_units (procedure.Systematic order) request units is = length-numerators request is
+stage_units procedure.MinimumSupport request units is = length-numerators request is
+stage_units procedure.Brewer request units is = is.paired
+stage_units (procedure.LocalPivotal One) request units is = length-numerators request is
+stage_units (procedure.LocalPivotal Two) request units is = length-numerators request is
+stage_units (procedure.LocalPivotal Three) request units is = length-numerators request is
+stage_units (procedure.LocalPivotal Four) request units is = length-numerators request is
 
 -- ---- the same among the states of a stage
 
@@ -77,3 +85,10 @@ module _ {Inner Outer : Type 0} (into : Inner → Outer) (out : Outer → Option
     values = λ unit within. rw (back state) (is.values unit within);
     count = count_inside request.r state is.count;
   }
+
+  -- a state that is such belongs to the design
+  pub member_inside : (belongs : Inner → Type 0) (state : Inner) → Inside into out inner belongs (into state) → belongs state
+  member_inside belongs state here =
+      let same : Some state ≡ Some here.inside = sym (back state) ∙ ap out here.is ∙ back here.inside in
+      let is : state ≡ here.inside = cc in
+      subst belongs (sym is) here.member

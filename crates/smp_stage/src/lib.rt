@@ -4,10 +4,11 @@
 //! units, and its draw tree is that of the procedure's method. A further method is one more variant.
 #![tactic(auto)]
 
+mod points;
 mod procedure;
 mod stage;
 mod start;
 
-pub use procedure::Procedure;
+pub use procedure::{Dimensions, Procedure};
 pub use stage::{Stage, StageState};
 pub use start::Started;

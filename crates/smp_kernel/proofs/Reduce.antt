@@ -1,0 +1,109 @@
+-- A row divided by its content.
+use Rattle.std.proofs.Common.{◌≡◌, ℕ, zero, ◌+◌, ◌*◌, ◌<◌, ◌≤◌, ◌^◌, List, ℤ, pos, ◌*ℤ◌, length, arith, sym, subst, ap, ◌∙◌, refl, inl, inr, suc, [], ◌∷◌, le_of_suc-le-suc, eq-zero-or-pos}
+use Rattle.std.proofs.lemmas.Int.{ints, unsigned_abs-mul}
+use Rattle.std.proofs.lemmas.Bool.{cases_lt}
+use Rattle.std.proofs.lemmas.List.{get_or_past}
+use Rattle.std.specs.Int.RustNames.{unsigned_abs, int_div}
+use Rattle.smp_kernel.proofs.Quotients.{exact}
+use Rattle.smp_kernel.proofs.Limits.{Within-same}
+use Rattle.smp_kernel.proofs.Ring.{abs_zero, positive_some}
+use Rattle.smp_kernel.proofs.Primitive.{cancel_left, same_sizes, one_from_le}
+use Rattle.std.proofs.Math.Nat.{le_of_dvd, mul-dvd-mul_left, eq-zero_of_zero-dvd}
+use Prim.Native.Nat.{◌∣◌}
+use Rattle.smp_kernel.specs.Vectors.{entry, IsZero, IsPrimitive, Within}
+use Rattle.std.proofs.Math.Nat.{dvd-zero, dvd-mul_left, pos_of_dvd_of_pos}
+use Rattle.std.proofs.lemmas.Nat.Gcd.{dvd_trans}
+use Rattle.smp_frac.specs.Divisors.{IsContent, IsContentOfFirst, greatest_common_divisor}
+use Rattle.smp_frac.proofs.Gcds.{IsGcd-greatest_common_divisor}
+use Rattle.smp_frac.proofs.Contents.{content_more}
+use Rattle.smp_kernel.specs.Steps.{IsReduced, IsTooLong}
+use lib.IntN.{*ℤ-zero}
+
+-- a divisor of a smaller number: that number is 0
+small_multiple : (g n : ℕ) → g ∣ n → n < g → n ≡ 0
+small_multiple g n d l = elim (eq-zero-or-pos n) [ inl z ↦ z | inr p ↦ absurd (let k : g ≤ n = le_of_dvd p d in omega arith) ]
+
+module _ (row : List ℤ) (g : ℕ) (c : IsContent row g) (some : IsZero row → ⊥) where
+  all_zero : ((i : ℕ) → i < length row → unsigned_abs (entry row i) ≡ 0) → ⊥
+  all_zero h = some (λ i. elim (cases_lt i (length row)) [ inl l ↦ abs_zero (entry row i) (h i l) | inr m ↦ get_or_past row i (pos 0) m ])
+
+  pub content_positive : 0 < g
+  content_positive = elim (eq-zero-or-pos g) [ inl z ↦ absurd (all_zero (λ i l. let d : 0 ∣ unsigned_abs (entry row i) = subst (λ (x : ℕ). x ∣ unsigned_abs (entry row i)) z (c.0 i l) in eq-zero_of_zero-dvd d)) | inr p ↦ p ]
+
+  pub content_at_most : (n : ℕ) → Within n row → g ≤ n
+  content_at_most n w =
+      elim (cases_lt n g) [ inl l ↦ absurd (all_zero (λ i b. small_multiple g (unsigned_abs (entry row i)) (c.0 i b) (let k : unsigned_abs (entry row i) ≤ n = w i (pos 0) b in omega arith))) | inr m ↦ m ]
+
+  product_abs : (e : List ℤ) (h : ℕ) (i : ℕ) → pos h *ℤ entry e i ≡ entry row i → h * unsigned_abs (entry e i) ≡ unsigned_abs (entry row i)
+  product_abs e h i p = sym (unsigned_abs-mul (pos h) (entry e i)) ∙ ap unsigned_abs p
+
+  reduced_primitive : (e : List ℤ) → ((i : ℕ) → pos g *ℤ entry e i ≡ entry row i) → IsPrimitive e
+  reduced_primitive e p d all =
+      let k : g * d ∣ g = c.1 (g * d) (λ i b. subst (λ (x : ℕ). g * d ∣ x) (product_abs e g i (p i)) (mul-dvd-mul_left d g (all i))) in
+      let pd : 0 < d = pos_of_dvd_of_pos (dvd_trans d (dvd-mul_left d g) k) content_positive in
+      one_from_le d g pd content_positive (let le : g * d ≤ g = le_of_dvd content_positive k in omega arith)
+
+pub is_reduced : (row : List ℤ) (g : ℕ) (c : IsContent row g) (some : IsZero row → ⊥) (e : List ℤ) → length e ≡ length row → ((i : ℕ) → i < length row → pos g *ℤ entry e i ≡ entry row i) → IsReduced row e
+is_reduced row g c some e l p =
+    let all : (i : ℕ) → pos g *ℤ entry e i ≡ entry row i = λ i. elim (cases_lt i (length row)) [
+      | inl b ↦ p i b
+      | inr m ↦ ap (λ x. pos g *ℤ x) (get_or_past e i (pos 0) (omega arith)) ∙ *ℤ-zero (pos g) ∙ sym (get_or_past row i (pos 0) m)
+    ] in
+    record { primitive = reduced_primitive row g c some e all; divisor = pos g; positive = (let k : 0 < g = content_positive row g c some in omega (arith, ints)); product = all }
+
+-- ---- the quotients
+quotients : ℕ → List ℤ → List ℤ
+quotients g [] = []
+quotients g (x ∷ xs) = int_div x (pos g) ∷ quotients g xs
+
+length_quotients : (g : ℕ) (row : List ℤ) → length (quotients g row) ≡ length row
+unfolding quotients
+length_quotients g [] = refl
+length_quotients g (x ∷ xs) = ap suc (length_quotients g xs)
+
+entry_quotients : (g : ℕ) (row : List ℤ) (j : ℕ) → j < length row → entry (quotients g row) j ≡ int_div (entry row j) (pos g)
+unfolding quotients
+entry_quotients g [] j l = absurd (omega arith)
+entry_quotients g (x ∷ xs) zero l = refl
+entry_quotients g (x ∷ xs) (suc j) l = entry_quotients g xs j (le_of_suc-le-suc l)
+
+same_factor : (g : ℕ) (a b : ℤ) → 0 < g → pos g *ℤ a ≡ pos g *ℤ b → unsigned_abs a ≡ unsigned_abs b
+same_factor g a b p e = cancel_left g (unsigned_abs a) (unsigned_abs b) p (sym (unsigned_abs-mul (pos g) a) ∙ ap unsigned_abs e ∙ unsigned_abs-mul (pos g) b)
+
+pub too_long : (row : List ℤ) (g : ℕ) (c : IsContent row g) (some : IsZero row → ⊥) (q : ℤ) (j : ℕ) → j < length row → pos g *ℤ q ≡ entry row j → 2 ^ 44 < unsigned_abs q → IsTooLong row
+too_long row g c some q j b pq large =
+    let each : (i : ℕ) → i < length row → pos g *ℤ entry (quotients g row) i ≡ entry row i =
+    λ i l. ap (λ x. pos g *ℤ x) (entry_quotients g row i l) ∙ exact (entry row i) g (c.0 i l) in
+    record {
+      reduced = quotients g row;
+      is = is_reduced row g c some (quotients g row) (length_quotients g row) each;
+      long = λ w.
+          let s : unsigned_abs (entry (quotients g row) j) ≡ unsigned_abs q = same_factor g (entry (quotients g row) j) q (content_positive row g c some) (each j b ∙ sym pq) in
+          let h : unsigned_abs (entry (quotients g row) j) ≤ 2 ^ 44 = w j (pos 0) (omega (arith, length_quotients g row)) in
+          omega arith;
+    }
+
+-- ---- every row that isn't 0 can be reduced
+content_first : (row : List ℤ) (n : ℕ) → (g : ℕ) × IsContentOfFirst n row g
+content_first row zero = (0, ((λ i l. absurd (omega arith)), (λ d h. dvd-zero d)))
+content_first row (suc n) =
+    let r = content_first row n in
+    let e : n + 1 ≡ suc n = omega arith in (
+      greatest_common_divisor r.0 (unsigned_abs (entry row n)),
+      subst (λ (m : ℕ). IsContentOfFirst m row (greatest_common_divisor r.0 (unsigned_abs (entry row n)))) e
+          (content_more row n r.0 (unsigned_abs (entry row n)) (greatest_common_divisor r.0 (unsigned_abs (entry row n))) refl r.1 (IsGcd-greatest_common_divisor r.0 (unsigned_abs (entry row n)))),
+    )
+
+pub primitive_part : List ℤ → List ℤ
+primitive_part row = quotients (content_first row (length row)).0 row
+
+pub primitive_part_is : (row : List ℤ) → (IsZero row → ⊥) → IsReduced row (primitive_part row)
+unfolding primitive_part
+primitive_part_is row some =
+    let c = content_first row (length row) in
+    is_reduced row c.0 c.1 some (quotients c.0 row) (length_quotients c.0 row) (λ i l. ap (λ x. pos c.0 *ℤ x) (entry_quotients c.0 row i l) ∙ exact (entry row i) c.0 (c.1.0 i l))
+
+-- and has one reduced row, up to the sign
+pub reduced_within : (limit : ℕ) (row e f : List ℤ) → IsReduced row e → IsReduced row f → Within limit e → Within limit f
+reduced_within limit row e f r s w =
+    Within-same limit e f (same_sizes s.divisor r.divisor f e (positive_some s.divisor s.positive) (positive_some r.divisor r.positive) s.primitive r.primitive (λ i. s.product i ∙ sym (r.product i))) w

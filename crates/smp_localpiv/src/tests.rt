@@ -1,0 +1,166 @@
+ghost use Rattle.std.specs.Prelude.{◌≡◌, ◌*◌, ◌^◌, ◌≤◌, ◌<◌, ◌&&◌, nat_lt, length, IsTrue, IfOk};
+ghost use Rattle.std.specs.List.{list_all};
+ghost use Rattle.smp_prob.specs.declared.requests.Request.{Request};
+ghost use Rattle.smp_prob.specs.Requests.{IsRequest};
+
+use super::*;
+use smp_frac::NoMemory;
+use smp_prob::{Places, Request, Shapes};
+use smp_split::{Kind, Lines, Splitting, walk};
+use smp_tape::Tape;
+use std::alloc::Global;
+use std::test::Fail;
+
+fn request(
+    alloc: Global,
+    free: &[usize],
+    shape: &[u32],
+    r: u32,
+    total: u64,
+) -> Result<Request, NoMemory>
+    requires few { length free.now ≤ 200000 }
+    requires paired { length shape.now ≡ length free.now }
+    requires shapes { IsTrue (list_all (λ z. nat_lt 0 z && nat_lt z (2 ^ 31) && nat_lt (z * r) total) shape.now) }
+    requires narrow { total < 2 ^ 49 }
+    requires drawn { 1 ≤ length free.now → 1 ≤ r }
+    ensures request { IfOk result IsRequest }
+    ensures free { IfOk result (λ request. request.free ≡ free.now) }
+{
+    Ok(Request {
+        certain: Places::from_slice(alloc, &[])?,
+        free: Places::from_slice(alloc, free)?,
+        shape: Shapes::from_slice(alloc, shape)?,
+        r,
+        total,
+    })
+}
+
+// Whether the walk over these values has these lines and selects these units.
+fn walks<const K: usize>(
+    alloc: Global,
+    request: &Request,
+    coords: &[[i32; K]],
+    values: &[u128],
+    lines: &[(Kind, u128, u128)],
+    selected: &[usize],
+) -> Result<bool, Fail>
+    requires request { IsRequest request.now }
+    requires dimensions { (1 ≤ K) × (K ≤ 4) }
+    requires placed { length coords.now ≡ length request.now.free }
+{
+    let design = LocalPivotal::new(alloc, request, coords)?;
+    let mut state = design.start(alloc)?;
+    let mut tape = Tape::from_values(alloc, values)?;
+    let mut path = Lines::new(alloc);
+    walk(&design, &mut state, &mut tape, &mut path)?;
+    if !design.done(&state) || path.as_slice() != lines {
+        return Ok(false);
+    }
+    for unit in 0..design.units() {
+        if design.selected(&state, unit) != selected.contains(&unit) {
+            return Ok(false);
+        }
+    }
+    Ok(true)
+}
+
+#[test]
+fn walks_to_neighbours(rt: HostRuntime) -> Result<(), Fail> {
+    let alloc = rt.alloc();
+
+    // Two units lie equally near to the second, and the earlier one is met. Places are counted among the fractional units.
+    let four = request(alloc, &[0, 1, 2, 3], &[1, 1, 1, 1], 2, 4)?;
+    let steps = [
+        (Kind::Choose, 4, 1),
+        (Kind::Pivot, 2, 1),
+        (Kind::Choose, 2, 0),
+        (Kind::Pivot, 2, 0),
+    ];
+    assert!(rt;
+        walks(
+            alloc,
+            &four,
+            &[[0], [2], [4], [9]],
+            &[1, 1, 0, 0],
+            steps.as_slice(),
+            &[0, 2]
+        )?
+    );
+
+    // Three units at one point.
+    let two_of_three = request(alloc, &[0, 1, 2], &[1, 1, 1], 2, 3)?;
+    let steps = [
+        (Kind::Choose, 3, 2),
+        (Kind::Pivot, 2, 0),
+        (Kind::Choose, 2, 0),
+        (Kind::Pivot, 3, 1),
+    ];
+    assert!(rt;
+        walks(
+            alloc,
+            &two_of_three,
+            &[[7, -7], [7, -7], [7, -7]],
+            &[2, 0, 0, 1],
+            steps.as_slice(),
+            &[1, 2]
+        )?
+    );
+
+    // The second unit lies nearly four times as far from the first as the third does, in squares.
+    let one_of_three = request(alloc, &[0, 1, 2], &[1, 1, 1], 1, 3)?;
+    let steps = [
+        (Kind::Choose, 3, 0),
+        (Kind::Pivot, 2, 1),
+        (Kind::Choose, 2, 0),
+        (Kind::Pivot, 3, 1),
+    ];
+    assert!(rt;
+        walks(
+            alloc,
+            &one_of_three,
+            &[
+                [
+                    -2_147_483_647,
+                    -2_147_483_647,
+                    -2_147_483_647,
+                    -2_147_483_647
+                ],
+                [2_147_483_647, 2_147_483_647, 2_147_483_647, 2_147_483_647],
+                [
+                    2_147_483_647,
+                    -2_147_483_647,
+                    -2_147_483_647,
+                    -2_147_483_647
+                ],
+            ],
+            &[0, 1, 0, 1],
+            steps.as_slice(),
+            &[2]
+        )?
+    );
+    Ok(())
+}
+
+#[test]
+fn few_units(rt: HostRuntime) -> Result<(), Fail> {
+    let alloc = rt.alloc();
+    let two = request(alloc, &[0, 1], &[1, 2], 1, 3)?;
+    let steps = [(Kind::Choose, 2, 1), (Kind::Pivot, 3, 2)];
+    assert!(rt;
+        walks(
+            alloc,
+            &two,
+            &[[1, 2, 3], [4, 5, 6]],
+            &[1, 2],
+            steps.as_slice(),
+            &[0]
+        )?
+    );
+    let lone = request(alloc, &[0], &[1], 1, 3)?;
+    assert!(rt; walks(alloc, &lone, &[[5]], &[0], &[(Kind::Lone, 3, 0)], &[0])?);
+    assert!(rt; walks(alloc, &lone, &[[5]], &[1], &[(Kind::Lone, 3, 1)], &[])?);
+    assert!(rt; walks(alloc, &lone, &[[5]], &[2], &[(Kind::Lone, 3, 2)], &[])?);
+    let none = request(alloc, &[], &[], 0, 0)?;
+    assert!(rt; walks::<1>(alloc, &none, &[], &[], &[], &[])?);
+    Ok(())
+}

@@ -1,0 +1,117 @@
+-- The minimum support design (Deville and Tillé 1998). The values of the units are numerators over one denominator, and they
+-- add up to a whole number r. In a step the r largest units are selected and the design ends, or it goes on without what
+-- this took of their values.
+use Rattle.std.specs.Prelude.{◌≡◌, ℕ, ◌-◌, ◌*◌, ◌/◌, ◌^◌, ◌≤◌, ◌<◌, max, min, Bool, nat_lt, nat_eq, ◌&&◌, ◌||◌, if◌then◌else◌, List, [], ◌∷◌, length, map, slice_index}
+use Rattle.std.specs.List.{sum, count_by, range_with_len}
+use Rattle.smp_prob.specs.declared.requests.Request.{Request}
+use Rattle.smp_prob.specs.Shares.{Shares, shares_of}
+use Rattle.smp_split.specs.Fractions.{Fraction, over}
+use Rattle.smp_split.specs.Numerators.{fractional}
+use Rattle.smp_split.specs.Trees.{Part, Tree}
+use Rattle.smp_split.specs.declared.kind.Kind.TheVariants.{Support}
+
+-- whether unit j counts as larger than unit k: its numerator is larger, or it is as large and comes later in the frame
+abbrev pub is_larger : List ℕ → ℕ → ℕ → Bool
+is_larger numer j k =
+    nat_lt (slice_index numer k) (slice_index numer j) || (nat_eq (slice_index numer k) (slice_index numer j) && nat_lt k j)
+
+-- how many units count as larger than unit k
+abbrev pub larger_units : List ℕ → ℕ → ℕ
+larger_units numer k = count_by (λ j. is_larger numer j k) (range_with_len 0 (length numer))
+
+-- r, the number of units to select: what the values add up to
+abbrev pub draws_of : Shares → ℕ
+draws_of s = sum s.numer / s.den
+
+-- Whether unit k is one of the r largest. The units of value 1 are, and those of value 0 aren't, so what is said of the r
+-- largest and of the others says the same of the fractional units alone.
+abbrev pub is_large : Shares → ℕ → Bool
+is_large s k = nat_lt (larger_units s.numer k) (draws_of s)
+
+-- a number for each unit
+abbrev pub for_units : Shares → (ℕ → ℕ) → List ℕ
+for_units s f = map f (range_with_len 0 (length s.numer))
+
+-- the largest of some numbers, or 0; the least of them and a bound
+abbrev pub largest : List ℕ → ℕ
+largest [] = 0
+largest (a ∷ rest) = max a (largest rest)
+
+abbrev pub least : ℕ → List ℕ → ℕ
+least bound [] = bound
+least bound (a ∷ rest) = min a (least bound rest)
+
+-- the largest numerator of the units that aren't among the r largest, and the least one of those that are
+abbrev pub most_small : Shares → ℕ
+most_small s = largest (for_units s (λ k. if is_large s k then 0 else slice_index s.numer k))
+
+abbrev pub least_large : Shares → ℕ
+least_large s = least s.den (for_units s (λ k. if is_large s k then slice_index s.numer k else s.den))
+
+-- the weight of the part that ends the design
+abbrev pub lambda : Shares → ℕ
+lambda s = min (s.den - most_small s) (least_large s)
+
+-- the r largest are 1, the others 0
+abbrev pub settled : Shares → Shares
+settled s = record { numer = for_units s (λ k. if is_large s k then s.den else 0); den = s.den }
+
+-- over the denominator less lambda: the r largest have their numerators less lambda, the others keep theirs
+abbrev pub lowered : Shares → Shares
+lowered s = record {
+  numer = for_units s (λ k. if is_large s k then slice_index s.numer k - lambda s else slice_index s.numer k);
+  den = s.den - lambda s;
+}
+
+abbrev pub support_parts : Shares → List (Part Shares)
+support_parts s = record { weight = lambda s; state = settled s } ∷ record { weight = s.den - lambda s; state = lowered s } ∷ []
+
+-- how many units are fractional
+abbrev pub fractional_units : Shares → ℕ
+fractional_units s = count_by (fractional s.den) s.numer
+
+abbrev pub is_done : Shares → Bool
+is_done s = nat_eq (fractional_units s) 0
+
+-- the value of a unit, and whether it is 1
+abbrev pub value_of : Shares → ℕ → Fraction
+value_of s unit = over (slice_index s.numer unit) s.den
+
+abbrev pub is_one : Shares → ℕ → Bool
+is_one s unit = nat_eq (slice_index s.numer unit) s.den
+
+abbrev pub support_tree : ℕ → Tree Shares
+support_tree units = record {
+  units = units;
+  ended = is_done;
+  kind = λ _. Support;
+  parts = support_parts;
+  rank = fractional_units;
+  value = value_of;
+  selected = is_one;
+}
+
+-- values from 0 to 1 of so many units, which add up to a whole number
+pub record IsSupport (units : ℕ) (s : Shares) : Type 0 where
+  pub count : length s.numer ≡ units
+  pub positive : 1 ≤ s.den
+  pub narrow : s.den < 2 ^ 126
+  pub each : (unit : ℕ) → slice_index s.numer unit ≤ s.den
+  pub whole : sum s.numer ≡ draws_of s * s.den
+
+-- what the code keeps of a design: a state, and how many units are to be selected
+pub record IsStart (draws : ℕ) (s : Shares) : Type 0 where
+  pub state : IsSupport (length s.numer) s
+  pub draws_are : draws ≡ draws_of s
+
+-- the state before the first step, with the requested values
+abbrev pub started : Request → Shares
+started request = shares_of request
+
+-- the probability that is requested of a free unit
+abbrev pub requested : Request → ℕ → Fraction
+requested request unit = over (slice_index request.shape unit * request.r) request.total
+
+-- the values' sum is n
+abbrev pub SumsTo : ℕ → Shares → Type 0
+SumsTo n s = sum s.numer ≡ n * s.den
