@@ -1,5 +1,12 @@
 -- Counts of 64 bits that stop at their end.
 use Rattle.std.specs.Prelude.{ℕ, ◌+◌, ◌-◌, ◌^◌, ◌≤◌, min, List, Result, Ok, Err}
+use Rattle.smp_io.specs.declared.fault.StoreFault.{StoreFault}
+use Rattle.smp_io.specs.declared.fault.StoreFault.TheVariants.{Failed, NoMemory}
+
+-- how many reads failed, and how many writes
+pub record FaultCounts : Type 0 where
+  pub failed_reads : ℕ
+  pub failed_writes : ℕ
 
 -- one more, where the count isn't at its end
 abbrev pub one_more : ℕ → ℕ
@@ -9,6 +16,12 @@ one_more count = min (count + 1) (2 ^ 64 - 1)
 abbrev pub count_after : {A E : Type 0} → Result A E → ℕ → ℕ
 count_after (Ok answer) count = count
 count_after (Err fault) count = one_more count
+
+-- The same where want of memory isn't counted: one more exactly where the call failed.
+abbrev pub failures_after : {A : Type 0} → Result A StoreFault → ℕ → ℕ
+failures_after (Ok answer) count = count
+failures_after (Err NoMemory) count = count
+failures_after (Err Failed) count = one_more count
 
 -- The count rose, or stands at its end.
 abbrev pub Rose : ℕ → ℕ → Type 0

@@ -1,4 +1,4 @@
-ghost use Rattle.std.specs.Prelude.{◌≡◌, ◌≤◌, None, length, option_map, IfOk, OnOk, OnErr, IsErrOf};
+ghost use Rattle.std.specs.Prelude.{◌≡◌, ◌≤◌, None, length, option_map, IfSome, SomeIff, IfOk, OnOk, OnErr, IsErrOf};
 ghost use Rattle.smp_io.specs.Counts.{Rose, count_after};
 ghost use Rattle.smp_io.specs.Store.{Holds, OthersStay, with_file};
 
@@ -6,12 +6,13 @@ use crate::replacing::write_file;
 use crate::{Store, StoreFault};
 use smp_frac::Bytes;
 use std::alloc::Global;
-use std::fs;
 use std::io::Read;
+use std::marker::Model;
 use std::rt::Files;
+use std::{fs, io};
 
 /// The longest file that is read, in bytes.
-pub const MAX_FILE_LEN: usize = 1_073_741_824;
+pub const MAX_FILE_LEN: u32 = 1_073_741_824;
 
 /// The files of the present folder. It tells no content, and a file longer than `MAX_FILE_LEN` can't be read.
 ///
@@ -30,6 +31,15 @@ pub struct FolderStore<'a, R: Files + AllocGlobal> {
     failed_writes: u64,
 }
 
+// Callers see how many of its reads and of its writes failed.
+impl<'a, R: Files + AllocGlobal> Model for FolderStore<'a, R> {
+    ghost use Rattle.smp_io.specs.Counts.{FaultCounts};
+
+    ghost Value = { FaultCounts };
+
+    ghost view = { λ s. record { failed_reads = s.failed_reads; failed_writes = s.failed_writes } };
+}
+
 impl<'a, R: Files + AllocGlobal> FolderStore<'a, R> {
     /// The files of the folder that the program runs in.
     pub fn new(rt: &'a R) -> FolderStore<'a, R>
@@ -44,16 +54,33 @@ impl<'a, R: Files + AllocGlobal> FolderStore<'a, R> {
     }
 }
 
+// All that a reader has left, where that is at most so many bytes, and none where it is more. One byte more is asked
+// for, so that the reader's end is seen.
+pub(crate) fn read_within<F: Read + Drop>(
+    alloc: Global,
+    reader: F,
+    limit: u32,
+) -> io::Result<Option<Bytes>>
+    ensures all { IfOk result (λ found. IfSome (F.remaining reader) (λ left.
+        SomeIff found (length left ≤ limit) left)) }
+    ensures within { IfOk result (λ found. IfSome found (λ bytes. length bytes ≤ limit)) }
+{
+    let mut bytes = Vec::new(alloc);
+    let mut reader = reader.take(limit as u64 + 1);
+    reader.read_to_end(&mut bytes)?;
+    if bytes.len() > limit as usize {
+        return Ok(None);
+    }
+    Ok(Some(Bytes::from_vec(bytes)))
+}
+
 fn read_file<R: Files>(rt: &R, alloc: Global, name: &str) -> Result<Bytes, StoreFault>
     ensures { IfOk result (λ bytes. length bytes ≤ MAX_FILE_LEN) }
 {
-    let mut bytes = Vec::new(alloc);
-    let mut file = fs::open(rt, name)?.take(MAX_FILE_LEN as u64 + 1);
-    file.read_to_end(&mut bytes)?;
-    if bytes.len() > MAX_FILE_LEN {
-        return Err(StoreFault::Failed);
+    match read_within(alloc, fs::open(rt, name)?, MAX_FILE_LEN)? {
+        Some(bytes) => Ok(bytes),
+        None => Err(StoreFault::Failed),
     }
-    Ok(Bytes::from_vec(bytes))
 }
 
 impl<'a, R: Files + AllocGlobal> Store for FolderStore<'a, R> {
@@ -67,7 +94,8 @@ impl<'a, R: Files + AllocGlobal> Store for FolderStore<'a, R> {
         ensures content { IfOk result (λ bytes. Holds None name.now bytes) }
         ensures reads { self.old.failed_reads ≤ self.new.failed_reads }
         ensures writes { self.old.failed_writes ≤ self.new.failed_writes }
-        ensures cause { IsErrOf result StoreFault.Failed → Rose self.old.failed_reads self.new.failed_reads }
+        ensures cause { IsErrOf result StoreFault.Failed →
+            Rose self.old.failed_reads self.new.failed_reads }
         ensures counted { self.new.failed_reads ≡ count_after result self.old.failed_reads }
         ensures not_a_write { self.new.failed_writes ≡ self.old.failed_writes }
         ensures within { IfOk result (λ bytes. length bytes ≤ MAX_FILE_LEN) }
@@ -84,7 +112,8 @@ impl<'a, R: Files + AllocGlobal> Store for FolderStore<'a, R> {
         ensures others { OnErr result (OthersStay name.now None None) }
         ensures reads { self.old.failed_reads ≤ self.new.failed_reads }
         ensures writes { self.old.failed_writes ≤ self.new.failed_writes }
-        ensures cause { IsErrOf result StoreFault.Failed → Rose self.old.failed_writes self.new.failed_writes }
+        ensures cause { IsErrOf result StoreFault.Failed →
+            Rose self.old.failed_writes self.new.failed_writes }
         ensures counted { self.new.failed_writes ≡ count_after result self.old.failed_writes }
         ensures not_a_read { self.new.failed_reads ≡ self.old.failed_reads }
     {

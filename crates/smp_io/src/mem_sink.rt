@@ -1,5 +1,5 @@
 ghost use Rattle.std.specs.Prelude.{◌≡◌, ◌++◌, ◌≤◌, ◌↔◌, Some, OnOk, OnErr, IsErrOf};
-ghost use Rattle.smp_io.specs.Counts.{Rose};
+ghost use Rattle.smp_io.specs.Counts.{Rose, failures_after};
 ghost use Rattle.smp_io.specs.Calls.{after_call, IsDueToFail};
 ghost use Rattle.smp_io.specs.Sink.{AppendsFront};
 ghost use Rattle.smp_io.specs.Memory.{empty_sink};
@@ -54,10 +54,12 @@ impl Sink for MemSink {
     #[tactic(auto, using(crate::proofs::Fronts::nothing_is_a_front))]
     fn put(&mut self, bytes: &[u8]) -> Result<(), StoreFault>
         ensures ok { OnOk result (self.new.written ≡ self.old.written ++ bytes.now) }
-        ensures err { OnErr result (AppendsFront bytes.now (Some self.old.written) (Some self.new.written)) }
+        ensures err { OnErr result
+            (AppendsFront bytes.now (Some self.old.written) (Some self.new.written)) }
         ensures same { OnErr result (self.new.written ≡ self.old.written) }
         ensures puts { self.new.puts ≡ after_call self.old.puts }
         ensures never_falls { self.old.failed ≤ self.new.failed }
+        ensures counted { self.new.failed ≡ failures_after result self.old.failed }
         ensures cause { IsErrOf result StoreFault.Failed → Rose self.old.failed self.new.failed }
         ensures failed { IsErrOf result StoreFault.Failed ↔ IsDueToFail self.old.puts }
     {

@@ -1,5 +1,5 @@
 ghost use Rattle.std.specs.Prelude.{◌≡◌, ◌⊎◌, ◌≤◌, ◌↔◌, Some, None, IfOk, OnOk, OnErr, IsErrOf, option_map};
-ghost use Rattle.smp_io.specs.Counts.{Rose};
+ghost use Rattle.smp_io.specs.Counts.{Rose, failures_after};
 ghost use Rattle.smp_io.specs.Calls.{after_call, IsDueToFail};
 ghost use Rattle.smp_io.specs.Store.{OthersStay, with_file};
 ghost use Rattle.smp_io.specs.Memory.{held, files_of, store_of};
@@ -65,7 +65,8 @@ fn copy_of(alloc: Global, bytes: &[u8]) -> Result<Bytes, NoMemory>
 
 // Adds a file at the end.
 fn add(files: &mut Vec<(Text, Bytes)>, name: &str, bytes: &[u8]) -> Result<(), NoMemory>
-    ensures ok { OnOk result (held files.new.items ≡ with_file name.now bytes.now (held files.old.items)) }
+    ensures ok { OnOk result
+        (held files.new.items ≡ with_file name.now bytes.now (held files.old.items)) }
     ensures err { OnErr result (files.new.items ≡ files.old.items) }
 {
     let alloc = *files.allocator();
@@ -87,9 +88,12 @@ impl Store for MemStore {
         ensures same { files_of self.new ≡ files_of self.old }
         ensures calls { self.new.calls ≡ after_call self.old.calls }
         ensures reads { self.old.failed_reads ≤ self.new.failed_reads }
+        ensures counted { self.new.failed_reads ≡ failures_after result self.old.failed_reads }
         ensures writes { self.new.failed_writes ≡ self.old.failed_writes }
-        ensures cause { IsErrOf result StoreFault.Failed → Rose self.old.failed_reads self.new.failed_reads }
-        ensures failed { IsErrOf result StoreFault.Failed ↔ (IsDueToFail self.old.calls ⊎ (files_of self.old name.now ≡ None)) }
+        ensures cause { IsErrOf result StoreFault.Failed →
+            Rose self.old.failed_reads self.new.failed_reads }
+        ensures failed { IsErrOf result StoreFault.Failed ↔
+            (IsDueToFail self.old.calls ⊎ (files_of self.old name.now ≡ None)) }
     {
         let fails = self.calls.next_fails();
         match content_of(&self.files, name) {
@@ -102,13 +106,17 @@ impl Store for MemStore {
     }
 
     fn write(&mut self, name: &str, bytes: &[u8]) -> Result<(), StoreFault>
-        ensures written { OnOk result (files_of self.new ≡ with_file name.now bytes.now (files_of self.old)) }
-        ensures others { OnErr result (OthersStay name.now (Some (files_of self.old)) (Some (files_of self.new))) }
+        ensures written { OnOk result
+            (files_of self.new ≡ with_file name.now bytes.now (files_of self.old)) }
+        ensures others { OnErr result
+            (OthersStay name.now (Some (files_of self.old)) (Some (files_of self.new))) }
         ensures same { OnErr result (files_of self.new ≡ files_of self.old) }
         ensures calls { self.new.calls ≡ after_call self.old.calls }
         ensures reads { self.new.failed_reads ≡ self.old.failed_reads }
         ensures writes { self.old.failed_writes ≤ self.new.failed_writes }
-        ensures cause { IsErrOf result StoreFault.Failed → Rose self.old.failed_writes self.new.failed_writes }
+        ensures counted { self.new.failed_writes ≡ failures_after result self.old.failed_writes }
+        ensures cause { IsErrOf result StoreFault.Failed →
+            Rose self.old.failed_writes self.new.failed_writes }
         ensures failed { IsErrOf result StoreFault.Failed ↔ IsDueToFail self.old.calls }
     {
         if self.calls.next_fails() {

@@ -22,5 +22,6 @@ pub trait Sink {
         ensures never_falls { faults self.old ≤ faults self.new }
 
         // A put that failed is counted as one.
-        ensures cause { IsErrOf result StoreFault.Failed → Rose (faults self.old) (faults self.new) };
+        ensures cause { IsErrOf result StoreFault.Failed →
+            Rose (faults self.old) (faults self.new) };
 }

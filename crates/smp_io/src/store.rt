@@ -28,15 +28,18 @@ pub trait Store {
         ensures writes { NeverFalls (write_faults self.old) (write_faults self.new) }
 
         // A read that failed is counted as one.
-        ensures cause { IsErrOf result StoreFault.Failed → Rose (read_faults self.old name.now) (read_faults self.new name.now) };
+        ensures cause { IsErrOf result StoreFault.Failed →
+            Rose (read_faults self.old name.now) (read_faults self.new name.now) };
 
     /// Sets the content under a name. After an error nothing is said of the content under that name.
     fn write(&mut self, name: &str, bytes: &[u8]) -> Result<(), StoreFault>
-        ensures written { OnOk result (files self.new ≡ option_map (with_file name.now bytes.now) (files self.old)) }
+        ensures written { OnOk result
+            (files self.new ≡ option_map (with_file name.now bytes.now) (files self.old)) }
         ensures others { OnErr result (OthersStay name.now (files self.old) (files self.new)) }
         ensures reads { NeverFalls (read_faults self.old) (read_faults self.new) }
         ensures writes { NeverFalls (write_faults self.old) (write_faults self.new) }
 
         // A write that failed is counted as one.
-        ensures cause { IsErrOf result StoreFault.Failed → Rose (write_faults self.old name.now) (write_faults self.new name.now) };
+        ensures cause { IsErrOf result StoreFault.Failed →
+            Rose (write_faults self.old name.now) (write_faults self.new name.now) };
 }

@@ -1,3 +1,4 @@
+use super::folder_store::read_within;
 use super::{FolderStore, MemSink, MemStore, OutSink, Sink, Store, StoreFault};
 use smp_frac::{Bytes, Text};
 use std::alloc::Global;
@@ -92,6 +93,17 @@ fn the_folder_is_read_and_written(rt: HostRuntime) -> Result<(), Fail> {
     let mut sink = OutSink::new(&rt);
     sink.put(b"3\n")?;
     fs::remove_dir_all(&rt, "written")?;
+    Ok(())
+}
+
+#[test]
+fn a_reader_past_the_limit_is_refused(rt: HostRuntime) -> Result<(), Fail> {
+    let whole = read_within(rt.alloc(), b"abc".as_slice(), 3)?;
+    assert_eq!(rt;
+        whole.as_ref().map(|bytes| bytes.as_slice()),
+        Some(b"abc".as_slice())
+    );
+    assert!(rt; read_within(rt.alloc(), b"abc".as_slice(), 2)?.is_none());
     Ok(())
 }
 
