@@ -3,21 +3,27 @@
 
 use smp_app::{Status, sampler};
 use smp_io::{FolderStore, OutSink};
-use std::env;
+use std::alloc::AllocError;
 use std::process::ExitCode;
+use std::{env, io};
 
-// The words of the command line, or nothing where they can't be had as text.
-fn command_words(rt: &HostRuntime) -> Option<Vec<String>> {
+// The words of the command line. Words that aren't text are those of no command, as no words are.
+fn command_words(rt: &HostRuntime) -> Result<Vec<String>, AllocError> {
     let mut words = Vec::new(rt.alloc());
-    for word in env::args(rt).ok()? {
-        words.push(word).ok()?;
+    let given = match env::args(rt) {
+        Ok(given) => given,
+        Err(error) if error.kind() == io::ErrorKind::OutOfMemory => return Err(AllocError),
+        Err(_) => return Ok(words),
+    };
+    for word in given {
+        words.push(word)?;
     }
-    Some(words)
+    Ok(words)
 }
 
 fn main(rt: HostRuntime) -> ExitCode {
-    let Some(words) = command_words(&rt) else {
-        return ExitCode::from(Status::Usage.code());
+    let Ok(words) = command_words(&rt) else {
+        return ExitCode::from(Status::NoMemory.code());
     };
     let mut store = FolderStore::new(&rt);
     let mut out = OutSink::new(&rt);
