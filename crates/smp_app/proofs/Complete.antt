@@ -1,6 +1,7 @@
 -- What a whole call says, from its work and its line, and that a call which nothing disturbs answers its verdict.
 use Rattle.std.proofs.Common.{◌≡◌, ◌≤◌, ℕ, List, Option, Some, None, sym, ap, subst, ◌∙◌, inl, inr}
 use Rattle.std.specs.Prelude.{is_ok}
+use Rattle.smp_io.specs.Counts.{Rose}
 use Rattle.smp_io.specs.Store.{Files}
 use Rattle.smp_app.specs.declared.status.Status.{Status}
 use Rattle.smp_app.specs.declared.status.Status.TheVariants as status
@@ -9,6 +10,8 @@ use Rattle.smp_words.specs.declared.command.Command.{Command}
 use Rattle.smp_words.specs.Words.{command_of}
 use Rattle.smp_app.specs.Verdict.{verdict}
 use Rattle.smp_app.specs.Answers.{Outside, Undisturbed, WorkSays, Says, Reports, IsUsage, IsVerdict, IsAnswer}
+use Rattle.smp_app.specs.Deliveries.{SomeRose}
+use Rattle.smp_app.proofs.Deliveries.{place_rose}
 use Rattle.smp_app.proofs.Ends.{refusal_ends, no_line}
 
 module _ (answer : Status) (words : List (List ℕ)) (before now : Outside) (written : Option (List ℕ)) (faults : ℕ) (le : before.put_faults ≤ faults) where
@@ -64,7 +67,11 @@ complete status.ReadFault words before now says command asked fs told calm =
     (subst (λ c. Undisturbed c before now) (same_command _ _ (sym asked ∙ says.asked)) calm).reads says.cause
 complete status.WriteFault words before now says command asked fs told calm =
     let calm' : Undisturbed says.command before now = subst (λ c. Undisturbed c before now) (same_command _ _ (sym asked ∙ says.stopped.asked)) calm in
-    elim says.cause [ inl write ↦ calm'.writes write | inr put ↦ calm'.put put ]
+    let outputs = says.stopped.outputs in
+    elim (place_rose outputs before.files now.files before.written now.written (Rose before.put_faults now.put_faults) before.write_faults now.write_faults says.stopped.stops says.cause) [
+      | inl write ↦ calm'.writes (subst (λ names. SomeRose names before.write_faults now.write_faults) says.stopped.named write)
+      | inr put ↦ calm'.put put
+    ]
 complete status.Usage words before now says command asked fs told calm = absurd (unasked words command says.refused asked)
 complete (status.Frame fault) words before now says command asked fs told calm = says.refused.verdict_is fs told
 complete (status.Misfit misfit) words before now says command asked fs told calm = says.refused.verdict_is fs told

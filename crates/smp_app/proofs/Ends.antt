@@ -11,9 +11,9 @@ use Rattle.smp_words.specs.Words.{command_of, inputs_of, outputs_of}
 use Rattle.smp_app.specs.FaultLines.{fault_line}
 use Rattle.smp_app.specs.Verdict.{Stop, Refused, ◌>>=◌, or_refused, without, outputs_stage, verdict}
 use Rattle.smp_app.specs.Jobs.{Follows, IsOfInputs, ReadCause}
-use Rattle.smp_app.specs.Deliveries.{Outputs, SomeRose, names_of, with_files, StopsAt}
+use Rattle.smp_app.specs.Deliveries.{Outputs, names_of, with_files, StopsAt, FailsAt}
 use Rattle.smp_app.specs.Answers.{Outside, Untouched, Means, IsDone, IsRefused, Refuses, IsRefusal, IsRefusing, Stopped, IsWriteFault, IsNoMemory, AtWork, AtLine, Says, WorkSays, PutsLine, Whole, Cut, OutOfMemory, Reports}
-use Rattle.smp_app.proofs.Deliveries.{rose_since}
+use Rattle.smp_app.proofs.Deliveries.{rose_since, place_since}
 
 -- ---- the verdict of a command
 
@@ -82,16 +82,22 @@ module _ (words : List (List ℕ)) (command : Command) (before now : Outside) (a
     }
 
     pub write_fault :
-        (counts : List ℕ → ℕ) → NeverFalls before.write_faults counts → (named : names_of outputs.files ≡ outputs_of command) → StopsAt outputs mid now.files before.written now.written
-        → SomeRose (names_of outputs.files) counts now.write_faults ⊎ Rose before.put_faults now.put_faults → IsWriteFault words before now
-    write_fault counts rises named stops cause = record {
-      command = command;
-      stopped = stopped named stops;
-      cause = elim cause [
-        | inl write ↦ inl (subst (λ names. SomeRose names before.write_faults now.write_faults) named (record { name = write.name; is_one = write.is_one; rose = rose_since _ _ _ (rises write.name) write.rose }))
-        | inr put ↦ inr put
-      ];
-    }
+        (counts : List ℕ → ℕ) → NeverFalls before.write_faults counts → names_of outputs.files ≡ outputs_of command
+        → FailsAt outputs mid now.files before.written now.written (λ name. Rose (counts name) (now.write_faults name)) (Rose before.put_faults now.put_faults) → IsWriteFault words before now
+    write_fault counts rises named fails =
+        let Fails : Option Files → Type 0 = λ held. FailsAt outputs held now.files before.written now.written (λ name. Rose (counts name) (now.write_faults name)) (Rose before.put_faults now.put_faults) in
+        let here : Fails before.files = subst Fails same fails in
+        record {
+          command = command;
+          stopped = record {
+            asked = sym asked;
+            outputs = outputs;
+            named = named;
+            accepted = λ fs told. verdict_is words fs command _ asked (stage fs told);
+            stops = here.stops;
+          };
+          cause = place_since outputs before.files now.files before.written now.written (Rose before.put_faults now.put_faults) before.write_faults counts now.write_faults rises here.stops here.cause;
+        }
 
 -- ---- the line of a refusal
 

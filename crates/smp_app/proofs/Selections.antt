@@ -1,5 +1,5 @@
 -- What is selected by a tape is what the verdict draws, with the requested probabilities.
-use Rattle.std.proofs.Common.{◌≡◌, ℕ, ◌+◌, ◌<◌, Bool, cond, List, [], ◌∷◌, length, Option, Some, Ok, Err, refl, sym, ap, subst, ◌∙◌, arith, inl, inr}
+use Rattle.std.proofs.Common.{◌≡◌, ℕ, ◌+◌, ◌<◌, Bool, cond, List, [], ◌∷◌, length, Option, Some, Ok, Err, true, refl, sym, ap, subst, ◌∙◌, arith, inl, inr}
 use Rattle.std.specs.List.{count_by, range_with_len}
 use Rattle.std.proofs.lemmas.Bool.{cases_Bool}
 use Rattle.std.proofs.lemmas.List.{length-map}
@@ -7,25 +7,33 @@ use Rattle.std.proofs.lemmas.List.Sums.{sum_by-cons}
 use Rattle.smp_frame.specs.declared.frame.Unit as unit
 use Rattle.smp_frame.specs.Bounds.{sizes_of}
 use Rattle.smp_prob.specs.declared.requests.Request.{Request}
+use Rattle.smp_prob.specs.Standings.{asked_fraction}
 use Rattle.smp_split.specs.Counts.{selected_count}
 use Rattle.smp_split.specs.Counts as counts
-use Rattle.smp_split.specs.Fractions.{Same}
+use Rattle.smp_fractions.specs.Fractions.{Same}
 use Rattle.smp_split.specs.Means.{inclusion_probability}
-use Rattle.smp_split.specs.Runs.{Outcome, RanTo, run, at_end, leaf, short, too_big, long}
-use Rattle.smp_split.specs.Trees.{Tree}
-use Rattle.smp_split.specs.Walks.{Line}
-use Rattle.smp_split.proofs.Fractions.{same_trans}
-use Rattle.smp_split.proofs.Over.{over_same}
-use Rattle.smp_rows.specs.Rows.{rows_tree, asked_fraction, BelongsToRows, Fills}
+use Rattle.smp_tape.specs.Tapes.{Values}
+use Rattle.smp_tape.specs.Laws.Tapes.{tape_source}
+use Rattle.smp_tape.specs.declared.draws.DrawFault.{DrawFault}
+use Rattle.smp_tape.specs.declared.draws.DrawFault.TheVariants.{Rejected}
+use Rattle.smp_split.specs.Paths.{Entry, Leads}
+use Rattle.smp_split.specs.Runs.{Outcome, run, leaf, stopped, IsLeaf, IsStop, IsOutcome}
+use Rattle.smp_split.proofs.Runs.{run_is}
+use Rattle.smp_split.proofs.Tapes.{never_rejected}
+use Rattle.smp_rows.specs.Laws.Rows.{rows_lawful}
+use Rattle.smp_stage.specs.Laws.Stages.{stage_lawful}
+use Rattle.smp_split.specs.Trees.{Tree, weight_sum}
+use Rattle.smp_fractions.proofs.Fractions.{same_trans}
+use Rattle.smp_rows.specs.Rows.{rows_tree, BelongsToRows, Fills}
 use Rattle.smp_stage.specs.Stages.{BelongsToStage, stage_of, first_state, stage_tree}
 use Rattle.smp_stage.specs.declared.stage.Stage.{Stage}
 use Rattle.smp_stage.specs.declared.stage.StageState.{StageState}
 use Rattle.smp_stage.proofs.Serves.{stage_units}
 use Rattle.smp_app.specs.declared.plan.FramePlan.{FramePlan}
-use Rattle.smp_app.specs.declared.status.Status.TheVariants.{TapeShort, TapeValue, TapeLong}
+use Rattle.smp_app.specs.declared.status.Status.TheVariants.{TapeLong}
 use Rattle.smp_app.specs.Jobs.{IsPlanned, IsDrawnBy, plan_view}
-use Rattle.smp_app.specs.Plans.{Plan, tree_of, start_of, requested_fraction, chosen_from}
-use Rattle.smp_app.specs.Verdict.{Drawn, Refused, drawn_of}
+use Rattle.smp_app.specs.Plans.{Plan, tree_of, start_of, row_probability, chosen_from}
+use Rattle.smp_app.specs.Verdict.{Drawn, Refused, draw_status, drawn_at, drawn_of}
 
 -- the units are as many as the rows that are chosen
 length-chosen : (chosen : ℕ → Bool) (place : ℕ) (units : List unit.Unit) → length (chosen_from place chosen units) ≡ count_by chosen (range_with_len place (length units))
@@ -41,38 +49,59 @@ length-chosen chosen place (u ∷ units) =
 -- ---- the run of the tape
 
 -- a run in the plan's draw tree from its start
-module _ (plan : Plan) (tree : Tree StageState) (tree_is : tree ≡ tree_of plan) (start : StageState) (start_is : start ≡ start_of plan) (taken values : List ℕ) (none_taken : taken ≡ []) where
-  ran_so : (outcome : Outcome StageState) → run tree start (length taken) values ≡ outcome → run (tree_of plan) (start_of plan) 0 values ≡ outcome
+module _ (plan : Plan) (tree : Tree StageState) (tree_is : tree ≡ tree_of plan) (start : StageState) (start_is : start ≡ start_of plan) (tape : Values) where
+  ran_so : (outcome : Outcome StageState Values) → run tape_source tree start tape ≡ outcome → run tape_source (tree_of plan) (start_of plan) tape ≡ outcome
   ran_so outcome ran =
-      subst (λ (t : Tree StageState). run t (start_of plan) 0 values ≡ outcome) tree_is
-      (subst (λ (s : StageState). run tree s 0 values ≡ outcome) start_is
-      (subst (λ (t : List ℕ). run tree start (length t) values ≡ outcome) none_taken ran))
+      subst (λ (t : Tree StageState). run tape_source t (start_of plan) tape ≡ outcome) tree_is
+      (subst (λ (s : StageState). run tape_source tree s tape ≡ outcome) start_is ran)
 
-  pub drawn_short : (count : ℕ) → count ≡ length values → run tree start (length taken) values ≡ short (length taken + length values) → drawn_of plan (run (tree_of plan) (start_of plan) 0 values) ≡ Err (Refused (TapeShort count))
-  drawn_short count counted ran =
-      let all : length taken + length values ≡ count = (let none : length taken ≡ 0 = ap length none_taken in omega arith) in
-      ap (drawn_of plan) (ran_so _ ran) ∙ ap (λ n. Err (Refused (TapeShort n))) all
+  -- a draw was refused
+  pub drawn_refused : (state : StageState) (path : List Entry) (fault : DrawFault) (end : Values) (bound : ℕ) → bound ≡ weight_sum (tree.parts state) → run tape_source tree start tape ≡ stopped state path fault end
+      → drawn_of plan (run tape_source (tree_of plan) (start_of plan) tape) ≡ Err (Refused (draw_status fault bound (length end.taken)))
+  drawn_refused state path fault end bound bound_is ran =
+      let asked : weight_sum ((tree_of plan).parts state) ≡ bound = ap (λ (t : Tree StageState). weight_sum (t.parts state)) (sym tree_is) ∙ sym bound_is in
+      ap (drawn_of plan) (ran_so _ ran) ∙ ap (λ b. Err (Refused (draw_status fault b (length end.taken)))) asked
 
-  pub drawn_value : (place value bound asked : ℕ) → bound ≡ asked → run tree start (length taken) values ≡ too_big place value asked → drawn_of plan (run (tree_of plan) (start_of plan) 0 values) ≡ Err (Refused (TapeValue place value bound))
-  drawn_value place value bound asked bound_is ran = ap (drawn_of plan) (ran_so _ ran) ∙ ap (λ b. Err (Refused (TapeValue place value b))) (sym bound_is)
+  none_left : (state : StageState) (path : List Entry) (left : List ℕ) → length left ≡ 0 → drawn_at plan state path left ≡ Ok (record { plan = plan; state = state; path = path })
+  none_left state path [] h = refl
+  none_left state path (v ∷ left) h = absurd (omega arith)
 
-  module _ (state : StageState) (left : List ℕ) (lines : List Line) (walked : RanTo tree start (length taken) values state left (Some []) (Some lines)) where
-    ends_so : (path : List Line) (rest : List ℕ) → length rest ≡ 0 → at_end state path rest ≡ leaf state path
-    ends_so path [] h = refl
-    ends_so path (v ∷ rest) h = absurd (omega arith)
+  some_left : (state : StageState) (path : List Entry) (left : List ℕ) → 0 < length left → drawn_at plan state path left ≡ Err (Refused (TapeLong (length left)))
+  some_left state path [] h = absurd (omega arith)
+  some_left state path (v ∷ left) h = refl
 
-    leaves : (path : List Line) (rest : List ℕ) → 0 < length rest → at_end state path rest ≡ long (length rest)
-    leaves path [] h = absurd (omega arith)
-    leaves path (v ∷ rest) h = refl
+  -- the walk came to a leaf
+  module _ (state : StageState) (lines path : List Entry) (end : Values) (ran : run tape_source tree start tape ≡ leaf state path end) where
+    pub drawn_leaf : Some lines ≡ Some path → length end.left ≡ 0 → drawn_of plan (run tape_source (tree_of plan) (start_of plan) tape) ≡ Ok (record { plan = plan; state = state; path = lines })
+    drawn_leaf told all_taken =
+        let same : ◌≡◌ {A = Option (List Entry)} (Some lines) (Some path) = told in
+        let path_is : path ≡ lines = cc in
+        ap (drawn_of plan) (ran_so _ ran) ∙ none_left state path end.left all_taken ∙ ap (λ (p : List Entry). Ok (record { plan = plan; state = state; path = p })) path_is
 
-    pub drawn_leaf : length left ≡ 0 → drawn_of plan (run (tree_of plan) (start_of plan) 0 values) ≡ Ok (record { plan = plan; state = state; path = lines })
-    drawn_leaf all_taken =
-        let same : ◌≡◌ {A = Option (List Line)} (Some lines) (Some walked.path) = walked.traced in
-        let path : walked.path ≡ lines = cc in
-        ap (drawn_of plan) (ran_so _ (walked.ran ∙ ends_so walked.path left all_taken)) ∙ ap (λ (p : List Line). Ok (record { plan = plan; state = state; path = p })) path
+    pub drawn_long : (count : ℕ) → count ≡ length end.left → 0 < length end.left → drawn_of plan (run tape_source (tree_of plan) (start_of plan) tape) ≡ Err (Refused (TapeLong count))
+    drawn_long count counted left = ap (drawn_of plan) (ran_so _ ran) ∙ some_left state path end.left left ∙ ap (λ n. Err (Refused (TapeLong n))) (sym counted)
 
-    pub drawn_long : (count : ℕ) → count ≡ length left → 0 < length left → drawn_of plan (run (tree_of plan) (start_of plan) 0 values) ≡ Err (Refused (TapeLong count))
-    drawn_long count counted some_left = ap (drawn_of plan) (ran_so _ (walked.ran ∙ leaves walked.path left some_left)) ∙ ap (λ n. Err (Refused (TapeLong n))) (sym counted)
+-- ---- what a run over the rows comes to
+
+module _ (rows : ℕ) (request : Request) (stage : Stage) (start : StageState) (here : BelongsToRows request (stage_tree stage) (BelongsToStage stage) start) (tape : Values) where
+  abbrev rows_of : Tree StageState
+  rows_of = rows_tree rows request (stage_tree stage)
+
+  comes_to : IsOutcome tape_source rows_of start tape (run tape_source rows_of start tape)
+  comes_to =
+      run_is tape_source rows_of (BelongsToRows request (stage_tree stage) (BelongsToStage stage))
+      (rows_lawful rows request (stage_tree stage) (BelongsToStage stage) (stage_lawful stage)) start tape here
+
+  pub leaf_is : (state : StageState) (path : List Entry) (end : Values) → run tape_source rows_of start tape ≡ leaf state path end → IsLeaf tape_source rows_of start tape state path end
+  leaf_is state path end ran = subst (IsOutcome tape_source rows_of start tape) ran comes_to
+
+  pub stop_is : (state : StageState) (path : List Entry) (fault : DrawFault) (end : Values) → run tape_source rows_of start tape ≡ stopped state path fault end → IsStop tape_source rows_of start tape state path fault end
+  stop_is state path fault end ran = subst (IsOutcome tape_source rows_of start tape) ran comes_to
+
+  pub none_rejected : (state : StageState) (path : List Entry) (bound : ℕ) (end : Values) → run tape_source rows_of start tape ≡ stopped state path (Rejected bound) end → ⊥
+  none_rejected state path bound end ran =
+      never_rejected rows_of (BelongsToRows request (stage_tree stage) (BelongsToStage stage))
+      (rows_lawful rows request (stage_tree stage) (BelongsToStage stage) (stage_lawful stage)) start state path bound tape end here ran
 
 -- ---- the design of a plan
 
@@ -101,19 +130,17 @@ module _ (plan : FramePlan) (planned : IsPlanned plan) where
       (tree : Tree StageState) → tree ≡ tree_of (plan_view plan) → (state : StageState) → state ≡ start_of (plan_view plan)
       → ((row : ℕ) → row < length plan.frame → Same (inclusion_probability tree state row) (asked_fraction plan.request row))
       → counts.LeavesSelect tree plan.n state
-      → (taken values left : List ℕ) (to : StageState) (told telling : Option (List Line)) → RanTo tree state (length taken) values to left told telling
+      → (path : List Entry) (to : StageState) → Leads tree state path to → tree.done to ≡ true
       → (drawn : Drawn) → drawn.state ≡ to
       → IsDrawnBy (plan_view plan) drawn
-  drawn_by tree tree_same state starts asked counted taken values left to told telling walked drawn ends = record {
+  drawn_by tree tree_same state starts asked counted path to leads done drawn ends = record {
     size =
-        let selected : selected_count tree to ≡ plan.n = counted walked.path to walked.leads walked.done in
+        let selected : selected_count tree to ≡ plan.n = counted path to leads done in
         let in_tree : selected_count (tree_of (plan_view plan)) drawn.state ≡ plan.n =
         subst (λ (t : Tree StageState). selected_count t drawn.state ≡ plan.n) tree_same (subst (λ (s : StageState). selected_count tree s ≡ plan.n) (sym ends) selected) in
         length-chosen ((tree_of (plan_view plan)).selected drawn.state) 0 plan.frame ∙ in_tree;
     probability = λ row here.
         let in_sizes : row < length (sizes_of plan.frame) = omega (arith, length-map plan.frame (λ u. u.size), here) in
-        let same = planned.asked row in_sizes in
-        let requested_is : Same (asked_fraction plan.request row) (requested_fraction (plan_view plan) row) = over_same _ _ _ _ same.first same.second same.cross in
-        subst (λ (t : Tree StageState). Same (inclusion_probability t (start_of (plan_view plan)) row) (requested_fraction (plan_view plan) row)) tree_same
-        (subst (λ (s : StageState). Same (inclusion_probability tree s row) (requested_fraction (plan_view plan) row)) starts (same_trans (asked row here) requested_is));
+        subst (λ (t : Tree StageState). Same (inclusion_probability t (start_of (plan_view plan)) row) (row_probability (plan_view plan) row)) tree_same
+        (subst (λ (s : StageState). Same (inclusion_probability tree s row) (row_probability (plan_view plan) row)) starts (same_trans (asked row here) (planned.asked row in_sizes)));
   }

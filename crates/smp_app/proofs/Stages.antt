@@ -7,7 +7,10 @@ use Rattle.std.proofs.lemmas.Bool.{cases_Bool, and_parts}
 use Rattle.std.proofs.lemmas.Slice.Eq.{bytes_eq-Decides}
 use Rattle.smp_io.specs.Store.{Files}
 use Rattle.smp_tape.specs.TapeText.{tape_of}
-use Rattle.smp_split.specs.Runs.{Outcome, run, leaf, short, too_big, long}
+use Rattle.smp_tape.specs.Tapes.{Values, tape_of_values}
+use Rattle.smp_tape.specs.Laws.Tapes.{tape_source}
+use Rattle.smp_split.specs.Paths.{Entry}
+use Rattle.smp_split.specs.Runs.{Outcome, run, leaf, stopped}
 use Rattle.smp_frame.specs.Bounds.{sizes_of}
 use Rattle.smp_frame.specs.Frames.{frame_of}
 use Rattle.smp_prob.specs.Requested.{positive_units}
@@ -23,7 +26,7 @@ use Rattle.smp_app.specs.declared.status.Status.{Status}
 use Rattle.smp_app.specs.declared.status.Status.TheVariants as status
 use Rattle.smp_app.specs.Codes.{design_status, frame_status, tape_status}
 use Rattle.smp_app.specs.Plans.{Plan, quick_asked, asked_of, tree_of, start_of}
-use Rattle.smp_app.specs.Verdict.{Stop, Missing, ◌>>=◌, content, or_fault, or_refused, without, Drawn, drawn_of, asked_stage, plan_stage, drawn_stage, designed_stage, outputs_stage}
+use Rattle.smp_app.specs.Verdict.{Stop, Missing, ◌>>=◌, content, or_fault, or_refused, without, Drawn, drawn_at, drawn_of, asked_stage, plan_stage, drawn_stage, designed_stage, outputs_stage}
 use Rattle.smp_app.specs.Jobs.{ReadCause, Follows, result_view}
 use Rattle.smp_app.specs.Answers.{HoldsAsked, IsPlan, IsDraw}
 
@@ -204,24 +207,35 @@ of_designed design frame fs plan h =
     let asked = step (asked_stage design fs) (λ asked. plan_stage asked frame fs) plan h in
     record { asked = asked.value; held = of_asked design fs asked.value asked.first_is; is_plan = of_plan asked.value frame fs plan asked.then_is }
 
-at_leaf : (plan : Plan) (outcome : Outcome StageState) (drawn : Drawn) → drawn_of plan outcome ≡ Ok drawn → outcome ≡ leaf drawn.state drawn.path
-at_leaf plan (leaf state path) drawn h =
+-- the leaf at which a run ended, with no value left
+record AtLeaf (outcome : Outcome StageState Values) (drawn : Drawn) : Type 0 where
+  pub end : Values
+  pub is : outcome ≡ leaf drawn.state drawn.path end
+  pub all : end.left ≡ []
+
+with_none_left : (plan : Plan) (state : StageState) (path : List Entry) (end : Values) (drawn : Drawn) (left : List ℕ) → end.left ≡ left → drawn_at plan state path left ≡ Ok drawn → AtLeaf (leaf state path end) drawn
+with_none_left plan state path end drawn [] none h =
     let same : ◌≡◌ {A = Result Drawn Stop} (Ok (record { plan = plan; state = state; path = path })) (Ok drawn) = h in
     let is : record { plan = plan; state = state; path = path } ≡ drawn = cc in
-    ap (λ (d : Drawn). leaf d.state d.path) is
-at_leaf plan (short taken) drawn h = absurd (cc)
-at_leaf plan (too_big place value bound) drawn h = absurd (cc)
-at_leaf plan (long left) drawn h = absurd (cc)
+    record { end = end; is = ap (λ (d : Drawn). leaf d.state d.path end) is; all = none }
+with_none_left plan state path end drawn (value ∷ left) some h = absurd (cc)
+
+at_leaf : (plan : Plan) (outcome : Outcome StageState Values) (drawn : Drawn) → drawn_of plan outcome ≡ Ok drawn → AtLeaf outcome drawn
+at_leaf plan (leaf state path end) drawn h = with_none_left plan state path end drawn end.left refl h
+at_leaf plan (stopped state path fault end) drawn h = absurd (cc)
 
 pub of_drawn : (tape : List ℕ) (fs : Files) (drawn : Drawn) → drawn_stage drawn.plan tape fs ≡ Ok drawn → IsDraw tape fs drawn
 unfolding drawn_stage
 of_drawn tape fs drawn h =
     let bytes = step (content (fs tape) tape) _ drawn h in
     let values = step (or_fault tape_status (tape_of bytes.value)) _ drawn bytes.then_is in
+    let end = at_leaf drawn.plan (run tape_source (tree_of drawn.plan) (start_of drawn.plan) (tape_of_values [] values.value)) drawn values.then_is in
     record {
       values = values.value;
       held = ap (option_map tape_of) (content_is (fs tape) tape bytes.value bytes.first_is) ∙ ap Some (read_is tape_status (tape_of bytes.value) values.value values.first_is);
-      ran = at_leaf drawn.plan (run (tree_of drawn.plan) (start_of drawn.plan) 0 values.value) drawn values.then_is;
+      end = end.end;
+      ran = end.is;
+      all = end.all;
     }
 
 -- want of memory answers no stage

@@ -1,28 +1,28 @@
 -- Texts that are written row by row.
-use Rattle.std.proofs.Common.{◌≡◌, ℕ, length-append, ◌+◌, ◌*◌, ◌<◌, ◌≤◌, suc, zero, Bool, true, false, List, [], ◌∷◌, ◌++◌, length, get_or, drop, append_assoc, arith, refl, sym, ap, ◌∙◌, drop-cons, inl, inr, eq-zero-or-pos, mul-pos, true≢false}
+use Rattle.std.proofs.Common.{◌≡◌, ℕ, length-append, ◌+◌, ◌*◌, ◌<◌, ◌≤◌, max, suc, zero, Bool, true, false, List, [], ◌∷◌, ◌++◌, length, get_or, drop, append_assoc, arith, refl, sym, ap, ◌∙◌, drop-cons, mul-pos, true≢false}
 use Rattle.std.specs.List.{All, flat_map}
 use Rattle.std.specs.Prelude.{slice_index}
 use Rattle.std.proofs.lemmas.Grind.{flat_map-append}
+use Rattle.std.proofs.lemmas.Int.{ints}
 use Rattle.std.proofs.lemmas.List.{get_or-map, append-nil, drop_all}
 use Rattle.std.proofs.lemmas.List.Elements.{All-append}
-use Rattle.std.proofs.lemmas.Nat.Gcd.{IsGcd-swap}
-use Rattle.smp_frac.proofs.Lowest.{lowest_from_coprime, coprime_from_lowest}
+use Rattle.smp_fractions.specs.Fractions.{Fraction, Same, inverse}
+use Rattle.smp_fractions.proofs.Fractions.{same_trans, numerator_positive, inverse_same}
 use Rattle.smp_frac.specs.declared.fractions.Frac.{Frac}
-use Rattle.smp_frac.specs.Fractions.{IsRatio, decimal_fraction}
+use Rattle.smp_frac.specs.Fractions.{fraction, fraction_text}
+use Rattle.smp_frac.proofs.Texts.{fraction_text-same}
 use Rattle.smp_frame.specs.declared.frame.Unit as unit
 use Rattle.smp_frame.specs.Bounds.{sizes_of}
 use Rattle.smp_prob.specs.declared.requests.Request.{Request}
 use Rattle.smp_prob.specs.declared.standings.Standing.{Standing}
 use Rattle.smp_prob.specs.declared.standings.Standing.TheVariants.{Certain, Free, Never}
-use Rattle.smp_prob.specs.Requested.{Ratio, SameRatio, ratio_text}
 use Rattle.smp_prob.specs.Requests.{IsRequest}
-use Rattle.smp_prob.specs.Standings.{standing, is_taken, ratio_at, asked_ratio}
-use Rattle.smp_prob.proofs.LowestTerms.{decimal_fraction-ratio, IsRatio-same}
-use Rattle.smp_rows.specs.Laws.{free_within}
+use Rattle.smp_prob.specs.Standings.{standing, is_taken, fraction_at, asked_fraction}
+use Rattle.smp_rows.specs.Laws.Rows.{free_within}
 use Rattle.smp_weights.specs.Chosen.{Chosen, chosen_units}
 use Rattle.smp_weights.specs.Sample.{sample_row}
-use Rattle.smp_app.specs.Plans.{Plan, ratio_of, chosen_from}
-use Rattle.smp_app.specs.Texts.{pair_row, probability_row, weight_of, weight_row}
+use Rattle.smp_app.specs.Plans.{Plan, size_probability, row_probability, chosen_from}
+use Rattle.smp_app.specs.Texts.{pair_row, probability_row, weight_row}
 
 -- the row of one more element
 pub next_row : {A : Type 0} (row : A → List ℕ) (xs : List A) (i : ℕ) (x : A) (text next whole : List ℕ) → i < length xs → x ≡ get_or xs i x → next ≡ text ++ row x → text ++ flat_map row (drop i xs) ≡ whole → next ++ flat_map row (drop (i + 1) xs) ≡ whole
@@ -37,58 +37,38 @@ next_row row xs i x text next whole within is written so_far =
 
 -- ---- probabilities and weights
 
-module _ (plan : Plan) (i : ℕ) (u : unit.Unit) (within : i < length plan.units) (is : u ≡ get_or plan.units i u) (asked : Ratio) (f : Frac)
-    (same : SameRatio asked (ratio_of plan (slice_index (sizes_of plan.units) i))) (value : IsRatio asked.num asked.den f) where
+module _ (plan : Plan) (i : ℕ) (u : unit.Unit) (within : i < length plan.units) (is : u ≡ get_or plan.units i u) (asked : Fraction) (f : Frac)
+    (same : Same asked (row_probability plan i)) (value : Same (fraction f) asked) where
   size_is : slice_index (sizes_of plan.units) i ≡ u.size
   size_is = get_or-map (λ (v : unit.Unit). v.size) plan.units i u 0 within ∙ ap (λ (v : unit.Unit). v.size) (sym is)
 
   -- the row of a unit with its probability
-  pub probability_row-is : pair_row u.id (decimal_fraction f) ≡ probability_row plan u
+  pub probability_row-is : pair_row u.id (fraction_text (fraction f)) ≡ probability_row plan u
   probability_row-is =
-      ap (pair_row u.id) (decimal_fraction-ratio f (ratio_of plan (slice_index (sizes_of plan.units) i)) same.second (IsRatio-same f asked _ same value))
-      ∙ ap (λ z. pair_row u.id (ratio_text (ratio_of plan z))) size_is
-
-  abbrev inverse : 1 ≤ f.num → Frac
-  inverse some = record {
-    num = f.den;
-    den = f.num;
-    positive = some;
-    lowest = lowest_from_coprime _ _ (IsGcd-swap _ _ _ (coprime_from_lowest f.num f.den f.lowest));
-  }
-
-  positive_ratio : (n d : ℕ) → 1 ≤ f.num → 1 ≤ d → f.num * d ≡ n * f.den → 1 ≤ n
-  positive_ratio zero d some positive is_value = absurd (let product : 0 < f.num * d = mul-pos some positive in omega (arith, is_value, product))
-  positive_ratio (suc n) d some positive is_value = omega arith
-
-  crossed : (p q n d : ℕ) → p * d ≡ n * q → q * n ≡ d * p
-  crossed p q n d h = omega (arith, h)
+      ap (pair_row u.id) (fraction_text-same (fraction f) (row_probability plan i) (same_trans value same))
+      ∙ ap (λ z. pair_row u.id (fraction_text (size_probability plan z))) size_is
 
   -- the row of a unit with its weight
   pub weight_row-is : 1 ≤ f.num → sample_row (record { value = u.id; asked = f }) ≡ weight_row plan u
   weight_row-is some =
-      let ratio : Ratio = ratio_of plan (slice_index (sizes_of plan.units) i) in
-      let of_ratio : IsRatio (ratio_of plan (slice_index (sizes_of plan.units) i)).num (ratio_of plan (slice_index (sizes_of plan.units) i)).den f = IsRatio-same f asked _ same value in
-      ap (pair_row u.id) (decimal_fraction-ratio (inverse some) (weight_of (ratio_of plan (slice_index (sizes_of plan.units) i))) (positive_ratio _ _ some same.second of_ratio) (crossed f.num f.den _ _ of_ratio))
-      ∙ ap (λ z. pair_row u.id (ratio_text (weight_of (ratio_of plan z)))) size_is
+      let inverses : Same (inverse (fraction f)) (inverse (row_probability plan i)) = inverse_same (fraction f) (row_probability plan i) (λ none. omega (arith, ints, some, none)) (same_trans value same) in
+      ap (pair_row u.id) (fraction_text-same (inverse (fraction f)) (inverse (row_probability plan i)) inverses)
+      ∙ ap (λ z. pair_row u.id (fraction_text (inverse (size_probability plan z)))) size_is
 
 -- ---- a drawn row has a positive probability
 
-module _ (request : Request) (is : IsRequest request) (chosen : ℕ → Bool) where
-  positive_at : (stands : Standing) → ((unit : ℕ) → stands ≡ Free unit → unit < length request.free) → is_taken chosen stands ≡ true → 1 ≤ (ratio_at request stands).num
-  positive_at Certain within taken = omega arith
-  positive_at (Free unit) within taken =
+module _ (request : Request) (is : IsRequest request) (chosen : ℕ → Bool) (f : Frac) where
+  positive_at : (stands : Standing) → ((unit : ℕ) → stands ≡ Free unit → unit < length request.free) → is_taken chosen stands ≡ true → Same (fraction f) (fraction_at request stands) → 1 ≤ f.num
+  positive_at Certain within taken same = omega (arith, ints, same.cross, f.positive)
+  positive_at (Free unit) within taken same =
       let here : unit < length request.free = within unit refl in
-      let one : 1 ≤ length request.free = omega (arith, here) in
-      mul-pos (is.positive unit (omega (arith, here, is.paired))) (is.drawn one)
-  positive_at Never within taken = absurd (true≢false (sym taken))
+      let some : 1 ≤ slice_index request.shape unit * request.r = mul-pos (is.positive unit (omega (arith, here, is.paired))) (is.drawn (omega (arith, here))) in
+      let crossed : slice_index request.shape unit * request.r * f.den ≡ f.num * max 1 request.total = omega (arith, ints, same.cross) in
+      numerator_positive _ f.den f.num _ some f.positive crossed
+  positive_at Never within taken same = absurd (true≢false (sym taken))
 
-  pub drawn_positive : (row : ℕ) (f : Frac) → is_taken chosen (standing request row) ≡ true → IsRatio (asked_ratio request row).num (asked_ratio request row).den f → 1 ≤ f.num
-  drawn_positive row f taken value =
-      let some : 1 ≤ (asked_ratio request row).num = positive_at (standing request row) (free_within request row) taken in
-      elim (eq-zero-or-pos f.num) [
-        | inl none ↦ absurd (let product : 0 < (asked_ratio request row).num * f.den = mul-pos some f.positive in let zeroed : 0 * (asked_ratio request row).den ≡ (asked_ratio request row).num * f.den = rw none at value in omega (arith, product, zeroed))
-        | inr positive ↦ omega (arith, positive)
-      ]
+  pub drawn_positive : (row : ℕ) → is_taken chosen (standing request row) ≡ true → Same (fraction f) (asked_fraction request row) → 1 ≤ f.num
+  drawn_positive row = positive_at (standing request row) (free_within request row)
 
 -- ---- the drawn rows, so far
 

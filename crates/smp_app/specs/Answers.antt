@@ -1,9 +1,11 @@
 -- What each answer of a call says.
-use Rattle.std.specs.Prelude.{◌≡◌, ◌⊎◌, ℕ, List, Option, Some, None, option_map, is_ok, true, Result, Ok, Err}
+use Rattle.std.specs.Prelude.{◌≡◌, ◌⊎◌, ℕ, List, [], Option, Some, None, option_map, is_ok, true, Result, Ok, Err}
 use Rattle.smp_io.specs.Counts.{Rose}
 use Rattle.smp_io.specs.Sink.{with_bytes, AppendsFront}
 use Rattle.smp_io.specs.Store.{Files}
 use Rattle.smp_tape.specs.TapeText.{tape_of}
+use Rattle.smp_tape.specs.Tapes.{Values, tape_of_values}
+use Rattle.smp_tape.specs.Laws.Tapes.{tape_source}
 use Rattle.smp_split.specs.Runs.{run, leaf}
 use Rattle.smp_frame.specs.Frames.{frame_of}
 use Rattle.smp_app.specs.declared.status.Status.{Status}
@@ -18,7 +20,7 @@ use Rattle.smp_app.specs.FaultLines.{fault_line}
 use Rattle.smp_app.specs.Plans.{Plan, quick_asked, asked_of, tree_of, start_of}
 use Rattle.smp_app.specs.Verdict.{Stop, Refused, Missing, Drawn, without, quick_outputs, draw_outputs, probs_outputs, check_outputs, verdict}
 use Rattle.smp_app.specs.Jobs.{IsDrawnBy, HasLine}
-use Rattle.smp_app.specs.Deliveries.{Outputs, SomeRose, names_of, with_files, StopsAt}
+use Rattle.smp_app.specs.Deliveries.{Outputs, SomeRose, names_of, with_files, StopsAt, AtPlace}
 
 -- what can be told of the outside: the files, what was put, and the counts of failed calls
 pub record Outside : Type 0 where
@@ -57,12 +59,13 @@ pub record IsPlan (asked : Asked) (frame : List ℕ) (fs : Files) (plan : Plan) 
   pub procedure : plan.procedure ≡ asked.procedure
   pub count : plan.n ≡ asked.n
 
--- What is drawn by a tape: the leaf to which its values lead from the start of the plan's draw tree, each of them taken and each below
--- its bound.
+-- What is drawn by a tape: the leaf to which the run on its values comes from the start of the plan's draw tree, and no value is left.
 pub record IsDraw (tape : List ℕ) (fs : Files) (drawn : Drawn) : Type 0 where
   pub values : List ℕ
   pub held : option_map tape_of (fs tape) ≡ Some (Ok values)
-  pub ran : run (tree_of drawn.plan) (start_of drawn.plan) 0 values ≡ leaf drawn.state drawn.path
+  pub end : Values
+  pub ran : run tape_source (tree_of drawn.plan) (start_of drawn.plan) (tape_of_values [] values) ≡ leaf drawn.state drawn.path end
+  pub all : end.left ≡ []
 
 -- The outputs are those of the leaf of the tape in the plan's draw tree, in which each row's probability of selection, over draws that
 -- are uniform below each asked bound, is exactly the requested fraction. There are as many drawn units as was asked.
@@ -146,11 +149,11 @@ pub record Stopped (words : List (List ℕ)) (command : Command) (before now : O
   pub accepted : (fs : Files) → before.files ≡ Some fs → verdict words fs ≡ Ok outputs
   pub stops : StopsAt outputs before.files now.files before.written now.written
 
--- The outputs stopped because the write of a file or the put failed.
+-- The outputs stopped because the write of that file, or the put, failed: the place where they stopped is the call whose count rose.
 pub record IsWriteFault (words : List (List ℕ)) (before now : Outside) : Type 0 where
   pub command : Command
   pub stopped : Stopped words command before now
-  pub cause : SomeRose (outputs_of command) before.write_faults now.write_faults ⊎ Rose before.put_faults now.put_faults
+  pub cause : AtPlace stopped.stops (λ name. Rose (before.write_faults name) (now.write_faults name)) (Rose before.put_faults now.put_faults)
 
 -- Memory ran out: before anything was touched, or at the line of a refusal, of which a front may have been put, or at the outputs.
 pub data IsNoMemory (words : List (List ℕ)) (before now : Outside) : Type 0 where

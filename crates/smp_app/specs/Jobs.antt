@@ -1,13 +1,12 @@
 -- What the stages of a call answer, before anything is written.
-use Rattle.std.specs.Prelude.{◌≡◌, ℕ, ◌<◌, List, length, slice_index, EachIndex, Contains, Option, Some, is_some, true, Result, Ok, Err}
+use Rattle.std.specs.Prelude.{◌≡◌, ℕ, ◌<◌, List, length, EachIndex, Contains, Option, Some, is_some, true, Result, Ok, Err}
 use Rattle.smp_io.specs.Counts.{Rose}
 use Rattle.smp_io.specs.Store.{Files}
-use Rattle.smp_split.specs.Fractions.{Same}
+use Rattle.smp_fractions.specs.Fractions.{Same}
 use Rattle.smp_split.specs.Means.{inclusion_probability}
 use Rattle.smp_frame.specs.Bounds.{IsFrame, sizes_of}
-use Rattle.smp_prob.specs.Requested.{SameRatio, requested_ratio}
 use Rattle.smp_prob.specs.Requests.{IsRequest}
-use Rattle.smp_prob.specs.Standings.{IsOrdered, asked_ratio}
+use Rattle.smp_prob.specs.Standings.{IsRising, asked_fraction}
 use Rattle.smp_stage.specs.Stages.{BelongsToStage, IsWhole, stage_tree}
 use Rattle.smp_rows.specs.Rows.{rows_tree, BelongsToRows, Fills}
 use Rattle.smp_app.specs.declared.misfit.Misfit.{Misfit}
@@ -17,7 +16,7 @@ use Rattle.smp_app.specs.declared.status.Status.TheVariants as status
 use Rattle.smp_app.specs.declared.plan.FramePlan.{FramePlan}
 use Rattle.smp_app.specs.declared.selection.Selection.{Selection}
 use Rattle.smp_app.specs.FaultLines.{fault_line}
-use Rattle.smp_app.specs.Plans.{Plan, request_of, tree_of, start_of, requested_fraction, drawn_units}
+use Rattle.smp_app.specs.Plans.{Plan, request_of, tree_of, start_of, row_probability, drawn_units}
 use Rattle.smp_app.specs.Verdict.{Stop, Refused, Missing, Drawn, without}
 
 -- ---- values of the code as the definitions see them
@@ -83,18 +82,18 @@ pub record IsPlanned (plan : FramePlan) : Type 0 where
   pub request_is : plan.request ≡ request_of (plan_view plan)
   pub is_request : IsRequest plan.request
   pub whole : IsWhole plan.request
-  pub ordered : IsOrdered plan.request
-  pub asked : EachIndex (sizes_of plan.frame) (λ row. SameRatio (asked_ratio plan.request row) (requested_ratio plan.n (sizes_of plan.frame) (slice_index (sizes_of plan.frame) row)))
+  pub ordered : IsRising plan.request
+  pub asked : EachIndex (sizes_of plan.frame) (λ row. Same (asked_fraction plan.request row) (row_probability (plan_view plan) row))
   pub fills : Fills plan.request (length (sizes_of plan.frame)) plan.n
 
 -- what a selection by a plan has: as many rows are selected as was asked, and in its draw tree each row has the requested probability
 pub record IsDrawnBy (plan : Plan) (drawn : Drawn) : Type 0 where
   pub size : length (drawn_units plan drawn.state) ≡ plan.n
-  pub probability : (row : ℕ) → row < length plan.units → Same (inclusion_probability (tree_of plan) (start_of plan) row) (requested_fraction plan row)
+  pub probability : (row : ℕ) → row < length plan.units → Same (inclusion_probability (tree_of plan) (start_of plan) row) (row_probability plan row)
 
 -- a done state of the plan's design over the rows
 pub record IsSelection (plan : Plan) (selection : Selection) : Type 0 where
   pub tree : rows_tree selection.design.rows selection.design.request.now (stage_tree selection.design.design) ≡ tree_of plan
   pub belongs : BelongsToRows selection.design.request.now (stage_tree selection.design.design) (BelongsToStage selection.design.design) selection.state
-  pub ended : (tree_of plan).ended selection.state ≡ true
+  pub done : (tree_of plan).done selection.state ≡ true
   pub drawn : IsDrawnBy plan (selection_view plan selection)

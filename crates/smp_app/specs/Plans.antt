@@ -1,6 +1,6 @@
 -- What is asked of a frame, and the draw that follows from it.
 use Rattle.std.specs.Prelude.{ℕ, List, [], ◌∷◌, Bool, ◌&&◌, is_none, length, slice_index, ◌+◌, Option, Some, None, option_map, if◌then◌else◌, codes}
-use Rattle.smp_split.specs.Fractions.{Fraction, over}
+use Rattle.smp_fractions.specs.Fractions.{Fraction}
 use Rattle.smp_split.specs.Trees.{Tree}
 use Rattle.smp_frame.specs.declared.columns.Columns.{Columns}
 use Rattle.smp_frame.specs.declared.frame.Unit as unit
@@ -8,7 +8,7 @@ use Rattle.smp_frame.specs.Bounds.{sizes_of}
 use Rattle.smp_prob.specs.declared.orders.Order.{Order}
 use Rattle.smp_prob.specs.declared.orders.Order.TheVariants.{Frame}
 use Rattle.smp_prob.specs.declared.requests.Request.{Request}
-use Rattle.smp_prob.specs.Requested.{Ratio, requested_of, requested_ratio}
+use Rattle.smp_prob.specs.Requested.{requested_of, requested_fraction}
 use Rattle.smp_design.specs.declared.method.Method.{Method}
 use Rattle.smp_design.specs.declared.method.Method.TheVariants as methods
 use Rattle.smp_design.specs.declared.design.Design.{Design}
@@ -73,13 +73,12 @@ tree_of plan = rows_tree (length plan.units) (request_of plan) (stage_tree (stag
 abbrev pub start_of : Plan → StageState
 start_of plan = first_state (stage_of_plan plan)
 
--- the probability that is requested of a unit of this size
-abbrev pub ratio_of : Plan → ℕ → Ratio
-ratio_of plan size = requested_ratio plan.n (sizes_of plan.units) size
+-- the probability that is requested of a unit of this size, and of a row
+abbrev pub size_probability : Plan → ℕ → Fraction
+size_probability plan size = requested_fraction plan.n (sizes_of plan.units) size
 
--- the probability that is requested of a row
-abbrev pub requested_fraction : Plan → ℕ → Fraction
-requested_fraction plan row = let ratio = ratio_of plan (slice_index (sizes_of plan.units) row) in over ratio.num ratio.den
+abbrev pub row_probability : Plan → ℕ → Fraction
+row_probability plan row = size_probability plan (slice_index (sizes_of plan.units) row)
 
 -- the units at whose places `chosen` says so, where the first of them stands at this place
 abbrev pub chosen_from : ℕ → (ℕ → Bool) → List unit.Unit → List unit.Unit

@@ -3,8 +3,13 @@ use Rattle.std.specs.Prelude.{ℕ, List, [], ◌∷◌, length, nat_lt, Option, 
 use Rattle.std.specs.Str.{bytes_eq}
 use Rattle.smp_io.specs.Store.{Files}
 use Rattle.smp_tape.specs.TapeText.{tape_of}
-use Rattle.smp_split.specs.Runs.{Outcome, run, leaf, short, too_big, long}
-use Rattle.smp_split.specs.Walks.{Line}
+use Rattle.smp_tape.specs.Tapes.{Values, tape_of_values}
+use Rattle.smp_tape.specs.Laws.Tapes.{tape_source}
+use Rattle.smp_tape.specs.declared.draws.DrawFault.{DrawFault}
+use Rattle.smp_tape.specs.declared.draws.DrawFault.TheVariants.{Short, TooBig, Rejected}
+use Rattle.smp_split.specs.Trees.{weight_sum}
+use Rattle.smp_split.specs.Paths.{Entry}
+use Rattle.smp_split.specs.Runs.{Outcome, run, leaf, stopped}
 use Rattle.smp_frame.specs.Frames.{frame_of}
 use Rattle.smp_frame.specs.Bounds.{sizes_of}
 use Rattle.smp_frame.specs.declared.frame.Unit as unit
@@ -64,13 +69,23 @@ plan_of asked units =
 pub record Drawn : Type 0 where
   pub plan : Plan
   pub state : StageState
-  pub path : List Line
+  pub path : List Entry
 
-abbrev pub drawn_of : Plan → Outcome StageState → Result Drawn Stop
-drawn_of plan (leaf state path) = Ok (record { plan = plan; state = state; path = path })
-drawn_of plan (short taken) = Err (Refused (TapeShort taken))
-drawn_of plan (too_big place value bound) = Err (Refused (TapeValue place value bound))
-drawn_of plan (long left) = Err (Refused (TapeLong left))
+-- at a leaf, where these values are left: what is drawn, unless there are some
+abbrev pub drawn_at : Plan → StageState → List Entry → List ℕ → Result Drawn Stop
+drawn_at plan state path [] = Ok (record { plan = plan; state = state; path = path })
+drawn_at plan state path (value ∷ left) = Err (Refused (TapeLong (length (value ∷ left))))
+
+-- the refusal of a draw below a bound, where so many values were taken; no draw of a tape is rejected
+abbrev pub draw_status : DrawFault → ℕ → ℕ → Status
+draw_status Short bound taken = TapeShort taken
+draw_status (TooBig place value) bound taken = TapeValue place value bound
+draw_status (Rejected rejected) bound taken = NotYet
+
+abbrev pub drawn_of : Plan → Outcome StageState Values → Result Drawn Stop
+drawn_of plan (leaf state path tape) = drawn_at plan state path tape.left
+drawn_of plan (stopped state path fault tape) =
+    Err (Refused (draw_status fault (weight_sum ((tree_of plan).parts state)) (length tape.taken)))
 
 -- ---- the order of work
 
@@ -93,7 +108,7 @@ unfoldable pub drawn_stage : Plan → List ℕ → Files → Result Drawn Stop
 drawn_stage plan tape fs = do
   bytes ← content (fs tape) tape
   values ← or_fault tape_status (tape_of bytes)
-  drawn_of plan (run (tree_of plan) (start_of plan) 0 values)
+  drawn_of plan (run tape_source (tree_of plan) (start_of plan) (tape_of_values [] values))
 
 -- ---- what is written and put
 

@@ -1,8 +1,8 @@
-ghost use Rattle.std.specs.Prelude.{◌≡◌, ◌⊎◌, ◌≤◌, ◌++◌, ◌∷◌, [], ℕ, List, option_map, OnOk, OnErr, IsErrOf, codes};
+ghost use Rattle.std.specs.Prelude.{◌≡◌, ◌≤◌, ◌++◌, ◌∷◌, [], ℕ, List, option_map, OnOk, OnErr, IsErrOf, codes};
 ghost use Rattle.std.specs.List.{flat_map};
 ghost use Rattle.smp_io.specs.Counts.{Rose, NeverFalls};
 ghost use Rattle.smp_io.specs.Sink.{with_bytes};
-ghost use Rattle.smp_app.specs.Deliveries.{outputs_view, with_files, StopsAtFile, StopsAt, SomeRose, names_of};
+ghost use Rattle.smp_app.specs.Deliveries.{outputs_view, with_files, StopsAtFile, StopsAt, FailsAtFile, FailsAt};
 
 use smp_frac::{Bytes, Text};
 use smp_io::{Sink, Store, StoreFault};
@@ -28,10 +28,17 @@ pub struct Outputs {
 impl Outputs {
     /// Writes the files in order and puts the result after them. It stops at the first failure.
     pub fn deliver<K: Store, S: Sink>(&self, store: &mut K, out: &mut S) -> Result<(), StoreFault>
-        ensures files { OnOk result (K.files store.new ≡ option_map (with_files (outputs_view self.now).files) (K.files store.old)) }
+        ensures files { OnOk result (K.files store.new
+            ≡ option_map (with_files (outputs_view self.now).files) (K.files store.old)) }
         ensures written { OnOk result (S.written out.new ≡ with_bytes (outputs_view self.now).put (S.written out.old)) }
-        ensures stops { OnErr result (StopsAt (outputs_view self.now) (K.files store.old) (K.files store.new) (S.written out.old) (S.written out.new)) }
-        ensures cause { IsErrOf result StoreFault.Failed → SomeRose (names_of (outputs_view self.now).files) (K.write_faults store.old) (K.write_faults store.new) ⊎ Rose (S.faults out.old) (S.faults out.new) }
+        ensures stops { OnErr result (StopsAt (outputs_view self.now) (K.files store.old) (K.files store.new)
+            (S.written out.old) (S.written out.new)) }
+        // The place where it stops is the call whose count rose.
+        ensures failed { IsErrOf result StoreFault.Failed
+            → FailsAt (outputs_view self.now) (K.files store.old) (K.files store.new)
+            (S.written out.old) (S.written out.new)
+            (λ name. Rose (K.write_faults store.old name) (K.write_faults store.new name))
+            (Rose (S.faults out.old) (S.faults out.new)) }
         ensures reads { NeverFalls (K.read_faults store.old) (K.read_faults store.new) }
         ensures writes { NeverFalls (K.write_faults store.old) (K.write_faults store.new) }
         ensures puts { S.faults out.old ≤ S.faults out.new }
@@ -44,7 +51,9 @@ impl Outputs {
 fn write_files<K: Store>(files: &[OutputFile], store: &mut K) -> Result<(), StoreFault>
     ensures ok { OnOk result (K.files store.new ≡ option_map (with_files files.now) (K.files store.old)) }
     ensures err { OnErr result (StopsAtFile files.now (K.files store.old) (K.files store.new)) }
-    ensures cause { IsErrOf result StoreFault.Failed → SomeRose (names_of files.now) (K.write_faults store.old) (K.write_faults store.new) }
+    ensures failed { IsErrOf result StoreFault.Failed
+        → FailsAtFile files.now (K.files store.old) (K.files store.new)
+        (λ name. Rose (K.write_faults store.old name) (K.write_faults store.new name)) }
     ensures reads { NeverFalls (K.read_faults store.old) (K.read_faults store.new) }
     ensures writes { NeverFalls (K.write_faults store.old) (K.write_faults store.new) }
 {

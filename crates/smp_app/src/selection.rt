@@ -1,6 +1,7 @@
-ghost use Rattle.std.specs.Prelude.{◌≡◌, [], Some, IfOk, IfErr, IsErrOf};
+ghost use Rattle.std.specs.Prelude.{◌≡◌, Some, IfOk, IfErr, IsErrOf};
 ghost use Rattle.smp_io.specs.Counts.{Rose, NeverFalls};
 ghost use Rattle.smp_io.specs.Store.{Files};
+ghost use Rattle.smp_tape.specs.Laws.Tapes.{tape_source};
 ghost use Rattle.smp_split.specs.Runs.{run};
 ghost use Rattle.smp_app.specs.Plans.{tree_of, start_of};
 ghost use Rattle.smp_app.specs.Verdict.{drawn_of, drawn_stage};
@@ -10,7 +11,7 @@ use crate::Status;
 use crate::plan::{FramePlan, read_input};
 use smp_io::Store;
 use smp_rows::Rows;
-use smp_split::{Lines, Splitting, WalkFault, walk_tape};
+use smp_split::{Lines, Splitting, WalkFault, walk};
 use smp_stage::{Stage, StageState, Started};
 use smp_tape::{DrawFault, Tape};
 use std::alloc::Global;
@@ -25,9 +26,10 @@ pub struct Selection<'a> {
 
 /// Selects by a plan with the values of a tape. All values are taken, or it is refused.
 pub fn select<'a>(alloc: Global, plan: &'a FramePlan, tape: Tape) -> Result<Selection<'a>, Status>
-    requires planned { IsPlanned plan.now }
-    requires whole { tape.taken ≡ [] }
-    ensures follows { Follows (result_view (selection_view (plan_view plan.now)) result) (drawn_of (plan_view plan.now) (run (tree_of (plan_view plan.now)) (start_of (plan_view plan.now)) 0 tape.left)) }
+    requires { IsPlanned plan.now }
+    ensures follows { Follows (result_view (selection_view (plan_view plan.now)) result)
+        (drawn_of (plan_view plan.now)
+        (run tape_source (tree_of (plan_view plan.now)) (start_of (plan_view plan.now)) tape)) }
     ensures kinds { IfErr result IsOfContent }
     ensures selection { IfOk result (IsSelection (plan_view plan.now)) }
 {
@@ -41,10 +43,12 @@ pub fn select<'a>(alloc: Global, plan: &'a FramePlan, tape: Tape) -> Result<Sele
     design.select_as_asked(&state);
     let mut tape = tape;
     let mut lines = Lines::new(alloc);
-    let count = tape.left();
-    match walk_tape(&design, &mut state, &mut tape, &mut lines) {
+    match walk(&design, &mut state, &mut tape, &mut lines) {
         Ok(()) => {}
-        Err(WalkFault::Draw(DrawFault::Short)) => return Err(Status::TapeShort { taken: count }),
+        Err(WalkFault::Draw(DrawFault::Short)) => {
+            let taken = tape.taken();
+            return Err(Status::TapeShort { taken });
+        }
         Err(WalkFault::Draw(DrawFault::TooBig { place, value })) => {
             let bound = design.bound(&state);
             return Err(Status::TapeValue {

@@ -3,7 +3,7 @@ ghost use Rattle.smp_app.specs.Texts;
 ghost use Rattle.smp_app.specs.Texts.{step_text, field_row, pair_row};
 ghost use Rattle.smp_app.specs.Plans.{tree_of, drawn_units};
 ghost use Rattle.smp_app.specs.Jobs.{IsPlanned, IsSelection, plan_view};
-ghost use Rattle.smp_frac.specs.Fractions.{decimal_fraction};
+ghost use Rattle.smp_frac.specs.Fractions.{fraction, fraction_text};
 
 use crate::plan::FramePlan;
 use crate::selection::Selection;
@@ -133,7 +133,8 @@ fn push_probability(
     unit: &Unit,
     probability: Frac,
 ) -> Result<(), NoMemory>
-    ensures { OnOk result (text.new ≡ text.old ++ pair_row unit.now.id (decimal_fraction probability)) }
+    ensures { OnOk result (text.new
+        ≡ text.old ++ pair_row unit.now.id (fraction_text (fraction probability))) }
 {
     let mut fraction = Bytes::new(alloc);
     probability.write(&mut fraction)?;

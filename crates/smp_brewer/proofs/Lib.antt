@@ -1,3 +1,4 @@
+pub mod Drawn
 pub mod States
 pub mod Counts
 pub mod Requests

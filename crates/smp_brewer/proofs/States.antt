@@ -1,14 +1,35 @@
 -- What a state's own fields are, by its model.
-use Rattle.std.proofs.Common.{◌≡◌, ℕ, ◌+◌, ◌-◌, ◌*◌, ◌<◌, ◌≤◌, ◌≢◌, true, false, nat_eq, List, length, set, map, arith, refl, sym, ap, ◌∙◌, length-set}
+use Rattle.std.proofs.Common.{◌≡◌, ℕ, suc, [], ◌∷◌, inl, inr, ◌+◌, ◌-◌, ◌*◌, ◌<◌, ◌≤◌, ◌≢◌, true, false, nat_eq, nat_lt, List, length, set, map, arith, refl, sym, ap, ◌∙◌, length-set}
+use Rattle.std.specs.List.{sum}
 use Rattle.std.proofs.Math.Nat.{mul-le-mul_right}
-use Rattle.std.proofs.lemmas.Bool.{eq-eqb, ne_eqb, eqb-false, lt-ltb, le-ltb}
+use Rattle.std.proofs.lemmas.Bool.{cases_Bool, eq-eqb, ne_eqb, eqb-true, eqb-false, ltb-false, lt-ltb, le-ltb}
 use Rattle.smp_prob.specs.Shares.{Shares}
 use Rattle.smp_split.specs.Trees.{weight_sum, picked}
 use Rattle.smp_pivotal.specs.Steps.{IsShares}
 use Rattle.smp_brewer.specs.Offers.{Offers, Brewing, offering, offered, spent, largest_size, size_of, allowed, share_of, take_bound, take_weight, after_taken, after_refused, take_parts, brewing_parts, brewing_ended, offers_from, IsOffers, IsOffered}
-use Rattle.smp_brewer.specs.Sums.{sum-taken}
-use Rattle.smp_brewer.specs.Picks.{IsKept, passing, picked-offers}
-use Rattle.smp_brewer.specs.Splits.{heaviest, spent_belongs, weight_sum-take, weight_sum-offers}
+use Rattle.smp_brewer.specs.Laws.Sums.{sum-cons, sum-taken}
+use Rattle.smp_brewer.specs.Kept.Picks.{IsKept, passing}
+use Rattle.smp_brewer.specs.Laws.Splits.{heaviest, spent_belongs, weight_sum-take, weight_sum-offers}
+
+-- a draw offers the first unit at which the cumulated sizes pass it
+picked-offers : (default : Brewing) (o : Offers) (unit : ℕ) (zs : List ℕ) (draw : ℕ) → draw < sum zs → picked default (offers_from o unit zs) draw ≡ offered o (unit + passing zs draw)
+picked-offers default o unit [] draw h = absurd (omega (arith, h))
+picked-offers default o unit (z ∷ zs) draw h =
+    let all : sum (z ∷ zs) ≡ z + sum zs = sum-cons z zs in
+    elim (cases_Bool (nat_eq z 0)) [
+      | inl e ↦
+          (let none : z ≡ 0 = eqb-true z 0 e in
+          let same : draw - 0 ≡ draw = omega arith in
+          let next : unit + 1 + passing zs draw ≡ unit + suc (passing zs draw) = omega arith in
+          rw e (rw none (rw (le-ltb draw 0 (omega arith)) (rw same (picked-offers default o (unit + 1) zs draw (omega (arith, h, none, all)) ∙ ap (λ x. offered o x) next)))))
+      | inr e ↦ rw e (elim (cases_Bool (nat_lt draw z)) [
+        | inl f ↦ (let here : unit ≡ unit + 0 = omega arith in rw f (ap (λ x. offered o x) here))
+        | inr f ↦
+            (let l : z ≤ draw = ltb-false draw z f in
+            let next : unit + 1 + passing zs (draw - z) ≡ unit + suc (passing zs (draw - z)) = omega arith in
+            rw f (picked-offers default o (unit + 1) zs (draw - z) (omega (arith, h, l, all)) ∙ ap (λ x. offered o x) next))
+      ])
+    ]
 
 module _ (units : ℕ) (o : Offers) (all top : ℕ) (s : Shares) (kept : IsKept o all top s) where
   pub heavy : IsOffers units o → 1 ≤ o.draws → o.draws * top < all

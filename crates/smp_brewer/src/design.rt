@@ -1,14 +1,15 @@
 //! Brewer's method as a design.
 #![tactic(auto)]
 
-ghost use Rattle.std.specs.Prelude.{◌≡◌, ℕ, ◌^◌, ◌<◌, ◌≤◌, length, sum, IfOk};
+ghost use Rattle.std.specs.Prelude.{◌≡◌, ℕ, ◌<◌, ◌≤◌, length, sum, IfOk};
+ghost use Rattle.smp_prob.specs.Standings.{free_fraction};
 ghost use Rattle.smp_prob.specs.Requests.{IsRequest};
-ghost use Rattle.smp_split.specs.Fractions.{Fraction, Same};
+ghost use Rattle.smp_fractions.specs.Fractions.{Fraction, Same};
 ghost use Rattle.smp_split.specs.Means.{mean, value_sum, inclusion_probability};
-ghost use Rattle.smp_split.specs.Counts.{LeavesSelect};
-ghost use Rattle.smp_brewer.specs.Offers.{Brewing, IsBrewing, SumsTo, offering, units_of, started, requested, value_of, allowed, brewing_tree};
-ghost use Rattle.smp_brewer.specs.Picks.{IsKept, IsStart, brewing_of};
-ghost use Rattle.smp_brewer.specs.Splits.{brewing_lawful};
+ghost use Rattle.smp_split.specs.Counts.{AddsUp, LeavesSelect};
+ghost use Rattle.smp_brewer.specs.Offers.{Brewing, IsBrewing, offering, units_of, started, offers_unit_value, allowed, brewing_tree};
+ghost use Rattle.smp_brewer.specs.Kept.Picks.{IsKept, IsStart, brewing_of};
+ghost use Rattle.smp_brewer.specs.Laws.Splits.{brewing_lawful};
 
 use crate::pivots::Pivots;
 use crate::sizes::{find_offer, largest_of, offer_weight, total_of};
@@ -75,10 +76,11 @@ impl Brewer {
 
         // Each unit starts with the probability that is requested of it.
         ensures values { IfOk result (λ design. (unit : ℕ) → unit < length request.now.free →
-            Same (value_of design unit) (requested request.now unit)) }
+            Same (offers_unit_value design unit) (free_fraction request.now unit)) }
 
-        // The sum of the values is `r`.
-        ensures whole { IfOk result (λ design. 1 ≤ length request.now.free → SumsTo request.now.r design) }
+        // The values add up to `r`.
+        ensures whole { IfOk result (λ design. 1 ≤ length request.now.free →
+            AddsUp (brewing_tree (units_of design)) request.now.r design) }
     {
         let sizes = Vec::from_slice(alloc, request.shape.as_slice())?;
         let draws = if request.free.as_slice().is_empty() {
@@ -101,10 +103,12 @@ impl Brewer {
 
         // In particular, each unit's probability of selection is its value.
         ensures probability { IfOk result (λ state. (unit : ℕ) → unit < units_of self.now →
-            Same (inclusion_probability (brewing_tree (units_of self.now)) state unit) (value_of self.now unit)) }
+            Same (inclusion_probability (brewing_tree (units_of self.now)) state unit) (offers_unit_value self.now unit)) }
 
         // Each leaf selects as many units as the values add up to.
-        ensures count { IfOk result (λ state. (n : ℕ) → SumsTo n self.now → LeavesSelect (brewing_tree (units_of self.now)) n state) }
+        ensures count { IfOk result (λ state. (n : ℕ) →
+            AddsUp (brewing_tree (units_of self.now)) n state →
+            LeavesSelect (brewing_tree (units_of self.now)) n state) }
     {
         let state = self.first_state(alloc)?;
         mean_is_value(self, &state);
@@ -114,7 +118,6 @@ impl Brewer {
     fn first_state(&self, alloc: Global) -> Result<BrewerState, NoMemory>
         ensures start { IfOk result (λ state. state ≡ self.now) }
         ensures belongs { IfOk result (λ state. IsBrewing (units_of self.now) state) }
-        ensures few { IfOk result (λ _. units_of self.now < 2 ^ 64) }
     {
         let sizes = Vec::from_slice(alloc, self.sizes.as_slice())?;
         let pivots = Pivots::with_room(alloc, sizes.len())?;

@@ -3,7 +3,7 @@
 
 ghost use Rattle.std.specs.Prelude.{◌≡◌, ◌+◌, ◌-◌, ◌*◌, ◌^◌, ◌<◌, ◌≤◌, sum};
 ghost use Rattle.smp_brewer.specs.Offers.{largest_size};
-ghost use Rattle.smp_brewer.specs.Picks.{passing};
+ghost use Rattle.smp_brewer.specs.Kept.Picks.{passing};
 
 /// The largest size.
 pub(crate) fn largest_of(sizes: &[u32]) -> u32

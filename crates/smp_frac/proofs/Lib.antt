@@ -5,4 +5,5 @@ pub mod Lowest
 pub mod Orders
 pub mod Products
 pub mod Sums
+pub mod Texts
 pub mod Unique

@@ -1,9 +1,14 @@
 -- How the cross products of two fractions compare, by their whole parts and remainders.
-use Rattle.std.proofs.Common.{◌≡◌, ◌≢◌, ℕ, ◌+◌, ◌*◌, ◌/◌, ◌%◌, ◌<◌, ◌≤◌, arith, sym, ap, ◌∙◌, inl, inr, mul-le-mul_right, mul-pos}
+use Rattle.std.proofs.Common.{◌≡◌, ◌≢◌, ◌↔◌, ℕ, ◌+◌, ◌*◌, ◌/◌, ◌%◌, ◌<◌, ◌≤◌, arith, sym, ap, ◌∙◌, inl, inr, mul-le-mul_right, mul-pos}
 use Rattle.std.proofs.lemmas.Bool.{cases_eq, cases_lt}
+use Rattle.std.proofs.lemmas.Int.{ints}
 use Rattle.std.proofs.lemmas.Bool.Decides.{nat_tests}
 use Rattle.std.specs.Ordering.{nat_cmp, ordering_then}
+use Rattle.std.specs.declared.cmp.Ordering.{Ordering}
 use Rattle.std.specs.declared.cmp.Ordering.TheVariants.{Less, Equal, Greater}
+use Rattle.smp_fractions.specs.Fractions.{AtMost}
+use Rattle.smp_frac.specs.declared.fractions.Frac.{Frac}
+use Rattle.smp_frac.specs.Fractions.{fraction}
 
 nat_cmp_less : (x y : ℕ) → x < y → nat_cmp x y ≡ Less
 nat_cmp_less x y h = grind (arith, nat_tests)
@@ -87,3 +92,30 @@ nat_cmp_parts a b c d pb pd last =
                 ap (λ o. ordering_then o (nat_cmp (a % b) (c % d))) (nat_cmp_greater (a / b) (c / d) l) ∙ sym (nat_cmp_greater (a * d) (c * b) (cross_less c d a b pd pb l))
           ]
     ]
+
+-- ---- the order of the values
+
+not_greater : (x y : ℕ) → x ≤ y → nat_cmp x y ≢ Greater
+not_greater x y le e = grind (arith, nat_tests)
+
+not_less : (x y : ℕ) → y ≤ x → nat_cmp x y ≢ Less
+not_less x y le e = grind (arith, nat_tests)
+
+module _ (p q : Frac) (r : Ordering) (is : r ≡ nat_cmp (p.num * q.den) (q.num * p.den)) where
+  pub at_most_is : (r ≢ Greater) ↔ AtMost (fraction p) (fraction q)
+  at_most_is = (
+    (λ other. elim (cases_lt (q.num * p.den) (p.num * q.den)) [
+      | inl above ↦ absurd (other (is ∙ nat_cmp_greater (p.num * q.den) (q.num * p.den) above))
+      | inr le ↦ record { cross = omega (arith, ints, le) }
+    ]),
+    (λ least greater. not_greater (p.num * q.den) (q.num * p.den) (omega (arith, ints, least.cross)) (sym is ∙ greater)),
+  )
+
+  pub at_least_is : (r ≢ Less) ↔ AtMost (fraction q) (fraction p)
+  at_least_is = (
+    (λ other. elim (cases_lt (p.num * q.den) (q.num * p.den)) [
+      | inl below ↦ absurd (other (is ∙ nat_cmp_less (p.num * q.den) (q.num * p.den) below))
+      | inr le ↦ record { cross = omega (arith, ints, le) }
+    ]),
+    (λ least less. not_less (p.num * q.den) (q.num * p.den) (omega (arith, ints, least.cross)) (sym is ∙ less)),
+  )

@@ -2,6 +2,7 @@
 use Rattle.std.proofs.Common.{◌≡◌, ◌↔◌, ℕ, ◌*◌, ◌≤◌, arith, sym, ap, ap₂, ◌∙◌, subst}
 use Rattle.std.proofs.Props.{props}
 use Rattle.std.proofs.lemmas.Bool.Decides.{nat_tests}
+use Rattle.std.proofs.lemmas.Int.{ints}
 use Rattle.std.specs.Ordering.{nat_cmp}
 use Rattle.std.specs.declared.cmp.Ordering.{Ordering}
 use Rattle.std.specs.declared.cmp.Ordering.TheVariants.{Equal}
@@ -9,27 +10,29 @@ use Rattle.std.proofs.lemmas.Nat.Gcd.{IsGcd-swap, dvd_antisymm}
 use Rattle.std.proofs.Math.Nat.{dvd-mul_left, mul-div_cancel}
 use Prim.Native.Nat.{◌∣◌, ◌/◌}
 use Rattle.smp_frac.specs.declared.fractions.Frac.{Frac}
+use Rattle.smp_fractions.specs.Fractions.{Same}
 use Rattle.smp_frac.specs.Divisors.{greatest_common_divisor}
+use Rattle.smp_frac.specs.Fractions.{fraction}
 use Rattle.smp_frac.proofs.Coprime.{dvd_of_coprime}
 use Rattle.smp_frac.proofs.Lowest.{coprime_from_lowest}
 use Rattle.std.specs.Int.{IsGcd}
 
-abbrev fraction : (n d : ℕ) → 1 ≤ d → greatest_common_divisor n d ≡ 1 → Frac
-fraction n d p r = record { num = n; den = d; positive = p; lowest = r }
+abbrev lowest : (n d : ℕ) → 1 ≤ d → greatest_common_divisor n d ≡ 1 → Frac
+lowest n d p r = record { num = n; den = d; positive = p; lowest = r }
 
-same_numbers : (n d : ℕ) (p q : 1 ≤ d) (r s : greatest_common_divisor n d ≡ 1) → fraction n d p r ≡ fraction n d q s
+same_numbers : (n d : ℕ) (p q : 1 ≤ d) (r s : greatest_common_divisor n d ≡ 1) → lowest n d p r ≡ lowest n d q s
 same_numbers n d p q r s =
     let one : IsProp (1 ≤ d) = hlevel props in
     let two : IsProp (greatest_common_divisor n d ≡ 1) = hlevel props in
-    ap₂ (λ a b. fraction n d a b) (one p q) (two r s)
+    ap₂ (λ a b. lowest n d a b) (one p q) (two r s)
 
-same_den : (n d k : ℕ) → d ≡ k → (p : 1 ≤ d) (q : 1 ≤ k) (r : greatest_common_divisor n d ≡ 1) (s : greatest_common_divisor n k ≡ 1) → fraction n d p r ≡ fraction n k q s
+same_den : (n d k : ℕ) → d ≡ k → (p : 1 ≤ d) (q : 1 ≤ k) (r : greatest_common_divisor n d ≡ 1) (s : greatest_common_divisor n k ≡ 1) → lowest n d p r ≡ lowest n k q s
 same_den n d k e =
-    subst (λ (k : ℕ). (p : 1 ≤ d) (q : 1 ≤ k) (r : greatest_common_divisor n d ≡ 1) (s : greatest_common_divisor n k ≡ 1) → fraction n d p r ≡ fraction n k q s) e (same_numbers n d)
+    subst (λ (k : ℕ). (p : 1 ≤ d) (q : 1 ≤ k) (r : greatest_common_divisor n d ≡ 1) (s : greatest_common_divisor n k ≡ 1) → lowest n d p r ≡ lowest n k q s) e (same_numbers n d)
 
-same_fields : (n m d k : ℕ) → n ≡ m → d ≡ k → (p : 1 ≤ d) (q : 1 ≤ k) (r : greatest_common_divisor n d ≡ 1) (s : greatest_common_divisor m k ≡ 1) → fraction n d p r ≡ fraction m k q s
+same_fields : (n m d k : ℕ) → n ≡ m → d ≡ k → (p : 1 ≤ d) (q : 1 ≤ k) (r : greatest_common_divisor n d ≡ 1) (s : greatest_common_divisor m k ≡ 1) → lowest n d p r ≡ lowest m k q s
 same_fields n m d k e f =
-    subst (λ (m : ℕ). (p : 1 ≤ d) (q : 1 ≤ k) (r : greatest_common_divisor n d ≡ 1) (s : greatest_common_divisor m k ≡ 1) → fraction n d p r ≡ fraction m k q s) e (same_den n d k f)
+    subst (λ (m : ℕ). (p : 1 ≤ d) (q : 1 ≤ k) (r : greatest_common_divisor n d ≡ 1) (s : greatest_common_divisor m k ≡ 1) → lowest n d p r ≡ lowest m k q s) e (same_den n d k f)
 
 den_divides : (p q : Frac) → p.num * q.den ≡ q.num * p.den → p.den ∣ q.den
 den_divides p q h =
@@ -43,6 +46,10 @@ same_fraction p q h =
     let e : p.num * p.den ≡ q.num * p.den = ap (λ x. p.num * x) d ∙ h in
     let n : p.num ≡ q.num = sym (mul-div_cancel p.num p.positive) ∙ ap (λ x. x / p.den) e ∙ mul-div_cancel q.num p.positive in
     same_fields p.num q.num p.den q.den n d p.positive q.positive p.lowest q.lowest
+
+-- and so are two of the same value
+pub same_frac : (p q : Frac) → Same (fraction p) (fraction q) → p ≡ q
+same_frac p q same = same_fraction p q (omega (arith, ints, same.cross))
 
 equal_numbers : (x y : ℕ) → nat_cmp x y ≡ Equal → x ≡ y
 equal_numbers x y h = grind (arith, nat_tests)

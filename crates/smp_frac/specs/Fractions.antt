@@ -1,21 +1,32 @@
--- What sums, products and differences of fractions are, by cross products, and the numbers that they need.
-use Rattle.std.specs.Prelude.{◌≡◌, ℕ, ◌+◌, ◌*◌, ◌/◌, max, List, ◌++◌, codes}
+-- Frac and Signed as fractions, a fraction in decimal, and the numbers that sums, products and differences need.
+use Rattle.std.specs.Prelude.{ℕ, ◌+◌, ◌*◌, ◌/◌, max, ℤ, pos, negsuc, unsigned_abs, if◌then◌else◌, List, [], ◌++◌, codes}
 use Rattle.std.specs.Int.{abs_diff}
 use Rattle.std.specs.Fmt.{decimal}
+use Rattle.smp_fractions.specs.Fractions.{Fraction, negated}
 use Rattle.smp_frac.specs.declared.fractions.Frac.{Frac}
+use Rattle.smp_frac.specs.declared.signed.Signed.{Signed}
 use Rattle.smp_frac.specs.Divisors.{greatest_common_divisor}
 
--- f has the value n / d
-abbrev pub IsRatio : ℕ → ℕ → Frac → Type 0
-IsRatio n d f = f.num * d ≡ n * f.den
+-- the value of a fraction, and of one with a sign
+abbrev pub fraction : Frac → Fraction
+fraction f = record { num = pos f.num; den = f.den; positive = f.positive }
 
--- s is the sum of p and q
-abbrev pub IsSum : Frac → Frac → Frac → Type 0
-IsSum p q s = IsRatio (p.num * q.den + q.num * p.den) (p.den * q.den) s
+abbrev pub signed_fraction : Signed → Fraction
+signed_fraction d = if d.minus then negated (fraction d.size) else fraction d.size
 
--- s is the product of p and q
-abbrev pub IsProduct : Frac → Frac → Frac → Type 0
-IsProduct p q s = IsRatio (p.num * q.num) (p.den * q.den) s
+-- n over d in lowest terms, in decimal
+abbrev pub lowest_text : ℕ → ℕ → List ℕ
+lowest_text n d =
+    let divisor = greatest_common_divisor n d in decimal (n / divisor) ++ codes "/" ++ decimal (d / divisor)
+
+-- a minus where a number is below zero
+abbrev pub sign_text : ℤ → List ℕ
+sign_text (pos n) = []
+sign_text (negsuc n) = codes "-"
+
+-- a fraction in lowest terms, in decimal
+abbrev pub fraction_text : Fraction → List ℕ
+fraction_text a = sign_text a.num ++ lowest_text (unsigned_abs a.num) a.den
 
 -- the numerators of p and of q over the least common multiple of their denominators
 abbrev pub first_term : Frac → Frac → ℕ
@@ -44,7 +55,3 @@ abbrev pub product_size : Frac → Frac → ℕ
 product_size p q =
     let divisor = greatest_common_divisor (p.num * q.num) (p.den * q.den) in
     max (p.num * q.num / divisor) (p.den * q.den / divisor)
-
--- a fraction in decimal
-abbrev pub decimal_fraction : Frac → List ℕ
-decimal_fraction f = decimal f.num ++ codes "/" ++ decimal f.den

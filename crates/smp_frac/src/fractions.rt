@@ -1,8 +1,8 @@
-ghost use Rattle.std.specs.Prelude.{◌≡◌, ◌*◌, ◌/◌, ◌^◌, ◌<◌, ◌≤◌, ◌↔◌, IsNone, IfSome, IfOk, OnOk, OnErr, OkIff, ◌++◌};
+ghost use Rattle.std.specs.Prelude.{◌≡◌, ◌≢◌, ◌*◌, ◌/◌, ◌^◌, ◌<◌, ◌≤◌, ◌↔◌, IsNone, IfSome, IfOk, OnOk, OnErr, OkIff, ◌++◌};
 ghost use Prim.Native.Nat.{◌∣◌};
 ghost use Rattle.std.specs.Int.{IsGcd};
-ghost use Rattle.std.specs.Ordering.{nat_cmp};
 ghost use Rattle.smp_frac.specs.Divisors.{greatest_common_divisor};
+ghost use Rattle.smp_fractions.specs.Fractions.{Same, AtMost, over, plus, times, inverse};
 
 use crate::{Bytes, NoMemory, gcd};
 use std::cmp::Ordering;
@@ -27,12 +27,12 @@ pub struct Frac {
 }
 
 impl Frac {
-    ghost use Rattle.smp_frac.specs.Fractions.{IsRatio, IsSum, IsProduct, sum_size, product_size, decimal_fraction};
+    ghost use Rattle.smp_frac.specs.Fractions.{fraction, fraction_text, sum_size, product_size};
 
     /// The fraction `num/den` in lowest terms, or `None` where `den` is 0.
     pub fn new(num: u128, den: u128) -> Option<Frac>
         ensures none { IsNone result ↔ (den ≡ 0) }
-        ensures value { IfSome result (IsRatio num den) }
+        ensures value { IfSome result (λ f. Same (fraction f) (over num den)) }
     {
         if den == 0 {
             return None;
@@ -61,7 +61,7 @@ impl Frac {
     /// One divided by the fraction, or `None` for zero.
     pub fn inverse(self) -> Option<Frac>
         ensures none { IsNone result ↔ (self.num ≡ 0) }
-        ensures value { IfSome result (IsRatio self.den self.num) }
+        ensures value { IfSome result (λ f. Same (fraction f) (inverse (fraction self))) }
     {
         if self.num == 0 {
             return None;
@@ -74,7 +74,8 @@ impl Frac {
 
     /// How the two values compare, whatever their size: by repeated division, with no products.
     pub fn order(self, other: Frac) -> Ordering
-        ensures exact { result ≡ nat_cmp (self.num * other.den) (other.num * self.den) }
+        ensures at_most { (result ≢ Ordering.Greater) ↔ AtMost (fraction self) (fraction other) }
+        ensures at_least { (result ≢ Ordering.Less) ↔ AtMost (fraction other) (fraction self) }
         ensures same { (result ≡ Ordering.Equal) ↔ (self ≡ other) }
     {
         let (mut a, mut b) = (self.num, self.den);
@@ -90,7 +91,8 @@ impl Frac {
     /// common denominator, or the denominator in lowest terms. Only the divisors of the common
     /// divisor of both denominators can be left to take out (Knuth 1997).
     pub fn add(self, other: Frac) -> Result<Frac, Wide>
-        ensures value { IfOk result (IsSum self other) }
+        ensures value { IfOk result (λ sum.
+            Same (fraction sum) (plus (fraction self) (fraction other))) }
         ensures fits { OnOk result (sum_size self other < 2 ^ 126) }
         ensures wide { OnErr result (2 ^ 126 ≤ sum_size self other) }
     {
@@ -105,7 +107,8 @@ impl Frac {
 
     /// The product, or `Wide` where its numerator or denominator in lowest terms is 2^126 or more.
     pub fn mul(self, other: Frac) -> Result<Frac, Wide>
-        ensures value { IfOk result (IsProduct self other) }
+        ensures value { IfOk result (λ product.
+            Same (fraction product) (times (fraction self) (fraction other))) }
         ensures fits { OnOk result (product_size self other < 2 ^ 126) }
         ensures wide { OnErr result (2 ^ 126 ≤ product_size self other) }
     {
@@ -119,7 +122,7 @@ impl Frac {
     /// Appends the numerator, a slash and the denominator in decimal, or nothing where memory
     /// runs out.
     pub fn write(self, into: &mut Bytes) -> Result<(), NoMemory>
-        ensures ok { OnOk result (into.new ≡ into.old ++ decimal_fraction self) }
+        ensures ok { OnOk result (into.new ≡ into.old ++ fraction_text (fraction self)) }
         ensures err { OnErr result (into.new ≡ into.old) }
     {
         let text = format!(in into.allocator(); "{}/{}", self.num, self.den)?;
@@ -134,7 +137,7 @@ impl Frac {
         requires divides { common ∣ den }
         requires apart { IsGcd num part 1 }
         requires rest_apart { IsGcd num (den / common) 1 }
-        ensures value { IfOk result (IsRatio num (part * den)) }
+        ensures value { IfOk result (λ f. Same (fraction f) (over num (part * den))) }
         ensures fits { OnOk result (part * (den / greatest_common_divisor num common) < 2 ^ 126) }
         ensures wide { OnErr result (2 ^ 126 ≤ part * (den / greatest_common_divisor num common)) }
     {

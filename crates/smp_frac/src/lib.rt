@@ -6,6 +6,7 @@
 #![tactic(auto)]
 
 mod bytes;
+mod differences;
 mod divisors;
 mod fractions;
 mod memory;
@@ -13,10 +14,11 @@ mod signed;
 mod text;
 
 pub use bytes::Bytes;
+pub use differences::difference;
 pub use divisors::{content, gcd, lcm_within};
 pub use fractions::{Frac, Wide};
 pub use memory::NoMemory;
-pub use signed::{Signed, difference};
+pub use signed::Signed;
 pub use text::Text;
 
 #[cfg(test)]

@@ -9,7 +9,7 @@ use Rattle.std.proofs.lemmas.List.Elements.{All-cons}
 use Rattle.smp_lines.specs.Decimals.{is_decimal}
 use Rattle.smp_frame.specs.Steps.{◌>>=◌, guard}
 use Rattle.smp_frame.specs.Records.{field, records_of}
-use Rattle.smp_frame.specs.Fields.{size_of, size_in, is_minus, without_minus, value_of, values_in}
+use Rattle.smp_frame.specs.Fields.{size_of, size_in, is_minus, without_minus, field_value, values_in}
 use Rattle.smp_frame.specs.Layouts.{layout_of}
 use Rattle.smp_frame.specs.Frames.{unit_of, units_from, units_of, frame_of}
 use Rattle.smp_frame.specs.Bounds.{AreNear, IsFrame}
@@ -61,7 +61,7 @@ either_sign : (minus : Bool) (n : ℕ) → n < 2 ^ 31 → nat_abs (cond minus (n
 either_sign true n h = rw (abs_neg n) h
 either_sign false n h = h
 
-value_is_near : (number : ℕ) (name text : List ℕ) (value : ℤ) → value_of number name text ≡ Ok value → nat_abs value < 2 ^ 31
+value_is_near : (number : ℕ) (name text : List ℕ) (value : ℤ) → field_value number name text ≡ Ok value → nat_abs value < 2 ^ 31
 value_is_near number name text value h =
     let size = goes_on _ (size_of number name (without_minus text)) value h in
     subst (λ (z : ℤ). nat_abs z < 2 ^ 31) (ok_is _ _ size.gives) (either_sign (is_minus text) size.value (size_is_small number name (without_minus text) size.value size.is))
@@ -69,7 +69,7 @@ value_is_near number name text value h =
 values_are_near : (number : ℕ) (row : List (List ℕ)) (columns : List Column) (values : List ℤ) → values_in number row columns ≡ Ok values → AreNear values
 values_are_near number row [] values h = subst AreNear (ok_is _ _ h) (λ k d within. absurd (omega arith))
 values_are_near number row (column ∷ columns) values h =
-    let first = goes_on _ (value_of number column.name (field row column.place)) values h in
+    let first = goes_on _ (field_value number column.name (field row column.place)) values h in
     let more = goes_on _ (values_in number row columns) values first.gives in
     subst AreNear (ok_is _ _ more.gives) (All-cons (λ (z : ℤ). nat_abs z < 2 ^ 31) first.value more.value (value_is_near number column.name (field row column.place) first.value first.is) (values_are_near number row columns more.value more.is))
 

@@ -2,7 +2,7 @@
 use Rattle.std.proofs.Common.{◌≡◌, ℕ, ◌+◌, Bool, true, false, List, [], ◌∷◌, ◌++◌, Result, Ok, Err, nat_le, refl, sym, ap, ◌∙◌, append_assoc}
 use Rattle.smp_frame.specs.Steps.{◌>>=◌, guard}
 use Rattle.smp_frame.specs.Frames.{unit_of, units_from}
-use Rattle.smp_frame.specs.Readers.{Takes}
+use Rattle.smp_frame.specs.Kept.Readers.{Takes}
 use Rattle.smp_frame.specs.declared.frame.Unit as unit
 use Rattle.smp_frame.specs.declared.layout.Layout.{Layout}
 use Rattle.smp_frame.specs.declared.fault.FrameFault.{FrameFault}

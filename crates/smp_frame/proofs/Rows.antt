@@ -6,7 +6,7 @@ use Rattle.csv.specs.Reading.{NextIs, ReadRecord, ReadsNext, default_config, is_
 use Rattle.csv.specs.declared.parser.State.{State}
 use Rattle.csv.specs.declared.parser.State.TheVariants as st
 use Rattle.csv.specs.declared.reader.Reader.{Reader}
-use Rattle.smp_frame.specs.Readers.{IsReading, Takes, bytes_left, records_in, rows_left}
+use Rattle.smp_frame.specs.Kept.Readers.{IsReading, Takes, bytes_left, records_in, rows_left}
 use Rattle.smp_frame.specs.Records.{records_of, without_marks}
 use Rattle.smp_frame.proofs.Machine.{takes_some}
 use Rattle.smp_frame.proofs.Marks.{none_left}

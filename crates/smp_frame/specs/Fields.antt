@@ -36,13 +36,13 @@ without_minus [] = []
 without_minus (b ∷ digits) = if b == 45 then digits else b ∷ digits
 
 -- a value: written as a size is, and one minus may stand in front
-abbrev pub value_of : ℕ → List ℕ → List ℕ → Result ℤ FrameFault
-value_of number name text = size_of number name (without_minus text) >>= λ size. Ok (if is_minus text then neg_ℤ (pos size) else pos size)
+abbrev pub field_value : ℕ → List ℕ → List ℕ → Result ℤ FrameFault
+field_value number name text = size_of number name (without_minus text) >>= λ size. Ok (if is_minus text then neg_ℤ (pos size) else pos size)
 
 -- the values in asked columns
 abbrev pub values_in : ℕ → List (List ℕ) → List Column → Result (List ℤ) FrameFault
 values_in number row [] = Ok []
 values_in number row (column ∷ columns) = do
-  value ← value_of number column.name (field row column.place)
+  value ← field_value number column.name (field row column.place)
   values ← values_in number row columns
   Ok (value ∷ values)

@@ -84,7 +84,7 @@ fn size_of(alloc: Global, row: u64, name: &Text, text: &[u8]) -> Result<u32, Fra
 }
 
 fn value_of(alloc: Global, row: u64, name: &Text, text: &[u8]) -> Result<i32, FrameFault>
-    ensures { Reads result (Fields.value_of row name.now text.now) }
+    ensures { Reads result (Fields.field_value row name.now text.now) }
 {
     match text {
         [b'-', digits @ ..] => Ok(-(size_of(alloc, row, name, digits)? as i32)),

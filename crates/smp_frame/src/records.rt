@@ -7,7 +7,7 @@ ghost use Rattle.std.specs.Str.{is_utf8};
 ghost use Rattle.csv.specs.Records.{fields_of};
 ghost use Rattle.smp_frame.specs.Records.{records_of};
 ghost use Rattle.smp_frame.specs.Records;
-ghost use Rattle.smp_frame.specs.Readers.{IsReading, Takes, rows_left};
+ghost use Rattle.smp_frame.specs.Kept.Readers.{IsReading, Takes, rows_left};
 
 use csv::{ByteRecord, ErrorKind, Reader, ReaderBuilder};
 use smp_frac::{NoMemory, Text};

@@ -6,7 +6,7 @@ ghost use Rattle.std.specs.Str.{bytes_eq};
 ghost use Rattle.csv.specs.Records.{fields_of};
 ghost use Rattle.smp_frame.specs.Frames;
 ghost use Rattle.smp_frame.specs.Frames.{units_from};
-ghost use Rattle.smp_frame.specs.Readers.{IsReading, rows_left};
+ghost use Rattle.smp_frame.specs.Kept.Readers.{IsReading, rows_left};
 ghost use Rattle.smp_frame.specs.Reads.{Gives, Reads};
 
 use crate::fields::{size_in, text_in, values_in};

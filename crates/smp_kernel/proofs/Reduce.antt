@@ -16,7 +16,7 @@ use Rattle.std.proofs.lemmas.Nat.Gcd.{dvd_trans}
 use Rattle.smp_frac.specs.Divisors.{IsContent, IsContentOfFirst, greatest_common_divisor}
 use Rattle.smp_frac.proofs.Gcds.{IsGcd-greatest_common_divisor}
 use Rattle.smp_frac.proofs.Contents.{content_more}
-use Rattle.smp_kernel.specs.Steps.{IsReduced, IsTooLong}
+use Rattle.smp_kernel.specs.Kept.Steps.{IsReduced, IsTooLong}
 use lib.IntN.{*ℤ-zero}
 
 -- a divisor of a smaller number: that number is 0

@@ -1,4 +1,3 @@
 pub mod Ascii
 pub mod Digits
-pub mod FirstLine
-pub mod EachSome
+pub mod Shorter

@@ -1,7 +1,5 @@
-ghost use Rattle.std.specs.Prelude.{◌≡◌, IfOk, map, option_map};
-ghost use Rattle.smp_lines.specs.Lines.{cut_at, lines_of};
-
-use std::alloc::{AllocError, Global};
+ghost use Rattle.std.specs.Prelude.{◌≡◌, option_map};
+ghost use Rattle.smp_lines.specs.Cuts.{cut_at};
 
 /// The bytes before the first separator and the bytes after it, or `None` where there is no separator.
 pub fn cut_before<'a>(text: &'a [u8], separator: u8) -> Option<(&'a [u8], &'a [u8])>
@@ -13,21 +11,4 @@ pub fn cut_before<'a>(text: &'a [u8], separator: u8) -> Option<(&'a [u8], &'a [u
         }
     }
     None
-}
-
-/// The lines of a text in which every line ends in a line feed, without their line feeds. `None` where
-/// bytes stand after the last line feed. A text of no bytes has no lines.
-pub fn lines<'a>(alloc: Global, bytes: &'a [u8]) -> Result<Option<Vec<&'a [u8]>>, AllocError>
-    ensures { IfOk result (λ o. option_map (λ v. map (λ line. line.now) v.items) o ≡ lines_of bytes.now) }
-{
-    let mut lines = Vec::new(alloc);
-    let mut rest = bytes;
-    while !rest.is_empty() {
-        let Some((line, after)) = cut_before(rest, b'\n') else {
-            return Ok(None);
-        };
-        lines.push(line)?;
-        rest = after;
-    }
-    Ok(Some(lines))
 }

@@ -1,13 +1,12 @@
-//! Lines of bytes, and the decimal numbers that stand in them.
+//! Bytes cut at a separator, and decimal numbers.
 //!
-//! What reads a frame, a tape or a line of command words cuts its bytes into lines and fields here, and
-//! reads its numbers here.
+//! The lines of a tape are cut off here, one by one. Frames, tapes and command words read their numbers here.
 #![tactic(auto)]
 
 mod cuts;
 mod decimals;
 
-pub use cuts::{cut_before, lines};
+pub use cuts::cut_before;
 pub use decimals::{is_decimal, number};
 
 #[cfg(test)]

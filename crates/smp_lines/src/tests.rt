@@ -1,8 +1,8 @@
-use super::{lines, number};
+use super::{cut_before, number};
 use std::test::Fail;
 
 #[test]
-fn reads_numbers_and_lines(rt: HostRuntime) -> Result<(), Fail> {
+fn reads_numbers_and_cuts(rt: HostRuntime) -> Result<(), Fail> {
     let numbers: [(&[u8], Option<u128>); 8] = [
         (b"", None),
         (b"0", Some(0)),
@@ -19,17 +19,15 @@ fn reads_numbers_and_lines(rt: HostRuntime) -> Result<(), Fail> {
     for (text, want) in numbers {
         assert_eq!(rt; number(text), want, "{text:?}");
     }
-    let texts: [(&[u8], Option<&[&[u8]]>); 6] = [
-        (b"", Some(&[])),
+    let cuts: [(&[u8], Option<(&[u8], &[u8])>); 5] = [
+        (b"", None),
         (b"a", None),
-        (b"\n", Some(&[b""])),
-        (b"id,size\nA,1", None),
-        (b"id,size\nA,1\n", Some(&[b"id,size", b"A,1"])),
-        (b"\r\n\nx\n", Some(&[b"\r", b"", b"x"])),
+        (b"\n", Some((b"", b""))),
+        (b"id,size\nA,1", Some((b"id,size", b"A,1"))),
+        (b"a\n\nb", Some((b"a", b"\nb"))),
     ];
-    for (text, want) in texts {
-        let found = lines(rt.alloc(), text)?;
-        assert_eq!(rt; found.as_deref(), want, "{text:?}");
+    for (text, want) in cuts {
+        assert_eq!(rt; cut_before(text, b'\n'), want, "{text:?}");
     }
     Ok(())
 }

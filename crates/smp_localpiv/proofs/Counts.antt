@@ -5,19 +5,22 @@ use Rattle.std.proofs.Math.Nat.{mul-le-mul_right}
 use Rattle.std.proofs.lemmas.Bool.{cases_Bool, cases_eq, cases_lt, eqb-true, eqb-false, ltb-false}
 use Rattle.std.proofs.lemmas.List.{get_or-set_same, get_or-set_other}
 use Rattle.std.proofs.lemmas.List.Sums.{sum_by-set, sum_by-cons}
-use Rattle.smp_pivotal.specs.Places.{fractional_is}
-use Rattle.smp_pivotal.specs.Steps.{IsShares, AddsUpTo}
+use Rattle.smp_pivotal.specs.Laws.Places.{fractional_is}
+use Rattle.smp_pivotal.specs.Steps.{IsShares, value_at}
+use Rattle.smp_pivotal.proofs.Counts.{NumeratorsAddTo}
+use Rattle.smp_fractions.proofs.Fractions.{same_refl}
 use Rattle.smp_prob.specs.Shares.{Shares}
-use Rattle.smp_split.specs.Counts as counts
+use Rattle.smp_split.specs.Counts.{AddsUp, LeavesSelect}
 use Rattle.smp_split.specs.Numerators.{fractional}
 use Rattle.smp_split.specs.Trees.{EachPart}
 use Rattle.smp_split.proofs.Counts.{KeepsCount, leaves_select, count_by-indices}
 use Rattle.smp_split.proofs.Parts.{each_equal}
+use Rattle.smp_split.proofs.Sums.{list_adds}
 use Rattle.smp_split.proofs.Settled.{IsSettled, not_fractional, settled_count}
-use Rattle.smp_localpiv.specs.Local.{Local, IsChosen, IsLocal, SumsTo, choosing, fractional_at, fractional_count, is_done, local_tree, neighbour, parts_from}
-use Rattle.smp_localpiv.specs.Pairs.{two_total}
-use Rattle.smp_localpiv.specs.Splits.{local_lawful}
-use Rattle.smp_localpiv.specs.Units.{fractional_at_is, fractional_within, met, none_fractional, only_one}
+use Rattle.smp_localpiv.specs.Local.{Local, IsChosen, IsLocal, choosing, fractional_at, fractional_count, is_done, local_tree, neighbour, parts_from}
+use Rattle.smp_localpiv.specs.Laws.Pairs.{two_total}
+use Rattle.smp_localpiv.specs.Laws.Splits.{local_lawful}
+use Rattle.smp_localpiv.specs.Laws.Units.{fractional_at_is, fractional_within, met, none_fractional, only_one}
 
 -- ---- a unit that alone is fractional
 
@@ -45,7 +48,7 @@ no_whole n c a den p q h =
 
 module _ (units den n : ℕ) where
   -- its value isn't whole, and the others are
-  lone_never : (s : Shares) → IsShares units den s → (unit : ℕ) → fractional s.den (get_or s.numer unit 0) ≡ true → fractional_count s ≤ 1 → sum s.numer ≡ n * s.den → ⊥
+  lone_never : (s : Shares) → IsShares units den s → (unit : ℕ) → fractional s.den (get_or s.numer unit 0) ≡ true → fractional_count s ≤ 1 → NumeratorsAddTo n s → ⊥
   lone_never s ok unit open_at few whole =
       let here : unit < length s.numer = fractional_within s unit open_at in
       let between = fractional_is s.den (get_or s.numer unit 0) open_at in
@@ -59,11 +62,11 @@ module _ (units den n : ℕ) where
       no_whole n rest.times (get_or s.numer unit 0) s.den between.0 between.1 (omega (arith, rest.is))
 
   -- each step keeps the sum of the values
-  kept_at : (s : Local) → IsLocal units den s → (chosen : Option ℕ) → IsChosen s.state chosen → is_done s ≡ false → AddsUpTo n s.state → EachPart (λ p. AddsUpTo n p.state.state) (parts_from s chosen)
+  kept_at : (s : Local) → IsLocal units den s → (chosen : Option ℕ) → IsChosen s.state chosen → is_done s ≡ false → NumeratorsAddTo n s.state → EachPart (λ p. NumeratorsAddTo n p.state.state) (parts_from s chosen)
   kept_at s ok None meets going whole =
       let some : fractional_count s.state ≢ 0 = eqb-false (fractional_count s.state) 0 going in
       elim (cases_Bool (nat_lt 1 (fractional_count s.state))) [
-        | inl e ↦ rw e (each_equal (λ place. choosing s (fractional_at s.state place)) (λ p. AddsUpTo n p.state.state) (fractional_count s.state) (λ place h. whole))
+        | inl e ↦ rw e (each_equal (λ place. choosing s (fractional_at s.state place)) (λ p. NumeratorsAddTo n p.state.state) (fractional_count s.state) (λ place h. whole))
         | inr e ↦ absurd (lone_never s.state ok.shares (fractional_at s.state 0) (fractional_at_is s.state 0 (omega arith)) (ltb-false 1 (fractional_count s.state) e) whole)
       ]
   kept_at s ok (Some unit) meets going whole =
@@ -78,7 +81,7 @@ module _ (units den n : ℕ) where
         (two_total s.state.numer unit other less more at.apart at.unit_in at.other_in (omega arith) ∙ whole, tt),
       )
 
-  local_count : KeepsCount (local_tree units) (IsLocal units den) n (λ s. AddsUpTo n s.state)
+  local_count : KeepsCount (local_tree units) (IsLocal units den) n (λ s. NumeratorsAddTo n s.state)
   local_count = record {
     kept = λ s ok going whole. kept_at s ok s.chosen ok.meets going whole;
     leaf = λ s ok done whole.
@@ -87,5 +90,12 @@ module _ (units den n : ℕ) where
         ∙ settled_count s.state.den n s.state.numer ok.shares.positive (λ k h. not_fractional s.state.den (get_or s.state.numer k 0) (ok.shares.each k) (none_fractional s.state none k)) whole);
   }
 
-  pub leaf_count : (s : Local) → IsLocal units den s → SumsTo n s → counts.LeavesSelect (local_tree units) n s
-  leaf_count s ok whole = leaves_select (local_tree units) (IsLocal units den) (local_lawful units den) n (λ t. AddsUpTo n t.state) local_count s ok whole
+  -- values that add up to n are numerators that do
+  numerators_add : (s : Local) → IsLocal units den s → AddsUp (local_tree units) n s → NumeratorsAddTo n s.state
+  numerators_add s ok adds =
+      list_adds (local_tree units) s s.state.numer s.state.den ok.shares.positive ok.shares.count (λ k h. same_refl (value_at s.state k)) n adds
+
+  -- where the values add up to n, each leaf selects n units
+  pub leaf_count : (s : Local) → IsLocal units den s → AddsUp (local_tree units) n s → LeavesSelect (local_tree units) n s
+  leaf_count s ok adds =
+      leaves_select (local_tree units) (IsLocal units den) (local_lawful units den) n (λ t. NumeratorsAddTo n t.state) local_count s ok (numerators_add s ok adds)

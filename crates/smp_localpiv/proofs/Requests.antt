@@ -1,21 +1,24 @@
 -- The values of a request are fractional, and each is the probability that is requested.
 use Rattle.std.proofs.Common.{◌≡◌, ℕ, suc, ◌+◌, ◌<◌, ◌≤◌, Bool, true, cond, List, [], ◌∷◌, length, map, replicate, get_or, arith, refl, ap, subst}
 use Rattle.std.specs.Prelude.{ℤ}
-use Rattle.std.specs.List.{count_by}
+use Rattle.std.specs.List.{sum, count_by}
 use Rattle.std.proofs.lemmas.Bool.{lt-ltb}
 use Rattle.std.proofs.lemmas.List.Sums.{sum_by-cons}
-use Rattle.smp_pivotal.specs.Pivots.{requested}
 use Rattle.smp_pivotal.specs.Steps.{value_at}
 use Rattle.smp_pivotal.proofs.Requests as pivots
+use Rattle.smp_prob.specs.Standings.{free_fraction}
 use Rattle.smp_prob.specs.declared.orders.Order.TheVariants.{Frame}
 use Rattle.smp_prob.specs.declared.requests.Request.{Request}
 use Rattle.smp_prob.specs.Requests.{IsRequest}
 use Rattle.smp_prob.specs.Shares.{numerators, common_denominator, shares_of}
-use Rattle.smp_prob.proofs.Fractions.{length-numerators, numerator_positive, numerator_below}
-use Rattle.smp_split.specs.Fractions.{Same}
+use Rattle.smp_prob.proofs.Fractions.{denominator_positive, length-numerators, numerator_positive, numerator_below, sum-numerators}
+use Rattle.smp_fractions.specs.Fractions.{Same}
+use Rattle.smp_fractions.proofs.Fractions.{same_refl}
+use Rattle.smp_split.specs.Counts.{AddsUp}
+use Rattle.smp_split.proofs.Sums.{list_adds_up}
 use Rattle.smp_split.specs.Numerators.{fractional}
-use Rattle.smp_localpiv.specs.Local.{started, value_of}
-use Rattle.smp_localpiv.specs.States.{IsOpen}
+use Rattle.smp_localpiv.specs.Local.{started, local_value, local_tree}
+use Rattle.smp_localpiv.specs.Kept.States.{IsOpen}
 
 -- ---- values that are all fractional
 
@@ -52,8 +55,14 @@ module _ (request : Request) (is : IsRequest request) where
     open_at = numerator_open;
   }
 
-  pub starts_requested : (coords : List (List ℤ)) (unit : ℕ) → unit < length request.free → Same (value_of (started request coords) unit) (requested request unit)
+  pub starts_requested : (coords : List (List ℤ)) (unit : ℕ) → unit < length request.free → Same (local_value (started request coords) unit) (free_fraction request unit)
   starts_requested coords unit here =
-      subst (λ (place : ℕ). Same (value_at (shares_of request) place) (requested request unit))
+      subst (λ (place : ℕ). Same (value_at (shares_of request) place) (free_fraction request unit))
       (pivots.first_place Frame (length (numerators request)) unit (omega (arith, length-numerators request is)))
       (pivots.starts_requested request is Frame unit here)
+
+  pub starts_whole : (coords : List (List ℤ)) → 1 ≤ length request.free → sum request.shape ≡ request.total → AddsUp (local_tree (length (numerators request))) request.r (started request coords)
+  starts_whole coords some whole =
+      list_adds_up (local_tree (length (numerators request))) (started request coords) (numerators request) (common_denominator request) (denominator_positive request is) refl
+      (λ k h. same_refl (value_at (shares_of request) k))
+      request.r (sum-numerators request is some whole)

@@ -10,8 +10,8 @@ use Rattle.smp_split.specs.Numerators.{fractional}
 use Rattle.smp_split.specs.Trees.{Part, weight_sum, picked}
 use Rattle.smp_split.proofs.Parts.{weight_sum-equal, picked-equal}
 use Rattle.smp_localpiv.specs.Local.{Local, MayMeet, choice, choosing, fractional_at, fractional_count, neighbour, parts_from, points_of, settling}
-use Rattle.smp_localpiv.specs.States.{IsKept}
-use Rattle.smp_localpiv.specs.Units.{met}
+use Rattle.smp_localpiv.specs.Kept.States.{IsKept}
+use Rattle.smp_localpiv.specs.Laws.Units.{met}
 
 -- ---- the points
 

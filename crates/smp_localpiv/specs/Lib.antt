@@ -1,6 +1,3 @@
 pub mod Local
-pub mod States
-pub mod Units
-pub mod Pairs
-pub mod Lone
-pub mod Splits
+pub mod Laws
+pub mod Kept

@@ -4,11 +4,10 @@
 use Rattle.std.specs.Prelude.{◌≡◌, ℕ, ◌+◌, ◌*◌, ◌^◌, ◌<◌, Bool, true, nat_lt, nat_eq, if◌then◌else◌, ℤ, List, length, map, slice_index, Option, Some, None, is_some, unwrap_or}
 use Rattle.std.specs.List.{count_by, filter, range_with_len}
 use Rattle.smp_near.specs.Nearest.{LivingPoints, nearest}
-use Rattle.smp_pivotal.specs.Steps.{IsShares, AddsUpTo, with_one, pair_parts, lone_parts, value_at, is_one}
+use Rattle.smp_pivotal.specs.Steps.{IsShares, with_one, pair_parts, lone_parts, value_at, is_one}
 use Rattle.smp_prob.specs.declared.requests.Request.{Request}
 use Rattle.smp_prob.specs.Shares.{Shares, shares_of}
-use Rattle.smp_split.specs.Counts as counts
-use Rattle.smp_split.specs.Fractions.{Fraction}
+use Rattle.smp_fractions.specs.Fractions.{Fraction}
 use Rattle.smp_split.specs.Numerators.{fractional}
 use Rattle.smp_split.specs.Parts.{equal_parts, moved}
 use Rattle.smp_split.specs.Trees.{Part, Tree}
@@ -78,8 +77,8 @@ abbrev pub is_done : Local → Bool
 is_done s = nat_eq (fractional_count s.state) 0
 
 -- the value of a unit
-abbrev pub value_of : Local → ℕ → Fraction
-value_of s unit = value_at s.state unit
+abbrev pub local_value : Local → ℕ → Fraction
+local_value s unit = value_at s.state unit
 
 -- the value of a unit is 1
 abbrev pub is_selected : Local → ℕ → Bool
@@ -89,11 +88,11 @@ is_selected s unit = is_one s.state unit
 abbrev pub local_tree : ℕ → Tree Local
 local_tree units = record {
   units = units;
-  ended = is_done;
+  done = is_done;
   kind = kind_of;
   parts = λ s. parts_from s s.chosen;
   rank = λ s. 2 * fractional_count s.state + (if is_some s.chosen then 0 else 1);
-  value = value_of;
+  value = local_value;
   selected = is_selected;
 }
 
@@ -119,14 +118,6 @@ pub record IsLocal (units den : ℕ) (s : Local) : Type 0 where
 -- the state before the first step, with the requested values
 abbrev pub started : Request → List (List ℤ) → Local
 started request coords = record { coords = coords; state = shares_of request; chosen = None }
-
--- the values' sum is n
-abbrev pub SumsTo : ℕ → Local → Type 0
-SumsTo n s = AddsUpTo n s.state
-
--- each leaf below a state selects n units
-abbrev pub LeavesSelect : ℕ → Local → Type 0
-LeavesSelect n s = counts.LeavesSelect (local_tree (length s.state.numer)) n s
 
 -- ---- what the code does on the way
 

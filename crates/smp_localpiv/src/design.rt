@@ -3,12 +3,13 @@
 
 ghost use Rattle.std.specs.Prelude.{◌≡◌, ℕ, ◌<◌, ◌≤◌, length, sum, IfOk, None};
 ghost use Rattle.smp_near.specs.Nearest.{all_living};
-ghost use Rattle.smp_pivotal.specs.Pivots.{requested};
+ghost use Rattle.smp_prob.specs.Standings.{free_fraction};
 ghost use Rattle.smp_prob.specs.Requests.{IsRequest};
-ghost use Rattle.smp_split.specs.Fractions.{Fraction, Same};
+ghost use Rattle.smp_fractions.specs.Fractions.{Fraction, Same};
+ghost use Rattle.smp_split.specs.Counts.{AddsUp, LeavesSelect};
 ghost use Rattle.smp_split.specs.Means.{mean, value_sum, inclusion_probability};
-ghost use Rattle.smp_localpiv.specs.Local.{IsLocal, SumsTo, LeavesSelect, started, value_of, local_tree};
-ghost use Rattle.smp_localpiv.specs.Splits.{local_lawful};
+ghost use Rattle.smp_localpiv.specs.Local.{IsLocal, started, local_value, local_tree};
+ghost use Rattle.smp_localpiv.specs.Laws.Splits.{local_lawful};
 
 use crate::state::LocalState;
 use smp_frac::NoMemory;
@@ -31,7 +32,7 @@ pub struct LocalPivotal<const K: usize> {
 impl<const K: usize> Model for LocalPivotal<K> {
     ghost use Rattle.std.specs.Prelude.{None};
     ghost use Rattle.smp_localpiv.specs.Local.{Local};
-    ghost use Rattle.smp_localpiv.specs.States.{IsOpen};
+    ghost use Rattle.smp_localpiv.specs.Kept.States.{IsOpen};
 
     ghost Value = { Local };
 
@@ -62,10 +63,12 @@ impl<const K: usize> LocalPivotal<K> {
 
         // Each unit starts with the probability that is requested of it.
         ensures values { IfOk result (λ design. (unit : ℕ) → unit < length request.now.free →
-            Same (value_of design unit) (requested request.now unit)) }
+            Same (local_value design unit) (free_fraction request.now unit)) }
 
-        // Where the shapes add up to the total, the sum of the values is `r`.
-        ensures whole { IfOk result (λ design. 1 ≤ length request.now.free → sum request.now.shape ≡ request.now.total → SumsTo request.now.r design) }
+        // Where the shapes add up to the total, the values add up to `r`.
+        ensures whole { IfOk result (λ design. 1 ≤ length request.now.free →
+            sum request.now.shape ≡ request.now.total →
+            AddsUp (local_tree (length design.state.numer)) request.now.r design) }
     {
         let den = request.common_denominator() as u128;
         Ok(LocalPivotal {
@@ -87,10 +90,12 @@ impl<const K: usize> LocalPivotal<K> {
 
         // In particular, each unit's probability of selection is its value.
         ensures probability { IfOk result (λ state. (unit : ℕ) → unit < length self.now.state.numer →
-            Same (inclusion_probability (local_tree (length self.now.state.numer)) state unit) (value_of self.now unit)) }
+            Same (inclusion_probability (local_tree (length self.now.state.numer)) state unit) (local_value self.now unit)) }
 
-        // Where the sum of the values is whole, each leaf selects that many units.
-        ensures count { IfOk result (λ state. (n : ℕ) → SumsTo n self.now → LeavesSelect n state) }
+        // Where the values add up to a whole number, each leaf selects that many units.
+        ensures count { IfOk result (λ state. (n : ℕ) →
+            AddsUp (local_tree (length self.now.state.numer)) n state →
+            LeavesSelect (local_tree (length self.now.state.numer)) n state) }
     {
         let state = self.first_state(alloc)?;
         mean_is_value(self, &state);

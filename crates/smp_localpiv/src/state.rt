@@ -6,7 +6,7 @@ ghost use Rattle.std.specs.List.{count_by};
 ghost use Rattle.smp_split.specs.Numerators.{fractional};
 ghost use Rattle.smp_split.specs.Trees.{weight_sum, picked};
 ghost use Rattle.smp_localpiv.specs.Local.{IsLocal, MayMeet, fractional_at, fractional_count, kind_of, is_done, is_selected, local_tree, meeting, neighbour, settling, with_value};
-ghost use Rattle.smp_localpiv.specs.Units.{IsMet};
+ghost use Rattle.smp_localpiv.specs.Laws.Units.{IsMet};
 
 use smp_near::Points;
 use smp_pivotal::{pair_apply, pair_bound};
@@ -28,7 +28,7 @@ pub struct LocalState<const K: usize> {
 
 impl<const K: usize> Model for LocalState<K> {
     ghost use Rattle.smp_localpiv.specs.Local.{Local};
-    ghost use Rattle.smp_localpiv.specs.States.{IsKept};
+    ghost use Rattle.smp_localpiv.specs.Kept.States.{IsKept};
 
     ghost Value = { Local };
 

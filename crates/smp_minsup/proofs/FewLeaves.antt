@@ -7,8 +7,8 @@ use Rattle.smp_split.specs.Numerators.{fractional}
 use Rattle.smp_split.proofs.Settled.{not_fractional}
 use Rattle.smp_minsup.specs.Support.{IsSupport, draws_of, lambda, settled, lowered, fractional_units, is_done, support_tree}
 use Rattle.smp_minsup.specs.Leaves.{leaves_within}
-use Rattle.smp_minsup.specs.Sums.{sums, counts, sums_same, sums_but, sums_at, sums_scaled, weight_true}
-use Rattle.smp_minsup.specs.Splits.{fractional_between, fractional_is, sum_is, some_between, settled_belongs, settled_done, lowered_belongs, lowered_falls, lambda_positive, lambda_less}
+use Rattle.smp_minsup.specs.Laws.Sums.{sums, counts, sums_same, sums_but, sums_at, sums_scaled, weight_true}
+use Rattle.smp_minsup.specs.Laws.Splits.{fractional_between, fractional_is, sum_is, some_between, settled_belongs, settled_done, lowered_belongs, lowered_falls, lambda_positive, lambda_less}
 
 no_whole : (n c a den : ℕ) → 0 < a → a < den → n * den ≡ c * den + a → ⊥
 no_whole n c a den p q h =

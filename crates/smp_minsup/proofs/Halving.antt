@@ -11,9 +11,9 @@ use Rattle.std.proofs.lemmas.Grind.{same_number_lists}
 use Rattle.std.proofs.lemmas.List.{get_or-set_same, get_or-set_other}
 use Rattle.std.proofs.lemmas.List.FromFn.{length-map-range_with_len, get_or-map-range_with_len}
 use Rattle.smp_minsup.specs.Support.{is_larger}
-use Rattle.smp_minsup.specs.Sums.{weight_false}
-use Rattle.smp_minsup.specs.Ranks.{larger_is}
-use Rattle.smp_minsup.specs.Halves.{Halved, IsMostSmall, IsLeastLarge, IsKept, IsQueue, is_in, placed, lowered_by, halved_of, small_entry, large_entry, by_numer, by_numer_reversed}
+use Rattle.smp_minsup.specs.Laws.Sums.{weight_false}
+use Rattle.smp_minsup.specs.Laws.Ranks.{larger_is}
+use Rattle.smp_minsup.specs.Kept.Halves.{Halved, IsMostSmall, IsLeastLarge, IsKept, IsQueue, is_in, placed, lowered_by, halved_of, small_entry, large_entry, by_numer, by_numer_reversed}
 use Rattle.smp_minsup.proofs.Queues.{count-cons, front_known, front_entry, front_half, holds_of, has_some, popped, pushed}
 
 pub by_numer_less : (a b : ℕ × ℕ) → (a.0 < b.0) ⊎ ((a.0 ≡ b.0) × (a.1 < b.1)) → is_lt (by_numer a b) ≡ true

@@ -6,10 +6,10 @@ use Rattle.std.proofs.lemmas.List.{get_or_past}
 use Rattle.std.proofs.lemmas.List.FromFn.{length-map-range_with_len, get_or-map-range_with_len}
 use Rattle.std.proofs.lemmas.List.Sums.{sum_by-set, count_by-le-length}
 use Rattle.smp_minsup.specs.Support.{is_larger, larger_units, largest, least}
-use Rattle.smp_minsup.specs.Sums.{sums, sums_but, weight_true, weight_false}
-use Rattle.smp_minsup.specs.Ranks.{larger_of, larger_total, fewer_larger}
-use Rattle.smp_minsup.specs.Bounds.{largest-at, least-at, least_within}
-use Rattle.smp_minsup.specs.Halves.{Halved, IsMostSmall, IsLeastLarge, IsParted, IsMixed, is_in, large_count, largest_small, least_large, placed}
+use Rattle.smp_minsup.specs.Laws.Sums.{sums, sums_but, weight_true, weight_false}
+use Rattle.smp_minsup.specs.Laws.Ranks.{larger_of, larger_total, fewer_larger}
+use Rattle.smp_minsup.specs.Laws.Bounds.{largest-at, least-at, least_within}
+use Rattle.smp_minsup.specs.Kept.Halves.{Halved, IsMostSmall, IsLeastLarge, IsParted, IsMixed, is_in, large_count, largest_small, least_large, placed}
 use Rattle.smp_minsup.proofs.Queues.{count-cons, none_passes}
 use Rattle.smp_minsup.proofs.Halving.{placed_here, placed_other}
 

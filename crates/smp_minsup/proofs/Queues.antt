@@ -6,8 +6,8 @@ use Rattle.std.specs.List.Sorted.{IsPermutation}
 use Rattle.std.proofs.lemmas.Bool.{cases_Bool, cases_eq, eqb-true, eq-eqb, ne_eqb}
 use Rattle.std.proofs.lemmas.List.Sums.{sum_by-cons, count_by-le-length}
 use Rattle.std.proofs.lemmas.List.Sorted.{All-permutation, sum_by_popped, sum_by_pushed}
-use Rattle.smp_minsup.specs.Sums.{weight_true, weight_false}
-use Rattle.smp_minsup.specs.Halves.{IsQueue}
+use Rattle.smp_minsup.specs.Laws.Sums.{weight_true, weight_false}
+use Rattle.smp_minsup.specs.Kept.Halves.{IsQueue}
 
 -- what is said of an Ok
 pub on_ok : {T E : Type 0} (P : Type 0) (r : Result T E) → IsOk r → OnOk r P → P

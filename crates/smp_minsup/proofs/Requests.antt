@@ -3,14 +3,17 @@ use Rattle.std.proofs.Common.{◌≡◌, ℕ, ◌*◌, ◌<◌, ◌≤◌, List,
 use Rattle.std.specs.Prelude.{sum}
 use Rattle.std.proofs.lemmas.Bool.{cases_lt, cases_eq}
 use Rattle.std.proofs.lemmas.List.{get_or_past}
+use Rattle.smp_prob.specs.Standings.{free_fraction}
 use Rattle.smp_prob.specs.declared.requests.Request.{Request}
 use Rattle.smp_prob.specs.Requests.{IsRequest}
 use Rattle.smp_prob.specs.Shares.{numerators, common_denominator}
-use Rattle.smp_prob.proofs.Fractions.{denominator_positive, denominator_narrow, length-numerators, numerator_below, numerator-cross, sum-numerators}
-use Rattle.smp_split.specs.Fractions.{Same}
-use Rattle.smp_split.proofs.Over.{over_same}
-use Rattle.smp_minsup.specs.Support.{IsSupport, IsStart, draws_of, value_of, requested, started}
-use Rattle.smp_minsup.specs.Splits.{whole_sum, draws_are}
+use Rattle.smp_prob.proofs.Fractions.{denominator_positive, denominator_narrow, length-numerators, numerator_below, numerator_is_free_fraction, sum-numerators}
+use Rattle.smp_fractions.specs.Fractions.{Same, over}
+use Rattle.smp_fractions.proofs.Fractions.{same_refl}
+use Rattle.smp_split.specs.Counts.{AddsUp}
+use Rattle.smp_split.proofs.Sums.{list_adds_up}
+use Rattle.smp_minsup.specs.Support.{IsSupport, IsStart, draws_of, support_tree, support_value, started}
+use Rattle.smp_minsup.specs.Laws.Splits.{whole_sum, draws_are}
 
 sum_of_none : (xs : List ℕ) → length xs ≡ 0 → sum xs ≡ 0
 sum_of_none [] h = refl
@@ -53,9 +56,11 @@ module _ (request : Request) (is : IsRequest request) where
     ];
   }
 
-  pub values_requested : (unit : ℕ) → unit < length request.free → Same (value_of (started request) unit) (requested request unit)
-  values_requested unit here =
-      let here' : unit < length request.shape = omega (arith, is.paired) in
-      let total : 1 ≤ request.total = omega (arith, is.below_one unit here') in
-      over_same (get_or (numerators request) unit 0) (get_or request.shape unit 0 * request.r) (common_denominator request) request.total
-      (denominator_positive request is) total (numerator-cross request is unit here)
+  pub values_requested : (unit : ℕ) → unit < length request.free → Same (support_value (started request) unit) (free_fraction request unit)
+  values_requested unit here = numerator_is_free_fraction request is unit here
+
+  pub starts_whole : 1 ≤ length request.free → sum request.shape ≡ request.total → AddsUp (support_tree (length (numerators request))) request.r (started request)
+  starts_whole some whole =
+      list_adds_up (support_tree (length (numerators request))) (started request) (numerators request) (common_denominator request) (denominator_positive request is) refl
+      (λ k h. same_refl (over (get_or (numerators request) k 0) (common_denominator request)))
+      request.r (sum-numerators request is some whole)

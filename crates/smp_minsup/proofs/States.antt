@@ -9,10 +9,10 @@ use Rattle.smp_split.specs.Numerators.{fractional}
 use Rattle.smp_split.specs.Trees.{weight_sum, picked}
 use Rattle.smp_split.proofs.Settled.{fractional_den, not_fractional}
 use Rattle.smp_minsup.specs.Support.{IsSupport, is_larger, larger_units, draws_of, is_large, most_small, least_large as least_of, largest, least, lambda, settled, lowered, support_parts, fractional_units, is_done}
-use Rattle.smp_minsup.specs.Sums.{counts, sums_most, sums_less, weight_true, weight_false, counts_found, sum_by-list}
-use Rattle.smp_minsup.specs.Ranks.{larger_trans, not_itself, larger_units_are}
-use Rattle.smp_minsup.specs.Splits.{draws_are, large_positive, small_below, lambda_large, lambda_less, lowered_sum, lowered_belongs, none_between, fractional_between, fractional_is}
-use Rattle.smp_minsup.specs.Halves.{Halved, IsCut, IsParted, is_in, large_count, largest_small, least_large, lowered_by, shares_over, shares_kept}
+use Rattle.smp_minsup.specs.Laws.Sums.{counts, sums_most, sums_less, weight_true, weight_false, counts_found, sum_by-list}
+use Rattle.smp_minsup.specs.Laws.Ranks.{larger_trans, not_itself, larger_units_are}
+use Rattle.smp_minsup.specs.Laws.Splits.{draws_are, large_positive, small_below, lambda_large, lambda_less, lowered_sum, lowered_belongs, none_between, fractional_between, fractional_is}
+use Rattle.smp_minsup.specs.Kept.Halves.{Halved, IsCut, IsParted, is_in, large_count, largest_small, least_large, lowered_by, shares_over, shares_kept}
 use Rattle.smp_minsup.proofs.Queues.{count-cons}
 use Rattle.smp_minsup.proofs.Parting.{largest_small_within, largest_small_at, least_large_within, least_large_at, least_large_bound}
 

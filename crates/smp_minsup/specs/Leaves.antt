@@ -12,7 +12,7 @@ sum_of_parts f (p ∷ ps) = (if nat_lt 0 p.weight then f p.state else 0) + sum_o
 abbrev pub leaves_within : {State : Type 0} → ℕ → Tree State → State → ℕ
 leaves_within zero tree state = 1
 leaves_within (suc steps) tree state =
-    if tree.ended state then 1 else sum_of_parts (leaves_within steps tree) (tree.parts state)
+    if tree.done state then 1 else sum_of_parts (leaves_within steps tree) (tree.parts state)
 
 -- the leaves below a state, each counted as often as ways lead to it
 abbrev pub leaves : {State : Type 0} → Tree State → State → ℕ

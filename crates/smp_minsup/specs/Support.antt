@@ -5,7 +5,7 @@ use Rattle.std.specs.Prelude.{◌≡◌, ℕ, ◌-◌, ◌*◌, ◌/◌, ◌^◌
 use Rattle.std.specs.List.{sum, count_by, range_with_len}
 use Rattle.smp_prob.specs.declared.requests.Request.{Request}
 use Rattle.smp_prob.specs.Shares.{Shares, shares_of}
-use Rattle.smp_split.specs.Fractions.{Fraction, over}
+use Rattle.smp_fractions.specs.Fractions.{Fraction, over}
 use Rattle.smp_split.specs.Numerators.{fractional}
 use Rattle.smp_split.specs.Trees.{Part, Tree}
 use Rattle.smp_split.specs.declared.kind.Kind.TheVariants.{Support}
@@ -74,8 +74,8 @@ abbrev pub is_done : Shares → Bool
 is_done s = nat_eq (fractional_units s) 0
 
 -- the value of a unit, and whether it is 1
-abbrev pub value_of : Shares → ℕ → Fraction
-value_of s unit = over (slice_index s.numer unit) s.den
+abbrev pub support_value : Shares → ℕ → Fraction
+support_value s unit = over (slice_index s.numer unit) s.den
 
 abbrev pub is_one : Shares → ℕ → Bool
 is_one s unit = nat_eq (slice_index s.numer unit) s.den
@@ -83,11 +83,11 @@ is_one s unit = nat_eq (slice_index s.numer unit) s.den
 abbrev pub support_tree : ℕ → Tree Shares
 support_tree units = record {
   units = units;
-  ended = is_done;
+  done = is_done;
   kind = λ _. Support;
   parts = support_parts;
   rank = fractional_units;
-  value = value_of;
+  value = support_value;
   selected = is_one;
 }
 
@@ -107,11 +107,3 @@ pub record IsStart (draws : ℕ) (s : Shares) : Type 0 where
 -- the state before the first step, with the requested values
 abbrev pub started : Request → Shares
 started request = shares_of request
-
--- the probability that is requested of a free unit
-abbrev pub requested : Request → ℕ → Fraction
-requested request unit = over (slice_index request.shape unit * request.r) request.total
-
--- the values' sum is n
-abbrev pub SumsTo : ℕ → Shares → Type 0
-SumsTo n s = sum s.numer ≡ n * s.den

@@ -2,14 +2,15 @@
 #![tactic(auto)]
 
 ghost use Rattle.std.specs.Prelude.{◌≡◌, ℕ, ◌<◌, ◌≤◌, length, sum, IfOk};
+ghost use Rattle.smp_prob.specs.Standings.{free_fraction};
 ghost use Rattle.smp_prob.specs.Requests.{IsRequest};
 ghost use Rattle.smp_prob.specs.Shares.{Shares};
-ghost use Rattle.smp_split.specs.Fractions.{Fraction, Same};
+ghost use Rattle.smp_fractions.specs.Fractions.{Fraction, Same};
 ghost use Rattle.smp_split.specs.Means.{mean, value_sum, inclusion_probability};
-ghost use Rattle.smp_split.specs.Counts.{LeavesSelect};
-ghost use Rattle.smp_minsup.specs.Support.{IsSupport, IsStart, SumsTo, started, requested, value_of, support_tree};
+ghost use Rattle.smp_split.specs.Counts.{AddsUp, LeavesSelect};
+ghost use Rattle.smp_minsup.specs.Support.{IsSupport, IsStart, started, support_value, support_tree};
 ghost use Rattle.smp_minsup.specs.Leaves.{leaves};
-ghost use Rattle.smp_minsup.specs.Splits.{support_lawful};
+ghost use Rattle.smp_minsup.specs.Laws.Splits.{support_lawful};
 
 use crate::halves::Halves;
 use crate::state::SupportState;
@@ -46,10 +47,11 @@ impl MinimumSupport {
 
         // Each unit starts with the probability that is requested of it.
         ensures values { IfOk result (λ design. (unit : ℕ) → unit < length request.now.free →
-            Same (value_of design unit) (requested request.now unit)) }
+            Same (support_value design unit) (free_fraction request.now unit)) }
 
-        // The sum of the values is `r`.
-        ensures whole { IfOk result (λ design. 1 ≤ length request.now.free → SumsTo request.now.r design) }
+        // The values add up to `r`.
+        ensures whole { IfOk result (λ design. 1 ≤ length request.now.free →
+            AddsUp (support_tree (length design.numer)) request.now.r design) }
     {
         let numer = request.numerators(alloc)?;
         let den = request.common_denominator() as u128;
@@ -73,13 +75,16 @@ impl MinimumSupport {
 
         // In particular, each unit's probability of selection is its value.
         ensures probability { IfOk result (λ state. (unit : ℕ) → unit < length self.now.numer →
-            Same (inclusion_probability (support_tree (length self.now.numer)) state unit) (value_of self.now unit)) }
+            Same (inclusion_probability (support_tree (length self.now.numer)) state unit) (support_value self.now unit)) }
 
         // Each leaf selects as many units as the values add up to.
-        ensures count { IfOk result (λ state. (n : ℕ) → SumsTo n self.now → LeavesSelect (support_tree (length self.now.numer)) n state) }
+        ensures count { IfOk result (λ state. (n : ℕ) →
+            AddsUp (support_tree (length self.now.numer)) n state →
+            LeavesSelect (support_tree (length self.now.numer)) n state) }
 
         // There are at most as many leaves as units, and so at most as many samples in the support.
-        ensures support { IfOk result (λ state. 1 ≤ length self.now.numer → leaves (support_tree (length self.now.numer)) state ≤ length self.now.numer) }
+        ensures support { IfOk result (λ state. 1 ≤ length self.now.numer →
+            leaves (support_tree (length self.now.numer)) state ≤ length self.now.numer) }
     {
         let state = self.first_state(alloc)?;
         mean_is_value(self, &state);

@@ -5,7 +5,7 @@ ghost use Rattle.std.specs.Prelude.{◌≡◌, ℕ, ◌+◌, ◌-◌, ◌*◌, �
 ghost use Rattle.std.specs.Bool.{OnTrue, OnFalse};
 ghost use Rattle.std.specs.BinaryHeap.{heap_items, heap_len, heap_capacity};
 ghost use Rattle.smp_minsup.specs.Support.{IsSupport, is_done, lambda};
-ghost use Rattle.smp_minsup.specs.Halves.{Halved, IsMostSmall, IsLeastLarge, IsParted, IsMixed, IsKept, IsCut, is_in, large_count, largest_small, least_large, placed, lowered_by, halved_of, shares_over};
+ghost use Rattle.smp_minsup.specs.Kept.Halves.{Halved, IsMostSmall, IsLeastLarge, IsParted, IsMixed, IsKept, IsCut, is_in, large_count, largest_small, least_large, placed, lowered_by, halved_of, shares_over};
 
 use smp_frac::NoMemory;
 use std::alloc::Global;

@@ -5,7 +5,7 @@ ghost use Rattle.std.specs.Prelude.{◌≡◌, ℕ, ◌<◌, false, length};
 ghost use Rattle.smp_split.specs.Trees.{weight_sum, picked};
 ghost use Rattle.smp_prob.specs.Shares.{Shares};
 ghost use Rattle.smp_minsup.specs.Support.{IsSupport, is_done, is_one, support_parts, support_tree};
-ghost use Rattle.smp_minsup.specs.Halves.{IsCut, shares_over, shares_kept};
+ghost use Rattle.smp_minsup.specs.Kept.Halves.{IsCut, shares_over, shares_kept};
 
 use crate::halves::Halves;
 use smp_split::Kind;

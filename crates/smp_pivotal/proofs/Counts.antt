@@ -7,16 +7,23 @@ use Rattle.std.proofs.lemmas.List.{get_or-set_same, get_or-set_other}
 use Rattle.std.proofs.lemmas.List.Sums.{sum_by-set, sum_by-cons}
 use Rattle.std.proofs.lemmas.List.Sorted.{IsPermutation-swap, sum_by-IsPermutation}
 use Rattle.smp_split.specs.Trees.{EachPart}
-use Rattle.smp_split.specs.Counts.{LeavesSelect}
+use Rattle.smp_split.specs.Counts.{AddsUp, LeavesSelect}
 use Rattle.smp_split.specs.Orders.{Ordered}
 use Rattle.smp_split.proofs.Counts.{KeepsCount, leaves_select, keeps_count, count_by-indices}
+use Rattle.smp_split.proofs.Sums.{ordered_adds}
 use Rattle.smp_split.proofs.Settled.{not_fractional, settled_count}
 use Rattle.smp_prob.specs.Shares.{Shares}
 use Rattle.smp_split.specs.Numerators.{fractional}
-use Rattle.smp_pivotal.specs.Steps.{IsShares, AddsUpTo, is_done, has_pair, first_of, second_of, shares_parts, exchanged_shares, steps_tree}
-use Rattle.smp_pivotal.specs.Pivots.{IsPivotal, SumsTo, pivotal_tree}
-use Rattle.smp_pivotal.specs.Places.{fractional_is, before_from, at_from}
-use Rattle.smp_pivotal.specs.Splits.{pivotal_lawful}
+use Rattle.smp_pivotal.specs.Steps.{IsShares, is_done, has_pair, first_of, second_of, shares_parts, exchanged_shares, steps_tree}
+use Rattle.smp_pivotal.specs.Pivots.{IsPivotal, pivotal_tree}
+use Rattle.smp_fractions.specs.Fractions.{over}
+use Rattle.smp_fractions.proofs.Fractions.{same_refl}
+use Rattle.smp_pivotal.specs.Laws.Places.{fractional_is, before_from, at_from}
+use Rattle.smp_pivotal.specs.Laws.Splits.{pivotal_lawful}
+
+-- the numerators add up to n times the denominator
+abbrev pub NumeratorsAddTo : ℕ → Shares → Type 0
+NumeratorsAddTo n s = sum s.numer ≡ n * s.den
 
 two_total : (xs : List ℕ) (i j x y : ℕ) → i < j → j < length xs → x + y ≡ get_or xs i 0 + get_or xs j 0 → sum (set (set xs i x) j y) ≡ sum xs
 two_total xs i j x y l m h =
@@ -90,7 +97,7 @@ module _ (units den n : ℕ) where
       let parts : sum s.numer ≡ s.den * count_by (λ b. nat_eq b s.den) s.numer + sum_by (part_of s.den) s.numer = apart s.den s.numer ok.positive ok.each in
       no_whole n (count_by (λ b. nat_eq b s.den) s.numer) (get_or s.numer (first_of s) 0) s.den in_between.0 in_between.1 (omega arith)
 
-  keep_total : (s : Shares) → IsShares units den s → is_done s ≡ false → AddsUpTo n s → EachPart (λ p. AddsUpTo n p.state) (shares_parts s)
+  keep_total : (s : Shares) → IsShares units den s → is_done s ≡ false → NumeratorsAddTo n s → EachPart (λ p. NumeratorsAddTo n p.state) (shares_parts s)
   keep_total s ok going whole_sum =
       elim (cases_Bool (has_pair s)) [
         | inl e ↦
@@ -108,7 +115,7 @@ module _ (units den n : ℕ) where
       ]
 
 -- pivotal steps keep the sum of the values
-steps_count : (units den n : ℕ) → KeepsCount (steps_tree units) (IsShares units den) n (AddsUpTo n)
+pub steps_count : (units den n : ℕ) → KeepsCount (steps_tree units) (IsShares units den) n (NumeratorsAddTo n)
 steps_count units den n = record {
   kept = keep_total units den n;
   leaf = λ s ok done whole.
@@ -117,15 +124,20 @@ steps_count units den n = record {
       ∙ settled_count s.den n s.numer ok.positive (λ k l. not_fractional s.den (get_or s.numer k 0) (ok.each k) (before_from s 0 k (omega arith) (omega arith))) whole);
 }
 
-exchanged_total : (units den n i j : ℕ) (s : Shares) → i < units → j < units → IsShares units den s → AddsUpTo n s → sum (swap s.numer i j) ≡ n * s.den
+exchanged_total : (units den n i j : ℕ) (s : Shares) → i < units → j < units → IsShares units den s → NumeratorsAddTo n s → sum (swap s.numer i j) ≡ n * s.den
 exchanged_total units den n i j s hi hj ok whole =
     let i_in : i < length s.numer = omega (arith, ok.count) in
     let j_in : j < length s.numer = omega (arith, ok.count) in
     sum_by-IsPermutation (λ a. a) s.numer (swap s.numer i j) (IsPermutation-swap s.numer (swap s.numer i j) i j i_in j_in refl) ∙ whole
 
--- a whole sum of values is the number of units that each leaf selects
-pub leaf_count : (units den n : ℕ) (s : Ordered Shares) → IsPivotal units den s → SumsTo n s → LeavesSelect (pivotal_tree units) n s
-leaf_count units den n s ok whole =
-    leaves_select (pivotal_tree units) (IsPivotal units den) (pivotal_lawful units den) n (λ t. AddsUpTo n t.state)
-    (keeps_count (steps_tree units) (IsShares units den) exchanged_shares n (AddsUpTo n) (steps_count units den n) (exchanged_total units den n))
-    s ok whole
+-- values that add up to n are numerators that do
+numerators_add : (units den n : ℕ) (s : Ordered Shares) → IsPivotal units den s → AddsUp (pivotal_tree units) n s → NumeratorsAddTo n s.state
+numerators_add units den n s ok adds =
+    ordered_adds (steps_tree units) exchanged_shares s ok.order s.state.numer s.state.den ok.state.positive ok.state.count (λ k. same_refl (over (get_or s.state.numer k 0) s.state.den)) n adds
+
+-- where the values add up to n, each leaf selects n units
+pub leaf_count : (units den n : ℕ) (s : Ordered Shares) → IsPivotal units den s → AddsUp (pivotal_tree units) n s → LeavesSelect (pivotal_tree units) n s
+leaf_count units den n s ok adds =
+    leaves_select (pivotal_tree units) (IsPivotal units den) (pivotal_lawful units den) n (λ t. NumeratorsAddTo n t.state)
+    (keeps_count (steps_tree units) (IsShares units den) exchanged_shares n (NumeratorsAddTo n) (steps_count units den n) (exchanged_total units den n))
+    s ok (numerators_add units den n s ok adds)

@@ -5,7 +5,7 @@ ghost use Rattle.std.specs.Prelude.{◌≡◌, ℕ, ◌<◌, false, length};
 ghost use Rattle.smp_split.specs.Trees.{weight_sum, picked};
 ghost use Rattle.smp_prob.specs.Shares.{Shares};
 ghost use Rattle.smp_pivotal.specs.Steps.{IsShares, exchanged_shares, is_done, is_one, kind_of, shares_parts};
-ghost use Rattle.smp_pivotal.specs.States.{IsPlaced};
+ghost use Rattle.smp_pivotal.specs.Kept.States.{IsPlaced};
 
 use crate::values::Values;
 use smp_split::Kind;

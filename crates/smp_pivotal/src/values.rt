@@ -6,7 +6,7 @@ ghost use Rattle.smp_split.specs.Trees.{weight_sum, picked};
 ghost use Rattle.smp_prob.specs.Shares.{Shares};
 ghost use Rattle.smp_split.specs.Numerators.{fractional};
 ghost use Rattle.smp_pivotal.specs.Steps.{fractional_from, first_of, second_of, shares_parts, is_one, exchanged_shares};
-ghost use Rattle.smp_pivotal.specs.States.{IsGoing, OnlyBefore};
+ghost use Rattle.smp_pivotal.specs.Kept.States.{IsGoing, OnlyBefore};
 
 use crate::pairs::{pair_apply, pair_bound};
 use smp_frac::NoMemory;

@@ -5,7 +5,7 @@ use Rattle.std.proofs.Math.Nat.{mul-le-mul_left, mul-le-mul_right}
 use Rattle.std.proofs.lemmas.Bool.{cases_Bool, cases_eq, cases_lt, ltb-true, ltb-false, lt-ltb, le-ltb, le-leb, lt-leb, and_parts}
 use Rattle.std.proofs.lemmas.List.Sums.{sum_by-cons}
 use Rattle.smp_prob.specs.Requested.{larger, rest, is_certain, is_free, certain_units, open_total}
-use Rattle.smp_prob.specs.Cuts.{IsFeasible}
+use Rattle.smp_prob.specs.Kept.Cuts.{IsFeasible}
 use Rattle.smp_prob.proofs.Sizes.{sum_by-at, sum_by-same}
 
 -- how many sizes are at least b, and the sum of the others

@@ -4,7 +4,7 @@ use Rattle.std.specs.List.Sorted.{IsPermutation}
 use Rattle.std.proofs.lemmas.List.Sorted.{sum_by-IsPermutation, length_permutation}
 use Rattle.std.proofs.lemmas.List.Sums.{count_by-le-length}
 use Rattle.smp_prob.specs.Requested.{is_certain, certain_units, positive_units, IsFalling, IsLeastCut, FirstAreCertain}
-use Rattle.smp_prob.specs.Cuts.{border}
+use Rattle.smp_prob.specs.Kept.Cuts.{border}
 use Rattle.smp_prob.proofs.Sizes.{each_order}
 use Rattle.smp_prob.proofs.Cuts.{at_least, below, IsCut, certain_count, open_sum}
 use Rattle.smp_prob.proofs.Least.{least_cut, least_is, first_certain, is_cut, sums}

@@ -7,10 +7,13 @@ use Rattle.std.proofs.lemmas.Bool.{cases_eq}
 use Rattle.std.proofs.lemmas.List.{get_or-map, length-map}
 use Rattle.std.proofs.lemmas.List.Sums.{sum_by-cons}
 use Prim.Native.Nat.{◌∣◌}
+use Rattle.smp_fractions.specs.Fractions.{Same, over}
+use Rattle.smp_fractions.proofs.Over.{over_same}
 use Rattle.smp_frac.proofs.Gcds.{IsGcd-greatest_common_divisor}
 use Rattle.smp_prob.specs.declared.requests.Request.{Request}
 use Rattle.smp_prob.specs.Requests.{IsRequest}
 use Rattle.smp_prob.specs.Shares.{common_divisor, common_denominator, numerators}
+use Rattle.smp_prob.specs.Standings.{free_fraction}
 
 -- a quotient of a number that isn't 0
 quotient_positive : (g factor r : ℕ) → factor * g ≡ r → 1 ≤ r → 1 ≤ factor
@@ -59,7 +62,7 @@ module _ (request : Request) (is : IsRequest request) where
   total_positive : 1 ≤ length request.free → 1 ≤ request.total
   total_positive some = omega (arith, is.below_one 0 (omega (arith, is.paired, some)))
 
-  denominator_is : 1 ≤ length request.free → common_denominator request ≡ request.total / common_divisor request
+  pub denominator_is : 1 ≤ length request.free → common_denominator request ≡ request.total / common_divisor request
   denominator_is some =
       let free : (length request.free ≡ 0) → ⊥ = λ e. omega (arith, e, some) in
       rw (ne_eqb (length request.free) 0 free) refl
@@ -111,3 +114,8 @@ module _ (request : Request) (is : IsRequest request) where
     pub numerator-cross : slice_index (numerators request) i * request.total ≡ slice_index request.shape i * request.r * common_denominator request
     numerator-cross =
         rw (numerator_is, denominator_is some) (cross_product (common_divisor request) _ _ request.r request.total r_is total_is (slice_index request.shape i))
+
+    -- the numerator over the denominator is the probability of the free unit
+    pub numerator_is_free_fraction : Same (over (slice_index (numerators request) i) (common_denominator request)) (free_fraction request i)
+    numerator_is_free_fraction =
+        over_same (slice_index (numerators request) i) (slice_index request.shape i * request.r) (common_denominator request) request.total denominator_positive (total_positive some) numerator-cross

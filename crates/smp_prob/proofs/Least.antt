@@ -6,7 +6,7 @@ use Rattle.std.proofs.lemmas.Bool.{cases_Bool, cases_eq, ltb-true, ltb-false, lt
 use Rattle.std.proofs.lemmas.List.Sums.{sum_by-cons, sum_by-drop_more, count_by-le-length}
 use Rattle.std.proofs.lemmas.List.{get_or_past}
 use Rattle.smp_prob.specs.Requested.{is_certain, positive_units, IsFalling, Stops, IsLeastCut}
-use Rattle.smp_prob.specs.Cuts.{border}
+use Rattle.smp_prob.specs.Kept.Cuts.{border}
 use Rattle.smp_prob.proofs.Cuts.{at_least, below, IsCut, certain_is}
 
 sum-cons : (x : ℕ) (xs : List ℕ) → sum (x ∷ xs) ≡ x + sum xs

@@ -7,4 +7,3 @@ pub mod Picks
 pub mod RequestedUnits
 pub mod Sizes
 pub mod Positions
-pub mod LowestTerms

@@ -9,10 +9,13 @@ use Rattle.std.specs.List.Sorted.{IsBinarySearchResult}
 use Rattle.std.specs.Ordering.{nat_cmp}
 use Rattle.std.proofs.lemmas.List.Sorted.{searched}
 use Rattle.std.proofs.lemmas.List.Sums.{length-filter, sum_by-cons, position_or_len_is, count_by_more_yes, count_by_more_no}
+use Rattle.smp_fractions.specs.Fractions.{Same, whole}
+use Rattle.smp_fractions.proofs.Fractions.{same_refl}
+use Rattle.smp_fractions.proofs.Over.{over_same}
 use Rattle.smp_prob.specs.declared.standings.Standing.TheVariants.{Certain, Free, Never}
-use Rattle.smp_prob.specs.Requested.{SameRatio, is_certain, is_free, certain_units, places, requested_of, requested_ratio}
-use Rattle.smp_prob.specs.Standings.{Rises, IsOrdered, standing, is_taken, count_taken, asked_ratio}
-use Rattle.smp_prob.specs.Cuts.{IsFeasible}
+use Rattle.smp_prob.specs.Requested.{is_certain, is_free, certain_units, places, requested_of, requested_fraction}
+use Rattle.smp_prob.specs.Standings.{Rises, IsRising, standing, is_taken, count_taken, asked_fraction}
+use Rattle.smp_prob.specs.Kept.Cuts.{IsFeasible}
 use Rattle.smp_prob.specs.Requests.{IsRequest}
 use Rattle.smp_prob.proofs.RequestedUnits.{in_proportion}
 use Rattle.smp_prob.proofs.Picks.{length-places, size_at_place}
@@ -125,7 +128,7 @@ module _ (test : ℕ → Bool) (zs : List ℕ) (k : ℕ) (here : k < length zs) 
 
 -- ---- the units of a request in proportion to size
 
-pub is_ordered : (n : ℕ) (sizes : List ℕ) → IsOrdered (requested_of sizes n)
+pub is_ordered : (n : ℕ) (sizes : List ℕ) → IsRising (requested_of sizes n)
 is_ordered n sizes = record { certain = places_rise (is_certain n sizes) 0 sizes; free = places_rise (is_free n sizes) 0 sizes }
 
 -- how many of the numbers below n pass a test
@@ -166,10 +169,10 @@ module _ (n : ℕ) (sizes : List ℕ) where
     ]
 
     -- the probability is the one that is requested of the size
-    pub asked_is : IsRequest (requested_of sizes n) → IsFeasible n sizes → SameRatio (asked_ratio (requested_of sizes n) k) (requested_ratio n sizes (get_or sizes k 0))
+    pub asked_is : IsRequest (requested_of sizes n) → IsFeasible n sizes → Same (asked_fraction (requested_of sizes n) k) (requested_fraction n sizes (get_or sizes k 0))
     asked_is is feasible =
         elim (cases_Bool (is_certain n sizes (get_or sizes k 0))) [
-          | inl certain ↦ rw (stands_certain certain, certain) (record { first = omega arith; second = omega arith; cross = refl })
+          | inl certain ↦ rw (stands_certain certain, certain) (same_refl (whole 1))
           | inr open_ ↦ elim (cases_Bool (is_free n sizes (get_or sizes k 0))) [
             | inl free ↦
                 (let some : nat_lt 0 (get_or sizes k 0) ≡ true = (and_parts _ _ free).0 in
@@ -178,12 +181,10 @@ module _ (n : ℕ) (sizes : List ℕ) where
                 let below = is.below_one (count_by (is_free n sizes) (take k sizes)) (omega (arith, is_picked.within, is.paired)) in
                 let share = feasible.below_one k free in
                 let cross = in_proportion n sizes (count_by (is_free n sizes) (take k sizes)) is_picked.within in
-                rw (stands_free open_ free, open_, some) (record {
-                  first = omega (arith, below);
-                  second = omega (arith, share);
-                  cross = cross ∙ ap (λ (u : ℕ). (n - certain_units n sizes) * get_or sizes u 0 * (requested_of sizes n).total) (is_picked.at ∙ omega arith);
-                }))
-            | inr none ↦ rw (stands_never open_ none, open_, no_size open_ none) (record { first = omega arith; second = omega arith; cross = refl })
+                rw (stands_free open_ free, open_, some)
+                (over_same _ _ _ _ (omega (arith, below)) (omega (arith, share))
+                (cross ∙ ap (λ (u : ℕ). (n - certain_units n sizes) * get_or sizes u 0 * (requested_of sizes n).total) (is_picked.at ∙ omega arith))))
+            | inr none ↦ rw (stands_never open_ none, open_, no_size open_ none) (same_refl (whole 0))
           ]
         ]
 

@@ -7,7 +7,7 @@ use Rattle.std.proofs.lemmas.List.Sums.{length-filter, count_by-le-length}
 use Rattle.smp_prob.specs.Shapes.{shape_of}
 use Rattle.smp_prob.specs.Requests.{IsRequest}
 use Rattle.smp_prob.specs.Requested.{is_certain, is_free, certain_units, open_total, positive_units, places, free_sizes, requested_of}
-use Rattle.smp_prob.specs.Cuts.{IsFeasible}
+use Rattle.smp_prob.specs.Kept.Cuts.{IsFeasible}
 use Rattle.smp_prob.proofs.Cuts.{IsCut, certain_is, is_free_below}
 use Rattle.smp_prob.proofs.ShapeLemmas.{length-shape_of, shape_positive, shape_below, shape_small, sum_narrow, proportional}
 use Rattle.smp_prob.proofs.Picks.{places-same, filter-same, length-places, size_at_place, sum-free, positive-split}

@@ -1,6 +1,6 @@
-pub mod Cuts
 pub mod Shapes
 pub mod Requested
 pub mod Requests
 pub mod Shares
 pub mod Standings
+pub mod Kept

@@ -1,7 +1,6 @@
 -- Requested inclusion probabilities of n units: in proportion to size, as far as no probability passes 1 (Tillé 2006).
-use Rattle.std.specs.Prelude.{◌≡◌, ◌⊎◌, ℕ, ◌+◌, ◌-◌, ◌*◌, ◌/◌, ◌≤◌, ◌<◌, Bool, not, nat_lt, nat_le, ◌&&◌, if◌then◌else◌, List, [], ◌∷◌, ◌++◌, codes, slice_index, drop, sum, sum_by, count_by, filter}
-use Rattle.std.specs.Fmt.{decimal}
-use Rattle.smp_frac.specs.Divisors.{greatest_common_divisor}
+use Rattle.std.specs.Prelude.{◌≡◌, ◌⊎◌, ℕ, ◌+◌, ◌-◌, ◌*◌, ◌≤◌, ◌<◌, Bool, not, nat_lt, nat_le, ◌&&◌, if◌then◌else◌, List, [], ◌∷◌, slice_index, drop, sum, sum_by, count_by, filter}
+use Rattle.smp_fractions.specs.Fractions.{Fraction, whole, over}
 use Rattle.smp_prob.specs.declared.requests.Request.{Request}
 use Rattle.smp_prob.specs.Shapes.{shape_of}
 
@@ -40,29 +39,13 @@ places test place (z ∷ zs) = if test z then place ∷ places test (place + 1) 
 abbrev pub free_sizes : ℕ → List ℕ → List ℕ
 free_sizes n sizes = filter (is_free n sizes) sizes
 
--- a fraction, by its numerator and its denominator
-pub record Ratio : Type 0 where
-  pub num : ℕ
-  pub den : ℕ
-
--- two fractions with denominators of at least 1 have the same value
-pub record SameRatio (a b : Ratio) : Type 0 where
-  pub first : 1 ≤ a.den
-  pub second : 1 ≤ b.den
-  pub cross : a.num * b.den ≡ b.num * a.den
-
--- a fraction in lowest terms, in decimal
-abbrev pub ratio_text : Ratio → List ℕ
-ratio_text ratio =
-    let divisor = greatest_common_divisor ratio.num ratio.den in decimal (ratio.num / divisor) ++ codes "/" ++ decimal (ratio.den / divisor)
-
 -- the probability that is requested of a unit of size z: 1 where it is certain, 0 where it has no size, and else z times the draws that
 -- the certain units leave, divided by the sum of the sizes that aren't certain
-abbrev pub requested_ratio : ℕ → List ℕ → ℕ → Ratio
-requested_ratio n sizes z =
-    if is_certain n sizes z then record { num = 1; den = 1 }
-    else if nat_lt 0 z then record { num = (n - certain_units n sizes) * z; den = open_total n sizes }
-    else record { num = 0; den = 1 }
+abbrev pub requested_fraction : ℕ → List ℕ → ℕ → Fraction
+requested_fraction n sizes z =
+    if is_certain n sizes z then whole 1
+    else if nat_lt 0 z then over ((n - certain_units n sizes) * z) (open_total n sizes)
+    else whole 0
 
 -- the request for n units
 abbrev pub requested_of : List ℕ → ℕ → Request

@@ -4,14 +4,14 @@ use Rattle.std.specs.List.{count_by, range_with_len}
 use Rattle.smp_prob.specs.declared.requests.Request.{Request}
 use Rattle.smp_prob.specs.declared.standings.Standing.{Standing}
 use Rattle.smp_prob.specs.declared.standings.Standing.TheVariants.{Certain, Free, Never}
-use Rattle.smp_prob.specs.Requested.{Ratio}
+use Rattle.smp_fractions.specs.Fractions.{Fraction, whole, over}
 
 -- each number is below the later ones
 abbrev pub Rises : List ℕ → Type 0
 Rises units = (i j : ℕ) → i < j → j < length units → slice_index units i < slice_index units j
 
 -- the certain units and the free ones stand in their order
-pub record IsOrdered (request : Request) : Type 0 where
+pub record IsRising (request : Request) : Type 0 where
   pub certain : Rises request.certain
   pub free : Rises request.free
 
@@ -35,12 +35,16 @@ is_taken drawn Never = false
 abbrev pub count_taken : Request → (ℕ → Bool) → ℕ → ℕ
 count_taken request drawn units = count_by (λ unit. is_taken drawn (standing request unit)) (range_with_len 0 units)
 
--- the probability of a unit that stands so: 1, shape * r / total, or 0
-abbrev pub ratio_at : Request → Standing → Ratio
-ratio_at request Certain = record { num = 1; den = 1 }
-ratio_at request (Free place) = record { num = slice_index request.shape place * request.r; den = request.total }
-ratio_at request Never = record { num = 0; den = 1 }
+-- the probability of the free unit at a place: shape * r / total
+abbrev pub free_fraction : Request → ℕ → Fraction
+free_fraction request place = over (slice_index request.shape place * request.r) request.total
+
+-- the probability of a unit that stands so
+abbrev pub fraction_at : Request → Standing → Fraction
+fraction_at request Certain = whole 1
+fraction_at request (Free place) = free_fraction request place
+fraction_at request Never = whole 0
 
 -- the probability that the request gives a unit
-abbrev pub asked_ratio : Request → ℕ → Ratio
-asked_ratio request unit = ratio_at request (standing request unit)
+abbrev pub asked_fraction : Request → ℕ → Fraction
+asked_fraction request unit = fraction_at request (standing request unit)

@@ -3,11 +3,12 @@ ghost use Rattle.std.specs.List.{range_with_len};
 ghost use Rattle.std.specs.List.Sorted.{IsPermutation};
 ghost use Rattle.std.specs.Result.{IsOkUnless};
 ghost use Rattle.smp_prob.specs.declared.faults.ProbFault.{ProbFault};
-ghost use Rattle.smp_prob.specs.Cuts as Cuts;
-ghost use Rattle.smp_prob.specs.Cuts.{IsFeasible, border};
-ghost use Rattle.smp_prob.specs.Requested.{is_certain, is_free, certain_units, open_total, positive_units, places, free_sizes, requested_of, SameRatio, requested_ratio, IsFalling, IsLeastCut, FirstAreCertain};
+ghost use Rattle.smp_prob.specs.Kept.Cuts as Cuts;
+ghost use Rattle.smp_prob.specs.Kept.Cuts.{IsFeasible, border};
+ghost use Rattle.smp_prob.specs.Requested.{is_certain, is_free, positive_units, places, free_sizes, requested_of, requested_fraction, IsFalling, IsLeastCut, FirstAreCertain};
 ghost use Rattle.smp_prob.specs.Requests.{IsRequest};
-ghost use Rattle.smp_prob.specs.Standings.{IsOrdered, count_taken, asked_ratio};
+ghost use Rattle.smp_prob.specs.Standings.{IsRising, count_taken, asked_fraction};
+ghost use Rattle.smp_fractions.specs.Fractions.{Same};
 
 use crate::shapes::{shape_of, sum_of};
 use crate::{Places, ProbFault, Request, Shapes};
@@ -122,11 +123,14 @@ fn picked_units(alloc: Global, sizes: &[u32], n: u32) -> Result<Picked, NoMemory
 
 fn request_of(alloc: Global, picked: Picked, n: u32) -> Result<Request, NoMemory>
     requires few { length picked.free_sizes.items ≤ 200000 }
-    requires small { EachIndex picked.free_sizes.items (λ i. slice_index picked.free_sizes.items i < 2 ^ 31) }
-    requires positive { EachIndex picked.free_sizes.items (λ i. 1 ≤ slice_index picked.free_sizes.items i) }
+    requires small { EachIndex picked.free_sizes.items (λ i.
+        slice_index picked.free_sizes.items i < 2 ^ 31) }
+    requires positive { EachIndex picked.free_sizes.items (λ i.
+        1 ≤ slice_index picked.free_sizes.items i) }
     requires within { length picked.certain.items ≤ n }
     ensures { IfOk result (λ request.
-        request ≡ Cuts.request_of picked.certain.items picked.free.items picked.free_sizes.items n) }
+        request
+        ≡ Cuts.request_of picked.certain.items picked.free.items picked.free_sizes.items n) }
 {
     let shape = shape_of(alloc, &picked.free_sizes)?;
     let total = sum_of(&shape);
@@ -158,22 +162,22 @@ pub fn requested(alloc: Global, sizes: &[u32], n: u32) -> Result<Request, ProbFa
     requires some { 1 ≤ n }
     ensures value { IfOk result (λ request. request ≡ requested_of sizes.now n) }
     ensures request { IfOk result IsRequest }
-    ensures too_many { positive_units sizes.now < n → result ≡ Err (ProbFault.TooMany (positive_units sizes.now)) }
+    ensures too_many { positive_units sizes.now < n
+        → result ≡ Err (ProbFault.TooMany (positive_units sizes.now)) }
     ensures enough { n ≤ positive_units sizes.now → IsOkUnless result ProbFault.NoMemory }
 
-    // shape[i] * r / total is n - c times the size of the i-th free unit over the sum of the sizes that are not certain
-    ensures probabilities { IfOk result (λ request. EachIndex request.free (λ i.
-        slice_index request.shape i * request.r * open_total n sizes.now
-        ≡ (n - certain_units n sizes.now) * slice_index sizes.now (slice_index request.free i) * request.total)) }
-    // the rule of the falling order, whichever of the equal sizes comes first
-    ensures first { OnOk result ((zs : List ℕ) → IsPermutation sizes.now zs → IsFalling zs → FirstAreCertain n sizes.now zs) }
     // each unit has the probability that is requested of its size
-    ensures asked { IfOk result (λ request. EachIndex sizes.now (λ unit.
-        SameRatio (asked_ratio request unit) (requested_ratio n sizes.now (slice_index sizes.now unit)))) }
+    ensures probabilities { IfOk result (λ request. EachIndex sizes.now (λ unit.
+        Same (asked_fraction request unit)
+        (requested_fraction n sizes.now (slice_index sizes.now unit)))) }
+    // the rule of the falling order, whichever of the equal sizes comes first
+    ensures first { OnOk result ((zs : List ℕ) → IsPermutation sizes.now zs → IsFalling zs
+        → FirstAreCertain n sizes.now zs) }
     // where r of the free units are selected, n units are selected in all
-    ensures drawn { IfOk result (λ request. (drawn : ℕ → Bool) → count_by drawn (range_with_len 0 (length request.free)) ≡ request.r
+    ensures drawn { IfOk result (λ request. (drawn : ℕ → Bool)
+        → count_by drawn (range_with_len 0 (length request.free)) ≡ request.r
         → count_taken request drawn (length sizes.now) ≡ n) }
-    ensures ordered { IfOk result IsOrdered }
+    ensures ordered { IfOk result IsRising }
     ensures none_free { IfOk result (λ request.
         length request.free ≡ 0 → (request.r ≡ 0) × (request.total ≡ 0)) }
 {

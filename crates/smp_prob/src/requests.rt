@@ -1,5 +1,6 @@
 ghost use Rattle.std.specs.Prelude.{◌≡◌, ◌≤◌, position, nat_eq};
-ghost use Rattle.smp_frac.specs.Fractions.{IsRatio};
+ghost use Rattle.smp_frac.specs.Fractions.{fraction};
+ghost use Rattle.smp_fractions.specs.Fractions.{Same, over};
 ghost use Rattle.smp_prob.specs.Standings.{Rises};
 
 use crate::{Places, Shapes, Standing};
@@ -24,9 +25,9 @@ pub struct Request {
 }
 
 impl Request {
-    ghost use Rattle.std.specs.Prelude.{◌≡◌, IfOk};
+    ghost use Rattle.std.specs.Prelude.{◌≡◌, IfOk, EachIndex, slice_index};
     ghost use Rattle.smp_prob.specs.Requests.{IsRequest};
-    ghost use Rattle.smp_prob.specs.Standings.{IsOrdered, standing, asked_ratio};
+    ghost use Rattle.smp_prob.specs.Standings.{IsRising, standing, free_fraction, asked_fraction};
     ghost use Rattle.smp_prob.specs.Shares.{common_divisor, common_denominator, numerators};
 
     // The divisor that brings r / total to lowest terms.
@@ -40,7 +41,10 @@ impl Request {
     #[tactic(auto, using(crate::proofs::Fractions::common_divisor_positive))]
     pub fn common_denominator(&self) -> u64
         requires { IsRequest self.now }
-        ensures { result ≡ common_denominator self.now }
+        ensures value { result ≡ common_denominator self.now }
+        ensures probabilities { EachIndex self.now.free (λ place.
+            Same (over (slice_index (numerators self.now) place) result)
+            (free_fraction self.now place)) }
     {
         if self.free.as_slice().is_empty() {
             return 1;
@@ -52,7 +56,10 @@ impl Request {
     #[tactic(auto, using(crate::proofs::Fractions::common_divisor_positive))]
     pub fn numerators(&self, alloc: Global) -> Result<Vec<u128>, NoMemory>
         requires { IsRequest self.now }
-        ensures { IfOk result (λ list. list.items ≡ numerators self.now) }
+        ensures value { IfOk result (λ list. list.items ≡ numerators self.now) }
+        ensures probabilities { IfOk result (λ list. EachIndex self.now.free (λ place.
+            Same (over (slice_index list.items place) (common_denominator self.now))
+            (free_fraction self.now place))) }
     {
         let mut list = Vec::new(alloc);
         if self.free.as_slice().is_empty() {
@@ -67,7 +74,7 @@ impl Request {
 
     /// Where a unit stands: it is certain, a free unit, or never selected. It takes time logarithmic in their number.
     pub fn standing(&self, unit: usize) -> Standing
-        requires { IsOrdered self.now }
+        requires { IsRising self.now }
         ensures { result ≡ standing self.now unit }
     {
         if place_of(self.certain.as_slice(), unit).is_some() {
@@ -82,23 +89,24 @@ impl Request {
     /// The probability of a unit, in lowest terms: 1 where it is certain, `shape * r / total` where it is free, else 0.
     pub fn asked(&self, unit: usize) -> Frac
         requires request { IsRequest self.now }
-        requires ordered { IsOrdered self.now }
-        ensures { IsRatio (asked_ratio self.now unit).num (asked_ratio self.now unit).den result }
+        requires ordered { IsRising self.now }
+        ensures { Same (fraction result) (asked_fraction self.now unit) }
     {
         match self.standing(unit) {
-            Standing::Certain => fraction(1, 1),
+            Standing::Certain => lowest(1, 1),
             Standing::Free(place) => {
                 let shape = self.shape.as_slice()[place] as u128;
-                fraction(shape * self.r as u128, self.total as u128)
+                lowest(shape * self.r as u128, self.total as u128)
             }
-            Standing::Never => fraction(0, 1),
+            Standing::Never => lowest(0, 1),
         }
     }
 }
 
-fn fraction(num: u128, den: u128) -> Frac
+// The fraction in lowest terms.
+fn lowest(num: u128, den: u128) -> Frac
     requires { 1 ≤ den }
-    ensures { IsRatio num den result }
+    ensures { Same (fraction result) (over num den) }
 {
     match Frac::new(num, den) {
         Some(fraction) => fraction,

@@ -1,13 +1,13 @@
 -- A design over the free units of a request, seen as one over all rows of its frame: the certain rows are selected at every leaf, the free
 -- ones where the design selects them, and the others never.
-use Rattle.std.specs.Prelude.{◌≡◌, ℕ, ◌*◌, ◌<◌, Bool, length, slice_index}
+use Rattle.std.specs.Prelude.{◌≡◌, ℕ, ◌<◌, Bool, length}
 use Rattle.std.specs.List.{count_by, range_with_len}
 use Rattle.smp_prob.specs.declared.requests.Request.{Request}
 use Rattle.smp_prob.specs.declared.standings.Standing.{Standing}
 use Rattle.smp_prob.specs.declared.standings.Standing.TheVariants.{Certain, Free, Never}
-use Rattle.smp_prob.specs.Standings.{IsOrdered, standing, is_taken, count_taken, asked_ratio}
-use Rattle.smp_split.specs.Fractions.{Fraction, Same, whole, over}
-use Rattle.smp_split.specs.Counts.{LeavesSelect}
+use Rattle.smp_prob.specs.Standings.{IsRising, standing, is_taken, count_taken, free_fraction}
+use Rattle.smp_fractions.specs.Fractions.{Fraction, Same, whole}
+use Rattle.smp_split.specs.Counts.{AddsUp, LeavesSelect}
 use Rattle.smp_split.specs.Trees.{Tree}
 
 -- the value of a row that stands so, where the free units have these values
@@ -20,7 +20,7 @@ row_value value Never = whole 0
 abbrev pub rows_tree : {State : Type 0} → ℕ → Request → Tree State → Tree State
 rows_tree rows request tree = record {
   units = rows;
-  ended = tree.ended;
+  done = tree.done;
   kind = tree.kind;
   parts = tree.parts;
   rank = tree.rank;
@@ -31,17 +31,14 @@ rows_tree rows request tree = record {
 -- the state is one of the design, whose units are the free units of the request
 pub record BelongsToRows {State : Type 0} (request : Request) (tree : Tree State) (belongs : State → Type 0) (state : State) : Type 0 where
   pub member : belongs state
-  pub ordered : IsOrdered request
+  pub ordered : IsRising request
   pub paired : length request.free ≡ tree.units
 
--- the probability that the request gives a row
-abbrev pub asked_fraction : Request → ℕ → Fraction
-asked_fraction request row = over (asked_ratio request row).num (asked_ratio request row).den
-
--- The design serves its request from this state on: each free unit has the probability that is requested of it, and each leaf selects r of them.
+-- The design serves its request from this state on: each free unit has the probability that is requested of it, and where the values add up
+-- to n, each leaf selects n of them.
 pub record Serves {State : Type 0} (request : Request) (tree : Tree State) (state : State) : Type 0 where
-  pub values : (unit : ℕ) → unit < length request.free → Same (tree.value state unit) (over (slice_index request.shape unit * request.r) request.total)
-  pub count : LeavesSelect tree request.r state
+  pub values : (unit : ℕ) → unit < length request.free → Same (tree.value state unit) (free_fraction request unit)
+  pub count : (n : ℕ) → AddsUp tree n state → LeavesSelect tree n state
 
 -- where r of the free units are drawn, n rows are selected
 abbrev pub Fills : Request → ℕ → ℕ → Type 0

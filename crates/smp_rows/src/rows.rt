@@ -1,9 +1,10 @@
 ghost use Rattle.std.specs.Prelude.{ℕ, ◌<◌};
-ghost use Rattle.smp_split.specs.Counts.{LeavesSelect};
-ghost use Rattle.smp_split.specs.Fractions.{Same};
+ghost use Rattle.smp_split.specs.Counts.{AddsUp, LeavesSelect};
+ghost use Rattle.smp_fractions.specs.Fractions.{Same};
 ghost use Rattle.smp_split.specs.Means.{inclusion_probability};
-ghost use Rattle.smp_rows.specs.Rows.{rows_tree, asked_fraction, BelongsToRows, Serves, Fills};
-ghost use Rattle.smp_rows.specs.Laws.{rows_lawful};
+ghost use Rattle.smp_rows.specs.Rows.{rows_tree, BelongsToRows, Serves, Fills};
+ghost use Rattle.smp_prob.specs.Standings.{asked_fraction};
+ghost use Rattle.smp_rows.specs.Laws.Rows.{rows_lawful};
 
 use smp_prob::{Request, Standing};
 use smp_split::{Kind, Splitting, mean_is_value};
@@ -21,14 +22,17 @@ pub struct Rows<'a, D: Splitting> {
 
 impl<'a, D: Splitting> Rows<'a, D> {
     /// Where the design serves its request from a state on, each row is selected with the probability that the request
-    /// gives it, and each leaf selects the rows that the request fills. It runs nothing: its contract is the theorem.
+    /// gives it; and where the free units' values add up to the draws that they share, each leaf selects the rows that
+    /// the request fills. It runs nothing: its contract is the theorem.
     pub fn select_as_asked(&self, state: &D::State)
-        requires belongs { BelongsToRows self.now.request.now (D.tree self.now.design) (D.belongs self.now.design) state.now }
+        requires belongs { BelongsToRows self.now.request.now (D.tree self.now.design)
+            (D.belongs self.now.design) state.now }
         requires serves { Serves self.now.request.now (D.tree self.now.design) state.now }
         ensures probability { (row : ℕ) → row < self.now.rows → Same
             (inclusion_probability (rows_tree self.now.rows self.now.request.now (D.tree self.now.design)) state.now row)
             (asked_fraction self.now.request.now row) }
-        ensures count { (n : ℕ) → Fills self.now.request.now self.now.rows n →
+        ensures count { (n : ℕ) → AddsUp (D.tree self.now.design) self.now.request.now.r state.now →
+            Fills self.now.request.now self.now.rows n →
             LeavesSelect (rows_tree self.now.rows self.now.request.now (D.tree self.now.design)) n state.now }
     {
         mean_is_value(self, state);

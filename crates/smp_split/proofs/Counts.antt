@@ -7,25 +7,28 @@ use Rattle.std.proofs.lemmas.List.Sorted.{sum_by-IsPermutation}
 use Rattle.std.proofs.lemmas.List.Sums.{sum_by-cons}
 use Rattle.smp_split.specs.Trees.{Tree, EachPart, Lawful}
 use Rattle.smp_split.specs.Counts.{selected_count, LeavesSelect}
-use Rattle.smp_split.specs.Orders.{Ordered, IsPlacing, IsOrdered, exchanged_at, next_place, in_order, ordered_tree}
+use Rattle.smp_split.specs.Orders.{Ordered, IsPlacing, IsInOrder, exchanged_at, next_place, in_order, ordered_tree}
 use Rattle.smp_split.proofs.Orders.{length_places, next_in, other_in}
 use Rattle.smp_split.proofs.Parts.{each_equal, each_moved}
 use Rattle.smp_split.proofs.Steps.{leads_keep, leads_belong}
 
-sum_by-map : {X Y : Type 0} (f : Y → ℕ) (g : X → Y) (xs : List X) → sum_by f (map g xs) ≡ sum_by (λ x. f (g x)) xs
+pub sum_by-map : {X Y : Type 0} (f : Y → ℕ) (g : X → Y) (xs : List X) → sum_by f (map g xs) ≡ sum_by (λ x. f (g x)) xs
 sum_by-map f g [] = refl
 sum_by-map f g (x ∷ xs) = sum_by-cons f (g x) (map g xs) ∙ ap (λ n. f (g x) + n) (sum_by-map f g xs) ∙ sym (sum_by-cons (λ y. f (g y)) x xs)
 
+-- a sum over the indices of elements is one over the elements
+pub sum_by-indices : {X : Type 0} (f : X → ℕ) (xs : List X) (d : X) (n : ℕ) → length xs ≡ n → sum_by (λ k. f (get_or xs k d)) (range_with_len 0 n) ≡ sum_by f xs
+sum_by-indices f xs d n is =
+    sym (sum_by-map f (λ k. get_or xs k d) (range_with_len 0 n)) ∙ ap (sum_by f) (sym (fill_by_all (λ k. get_or xs k d) xs n d is (λ k h. refl)))
+
 -- counting the indices of elements that pass a test
 pub count_by-indices : {X : Type 0} (test : X → Bool) (xs : List X) (d : X) (n : ℕ) → length xs ≡ n → count_by (λ k. test (get_or xs k d)) (range_with_len 0 n) ≡ count_by test xs
-count_by-indices test xs d n is =
-    sym (sum_by-map (λ x. cond (test x) 1 0) (λ k. get_or xs k d) (range_with_len 0 n))
-    ∙ ap (count_by test) (sym (fill_by_all (λ k. get_or xs k d) xs n d is (λ k h. refl)))
+count_by-indices test xs d n is = sum_by-indices (λ x. cond (test x) 1 0) xs d n is
 
 -- a property that each part keeps, and by which a leaf selects n units
 pub record KeepsCount {State : Type 0} (tree : Tree State) (belongs : State → Type 0) (n : ℕ) (P : State → Type 0) : Type 0 where
-  pub kept : (s : State) → belongs s → tree.ended s ≡ false → P s → EachPart (λ p. P p.state) (tree.parts s)
-  pub leaf : (s : State) → belongs s → tree.ended s ≡ true → P s → selected_count tree s ≡ n
+  pub kept : (s : State) → belongs s → tree.done s ≡ false → P s → EachPart (λ p. P p.state) (tree.parts s)
+  pub leaf : (s : State) → belongs s → tree.done s ≡ true → P s → selected_count tree s ≡ n
 
 pub leaves_select : {State : Type 0} (tree : Tree State) (belongs : State → Type 0) (lawful : Lawful tree belongs) (n : ℕ) (P : State → Type 0) → KeepsCount tree belongs n P → (s : State) → belongs s → P s → LeavesSelect tree n s
 leaves_select tree belongs lawful n P keeps s member holds path leaf leads done =
@@ -39,7 +42,7 @@ module _ {State : Type 0} (tree : Tree State) (belongs : State → Type 0) (exch
       ∙ sum_by-IsPermutation (λ place. cond (tree.selected s.state place) 1 0) (range_with_len 0 tree.units) s.order.places is.permuted
 
   -- the property of a state over places is kept in any order
-  pub keeps_count : (n : ℕ) (P : State → Type 0) → KeepsCount tree belongs n P → ((i j : ℕ) (s : State) → i < tree.units → j < tree.units → belongs s → P s → P (exchanged i j s)) → KeepsCount (ordered_tree tree exchanged) (IsOrdered tree.units belongs) n (λ s. P s.state)
+  pub keeps_count : (n : ℕ) (P : State → Type 0) → KeepsCount tree belongs n P → ((i j : ℕ) (s : State) → i < tree.units → j < tree.units → belongs s → P s → P (exchanged i j s)) → KeepsCount (ordered_tree tree exchanged) (IsInOrder tree.units belongs) n (λ s. P s.state)
   keeps_count n P keeps moves = record {
     kept = λ s ok going holds.
         elim (cases_Bool (nat_eq s.order.left 0)) [
@@ -51,5 +54,5 @@ module _ {State : Type 0} (tree : Tree State) (belongs : State → Type 0) (exch
               (λ v h. moves (next_place s.order) (next_place s.order + v) s.state (next_in tree.units s.order ok.order some) (other_in tree.units s.order ok.order some v h) ok.state holds)))
         ];
     leaf = λ s ok done holds.
-        selected_count-ordered s ok.order ∙ keeps.leaf s.state ok.state (and_parts (nat_eq s.order.left 0) (tree.ended s.state) done).1 holds;
+        selected_count-ordered s ok.order ∙ keeps.leaf s.state ok.state (and_parts (nat_eq s.order.left 0) (tree.done s.state) done).1 holds;
   }

@@ -1,10 +1,10 @@
 -- The mean over a lawful tree is the value.
 use Rattle.std.proofs.Common.{◌≡◌, ℕ, zero, suc, ◌<◌, ◌≤◌, Bool, true, false, cond, nat_eq, List, [], ◌∷◌, arith, sym, subst, inl, inr}
 use Rattle.std.proofs.lemmas.Bool.{cases_Bool, cases_eq, eq-eqb, ne_eqb}
-use Rattle.smp_split.specs.Fractions.{Fraction, Same, whole, plus, times, divided, sum_below}
+use Rattle.smp_fractions.specs.Fractions.{Fraction, Same, whole, plus, times, divided, sum_below}
 use Rattle.smp_split.specs.Trees.{Part, Tree, EachPart, IsPart, LawfulSplit, LawfulEnd, Lawful, weight_sum, weighted}
-use Rattle.smp_split.specs.Means.{only, selected_sum, value_sum, mean_within, mean, inclusion_probability}
-use Rattle.smp_split.proofs.Fractions.{same_refl, same_sym, same_trans, plus_same, times_same, times-plus, times_left_comm, times-zero, times-one, divided_same, divided-times, sum_same, sum-plus, sum-times, sum-zero, zero-plus-zero, zero-plus, plus-zero, zero-times, one-times}
+use Rattle.smp_split.specs.Means.{only, selected_sum, value_sum, mean_of_within, mean, inclusion_probability}
+use Rattle.smp_fractions.proofs.Fractions.{same_refl, same_sym, same_trans, plus_same, times_same, times-plus, times_left_comm, times-zero, times-one, divided_same, divided-times, sum_same, sum-plus, sum-times, sum-zero, zero-plus-zero, zero-plus, plus-zero, zero-times, one-times}
 
 selected_is_value : (c a : Fraction) (b : Bool) → Same a (whole (cond b 1 0)) → Same (cond b c (whole 0)) (times c a)
 selected_is_value c a true h = same_trans (same_sym (times-one c)) (times_same (same_refl c) (same_sym h))
@@ -80,20 +80,20 @@ module _ {State : Type 0} where
         same_trans (divided_same total (same_trans exchanged (same_trans even out))) (divided-times total (value_sum tree c s) split.some)
 
     -- no state of rank 0 is split
-    no_parts : (s : State) (ps : List (Part State)) → tree.rank s ≤ 0 → 1 ≤ weight_sum ps → EachPart (IsPart tree belongs s) ps → ⊥
+    pub no_parts : (s : State) (ps : List (Part State)) → tree.rank s ≤ 0 → 1 ≤ weight_sum ps → EachPart (IsPart tree belongs s) ps → ⊥
     no_parts s [] r w each = omega arith
     no_parts s (p ∷ ps) r w each = let l : tree.rank p.state < tree.rank s = each.0.falls in omega arith
 
-    pub mean_within_is_value : (steps : ℕ) (s : State) → belongs s → tree.rank s ≤ steps → Same (mean_within steps tree c s) (value_sum tree c s)
+    pub mean_within_is_value : (steps : ℕ) (s : State) → belongs s → tree.rank s ≤ steps → Same (mean_of_within steps tree (selected_sum tree c) s) (value_sum tree c s)
     mean_within_is_value zero s b r =
-        elim (cases_Bool (tree.ended s)) [
+        elim (cases_Bool (tree.done s)) [
           | inl e ↦ selected_sum_is_value_sum tree c s (lawful.end s b e)
           | inr e ↦ let split = lawful.split s b e in absurd (no_parts s (tree.parts s) r split.some split.each)
         ]
     mean_within_is_value (suc steps) s b r =
-        elim (cases_Bool (tree.ended s)) [
+        elim (cases_Bool (tree.done s)) [
           | inl e ↦ rw e (selected_sum_is_value_sum tree c s (lawful.end s b e))
-          | inr e ↦ rw e (split_keeps s (lawful.split s b e) (mean_within steps tree c) (λ p is_part. mean_within_is_value steps p.state is_part.member (let l : tree.rank p.state < tree.rank s = is_part.falls in omega arith)))
+          | inr e ↦ rw e (split_keeps s (lawful.split s b e) (mean_of_within steps tree (selected_sum tree c)) (λ p is_part. mean_within_is_value steps p.state is_part.member (let l : tree.rank p.state < tree.rank s = is_part.falls in omega arith)))
         ]
 
     pub mean_is_value : (s : State) → belongs s → Same (mean tree c s) (value_sum tree c s)

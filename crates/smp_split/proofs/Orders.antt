@@ -8,10 +8,13 @@ use Rattle.std.proofs.lemmas.List.{get_or-set_same, get_or-set_other, get_or-map
 use Rattle.std.proofs.lemmas.List.Edits.{swap_is, length-swap}
 use Rattle.std.proofs.lemmas.List.FromFn.{length-range_with_len, get_or-range_with_len}
 use Rattle.std.proofs.lemmas.List.Sorted.{IsPermutation-refl, IsPermutation-swap, IsPermutation-map, IsPermutation-trans, IsPermutation-keeps, length_permutation}
-use Rattle.smp_split.specs.Fractions.{Same, whole, times}
-use Rattle.smp_split.specs.Trees.{Part, Tree, IsPart, LawfulSplit, Lawful, weight_sum, picked, weighted}
-use Rattle.smp_split.specs.Orders.{exchange, Placing, Ordered, IsPlacing, IsOrdered, IsExchange, exchanged_at, next_place, frame_order, undrawn_order, order_parts, in_order, ordered_tree}
-use Rattle.smp_split.proofs.Parts.{weighted-same, weight_sum-equal, picked-equal, each_equal, weight_sum-moved, weighted-moved, picked-moved, each_moved}
+use Rattle.smp_fractions.specs.Fractions.{Same, whole, times}
+use Rattle.smp_split.specs.Trees.{Tree, IsPart, LawfulSplit, Lawful, weight_sum, picked, weighted}
+use Rattle.smp_split.specs.Orders.{exchange, Placing, Ordered, IsPlacing, IsInOrder, IsExchange, exchanged_at, next_place, frame_order, undrawn_order, order_parts, in_order, ordered_tree}
+use Rattle.smp_split.specs.Lenses.{as_unit, Lens}
+use Rattle.smp_fractions.proofs.Fractions.{same_refl}
+use Rattle.smp_split.proofs.Lenses.{split_through}
+use Rattle.smp_split.proofs.Parts.{weighted-same, weight_sum-equal, picked-equal, each_equal, weight_sum-moved, picked-moved}
 
 -- ---- exchanges
 
@@ -148,14 +151,14 @@ unit_within {State} size s now same is unit h =
 module _ {State : Type 0} (tree : Tree State) (belongs : State → Type 0) (exchanged : ℕ → ℕ → State → State) (lawful : Lawful tree belongs) (is : IsExchange tree belongs exchanged) where
   -- ---- a step of the order
 
-  module _ (s : Ordered State) (ok : IsOrdered tree.units belongs s) (some : 1 ≤ s.order.left) where
+  module _ (s : Ordered State) (ok : IsInOrder tree.units belongs s) (some : 1 ≤ s.order.left) where
     next_here : next_place s.order < tree.units
     next_here = next_in tree.units s.order ok.order some
 
     other_here : (v : ℕ) → v < s.order.left + 1 → next_place s.order + v < tree.units
     other_here = other_in tree.units s.order ok.order some
 
-    order_part : (v : ℕ) → v < s.order.left + 1 → IsPart (ordered_tree tree exchanged) (IsOrdered tree.units belongs) s (record { weight = 1; state = exchanged_at exchanged s (next_place s.order) (next_place s.order + v) })
+    order_part : (v : ℕ) → v < s.order.left + 1 → IsPart (ordered_tree tree exchanged) (IsInOrder tree.units belongs) s (record { weight = 1; state = exchanged_at exchanged s (next_place s.order) (next_place s.order + v) })
     order_part v h = record {
       heavy = omega arith;
       falls = omega (arith, is.rank (next_place s.order) (next_place s.order + v) s.state next_here (other_here v h) ok.state);
@@ -185,37 +188,36 @@ module _ {State : Type 0} (tree : Tree State) (belongs : State → Type 0) (exch
     total_is : weight_sum (order_parts exchanged s) ≡ s.order.left + 1
     total_is = weight_sum-equal (λ v. exchanged_at exchanged s (next_place s.order) (next_place s.order + v)) (s.order.left + 1)
 
-    order_split : nat_eq s.order.left 0 ≡ false → LawfulSplit (ordered_tree tree exchanged) (IsOrdered tree.units belongs) s
+    order_split : nat_eq s.order.left 0 ≡ false → LawfulSplit (ordered_tree tree exchanged) (IsInOrder tree.units belongs) s
     order_split e =
         let few : tree.units < 2 ^ 64 = ok.order.few in
         let fewer : s.order.left ≤ tree.units - 1 = ok.order.fewer in
         record {
           some = rw (e, total_is) (omega arith);
           narrow = rw (e, total_is) (omega arith);
-          each = rw e (each_equal (λ v. exchanged_at exchanged s (next_place s.order) (next_place s.order + v)) (IsPart (ordered_tree tree exchanged) (IsOrdered tree.units belongs) s) (s.order.left + 1) order_part);
+          each = rw e (each_equal (λ v. exchanged_at exchanged s (next_place s.order) (next_place s.order + v)) (IsPart (ordered_tree tree exchanged) (IsInOrder tree.units belongs) s) (s.order.left + 1) order_part);
           even = λ unit h. rw e (order_even unit h);
         }
 
   -- ---- a step of the design over places
 
-  inner_part : (s : Ordered State) → IsOrdered tree.units belongs s → (part : Part State) → IsPart tree belongs s.state part → IsPart (ordered_tree tree exchanged) (IsOrdered tree.units belongs) s (record { weight = part.weight; state = in_order s.order part.state })
-  inner_part s ok part is_part = record {
-    heavy = is_part.heavy;
-    falls = let falls : tree.rank part.state < tree.rank s.state = is_part.falls in omega arith;
-    member = record { order = ok.order; state = is_part.member };
+  -- the order is a lens, through which each unit is the place where it stands
+  order_lens : (order : Placing) → IsPlacing tree.units order → nat_eq order.left 0 ≡ true → Lens tree belongs (ordered_tree tree exchanged) (in_order order) (λ unit. as_unit (get_or order.places unit 0))
+  order_lens order placing e = record {
+    within = λ unit h. place_in tree.units order placing unit h;
+    going = λ i going. rw (e, going) refl;
+    kind = λ i going. rw e refl;
+    parts = λ i going. rw e refl;
+    falls = λ i j less. omega arith;
+    value = λ i here unit h. same_refl (tree.value i (get_or order.places unit 0));
   }
 
-  inner_split : (s : Ordered State) → IsOrdered tree.units belongs s → nat_eq s.order.left 0 ≡ true → tree.ended s.state ≡ false → LawfulSplit (ordered_tree tree exchanged) (IsOrdered tree.units belongs) s
+  inner_split : (s : Ordered State) → IsInOrder tree.units belongs s → nat_eq s.order.left 0 ≡ true → tree.done s.state ≡ false → LawfulSplit (ordered_tree tree exchanged) (IsInOrder tree.units belongs) s
   inner_split s ok e going =
-      let split = lawful.split s.state ok.state going in
-      record {
-        some = rw (e, weight_sum-moved (in_order s.order) (tree.parts s.state)) split.some;
-        narrow = rw (e, weight_sum-moved (in_order s.order) (tree.parts s.state)) split.narrow;
-        each = rw e (each_moved (in_order s.order) (IsPart tree belongs s.state) (IsPart (ordered_tree tree exchanged) (IsOrdered tree.units belongs) s) (inner_part s ok) (tree.parts s.state) split.each);
-        even = λ unit h. rw (e, weight_sum-moved (in_order s.order) (tree.parts s.state), weighted-moved (in_order s.order) (λ t. (ordered_tree tree exchanged).value t unit) (tree.parts s.state)) (split.even (get_or s.order.places unit 0) (place_in tree.units s.order ok.order unit h));
-      }
+      split_through tree belongs (ordered_tree tree exchanged) (in_order s.order) (λ unit. as_unit (get_or s.order.places unit 0)) (order_lens s.order ok.order e) (IsInOrder tree.units belongs)
+      (λ i m. record { order = ok.order; state = m }) s.state ok.state going (lawful.split s.state ok.state going)
 
-  pub ordered_lawful : Lawful (ordered_tree tree exchanged) (IsOrdered tree.units belongs)
+  pub ordered_lawful : Lawful (ordered_tree tree exchanged) (IsInOrder tree.units belongs)
   ordered_lawful = record {
     split = λ s ok going.
         elim (cases_Bool (nat_eq s.order.left 0)) [
@@ -223,5 +225,5 @@ module _ {State : Type 0} (tree : Tree State) (belongs : State → Type 0) (exch
           | inr e ↦ order_split s ok (let some : s.order.left ≢ 0 = eqb-false s.order.left 0 e in omega arith) e
         ];
     end = λ s ok done unit h.
-        lawful.end s.state ok.state (and_parts (nat_eq s.order.left 0) (tree.ended s.state) done).1 (get_or s.order.places unit 0) (place_in tree.units s.order ok.order unit h);
+        lawful.end s.state ok.state (and_parts (nat_eq s.order.left 0) (tree.done s.state) done).1 (get_or s.order.places unit 0) (place_in tree.units s.order ok.order unit h);
   }

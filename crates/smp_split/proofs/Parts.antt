@@ -3,11 +3,11 @@ use Rattle.std.proofs.Common.{◌≡◌, ℕ, zero, suc, ◌+◌, ◌-◌, ◌<�
 use Rattle.std.specs.List.{range_with_len, sum_by}
 use Rattle.std.proofs.lemmas.Bool.{cases_Bool, ltb-true, ltb-false}
 use Rattle.std.proofs.lemmas.List.Sums.{sum_by-cons}
-use Rattle.smp_split.specs.Fractions.{Fraction, Same, whole, plus, times}
+use Rattle.smp_fractions.specs.Fractions.{Fraction, Same, whole, plus, times}
 use Rattle.smp_split.specs.Trees.{Part, EachPart, weight_sum, picked, weighted, weighted_number}
 use Rattle.smp_split.specs.Parts.{equal_parts, moved}
-use Rattle.smp_split.proofs.Fractions.{same_refl, same_sym, same_trans, plus_same, times_same, plus-times, zero-times}
-use Rattle.smp_split.proofs.Integers.{diff-same, diffs}
+use Rattle.smp_fractions.proofs.Fractions.{same_refl, same_sym, same_trans, plus_same, times_same, plus-times, zero-times}
+use Rattle.smp_fractions.proofs.Integers.{diff-same, diffs}
 
 -- ---- parts that have one value
 
@@ -90,3 +90,8 @@ module _ {Inner Outer : Type 0} (f : Inner → Outer) where
   pub each_moved : (P : Part Inner → Type 0) (Q : Part Outer → Type 0) → ((p : Part Inner) → P p → Q (record { weight = p.weight; state = f p.state })) → (ps : List (Part Inner)) → EachPart P ps → EachPart Q (moved f ps)
   each_moved P Q h [] each = tt
   each_moved P Q h (p ∷ ps) each = (h p each.0, each_moved P Q h ps each.1)
+
+-- states that stay what they are
+pub moved-same : {State : Type 0} (ps : List (Part State)) → moved (λ s. s) ps ≡ ps
+moved-same [] = refl
+moved-same (p ∷ ps) = ap (λ rest. p ∷ rest) (moved-same ps)

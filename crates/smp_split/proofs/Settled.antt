@@ -4,9 +4,9 @@ use Rattle.std.specs.List.{sum, count_by}
 use Rattle.std.proofs.lemmas.Bool.{and_cases, and_right, eq-eqb, ltb-false, le-ltb, ne_eqb}
 use Rattle.std.proofs.lemmas.List.Sums.{sum_by-cons}
 use Rattle.smp_split.specs.Numerators.{fractional}
-use Rattle.smp_split.specs.Fractions.{Same, whole, over}
-use Rattle.smp_split.proofs.Fractions.{cancel}
-use Rattle.smp_split.proofs.Over.{over_zero, over_one}
+use Rattle.smp_fractions.specs.Fractions.{Same, whole, over}
+use Rattle.smp_fractions.proofs.Fractions.{cancel}
+use Rattle.smp_fractions.proofs.Over.{over_zero, over_one}
 
 abbrev pub IsSettled : ℕ → ℕ → Type 0
 IsSettled den a = (a ≡ 0) ⊎ (a ≡ den)

@@ -1,8 +1,10 @@
--- How many units the leaves of a design select.
-use Rattle.std.specs.Prelude.{◌≡◌, ℕ, true, List}
+-- How many units the values add up to, and how many the leaves of a design select.
+use Rattle.std.specs.Prelude.{◌≡◌, ℕ, Bool}
 use Rattle.std.specs.List.{count_by, range_with_len}
+use Rattle.smp_fractions.specs.Fractions.{Same, whole}
 use Rattle.smp_split.specs.Trees.{Tree, weight_sum, picked}
-use Rattle.smp_split.specs.Walks.{Line, Leads}
+use Rattle.smp_split.specs.Means.{value_sum}
+use Rattle.smp_split.specs.Paths.{AtEachLeaf}
 
 -- the number of units that are selected
 abbrev pub selected_count : {State : Type 0} → Tree State → State → ℕ
@@ -10,10 +12,16 @@ selected_count tree state = count_by (tree.selected state) (range_with_len 0 tre
 
 -- each leaf below a state selects n units
 abbrev pub LeavesSelect : {State : Type 0} → Tree State → ℕ → State → Type 0
-LeavesSelect tree n state =
-    (path : List Line) (leaf : _) → Leads tree state path leaf → tree.ended leaf ≡ true → selected_count tree leaf ≡ n
+LeavesSelect tree n state = AtEachLeaf tree state (λ path leaf. selected_count tree leaf ≡ n)
 
--- how many draws of a state's step lead to a state in which the unit is selected
+-- the values add up to n
+abbrev pub AddsUp : {State : Type 0} → Tree State → ℕ → State → Type 0
+AddsUp tree n state = Same (value_sum tree (λ _. whole 1) state) (whole n)
+
+-- how many draws of a state's step lead to a state that passes a test
+abbrev pub draws_to : {State : Type 0} → Tree State → State → (State → Bool) → ℕ
+draws_to tree state test = count_by (λ draw. test (picked state (tree.parts state) draw)) (range_with_len 0 (weight_sum (tree.parts state)))
+
+-- how many of them lead to a state in which the unit is selected
 abbrev pub draws_selecting : {State : Type 0} → Tree State → State → ℕ → ℕ
-draws_selecting tree state unit =
-    count_by (λ draw. tree.selected (picked state (tree.parts state) draw) unit) (range_with_len 0 (weight_sum (tree.parts state)))
+draws_selecting tree state unit = draws_to tree state (λ next. tree.selected next unit)

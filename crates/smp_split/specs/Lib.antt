@@ -1,10 +1,12 @@
-pub mod Fractions
 pub mod Kinds
 pub mod Trees
 pub mod Means
-pub mod Walks
+pub mod Paths
 pub mod Runs
 pub mod Parts
+pub mod Lenses
+pub mod Besides
+pub mod Embeds
 pub mod Orders
 pub mod Counts
 pub mod Numerators

@@ -1,23 +1,31 @@
 -- The mean of a list over the selected units, and a unit's probability of selection, where each draw is uniform below its
 -- bound.
-use Rattle.std.specs.Prelude.{ℕ, zero, suc, cond, nat_eq}
-use Rattle.smp_split.specs.Fractions.{Fraction, whole, times, divided, sum_below}
+use Rattle.std.specs.Prelude.{ℕ, zero, suc, cond, nat_eq, ◌&&◌}
+use Rattle.smp_fractions.specs.Fractions.{Fraction, whole, times, divided, sum_below}
 use Rattle.smp_split.specs.Trees.{Tree, weight_sum, weighted}
 
 -- the sum of c over the selected units
 abbrev pub selected_sum : {State : Type 0} → Tree State → (ℕ → Fraction) → State → Fraction
 selected_sum tree c state = sum_below tree.units (λ k. cond (tree.selected state k) (c k) (whole 0))
 
--- At a done state it is the sum over the selected units. At any other it is the sum of weight times the part's mean, divided
--- by the sum of the weights. `steps` is at least the rank, so that no path is longer.
-abbrev pub mean_within : {State : Type 0} → ℕ → Tree State → (ℕ → Fraction) → State → Fraction
-mean_within zero tree c state = selected_sum tree c state
-mean_within (suc steps) tree c state =
-    cond (tree.ended state) (selected_sum tree c state)
-    (divided (weighted (mean_within steps tree c) (tree.parts state)) (weight_sum (tree.parts state)))
+-- The mean of a function of the done states. At a done state it is its value there. At any other it is the sum of weight times the
+-- part's mean, divided by the sum of the weights. `steps` is at least the rank, so that no path is longer.
+abbrev pub mean_of_within : {State : Type 0} → ℕ → Tree State → (State → Fraction) → State → Fraction
+mean_of_within zero tree f state = f state
+mean_of_within (suc steps) tree f state =
+    cond (tree.done state) (f state)
+    (divided (weighted (mean_of_within steps tree f) (tree.parts state)) (weight_sum (tree.parts state)))
 
+abbrev pub mean_of : {State : Type 0} → Tree State → (State → Fraction) → State → Fraction
+mean_of tree f state = mean_of_within (tree.rank state) tree f state
+
+-- the mean of the sum of c over the selected units
 abbrev pub mean : {State : Type 0} → Tree State → (ℕ → Fraction) → State → Fraction
-mean tree c state = mean_within (tree.rank state) tree c state
+mean tree c state = mean_of tree (selected_sum tree c) state
+
+-- the second-order inclusion probability: that both units are selected
+abbrev pub joint_probability : {State : Type 0} → Tree State → State → ℕ → ℕ → Fraction
+joint_probability tree state j k = mean_of tree (λ leaf. whole (cond (tree.selected leaf j && tree.selected leaf k) 1 0)) state
 
 -- 1 at this unit and 0 elsewhere
 abbrev pub only : ℕ → ℕ → Fraction

@@ -53,7 +53,7 @@ in_order order state = record { order = order; state = state }
 abbrev pub ordered_tree : {State : Type 0} → Tree State → (ℕ → ℕ → State → State) → Tree (Ordered State)
 ordered_tree tree exchanged = record {
   units = tree.units;
-  ended = λ s. nat_eq s.order.left 0 && tree.ended s.state;
+  done = λ s. nat_eq s.order.left 0 && tree.done s.state;
   kind = λ s. if nat_eq s.order.left 0 then tree.kind s.state else Order;
   parts = λ s. if nat_eq s.order.left 0 then moved (in_order s.order) (tree.parts s.state) else order_parts exchanged s;
   rank = λ s. s.order.left + tree.rank s.state;
@@ -69,7 +69,7 @@ pub record IsPlacing (units : ℕ) (order : Placing) : Type 0 where
   pub few : units < 2 ^ 64
   pub fewer : order.left ≤ units - 1
 
-pub record IsOrdered {State : Type 0} (units : ℕ) (belongs : State → Type 0) (s : Ordered State) : Type 0 where
+pub record IsInOrder {State : Type 0} (units : ℕ) (belongs : State → Type 0) (s : Ordered State) : Type 0 where
   pub order : IsPlacing units s.order
   pub state : belongs s.state
 

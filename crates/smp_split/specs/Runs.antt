@@ -1,49 +1,92 @@
--- The run of a design on the values of a tape.
-use Rattle.std.specs.Prelude.{◌≡◌, true, Option, ℕ, zero, suc, ◌+◌, cond, nat_lt, List, [], ◌∷◌, ◌++◌, length}
+-- The run of a design over a source of draws, and a walk as such a run.
+use Rattle.std.specs.Prelude.{◌≡◌, ℕ, zero, suc, true, false, if◌then◌else◌, Option, Some, None, List, [], ◌∷◌, ◌++◌, Result, Ok, Err}
+use Rattle.smp_tape.specs.declared.draws.DrawFault.{DrawFault}
+use Rattle.smp_tape.specs.Sources.{Source}
 use Rattle.smp_split.specs.Trees.{Tree, weight_sum, picked}
-use Rattle.smp_split.specs.Walks.{Line, Leads, and_then}
+use Rattle.smp_split.specs.Paths.{Entry, entry_at, IsStep, Leads}
 
--- How a run ends: at a leaf with its path, where the values are exactly enough; with no value left where one is asked, after
--- so many were taken; at a value at a place that isn't below its bound; or at a leaf with so many values left.
-pub data Outcome (State : Type 0) : Type 0 where
-  leaf : State → List Line → Outcome State
-  short : ℕ → Outcome State
-  too_big : ℕ → ℕ → ℕ → Outcome State
-  long : ℕ → Outcome State
+-- How a run ends, with its path and what is left of the source: at a leaf, or at a state whose draw is refused.
+pub data Outcome (State Rest : Type 0) : Type 0 where
+  leaf : State → List Entry → Rest → Outcome State Rest
+  stopped : State → List Entry → DrawFault → Rest → Outcome State Rest
 
-abbrev pub at_end : {State : Type 0} → State → List Line → List ℕ → Outcome State
-at_end s path [] = leaf s path
-at_end s path (v ∷ values) = long (suc (length values))
+-- on from a value, or an end by a fault, with what is left of the source
+abbrev pub by_answer : {Rest End : Type 0} → Result ℕ DrawFault → Rest → (ℕ → Rest → End) → (DrawFault → Rest → End) → End
+by_answer (Ok value) rest on stop = on value rest
+by_answer (Err fault) rest on stop = stop fault rest
 
--- The run from a state, after this path and so many values taken. A bound of 1 takes no value and draws 0; any other takes the
--- next one. `steps` is at least the rank, so that no path is longer.
-abbrev pub run_within : {State : Type 0} → ℕ → Tree State → State → List Line → ℕ → List ℕ → Outcome State
-run_within zero tree s path taken values = at_end s path values
-run_within (suc steps) tree s path taken [] =
-    cond (tree.ended s) (at_end s path [])
-    (cond (nat_lt 1 (weight_sum (tree.parts s))) (short taken)
-    (run_within steps tree (picked s (tree.parts s) 0) (path ++ (tree.kind s, weight_sum (tree.parts s), 0) ∷ []) taken []))
-run_within (suc steps) tree s path taken (v ∷ values) =
-    cond (tree.ended s) (at_end s path (v ∷ values))
-    (cond (nat_lt 1 (weight_sum (tree.parts s)))
-    (cond (nat_lt v (weight_sum (tree.parts s)))
-    (run_within steps tree (picked s (tree.parts s) v) (path ++ (tree.kind s, weight_sum (tree.parts s), v) ∷ []) (taken + 1) values)
-    (too_big (taken + 1) v (weight_sum (tree.parts s))))
-    (run_within steps tree (picked s (tree.parts s) 0) (path ++ (tree.kind s, weight_sum (tree.parts s), 0) ∷ []) taken (v ∷ values)))
+-- The run from a state, after this path. `steps` is at least the rank, so that no path is longer.
+abbrev pub run_within : {State Rest : Type 0} → ℕ → Source Rest → Tree State → State → List Entry → Rest → Outcome State Rest
+run_within zero source tree s path rest = leaf s path rest
+run_within (suc steps) source tree s path rest =
+    if tree.done s then leaf s path rest
+    else (let drawn = source.next rest (weight_sum (tree.parts s)) in
+    by_answer drawn.answer drawn.rest
+    (λ value left. run_within steps source tree (picked s (tree.parts s) value) (path ++ entry_at tree s value ∷ []) left)
+    (λ fault left. stopped s path fault left))
 
--- the run from a state on the values that are left, where so many were taken
-abbrev pub run : {State : Type 0} → Tree State → State → ℕ → List ℕ → Outcome State
-run tree s taken values = run_within (tree.rank s) tree s [] taken values
+abbrev pub run : {State Rest : Type 0} → Source Rest → Tree State → State → Rest → Outcome State Rest
+run source tree state rest = run_within (tree.rank state) source tree state [] rest
 
--- a walk over a tape that came to a done state: the run's path leads there and was traced, and these values are left
-pub record RanTo {State : Type 0} (tree : Tree State) (from : State) (taken : ℕ) (values : List ℕ) (to : State) (left : List ℕ) (told telling : Option (List Line)) : Type 0 where
-  pub path : List Line
+-- ---- what a run comes to, without its steps
+
+-- the source gives the values of the path to its bounds, and then so much of it is left
+abbrev pub Gives : {Rest : Type 0} → Source Rest → Rest → List Entry → Rest → Type 0
+Gives source rest [] left = left ≡ rest
+Gives source rest (entry ∷ path) left =
+    ((source.next rest entry.1).answer ≡ Ok entry.2) × Gives source (source.next rest entry.1).rest path left
+
+-- the path leads to a leaf, and the source gives it
+pub record IsLeaf {State Rest : Type 0} (source : Source Rest) (tree : Tree State) (from : State) (rest : Rest) (to : State) (path : List Entry) (left : Rest) : Type 0 where
   pub leads : Leads tree from path to
-  pub done : tree.ended to ≡ true
-  pub ran : run tree from taken values ≡ at_end to path left
-  pub traced : telling ≡ and_then told path
+  pub done : tree.done to ≡ true
+  pub gives : Gives source rest path left
 
--- how many values a path takes
-abbrev pub drawn : List Line → ℕ
-drawn [] = 0
-drawn (line ∷ path) = cond (nat_lt 1 line.1) 1 0 + drawn path
+-- the path leads to a state that is not done, the source gives the path, and then it refuses the draw
+pub record IsStop {State Rest : Type 0} (source : Source Rest) (tree : Tree State) (from : State) (rest : Rest) (to : State) (path : List Entry) (fault : DrawFault) (left : Rest) : Type 0 where
+  pub asked : Rest
+  pub leads : Leads tree from path to
+  pub going : tree.done to ≡ false
+  pub gives : Gives source rest path asked
+  pub refused : source.next asked (weight_sum (tree.parts to)) ≡ record { answer = Err fault; rest = left }
+
+abbrev pub IsOutcome : {State Rest : Type 0} → Source Rest → Tree State → State → Rest → Outcome State Rest → Type 0
+IsOutcome source tree from rest (leaf to path left) = IsLeaf source tree from rest to path left
+IsOutcome source tree from rest (stopped to path fault left) = IsStop source tree from rest to path fault left
+
+-- ---- walks
+
+-- where a walk stands: at a state, with so much left of the source, and with these entries told, where entries are told
+pub record Position (State Rest : Type 0) : Type 0 where
+  pub state : State
+  pub rest : Rest
+  pub told : Option (List Entry)
+
+abbrev pub position : {State Rest : Type 0} → State → Rest → Option (List Entry) → Position State Rest
+position state rest told = record { state = state; rest = rest; told = told }
+
+-- the entries after these, where entries are told
+abbrev pub and_then : Option (List Entry) → List Entry → Option (List Entry)
+and_then None path = None
+and_then (Some told) path = Some (told ++ path)
+
+-- a walk to a leaf: the run leads there, and its path was told
+pub record Arrived {State Rest : Type 0} (source : Source Rest) (tree : Tree State) (old new : Position State Rest) : Type 0 where
+  pub path : List Entry
+  pub ran : run source tree old.state old.rest ≡ leaf new.state path new.rest
+  pub told : new.told ≡ and_then old.told path
+
+-- a walk whose draw was refused: the run stops there, and its path was told
+pub record Refused {State Rest : Type 0} (source : Source Rest) (tree : Tree State) (fault : DrawFault) (old new : Position State Rest) : Type 0 where
+  pub path : List Entry
+  pub ran : run source tree old.state old.rest ≡ stopped new.state path fault new.rest
+  pub told : new.told ≡ and_then old.told path
+
+-- a walk that stopped since a step wasn't told: its value was drawn, and the walk stands at the state that asked
+pub record Untold {State Rest : Type 0} (source : Source Rest) (tree : Tree State) (old new : Position State Rest) : Type 0 where
+  pub path : List Entry
+  pub value : ℕ
+  pub leads : Leads tree old.state path new.state
+  pub step : IsStep tree new.state (entry_at tree new.state value)
+  pub gives : Gives source old.rest (path ++ entry_at tree new.state value ∷ []) new.rest
+  pub told : new.told ≡ and_then old.told path

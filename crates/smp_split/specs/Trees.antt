@@ -1,6 +1,6 @@
 -- A selection design as a tree of weighted parts, and its lawful splits (Deville and Tillé 1998).
 use Rattle.std.specs.Prelude.{◌≡◌, ℕ, ◌+◌, ◌-◌, ◌*◌, ◌^◌, ◌≤◌, ◌<◌, Bool, true, false, cond, nat_lt, List, [], ◌∷◌}
-use Rattle.smp_split.specs.Fractions.{Fraction, Same, whole, plus, times}
+use Rattle.smp_fractions.specs.Fractions.{Fraction, Same, whole, plus, times}
 use Rattle.smp_split.specs.declared.kind.Kind.{Kind}
 
 -- a weight, and the state that has it
@@ -12,7 +12,7 @@ pub record Part (State : Type 0) : Type 0 where
 -- rank, the value of each unit, which is a fraction, and which units are selected in it
 pub record Tree (State : Type 0) : Type 0 where
   pub units : ℕ
-  pub ended : State → Bool
+  pub done : State → Bool
   pub kind : State → Kind
   pub parts : State → List (Part State)
   pub rank : State → ℕ
@@ -57,8 +57,8 @@ abbrev pub LawfulEnd : {State : Type 0} → Tree State → State → Type 0
 LawfulEnd tree state = (unit : ℕ) → unit < tree.units → Same (tree.value state unit) (whole (cond (tree.selected state unit) 1 0))
 
 pub record Lawful {State : Type 0} (tree : Tree State) (belongs : State → Type 0) : Type 0 where
-  pub split : (state : State) → belongs state → tree.ended state ≡ false → LawfulSplit tree belongs state
-  pub end : (state : State) → belongs state → tree.ended state ≡ true → LawfulEnd tree state
+  pub split : (state : State) → belongs state → tree.done state ≡ false → LawfulSplit tree belongs state
+  pub end : (state : State) → belongs state → tree.done state ≡ true → LawfulEnd tree state
 
 -- the sum of weight times a number of the part's state
 abbrev pub weighted_number : {State : Type 0} → (State → ℕ) → List (Part State) → ℕ

@@ -13,7 +13,7 @@ pub use kind::Kind;
 pub use order::UnitOrder;
 pub use splitting::{Splitting, mean_is_value};
 pub use trace::{Lines, NoMemory, NoTrace, Trace};
-pub use walking::{WalkFault, walk, walk_tape};
+pub use walking::{WalkFault, walk};
 
 #[cfg(test)]
 mod tests;

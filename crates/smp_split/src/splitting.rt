@@ -1,5 +1,5 @@
 ghost use Rattle.std.specs.Prelude.{◌≡◌, ℕ, ◌<◌, true, false};
-ghost use Rattle.smp_split.specs.Fractions.{Fraction, Same};
+ghost use Rattle.smp_fractions.specs.Fractions.{Fraction, Same};
 ghost use Rattle.smp_split.specs.Trees.{Tree, Lawful, weight_sum, picked};
 ghost use Rattle.smp_split.specs.Means.{mean, value_sum, inclusion_probability};
 
@@ -23,31 +23,31 @@ pub trait Splitting {
     /// Nothing is left to be drawn.
     fn done(&self, state: &Self::State) -> bool
         requires { belongs self.now state.now }
-        ensures { result ≡ (tree self.now).ended state.now };
+        ensures { result ≡ (tree self.now).done state.now };
 
     /// The kind of the next step.
     fn kind(&self, state: &Self::State) -> Kind
         requires state { belongs self.now state.now }
-        requires going { (tree self.now).ended state.now ≡ false }
+        requires going { (tree self.now).done state.now ≡ false }
         ensures { result ≡ (tree self.now).kind state.now };
 
     /// The bound that the next draw has to be below: the sum of the weights of the parts.
     fn bound(&self, state: &Self::State) -> u128
         requires state { belongs self.now state.now }
-        requires going { (tree self.now).ended state.now ≡ false }
+        requires going { (tree self.now).done state.now ≡ false }
         ensures { result ≡ weight_sum ((tree self.now).parts state.now) };
 
     /// Goes to the first part at which the cumulated weights pass the draw.
     fn advance(&self, state: &mut Self::State, draw: u128)
         requires state { belongs self.now state.old }
-        requires going { (tree self.now).ended state.old ≡ false }
+        requires going { (tree self.now).done state.old ≡ false }
         requires within { draw < weight_sum ((tree self.now).parts state.old) }
         ensures { state.new ≡ picked state.old ((tree self.now).parts state.old) draw };
 
     /// A unit is selected in a done state.
     fn selected(&self, state: &Self::State, unit: usize) -> bool
         requires state { belongs self.now state.now }
-        requires done { (tree self.now).ended state.now ≡ true }
+        requires done { (tree self.now).done state.now ≡ true }
         requires unit { unit < (tree self.now).units }
         ensures { result ≡ (tree self.now).selected state.now unit };
 

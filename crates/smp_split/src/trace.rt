@@ -1,5 +1,6 @@
 ghost use Rattle.std.specs.Prelude.{◌≡◌, Bool, true, false, List, [], ◌∷◌, Option, Some, None, OnOk, OnErr};
-ghost use Rattle.smp_split.specs.Walks.{Line, and_then};
+ghost use Rattle.smp_split.specs.Paths.{Entry};
+ghost use Rattle.smp_split.specs.Runs.{and_then};
 
 use crate::Kind;
 use std::alloc::{AllocError, Global};
@@ -18,7 +19,7 @@ impl From<AllocError> for NoMemory {
 /// What is told of each step of a walk.
 pub trait Trace {
     /// The lines so far, where they are told.
-    ghost lines: { Self → Option (List Line) };
+    ghost lines: { Self → Option (List Entry) };
 
     /// Whether a line may be refused.
     ghost may_refuse: { Bool };
@@ -51,7 +52,7 @@ pub struct Lines {
 }
 
 impl Model for Lines {
-    ghost Value = { List Line };
+    ghost Value = { List Entry };
 
     ghost view = { λ a. a.lines.items };
 }

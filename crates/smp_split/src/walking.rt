@@ -1,14 +1,12 @@
-ghost use Rattle.std.specs.Prelude.{◌≡◌, ◌≢◌, ◌⊎◌, ℕ, ◌+◌, ◌<◌, true, false, List, length, Option, OnOk, Err};
+ghost use Rattle.std.specs.Prelude.{◌≡◌, ℕ, ◌<◌, true, OnOk, Err};
+ghost use Rattle.smp_fractions.specs.Fractions.{Fraction, Same};
 ghost use Rattle.smp_tape.specs.declared.draws.DrawFault.{DrawFault};
-ghost use Rattle.smp_split.specs.Fractions.{Fraction, Same};
-ghost use Rattle.smp_split.specs.Trees.{weight_sum};
 ghost use Rattle.smp_split.specs.Means.{mean, value_sum, inclusion_probability};
-ghost use Rattle.smp_split.specs.Runs.{RanTo, run, short, too_big};
-ghost use Rattle.smp_split.specs.Walks.{Line, Arrived, Refused, Untraced, IsEnd, end_result, and_then};
+ghost use Rattle.smp_split.specs.Runs.{position, Arrived, Refused, Untold};
 ghost use Rattle.smp_split.specs.declared.walking.WalkFault.TheVariants as fault;
 
 use crate::{NoMemory, Splitting, Trace, mean_is_value};
-use smp_tape::{DrawFault, Draws, Tape};
+use smp_tape::{DrawFault, Draws};
 
 /// Why a walk stopped before the end.
 #[derive(Clone, Copy, Debug, PartialEq, Eq)]
@@ -35,9 +33,10 @@ impl From<NoMemory> for WalkFault {
     }
 }
 
-/// Goes down the tree of a design by draws, from a state to a done one.
+/// Goes down the tree of a design by draws, from a state to a done one. It ends as the run over the draws' source does.
 ///
-/// After a fault the state is the one that asked. Where the trace was refused, the value of that step was taken.
+/// After a refused draw the state is the one that asked, and so much is left of the draws as their source leaves: a value
+/// that a tape refuses stays on it. Where the trace was refused, the value of that step was taken.
 pub fn walk<S: Splitting, D: Draws, T: Trace>(
     design: &S,
     state: &mut S::State,
@@ -46,19 +45,27 @@ pub fn walk<S: Splitting, D: Draws, T: Trace>(
 ) -> Result<(), WalkFault>
     requires { S.belongs design.now state.old }
 
-    // How it ends: with the path, what the draws answered on it, and the lines that were told.
-    ensures arrived { OnOk result (Arrived (S.tree design.now) state.old state.new (D.answers draws.old) (D.answers draws.new) (T.lines trace.old) (T.lines trace.new)) }
-    ensures refused { (refusal : DrawFault) → result ≡ Err (WalkFault.Draw refusal) → Refused (S.tree design.now) state.old state.new (D.answers draws.old) (T.lines trace.old) (T.lines trace.new) refusal }
-    ensures untraced { result ≡ Err WalkFault.NoMemory → Untraced (S.tree design.now) state.old state.new (D.answers draws.old) (D.answers draws.new) (T.lines trace.old) (T.lines trace.new) }
+    // How it ends: at a leaf, at a state whose draw was refused, or at a step that wasn't told.
+    ensures arrived { OnOk result (Arrived D.source (S.tree design.now)
+        (position state.old draws.old (T.lines trace.old))
+        (position state.new draws.new (T.lines trace.new))) }
+    ensures refused { (refusal : DrawFault) → result ≡ Err (WalkFault.Draw refusal)
+        → Refused D.source (S.tree design.now) refusal
+        (position state.old draws.old (T.lines trace.old))
+        (position state.new draws.new (T.lines trace.new)) }
+    ensures untold { result ≡ Err WalkFault.NoMemory
+        → Untold D.source (S.tree design.now)
+        (position state.old draws.old (T.lines trace.old))
+        (position state.new draws.new (T.lines trace.new)) }
     ensures may_refuse { result ≡ Err WalkFault.NoMemory → T.may_refuse ≡ true }
     ensures belongs { S.belongs design.now state.new }
 
-    // However the draws lead from here, the walk ends so, unless a line was refused.
-    ensures exactly { (path : List Line) (to : S.State) (refusal : Option DrawFault) → IsEnd (S.tree design.now) (D.answers draws.old) state.old path to refusal → (result ≡ end_result refusal) ⊎ (result ≡ Err WalkFault.NoMemory) }
-
     // What a uniform draw at each step would give on average, from where it began.
-    ensures mean { (c : ℕ → Fraction) → Same (mean (S.tree design.now) c state.old) (value_sum (S.tree design.now) c state.old) }
-    ensures probability { (unit : ℕ) → unit < (S.tree design.now).units → Same (inclusion_probability (S.tree design.now) state.old unit) ((S.tree design.now).value state.old unit) }
+    ensures mean { (c : ℕ → Fraction)
+        → Same (mean (S.tree design.now) c state.old) (value_sum (S.tree design.now) c state.old) }
+    ensures probability { (unit : ℕ) → unit < (S.tree design.now).units
+        → Same (inclusion_probability (S.tree design.now) state.old unit)
+        ((S.tree design.now).value state.old unit) }
 {
     mean_is_value(design, state);
     while !design.done(state) {
@@ -69,24 +76,4 @@ pub fn walk<S: Splitting, D: Draws, T: Trace>(
         design.advance(state, value);
     }
     Ok(())
-}
-
-/// Goes down the tree of a design by the values of a tape: it ends as the run on the values that are left.
-pub fn walk_tape<S: Splitting, T: Trace>(
-    design: &S,
-    state: &mut S::State,
-    tape: &mut Tape,
-    trace: &mut T,
-) -> Result<(), WalkFault>
-    requires { S.belongs design.now state.old }
-    ensures arrived { OnOk result (RanTo (S.tree design.now) state.old (length tape.old.taken) tape.old.left state.new tape.new.left (T.lines trace.old) (T.lines trace.new)) }
-    ensures short { result ≡ Err (WalkFault.Draw DrawFault.Short) → run (S.tree design.now) state.old (length tape.old.taken) tape.old.left ≡ short (length tape.old.taken + length tape.old.left) }
-    ensures too_big { (place value : ℕ) → result ≡ Err (WalkFault.Draw (DrawFault.TooBig place value)) → run (S.tree design.now) state.old (length tape.old.taken) tape.old.left ≡ too_big place value (weight_sum ((S.tree design.now).parts state.new)) }
-    ensures rejected { (bound : ℕ) → result ≢ Err (WalkFault.Draw (DrawFault.Rejected bound)) }
-    // The state is then the one that asked.
-    ensures going { (refusal : DrawFault) → result ≡ Err (WalkFault.Draw refusal) → (S.tree design.now).ended state.new ≡ false }
-    ensures may_refuse { result ≡ Err WalkFault.NoMemory → T.may_refuse ≡ true }
-    ensures belongs { S.belongs design.now state.new }
-{
-    walk(design, state, tape, trace)
 }

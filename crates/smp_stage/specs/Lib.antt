@@ -1,5 +1,4 @@
 pub mod Coordinates
-pub mod Embeds
 pub mod Stages
-pub mod Laws
 pub mod Starts
+pub mod Laws

@@ -16,7 +16,8 @@ use Rattle.smp_brewer.specs.Offers.{Brewing, IsBrewing, units_of, brewing_tree}
 use Rattle.smp_localpiv.specs.Local as locals
 use Rattle.smp_localpiv.specs.Local.{Local, IsLocal, local_tree}
 use Rattle.smp_stage.specs.Coordinates.{points_of}
-use Rattle.smp_stage.specs.Embeds.{embedded, Inside}
+use Rattle.smp_split.specs.Embeds.{embedded}
+use Rattle.smp_split.specs.Lenses.{Inside}
 use Rattle.smp_stage.specs.declared.procedure.Dimensions.TheVariants.{One, Two, Three, Four}
 use Rattle.smp_stage.specs.declared.procedure.Procedure.{Procedure}
 use Rattle.smp_stage.specs.declared.procedure.Procedure.TheVariants as procedure
@@ -93,16 +94,22 @@ stage_tree (stages.LocalPivotal4 design) = embedded states.LocalPivotal4 local4_
 
 -- the states of a design
 abbrev pub BelongsToStage : Stage → StageState → Type 0
-BelongsToStage (stages.Pivotal design) state = Inside states.Pivotal pivotal_state (pivotal_tree (length design.state.numer)) (IsPivotal (length design.state.numer) design.state.den) state
-BelongsToStage (stages.Systematic design) state = Inside states.Systematic systematic_state (systematic_tree (length design.state.numer)) (IsSystematic (length design.state.numer)) state
-BelongsToStage (stages.MinimumSupport design) state = Inside states.MinimumSupport support_state (support_tree (length design.numer)) (IsSupport (length design.numer)) state
-BelongsToStage (stages.Brewer design) state = Inside states.Brewer brewer_state (brewing_tree (units_of design)) (IsBrewing (units_of design)) state
-BelongsToStage (stages.LocalPivotal1 design) state = Inside states.LocalPivotal1 local1_state (local_tree (length design.state.numer)) (IsLocal (length design.state.numer) design.state.den) state
-BelongsToStage (stages.LocalPivotal2 design) state = Inside states.LocalPivotal2 local2_state (local_tree (length design.state.numer)) (IsLocal (length design.state.numer) design.state.den) state
-BelongsToStage (stages.LocalPivotal3 design) state = Inside states.LocalPivotal3 local3_state (local_tree (length design.state.numer)) (IsLocal (length design.state.numer) design.state.den) state
-BelongsToStage (stages.LocalPivotal4 design) state = Inside states.LocalPivotal4 local4_state (local_tree (length design.state.numer)) (IsLocal (length design.state.numer) design.state.den) state
+BelongsToStage (stages.Pivotal design) state = Inside states.Pivotal (IsPivotal (length design.state.numer) design.state.den) state
+BelongsToStage (stages.Systematic design) state = Inside states.Systematic (IsSystematic (length design.state.numer)) state
+BelongsToStage (stages.MinimumSupport design) state = Inside states.MinimumSupport (IsSupport (length design.numer)) state
+BelongsToStage (stages.Brewer design) state = Inside states.Brewer (IsBrewing (units_of design)) state
+BelongsToStage (stages.LocalPivotal1 design) state = Inside states.LocalPivotal1 (IsLocal (length design.state.numer) design.state.den) state
+BelongsToStage (stages.LocalPivotal2 design) state = Inside states.LocalPivotal2 (IsLocal (length design.state.numer) design.state.den) state
+BelongsToStage (stages.LocalPivotal3 design) state = Inside states.LocalPivotal3 (IsLocal (length design.state.numer) design.state.den) state
+BelongsToStage (stages.LocalPivotal4 design) state = Inside states.LocalPivotal4 (IsLocal (length design.state.numer) design.state.den) state
 
 -- The units drawn are whole in number: the shapes add up to the total, and none is drawn where no unit is free.
 pub record IsWhole (request : Request) : Type 0 where
   pub total : sum request.shape ≡ request.total
   pub none_free : length request.free ≡ 0 → request.r ≡ 0
+
+-- What a procedure needs of the number of units drawn: minimum support and Brewer's method that it is whole, the others nothing.
+abbrev pub NeedsWhole : Procedure → Request → Type 0
+NeedsWhole procedure.MinimumSupport request = IsWhole request
+NeedsWhole procedure.Brewer request = IsWhole request
+NeedsWhole other request = Unit {0}

@@ -1,5 +1,5 @@
 ghost use Rattle.smp_stage.specs.Stages.{stage_tree, BelongsToStage};
-ghost use Rattle.smp_stage.specs.Laws.{stage_lawful};
+ghost use Rattle.smp_stage.specs.Laws.Stages.{stage_lawful};
 
 use smp_brewer::{Brewer, BrewerState};
 use smp_localpiv::{LocalPivotal, LocalState};

@@ -1,10 +1,11 @@
 ghost use Rattle.std.specs.Prelude.{◌≡◌, ◌≤◌, length, IfOk};
 ghost use Rattle.smp_prob.specs.Requests.{IsRequest};
+ghost use Rattle.smp_split.specs.Counts.{AddsUp};
 ghost use Rattle.smp_rows.specs.Rows.{Serves};
 ghost use Rattle.smp_localpiv.specs.Local.{IsLocal, local_tree, started};
 ghost use Rattle.smp_prob.specs.Shares.{shares_of};
 ghost use Rattle.smp_stage.specs.Coordinates.{points_of};
-ghost use Rattle.smp_stage.specs.Stages.{IsWhole};
+ghost use Rattle.smp_stage.specs.Stages.{IsWhole, NeedsWhole};
 ghost use Rattle.smp_stage.specs.Starts.{IsStarted};
 ghost use Rattle.smp_stage.specs.declared.procedure.Procedure.TheVariants as procedure;
 
@@ -39,7 +40,7 @@ impl Started {
         units: &[Unit],
     ) -> Result<Started, NoMemory>
         requires request { IsRequest request.now }
-        requires whole { IsWhole request.now }
+        requires whole { NeedsWhole procedure request.now }
         ensures { IfOk result (IsStarted procedure request.now units.now) }
     {
         match procedure {
@@ -61,7 +62,6 @@ fn pivotal(
     _units: &[Unit],
 ) -> Result<Started, NoMemory>
     requires request { IsRequest request.now }
-    requires whole { IsWhole request.now }
     ensures { IfOk result (IsStarted (procedure.Pivotal order) request.now _units.now) }
 {
     let design = Pivotal::new(alloc, request, order)?;
@@ -79,7 +79,6 @@ fn systematic(
     _units: &[Unit],
 ) -> Result<Started, NoMemory>
     requires request { IsRequest request.now }
-    requires whole { IsWhole request.now }
     ensures { IfOk result (IsStarted (procedure.Systematic order) request.now _units.now) }
 {
     let design = Systematic::new(alloc, request, order)?;
@@ -123,12 +122,15 @@ fn local<const K: usize>(
     units: &[Unit],
 ) -> Result<(LocalPivotal<K>, LocalState<K>), NoMemory>
     requires request { IsRequest request.now }
-    requires whole { IsWhole request.now }
     requires few { (1 ≤ K) × (K ≤ 4) }
     ensures design { IfOk result (λ local. local.0 ≡ started request.now (points_of K request.now units.now)) }
     ensures state { IfOk result (λ local. local.1 ≡ started request.now (points_of K request.now units.now)) }
-    ensures belongs { IfOk result (λ local. IsLocal (length (shares_of request.now).numer) (shares_of request.now).den local.1) }
-    ensures serves { IfOk result (λ local. Serves request.now (local_tree (length (shares_of request.now).numer)) local.1) }
+    ensures belongs { IfOk result (λ local.
+        IsLocal (length (shares_of request.now).numer) (shares_of request.now).den local.1) }
+    ensures serves { IfOk result (λ local.
+        Serves request.now (local_tree (length (shares_of request.now).numer)) local.1) }
+    ensures whole { IfOk result (λ local. IsWhole request.now →
+        AddsUp (local_tree (length (shares_of request.now).numer)) request.now.r local.1) }
 {
     let points = points::<K>(alloc, request, units)?;
     let design = LocalPivotal::new(alloc, request, points.as_slice())?;
@@ -154,7 +156,6 @@ fn local_pivotal(
     units: &[Unit],
 ) -> Result<Started, NoMemory>
     requires request { IsRequest request.now }
-    requires whole { IsWhole request.now }
     ensures { IfOk result (IsStarted (procedure.LocalPivotal dimensions) request.now units.now) }
 {
     match dimensions {

@@ -5,8 +5,8 @@ use Rattle.std.proofs.lemmas.List.{get_or-set_same, get_or-set_other}
 use Rattle.std.proofs.lemmas.List.FromFn.{fill_by_all}
 use Rattle.smp_prob.specs.Shares.{Shares}
 use Rattle.smp_systematic.specs.Systematic.{cumulated, takes, sampled}
-use Rattle.smp_systematic.specs.Points.{IsGap, meets_is, next_gap}
-use Rattle.smp_systematic.specs.Splits.{cumulated_next}
+use Rattle.smp_systematic.specs.Laws.Points.{IsGap, meets_is, next_gap}
+use Rattle.smp_systematic.specs.Laws.Splits.{cumulated_next}
 
 -- the values after a draw, as far as the pass has come, and how far the next point lies from there
 pub record IsSampling (s : Shares) (draw : ℕ) (numer : List ℕ) (gap place : ℕ) : Type 0 where

@@ -12,8 +12,8 @@ use Rattle.smp_split.proofs.Orders.{inner_bound, inner_picked, place_in}
 use Rattle.smp_split.proofs.Parts.{weight_sum-equal, picked-equal}
 use Rattle.smp_prob.specs.Shares.{Shares}
 use Rattle.smp_systematic.specs.Systematic.{IsSystematic, Meets, cumulated, takes, sampled, places_tree, exchanged_shares, systematic_tree}
-use Rattle.smp_systematic.specs.Points.{meets_decides, sum_same}
-use Rattle.smp_systematic.specs.Splits.{sampled_at, draws_taking}
+use Rattle.smp_systematic.specs.Laws.Points.{meets_decides, sum_same}
+use Rattle.smp_systematic.specs.Laws.Splits.{sampled_at, draws_taking}
 
 either_is : (den : ℕ) (b : Bool) → 1 ≤ den → nat_eq (cond b den 0) den ≡ b
 either_is den true one = eq-eqb den den refl

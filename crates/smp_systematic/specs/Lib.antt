@@ -1,3 +1,2 @@
 pub mod Systematic
-pub mod Points
-pub mod Splits
+pub mod Laws

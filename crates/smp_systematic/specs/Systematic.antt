@@ -7,11 +7,11 @@ use Rattle.smp_prob.specs.declared.orders.Order.{Order}
 use Rattle.smp_prob.specs.declared.orders.Order.TheVariants.{Frame, Random}
 use Rattle.smp_prob.specs.declared.requests.Request.{Request}
 use Rattle.smp_prob.specs.Shares.{Shares, shares_of}
-use Rattle.smp_split.specs.Fractions.{Fraction, over}
+use Rattle.smp_fractions.specs.Fractions.{Fraction, over}
 use Rattle.smp_split.specs.Numerators.{fractional}
 use Rattle.smp_split.specs.Trees.{Tree}
 use Rattle.smp_split.specs.Parts.{equal_parts}
-use Rattle.smp_split.specs.Orders.{Placing, Ordered, IsOrdered, frame_order, undrawn_order, ordered_tree}
+use Rattle.smp_split.specs.Orders.{Placing, Ordered, IsInOrder, frame_order, undrawn_order, ordered_tree}
 use Rattle.smp_split.specs.declared.kind.Kind.TheVariants.{System}
 
 -- the sum of the first k numerators
@@ -50,7 +50,7 @@ is_done s = not (list_any (fractional s.den) s.numer)
 abbrev pub places_tree : ℕ → Tree Shares
 places_tree units = record {
   units = units;
-  ended = is_done;
+  done = is_done;
   kind = λ _. System;
   parts = λ s. equal_parts s.den (sampled s);
   rank = λ s. if is_done s then 0 else 1;
@@ -76,7 +76,7 @@ systematic_tree units = ordered_tree (places_tree units) exchanged_shares
 
 -- a state of a selection of so many units
 abbrev pub IsSystematic : ℕ → Ordered Shares → Type 0
-IsSystematic units s = IsOrdered units (IsShares units) s
+IsSystematic units s = IsInOrder units (IsShares units) s
 
 -- what the code keeps of a design: values of which each is fractional
 pub record IsOpen (s : Shares) : Type 0 where
@@ -93,13 +93,5 @@ abbrev pub started : Request → Order → Ordered Shares
 started request order = record { order = first_order order (length (shares_of request).numer); state = shares_of request }
 
 -- the value of a unit
-abbrev pub value_of : Ordered Shares → ℕ → Fraction
-value_of s unit = over (slice_index s.state.numer (slice_index s.order.places unit)) s.state.den
-
--- the probability that is requested of a free unit
-abbrev pub requested : Request → ℕ → Fraction
-requested request unit = over (slice_index request.shape unit * request.r) request.total
-
--- the values' sum is n
-abbrev pub SumsTo : ℕ → Ordered Shares → Type 0
-SumsTo n s = sum s.state.numer ≡ n * s.state.den
+abbrev pub systematic_value : Ordered Shares → ℕ → Fraction
+systematic_value s unit = over (slice_index s.state.numer (slice_index s.order.places unit)) s.state.den

@@ -3,15 +3,16 @@
 
 ghost use Rattle.std.specs.Prelude.{◌≡◌, ℕ, ◌+◌, ◌<◌, ◌≤◌, false, length, slice_index, sum, IfOk};
 ghost use Rattle.std.specs.Bool.{Decides};
+ghost use Rattle.smp_prob.specs.Standings.{free_fraction};
 ghost use Rattle.smp_prob.specs.Requests.{IsRequest};
 ghost use Rattle.smp_prob.specs.Shares.{Shares};
-ghost use Rattle.smp_split.specs.Fractions.{Fraction, Same};
+ghost use Rattle.smp_fractions.specs.Fractions.{Fraction, Same};
 ghost use Rattle.smp_split.specs.Trees.{weight_sum, picked};
 ghost use Rattle.smp_split.specs.Means.{mean, value_sum, inclusion_probability};
 ghost use Rattle.smp_split.specs.Orders.{Ordered, frame_order};
-ghost use Rattle.smp_split.specs.Counts.{LeavesSelect, draws_selecting};
-ghost use Rattle.smp_systematic.specs.Systematic.{IsOpen, IsSystematic, Meets, SumsTo, cumulated, first_order, started, requested, value_of, systematic_tree};
-ghost use Rattle.smp_systematic.specs.Splits.{systematic_lawful};
+ghost use Rattle.smp_split.specs.Counts.{AddsUp, LeavesSelect, draws_selecting};
+ghost use Rattle.smp_systematic.specs.Systematic.{IsOpen, IsSystematic, Meets, cumulated, first_order, started, systematic_value, systematic_tree};
+ghost use Rattle.smp_systematic.specs.Laws.Splits.{systematic_lawful};
 
 use crate::state::SystematicState;
 use smp_frac::NoMemory;
@@ -57,10 +58,12 @@ impl Systematic {
 
         // Each unit starts with the probability that is requested of it.
         ensures values { IfOk result (λ design. (unit : ℕ) → unit < length request.now.free →
-            Same (value_of design unit) (requested request.now unit)) }
+            Same (systematic_value design unit) (free_fraction request.now unit)) }
 
-        // Where the shapes add up to the total, the sum of the values is `r`.
-        ensures whole { IfOk result (λ design. 1 ≤ length request.now.free → sum request.now.shape ≡ request.now.total → SumsTo request.now.r design) }
+        // Where the shapes add up to the total, the values add up to `r`.
+        ensures whole { IfOk result (λ design. 1 ≤ length request.now.free →
+            sum request.now.shape ≡ request.now.total →
+            AddsUp (systematic_tree (length design.state.numer)) request.now.r design) }
     {
         let den = request.common_denominator() as u128;
         Ok(Systematic {
@@ -82,13 +85,17 @@ impl Systematic {
 
         // In particular, each unit's probability of selection is its value.
         ensures probability { IfOk result (λ state. (unit : ℕ) → unit < length self.now.state.numer →
-            Same (inclusion_probability (systematic_tree (length self.now.state.numer)) state unit) (value_of self.now unit)) }
+            Same (inclusion_probability (systematic_tree (length self.now.state.numer)) state unit) (systematic_value self.now unit)) }
 
-        // Where the sum of the values is whole, each leaf selects that many units.
-        ensures count { IfOk result (λ state. (n : ℕ) → SumsTo n self.now → LeavesSelect (systematic_tree (length self.now.state.numer)) n state) }
+        // Where the values add up to a whole number, each leaf selects that many units.
+        ensures count { IfOk result (λ state. (n : ℕ) →
+            AddsUp (systematic_tree (length self.now.state.numer)) n state →
+            LeavesSelect (systematic_tree (length self.now.state.numer)) n state) }
 
         // In the order of the frame, each unit is selected by exactly as many of the draws as its numerator says.
-        ensures draws { IfOk result (λ state. self.now.order ≡ frame_order (length self.now.state.numer) → (unit : ℕ) → unit < length self.now.state.numer →
+        ensures draws { IfOk result (λ state.
+            self.now.order ≡ frame_order (length self.now.state.numer) →
+            (unit : ℕ) → unit < length self.now.state.numer →
             draws_selecting (systematic_tree (length self.now.state.numer)) state unit ≡ slice_index self.now.state.numer unit) }
     {
         let state = self.first_state(alloc)?;
@@ -144,7 +151,7 @@ impl Splitting for Systematic {
 pub fn draws_of_units(design: &Systematic, state: &SystematicState)
     requires belongs { IsSystematic (length design.now.state.numer) state.now }
     requires drawn { state.now.order.left ≡ 0 }
-    requires going { (systematic_tree (length design.now.state.numer)).ended state.now ≡ false }
+    requires going { (systematic_tree (length design.now.state.numer)).done state.now ≡ false }
 
     // There are as many draws as the common denominator says.
     ensures bound { weight_sum ((systematic_tree (length design.now.state.numer)).parts state.now) ≡ state.now.state.den }

@@ -35,7 +35,7 @@ impl SystematicState {
 
     /// Whether no step is left: the order is drawn, and each value is 0 or 1.
     pub fn is_done(&self) -> bool
-        ensures { result ≡ (systematic_tree (length self.now.state.numer)).ended self.now }
+        ensures { result ≡ (systematic_tree (length self.now.state.numer)).done self.now }
     {
         self.order.is_drawn() && are_settled(self.numer.as_slice(), self.den)
     }

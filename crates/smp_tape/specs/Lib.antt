@@ -1,4 +1,5 @@
-pub mod Reads
-pub mod Settled
-pub mod TapeText
+pub mod Sources
 pub mod Tapes
+pub mod TapeText
+pub mod Reads
+pub mod Laws

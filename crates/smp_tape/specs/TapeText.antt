@@ -16,8 +16,8 @@ lines_in [] = []
 lines_in (b ∷ text) = if b == 10 then [] ∷ lines_in text else in_front b (lines_in text)
 
 -- the value of a line of decimal digits, where it is below 2^128; one carriage return, the byte 13, may stand behind them
-abbrev pub value_of : List ℕ → Option ℕ
-value_of line = number_below (2 ^ 128) (strip_last 13 line)
+abbrev pub line_value : List ℕ → Option ℕ
+line_value line = number_below (2 ^ 128) (strip_last 13 line)
 
 -- a value and then others; where it is missing, the fault of its line
 abbrev pub value_and : ℕ → Option ℕ → Result (List ℕ) TapeFault → Result (List ℕ) TapeFault
@@ -28,7 +28,7 @@ value_and number (Some value) (Ok values) = Ok (value ∷ values)
 -- the values of lines, of which the first has this number; or the first line that has none
 abbrev pub values_from : ℕ → List (List ℕ) → Result (List ℕ) TapeFault
 values_from number [] = Ok []
-values_from number (line ∷ lines) = value_and number (value_of line) (values_from (number + 1) lines)
+values_from number (line ∷ lines) = value_and number (line_value line) (values_from (number + 1) lines)
 
 -- the values of a tape, a value a line; or the first line, counted from 1, that has none
 unfoldable pub tape_of : List ℕ → Result (List ℕ) TapeFault

@@ -1,5 +1,5 @@
-ghost use Rattle.std.specs.Prelude.{◌≡◌, ℕ, ◌^◌, ◌<◌, ◌≤◌, List, [], ◌∷◌, ◌++◌, length, take, IfOk, IfErr, Result, Ok, Err};
-ghost use Rattle.smp_tape.specs.declared.draws.DrawFault.{DrawFault};
+ghost use Rattle.std.specs.Prelude.{◌≡◌, ◌^◌, ◌<◌, ◌≤◌, IfOk};
+ghost use Rattle.smp_tape.specs.Sources.{Source, Drawn};
 
 /// Why a draw was refused.
 #[derive(Clone, Copy, Debug, PartialEq, Eq)]
@@ -12,23 +12,15 @@ pub enum DrawFault {
     Rejected { bound: u128 },
 }
 
-/// A source of draws. It is known by its answers to every list of bounds.
+/// A source of draws. It is known by a pure step over what it is seen as.
 pub trait Draws {
-    /// The answers to these bounds, asked one after another, up to and with the first fault.
-    ghost answers: { Self → List ℕ → List (Result ℕ DrawFault) };
+    /// What it answers to a bound, and what is left of it then.
+    ghost source: { Source Self };
 
-    /// A whole number below the bound. One that is below 1 is 0, and changes no later answer.
+    /// A whole number below the bound. One that is below 1 is 0, and leaves the source as it is.
     fn below(&mut self, bound: u128) -> Result<u128, DrawFault>
         requires positive { 1 ≤ bound }
         requires narrow { bound < 2 ^ 126 }
-        ensures below { IfOk result (λ v. v < bound) }
-        ensures ok { IfOk result (λ v. (rest : List ℕ) → answers self.old (bound ∷ rest) ≡ Ok v ∷ answers self.new rest) }
-        ensures err { IfErr result (λ f. (rest : List ℕ) → answers self.old (bound ∷ rest) ≡ Err f ∷ []) }
-        ensures one { bound ≡ 1 → (result ≡ Ok 0) × ((rest : List ℕ) → answers self.new rest ≡ answers self.old rest) };
-
-    /// Where nothing is asked, nothing is answered.
-    ghost unasked: { (draws : Self) → answers draws [] ≡ [] };
-
-    /// What is answered to some bounds doesn't depend on those that are asked after them.
-    ghost settled: { (draws : Self) (bounds more : List ℕ) → take (length bounds) (answers draws (bounds ++ more)) ≡ answers draws bounds };
+        ensures drawn { source.next self.old bound ≡ record { answer = result; rest = self.new } }
+        ensures below { IfOk result (λ value. value < bound) };
 }

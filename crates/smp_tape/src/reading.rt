@@ -41,7 +41,7 @@ fn first_line(text: &[u8]) -> (&[u8], &[u8])
 }
 
 fn value_of(line: &[u8]) -> Option<u128>
-    ensures { result ≡ TapeText.value_of line.now }
+    ensures { result ≡ TapeText.line_value line.now }
 {
     number(without_carriage_return(line))
 }

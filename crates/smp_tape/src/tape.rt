@@ -1,9 +1,8 @@
-ghost use Rattle.std.specs.Prelude.{◌≡◌, ℕ, ◌+◌, ◌-◌, ◌^◌, ◌<◌, ◌≤◌, List, [], ◌∷◌, ◌++◌, length, take, drop, map, option_map, IfOk, IfErr, OnErr, Result, Ok, Err, refl};
-ghost use Rattle.smp_tape.specs.declared.draws.DrawFault.{DrawFault};
-ghost use Rattle.smp_tape.specs.Tapes.{Values, tape_draw, tape_answers};
-ghost use Rattle.smp_tape.specs.TapeText.{tape_of};
+ghost use Rattle.std.specs.Prelude.{◌≡◌, ◌≤◌, [], length, take, drop, IfOk};
+ghost use Rattle.smp_tape.specs.Laws.Tapes.{tape_source};
 ghost use Rattle.smp_tape.specs.Reads.{ReadsTape};
-ghost use Rattle.smp_tape.specs.Settled.{tape_settled};
+ghost use Rattle.smp_tape.specs.TapeText.{tape_of};
+ghost use Rattle.smp_tape.specs.Tapes.{Values};
 
 use crate::reading::values_in;
 use crate::{DrawFault, Draws, TapeFault};
@@ -70,27 +69,10 @@ impl Tape {
 }
 
 impl Draws for Tape {
-    ghost answers = { λ tape bounds. tape_answers (length tape.taken + 1) tape.left bounds };
-
-    ghost unasked = { λ _. refl };
-
-    ghost settled = { λ tape bounds more. tape_settled (length tape.taken + 1) tape.left bounds more };
+    ghost source = { tape_source };
 
     /// The next value, where the bound is 2 or more: it is then taken, and it stays where it is refused.
-    fn below(&mut self, bound: u128) -> Result<u128, DrawFault>
-        requires positive { 1 ≤ bound }
-        requires narrow { bound < 2 ^ 126 }
-        ensures below { IfOk result (λ v. v < bound) }
-        ensures ok { IfOk result (λ v. (rest : List ℕ) → tape_answers (length self.old.taken + 1) self.old.left (bound ∷ rest) ≡ Ok v ∷ tape_answers (length self.new.taken + 1) self.new.left rest) }
-        ensures err { IfErr result (λ f. (rest : List ℕ) → tape_answers (length self.old.taken + 1) self.old.left (bound ∷ rest) ≡ Err f ∷ []) }
-        ensures one { bound ≡ 1 → (result ≡ Ok 0) × ((rest : List ℕ) → tape_answers (length self.new.taken + 1) self.new.left rest ≡ tape_answers (length self.old.taken + 1) self.old.left rest) }
-
-        // The answer is that of the definition; a bound of 1 and a refusal leave the tape as it is.
-        ensures exact { result ≡ tape_draw (length self.old.taken + 1) self.old.left bound }
-        ensures kept { bound ≡ 1 → self.new ≡ self.old }
-        ensures moved { 1 < bound → IfOk result (λ v. (self.old.left ≡ v ∷ self.new.left) × (self.new.taken ≡ self.old.taken ++ v ∷ [])) }
-        ensures refused { OnErr result (self.new ≡ self.old) }
-    {
+    fn below(&mut self, bound: u128) -> Result<u128, DrawFault> {
         if bound == 1 {
             return Ok(0);
         }

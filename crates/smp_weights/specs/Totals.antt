@@ -1,5 +1,5 @@
 -- Weighted totals, by what each step of the exact arithmetic answers.
-use Rattle.std.specs.Prelude.{◌≡◌, ℕ, ◌*◌, ◌/◌, ◌^◌, ◌<◌, ◌≤◌, max, Bool, true, false, if◌then◌else◌, List, [], ◌∷◌, filter, ℤ, unsigned_abs, IfOk, OnOk, OnErr}
+use Rattle.std.specs.Prelude.{◌≡◌, ℕ, ◌*◌, ◌/◌, ◌^◌, ◌<◌, ◌≤◌, max, Bool, if◌then◌else◌, List, [], ◌∷◌, filter, ℤ, unsigned_abs, IfOk, OnOk, OnErr}
 use Rattle.std.specs.Prelude.{Result, Ok, Err}
 use Rattle.std.proofs.Common.{refl}
 use Rattle.std.specs.Int.{is_negative, is_positive}
@@ -7,9 +7,9 @@ use Rattle.smp_frac.specs.declared.fractions.Frac.{Frac}
 use Rattle.smp_frac.specs.declared.fractions.Wide.{Wide}
 use Rattle.smp_frac.specs.declared.signed.Signed.{Signed}
 use Rattle.smp_frac.specs.Divisors.{greatest_common_divisor}
-use Rattle.smp_frac.specs.Fractions.{IsRatio, IsSum, sum_size, difference_size}
-use Rattle.smp_split.specs.Fractions.{positive_one}
-use Rattle.smp_weights.specs.Chosen.{Chosen}
+use Rattle.smp_frac.specs.Fractions.{fraction, signed_fraction, sum_size, difference_size}
+use Rattle.smp_fractions.specs.Fractions.{Fraction, Same, positive_one, whole, plus, minus, times}
+use Rattle.smp_weights.specs.Chosen.{Chosen, weight}
 
 -- a value as described where the greatest number that it needs is below 2^126, and else `Wide`
 pub record IsAnswer {A : Type 0} (IsValue : A → Type 0) (size : ℕ) (answer : Result A Wide) : Type 0 where
@@ -21,23 +21,22 @@ pub record IsAnswer {A : Type 0} (IsValue : A → Type 0) (size : ℕ) (answer :
 abbrev pub ratio_size : ℕ → ℕ → ℕ
 ratio_size n d = let divisor = greatest_common_divisor n d in max (n / divisor) (d / divisor)
 
--- the size of a unit's value, divided by its inclusion probability, which is above zero
+-- the size of a unit's value, times its weight
+abbrev pub sized : Chosen ℤ → Fraction
+sized u = times (whole (unsigned_abs u.value)) (weight u.asked)
+
+-- the term of a unit, whose inclusion probability is above zero
 pub record IsTerm (u : Chosen ℤ) (answer : Result Frac Wide) : Type 0 where
   pub positive : 1 ≤ u.asked.num
-  pub quotient : IsAnswer (IsRatio (unsigned_abs u.value * u.asked.den) u.asked.num) (ratio_size (unsigned_abs u.value * u.asked.den) u.asked.num) answer
+  pub quotient : IsAnswer (λ f. Same (fraction f) (sized u)) (ratio_size (unsigned_abs u.value * u.asked.den) u.asked.num) answer
 
 -- adding q to p answers this
 abbrev pub Adds : Frac → Frac → Result Frac Wide → Type 0
-Adds p q = IsAnswer (IsSum p q) (sum_size p q)
-
--- d is p less q
-pub record IsDifference (p q : Frac) (d : Signed) : Type 0 where
-  pub above : d.minus ≡ false → IsSum q d.size p
-  pub below : d.minus ≡ true → IsSum p d.size q
+Adds p q = IsAnswer (λ s. Same (fraction s) (plus (fraction p) (fraction q))) (sum_size p q)
 
 -- taking q from p answers this
 abbrev pub Subtracts : Frac → Frac → Result Signed Wide → Type 0
-Subtracts p q = IsAnswer (IsDifference p q) (difference_size p q)
+Subtracts p q = IsAnswer (λ d. Same (signed_fraction d) (minus (fraction p) (fraction q))) (difference_size p q)
 
 pub zero_lowest : greatest_common_divisor 0 1 ≡ 1
 unfolding greatest_common_divisor

@@ -10,7 +10,8 @@ use std::alloc::Global;
 // Appends the row of a chosen unit.
 fn push_unit(alloc: Global, text: &mut Bytes, id: &Text, asked: Frac) -> Result<(), NoMemory>
     requires { 1 ≤ asked.num }
-    ensures { OnOk result (text.new ≡ text.old ++ sample_row (record { value = id.now; asked = asked })) }
+    ensures { OnOk result (text.new
+        ≡ text.old ++ sample_row (record { value = id.now; asked = asked })) }
 {
     let mut weight = Bytes::new(alloc);
     weight_of(asked).write(&mut weight)?;

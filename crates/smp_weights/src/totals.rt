@@ -1,9 +1,10 @@
 ghost use Rattle.std.specs.Prelude.{◌≡◌, ◌≤◌, length, filter, IfOk};
-ghost use Rattle.smp_split.specs.Fractions.{Same};
+ghost use Rattle.smp_fractions.specs.Fractions.{Same};
+ghost use Rattle.smp_frac.specs.Fractions.{signed_fraction};
 ghost use Rattle.smp_weights.specs.Chosen.{ChosenArePositive, chosen_units};
 ghost use Rattle.smp_weights.specs.Totals as Totals;
 ghost use Rattle.smp_weights.specs.Totals.{AddsTerm, AddsUp, IsEstimate, IsTerm, zero};
-ghost use Rattle.smp_weights.specs.Values.{signed_fraction, weighted_total};
+ghost use Rattle.smp_weights.specs.Values.{weighted_total};
 
 use crate::weights::weight_of;
 use smp_frac::{Frac, Signed, Wide, difference};
@@ -37,7 +38,9 @@ fn total(minus: bool, values: &[i64], asked: &[Frac], chosen: &[bool]) -> Result
     requires asked { length asked.now ≡ length values.now }
     requires chosen { length chosen.now ≡ length values.now }
     requires positive { ChosenArePositive asked.now chosen.now }
-    ensures { AddsUp zero (filter (λ u. Totals.has_sign minus u.value) (chosen_units values.now asked.now chosen.now)) result }
+    ensures { AddsUp zero
+        (filter (λ u. Totals.has_sign minus u.value)
+        (chosen_units values.now asked.now chosen.now)) result }
 {
     let mut total = Frac::new(0, 1).unwrap();
     for (place, &value) in values.iter().enumerate() {
@@ -62,7 +65,8 @@ pub fn estimate(values: &[i64], asked: &[Frac], chosen: &[bool]) -> Result<Signe
     ensures answer { IsEstimate (chosen_units values.now asked.now chosen.now) result }
 
     // its value, in exact fractions
-    ensures value { IfOk result (λ total. Same (signed_fraction total) (weighted_total (chosen_units values.now asked.now chosen.now))) }
+    ensures value { IfOk result (λ total. Same (signed_fraction total)
+        (weighted_total (chosen_units values.now asked.now chosen.now))) }
 {
     let above = total(false, values, asked, chosen)?;
     let below = total(true, values, asked, chosen)?;

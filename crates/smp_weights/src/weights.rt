@@ -1,12 +1,14 @@
-ghost use Rattle.std.specs.Prelude.{◌≡◌, ◌≤◌};
+ghost use Rattle.std.specs.Prelude.{◌≤◌};
+ghost use Rattle.smp_frac.specs.Fractions.{fraction};
+ghost use Rattle.smp_fractions.specs.Fractions.{Same};
+ghost use Rattle.smp_weights.specs.Chosen.{weight};
 
 use smp_frac::Frac;
 
 /// The design weight of a unit: the inverse of the inclusion probability that was asked for it.
 pub(crate) fn weight_of(asked: Frac) -> Frac
     requires { 1 ≤ asked.num }
-    ensures num { result.num ≡ asked.den }
-    ensures den { result.den ≡ asked.num }
+    ensures { Same (fraction result) (weight asked) }
 {
     asked.inverse().unwrap()
 }

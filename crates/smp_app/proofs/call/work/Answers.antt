@@ -21,7 +21,7 @@ pub returns-in-Err-Failed-clause-says : goal.returns-in-Err-Failed-clause-says
 returns-in-Err-Failed-clause-says g c =
     let asked = sym c.in-Ok-Some.field-0-is ∙ c.in-Ok-Some.ensures.command in
     write_fault _ c.in-Ok-Some.command _ _ asked _ c.in-Ok.ensures.same (outputs_view c.in-Ok.outputs) c.in-Ok.ensures.follows
-    (g.K.Store.write_faults c.outputs_for.new.store) c.in-Ok.ensures.writes c.in-Ok.ensures.named c.in-Err-Failed.ensures.stops (c.in-Err-Failed.ensures.cause (ap Err c.in-Err-Failed.field-0-is))
+    (g.K.Store.write_faults c.outputs_for.new.store) c.in-Ok.ensures.writes c.in-Ok.ensures.named (c.in-Err-Failed.ensures.failed (ap Err c.in-Err-Failed.field-0-is))
 
 pub returns-clause-says : goal.returns-clause-says
 returns-clause-says g c =

@@ -1,7 +1,7 @@
 use Rattle.std.proofs.Common.{subst, arith, rules}
 use Rattle.smp_io.specs.Counts.{Rose}
 use Rattle.smp_io.specs.Store.{OthersStay}
-use Rattle.smp_app.proofs.Deliveries.{on_err, stops_at, write_fails}
+use Rattle.smp_app.proofs.Deliveries.{on_err, stops_at, fails_at}
 use Rattle.smp_app.proofs.outputs.write_files.Goals as goal
 
 pub returns-in_err-write-clause-err : goal.returns-in_err-write-clause-err
@@ -10,7 +10,9 @@ returns-in_err-write-clause-err g c =
     (stops_at c.args.files.now c.loop-file.file-index c.file-item.result (omega arith) c.file-item.is (g.K.Store.files c.args.store.now) (g.K.Store.files c.loop-file.store) (g.K.Store.files c.write.new.self) c.loop-file.invariant.written
     (subst (λ name. OthersStay name (g.K.Store.files c.loop-file.store) (g.K.Store.files c.write.new.self)) c.as_str.ensures c.in_err-write.ensures.others))
 
-pub returns-in_err-write-clause-cause : goal.returns-in_err-write-clause-cause
-returns-in_err-write-clause-cause g c failed =
-    write_fails c.args.files.now c.loop-file.file-index c.file-item.result (omega arith) c.file-item.is (g.K.Store.write_faults c.args.store.now) (g.K.Store.write_faults c.loop-file.store) (g.K.Store.write_faults c.write.new.self) (c.loop-file.invariant.writes c.file-item.result.name)
+pub returns-in_err-write-clause-failed : goal.returns-in_err-write-clause-failed
+returns-in_err-write-clause-failed g c failed =
+    fails_at c.args.files.now c.loop-file.file-index c.file-item.result (omega arith) c.file-item.is (g.K.Store.files c.args.store.now) (g.K.Store.files c.loop-file.store) (g.K.Store.files c.write.new.self) c.loop-file.invariant.written
+    (subst (λ name. OthersStay name (g.K.Store.files c.loop-file.store) (g.K.Store.files c.write.new.self)) c.as_str.ensures c.in_err-write.ensures.others)
+    (g.K.Store.write_faults c.args.store.now) (g.K.Store.write_faults c.loop-file.store) (g.K.Store.write_faults c.write.new.self) (c.loop-file.invariant.writes c.file-item.result.name)
     (subst (λ name. Rose (g.K.Store.write_faults c.loop-file.store name) (g.K.Store.write_faults c.write.new.self name)) c.as_str.ensures (c.in_err-write.ensures.cause (search (rules, failed, c.from_residual.ensures))))

@@ -16,6 +16,6 @@ returns-in-Ok-clause-planned c =
         none_free = λ none. (c.in-Ok.ensures.none_free none).0;
       };
       ordered = c.in-Ok.ensures.ordered;
-      asked = rw sizes_are at c.in-Ok.ensures.asked;
+      asked = rw sizes_are at c.in-Ok.ensures.probabilities;
       fills = rw sizes_are at c.in-Ok.ensures.drawn;
     }

@@ -1,22 +1,89 @@
-use Rattle.std.proofs.Common.{◌≡◌, length, arith, refl, ap, subst, true, ◌∙◌}
+use Rattle.std.proofs.Common.{◌≡◌, length, Err, arith, refl, ap, sym, subst, true, ◌∙◌}
+use Rattle.smp_tape.specs.declared.draws.DrawFault.TheVariants.{Short, TooBig, Rejected}
+use Rattle.smp_split.specs.Counts.{AddsUp}
 use Rattle.smp_split.specs.Trees.{Tree}
+use Rattle.smp_split.specs.declared.walking.WalkFault.TheVariants.{Draw}
+use Rattle.smp_stage.specs.Stages.{stage_tree}
+use Rattle.smp_stage.specs.declared.stage.Stage.{Stage}
 use Rattle.smp_stage.specs.declared.stage.StageState.{StageState}
-use Rattle.smp_app.proofs.Selections.{tree_is, fills, starts_so, drawn_by}
+use Rattle.smp_app.specs.Jobs.{plan_view}
+use Rattle.smp_app.specs.Verdict.{Refused}
+use Rattle.smp_app.specs.declared.status.Status.TheVariants.{TapeShort}
+use Rattle.smp_app.proofs.Selections.{tree_is, fills, starts_so, in_rows, leaf_is, stop_is, none_rejected, drawn_refused, drawn_by}
 use Rattle.smp_app.proofs.selection.select.Goals as goal
+
+pub select_as_asked-requires-clause-belongs : goal.select_as_asked-requires-clause-belongs
+select_as_asked-requires-clause-belongs c =
+    in_rows c.args.plan.now c.requires c.in_ok-stage.field-0.stage c.in_ok-stage.field-0.state
+    (rw c.units-units.ensures at c.in_ok-stage.ensures.stage) (rw c.units-units.ensures at c.in_ok-stage.ensures.belongs)
+
+pub walk-requires : goal.walk-requires
+walk-requires c =
+    in_rows c.args.plan.now c.requires c.in_ok-stage.field-0.stage c.in_ok-stage.field-0.state
+    (rw c.units-units.ensures at c.in_ok-stage.ensures.stage) (rw c.units-units.ensures at c.in_ok-stage.ensures.belongs)
+
+pub returns-in-Err-Draw-Short-clause-follows : goal.returns-in-Err-Draw-Short-clause-follows
+returns-in-Err-Draw-Short-clause-follows c =
+    let plan = c.args.plan.now in
+    let stage = c.in_ok-stage.field-0.stage in
+    let stage_is = rw c.units-units.ensures at c.in_ok-stage.ensures.stage in
+    let rows_are : length c.units-units.result.now ≡ length c.args.plan.now.frame = ap length c.units-units.ensures in
+    let r = c.in-Err-Draw-Short.ensures.refused Short (ap Err (c.in-Err-Draw-Short.field-0-is ∙ ap Draw c.in-Err-Draw-Short.field-0-0-is)) in
+    drawn_refused (plan_view plan) _ (tree_is plan c.requires (length c.units-units.result.now) stage rows_are stage_is)
+    c.in_ok-stage.field-0.state ((rw c.units-units.ensures at c.in_ok-stage.ensures.state) ∙ starts_so plan c.requires _ refl) c.args.tape
+    c.walk.new.state r.path Short c.walk.new.draws _ refl r.ran
+    ∙ ap (λ n. Err (Refused (TapeShort n))) (sym c.taken-taken.ensures)
+
+pub bound-bound-requires-clause-going : goal.bound-bound-requires-clause-going
+bound-bound-requires-clause-going c =
+    let plan = c.args.plan.now in
+    let stage = c.in_ok-stage.field-0.stage in
+    let stage_is = rw c.units-units.ensures at c.in_ok-stage.ensures.stage in
+    let here = in_rows plan c.requires stage c.in_ok-stage.field-0.state stage_is (rw c.units-units.ensures at c.in_ok-stage.ensures.belongs) in
+    let fault = TooBig c.in-Err-Draw-TooBig.place c.in-Err-Draw-TooBig.value in
+    let r = c.in-Err-Draw-TooBig.ensures.refused fault (ap Err (c.in-Err-Draw-TooBig.field-0-is ∙ ap Draw c.in-Err-Draw-TooBig.field-0-0-is)) in
+    (stop_is (length c.units-units.result.now) plan.request stage c.in_ok-stage.field-0.state here c.args.tape c.walk.new.state r.path fault c.walk.new.draws r.ran).going
+
+pub returns-in-Err-Draw-TooBig-clause-follows : goal.returns-in-Err-Draw-TooBig-clause-follows
+returns-in-Err-Draw-TooBig-clause-follows c =
+    let plan = c.args.plan.now in
+    let stage = c.in_ok-stage.field-0.stage in
+    let stage_is = rw c.units-units.ensures at c.in_ok-stage.ensures.stage in
+    let rows_are : length c.units-units.result.now ≡ length c.args.plan.now.frame = ap length c.units-units.ensures in
+    let fault = TooBig c.in-Err-Draw-TooBig.place c.in-Err-Draw-TooBig.value in
+    let r = c.in-Err-Draw-TooBig.ensures.refused fault (ap Err (c.in-Err-Draw-TooBig.field-0-is ∙ ap Draw c.in-Err-Draw-TooBig.field-0-0-is)) in
+    drawn_refused (plan_view plan) _ (tree_is plan c.requires (length c.units-units.result.now) stage rows_are stage_is)
+    c.in_ok-stage.field-0.state ((rw c.units-units.ensures at c.in_ok-stage.ensures.state) ∙ starts_so plan c.requires _ refl) c.args.tape
+    c.walk.new.state r.path fault c.walk.new.draws c.bound-bound.result c.bound-bound.ensures r.ran
+
+pub unreachable-requires : goal.unreachable-requires
+unreachable-requires c =
+    let plan = c.args.plan.now in
+    let stage = c.in_ok-stage.field-0.stage in
+    let stage_is = rw c.units-units.ensures at c.in_ok-stage.ensures.stage in
+    let here = in_rows plan c.requires stage c.in_ok-stage.field-0.state stage_is (rw c.units-units.ensures at c.in_ok-stage.ensures.belongs) in
+    let bound = c.in-Err-Draw-Rejected.field-0-0-0 in
+    let r = c.in-Err-Draw-Rejected.ensures.refused (Rejected bound) (ap Err (c.in-Err-Draw-Rejected.field-0-is ∙ ap Draw c.in-Err-Draw-Rejected.field-0-0-is)) in
+    none_rejected (length c.units-units.result.now) plan.request stage c.in_ok-stage.field-0.state here c.args.tape c.walk.new.state r.path bound c.walk.new.draws r.ran
 
 pub returns-clause-selection : goal.returns-clause-selection
 returns-clause-selection c =
     let plan = c.args.plan.now in
     let stage = c.in_ok-stage.field-0.stage in
+    let stage_is = rw c.units-units.ensures at c.in_ok-stage.ensures.stage in
+    let here = in_rows plan c.requires stage c.in_ok-stage.field-0.state stage_is (rw c.units-units.ensures at c.in_ok-stage.ensures.belongs) in
     let rows_are : length c.units-units.result.now ≡ length c.args.plan.now.frame = ap length c.units-units.ensures in
-    let is = tree_is plan c.requires.planned (length c.units-units.result.now) stage rows_are (rw c.units-units.ensures at c.in_ok-stage.ensures.stage) in
+    let is = tree_is plan c.requires (length c.units-units.result.now) stage rows_are stage_is in
+    let walked = c.in-Ok.ensures.arrived in
+    let end = leaf_is (length c.units-units.result.now) plan.request stage c.in_ok-stage.field-0.state here c.args.tape c.walk.new.state walked.path c.walk.new.draws walked.ran in
+    let adds = subst (λ (s : Stage). AddsUp (stage_tree s) plan.request.r c.in_ok-stage.field-0.state) (sym c.in_ok-stage.ensures.stage) (c.in_ok-stage.ensures.whole c.requires.whole) in
     record {
       tree = is;
-      belongs = c.walk_tape.ensures.belongs;
-      ended = subst (λ (t : Tree StageState). t.ended c.walk_tape.new.state ≡ true) is c.in-Ok.ensures.arrived.done;
-      drawn = drawn_by plan c.requires.planned _ is
-          c.in_ok-stage.field-0.state ((rw c.units-units.ensures at c.in_ok-stage.ensures.state) ∙ starts_so plan c.requires.planned _ refl)
-          (λ row here. c.select_as_asked.ensures.probability row (omega (arith, rows_are, here)))
-          (c.select_as_asked.ensures.count plan.n (fills plan c.requires.planned (length c.units-units.result.now) rows_are))
-          c.args.tape.taken c.args.tape.left c.walk_tape.new.tape.left c.walk_tape.new.state _ _ c.in-Ok.ensures.arrived _ refl;
+      belongs = c.walk.ensures.belongs;
+      done = subst (λ (t : Tree StageState). t.done c.walk.new.state ≡ true) is end.done;
+      drawn = drawn_by plan c.requires _ is
+          c.in_ok-stage.field-0.state ((rw c.units-units.ensures at c.in_ok-stage.ensures.state) ∙ starts_so plan c.requires _ refl)
+          (λ row within. c.select_as_asked.ensures.probability row (omega (arith, rows_are, within)))
+          (c.select_as_asked.ensures.count plan.n adds (fills plan c.requires (length c.units-units.result.now) rows_are))
+          walked.path c.walk.new.state end.leads end.done _ refl;
     }

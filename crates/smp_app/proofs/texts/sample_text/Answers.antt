@@ -27,7 +27,7 @@ loop-row-preserved c =
           (let in_sizes : c.loop-row.row < length (sizes_of c.args.plan.now.frame) = omega (arith, length-map c.args.plan.now.frame (λ u. u.size), within) in
           let taken = sym c.is_drawn.ensures ∙ w.if-is_drawn.true in
           let standing_so = subst (λ (r : Request). is_taken ((stage_tree (stage_of_plan (plan_view c.args.plan.now))).selected c.args.selection.now.state) (standing r c.loop-row.row) ≡ true) (sym c.requires.planned.request_is) taken in
-          let some = drawn_positive c.args.plan.now.request c.requires.planned.is_request _ row w.asked.result standing_so w.asked.ensures in
+          let some = drawn_positive c.args.plan.now.request c.requires.planned.is_request _ w.asked.result row standing_so w.asked.ensures in
           let row_is = weight_row-is plan row u within here _ w.asked.result (c.requires.planned.asked c.loop-row.row in_sizes) w.asked.ensures some in
           gathered plan chosen whole row u within here c.loop-row.ids.items c.loop-row.asked.items c.loop-row.chosen.items c.loop-row.invariant
           w.asked.result taken some row_is c.if-is_drawn.ids.items c.if-is_drawn.asked.items c.if-is_drawn.chosen.items

@@ -1,5 +1,5 @@
 use Rattle.std.proofs.Common.{◌≡◌, ◌+◌, drop}
-use Rattle.smp_brewer.specs.Picks.{passing}
+use Rattle.smp_brewer.specs.Kept.Picks.{passing}
 use Rattle.smp_brewer.proofs.sizes.find_offer.Given as goal
 
 -- what is left of the draw leads to the same unit

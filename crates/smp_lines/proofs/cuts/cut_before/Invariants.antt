@@ -1,5 +1,5 @@
 use Rattle.std.proofs.Common.{◌≡◌, ◌++◌, take, drop, option_map}
-use Rattle.smp_lines.specs.Lines.{cut_at}
+use Rattle.smp_lines.specs.Cuts.{cut_at}
 use Rattle.smp_lines.proofs.cuts.cut_before.Given as goal
 
 abbrev pub invariant-loop-i : goal.invariant-loop-i

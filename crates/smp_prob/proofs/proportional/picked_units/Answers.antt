@@ -1,6 +1,6 @@
 use Rattle.std.proofs.Common.{◌≡◌, get_or, rules, arith}
 use Rattle.std.proofs.lemmas.List.Sorted.{length_permutation}
-use Rattle.smp_prob.specs.Cuts.{border}
+use Rattle.smp_prob.specs.Kept.Cuts.{border}
 use Rattle.smp_prob.proofs.Sizes.{small_order}
 use Rattle.smp_prob.proofs.FallingOrders.{cut_order, long_order}
 use Rattle.smp_prob.proofs.Cuts.{IsCut, is_feasible}

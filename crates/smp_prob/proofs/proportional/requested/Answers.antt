@@ -1,6 +1,6 @@
 use Rattle.std.proofs.Common.{refl, arith}
 use Rattle.smp_prob.proofs.FallingOrders.{first_are_certain}
-use Rattle.smp_prob.proofs.RequestedUnits.{length-certain, few_free, free_positive, free_small, in_proportion, nothing_left, IsRequest-requested_of}
+use Rattle.smp_prob.proofs.RequestedUnits.{length-certain, few_free, free_positive, free_small, nothing_left, IsRequest-requested_of}
 use Rattle.smp_prob.proofs.Positions.{is_ordered, asked_is, count-drawn}
 use Rattle.smp_prob.proofs.proportional.requested.Goals as goal
 
@@ -26,14 +26,11 @@ pub returns-clause-request : goal.returns-clause-request
 returns-clause-request c =
     rw (returns-clause-value c) (IsRequest-requested_of c.args.n c.args.sizes.now c.requires.few c.requires.small c.in_ok-picked.ensures.feasible)
 
-pub returns-clause-probabilities : goal.returns-clause-probabilities
-returns-clause-probabilities c = rw (returns-clause-value c) (in_proportion c.args.n c.args.sizes.now)
-
 pub returns-clause-ordered : goal.returns-clause-ordered
 returns-clause-ordered c = rw (returns-clause-value c) (is_ordered c.args.n c.args.sizes.now)
 
-pub returns-clause-asked : goal.returns-clause-asked
-returns-clause-asked c =
+pub returns-clause-probabilities : goal.returns-clause-probabilities
+returns-clause-probabilities c =
     rw (returns-clause-value c) (λ unit here. asked_is c.args.n c.args.sizes.now unit here
     (IsRequest-requested_of c.args.n c.args.sizes.now c.requires.few c.requires.small c.in_ok-picked.ensures.feasible) c.in_ok-picked.ensures.feasible)
 

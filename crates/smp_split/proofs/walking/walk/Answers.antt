@@ -1,44 +1,81 @@
-use Rattle.std.proofs.Common.{◌≡◌, ◌<◌, true, false, ap, subst, ◌∙◌, inl, rules}
+use Rattle.std.proofs.Common.{◌≡◌, ◌<◌, true, false, Ok, Err, refl, ap, sym, subst, ◌∙◌, rules}
 use Rattle.smp_split.specs.Trees.{weight_sum}
-use Rattle.smp_split.specs.Walks.{Line, GaveFault, end_result}
-use Rattle.smp_split.proofs.Ends.{one_end, arrived_end, refused_end}
-use Rattle.smp_split.proofs.Steps.{picked_falls, Walking-step, GaveFault-at}
+use Rattle.smp_split.specs.Paths.{Entry, entry_at}
+use Rattle.smp_split.specs.Runs.{position, Refused}
+use Rattle.smp_split.specs.declared.walking.WalkFault.TheVariants as faults
+use Rattle.smp_split.proofs.Runs.{run_to_leaf, run_to_stop}
+use Rattle.smp_split.proofs.Steps.{picked_falls, Gives-push, Walking-step}
 use Rattle.smp_split.proofs.walking.walk.Goals as goal
 
 pub loop-state-smaller : goal.loop-state-smaller
 loop-state-smaller g c =
     let design = c.args.design.now in
-    let going : (g.S.Splitting.tree design).ended c.loop-state.state ≡ false = search rules in
+    let going : (g.S.Splitting.tree design).done c.loop-state.state ≡ false = search rules in
     let within : c.in_ok-value.value < weight_sum ((g.S.Splitting.tree design).parts c.loop-state.state) = search rules in
     picked_falls (g.S.Splitting.tree design) (g.S.Splitting.belongs design) (g.met.S.Splitting.lawful design) c.loop-state.state c.advance.new.state c.in_ok-value.value c.loop-state.invariant.member going within c.advance.ensures
 
 pub loop-state-preserved : goal.loop-state-preserved
 loop-state-preserved g c =
-    let design = c.args.design.now in
-    let line : Line = (c.kind-kind.result, c.bound-bound.result, c.in_ok-value.value) in
-    let going : (g.S.Splitting.tree design).ended c.loop-state.state ≡ false = search rules in
-    Walking-step (g.S.Splitting.tree design) (g.S.Splitting.belongs design) (g.met.S.Splitting.lawful design) c.advance.new.state line
-    c.loop-state.invariant (record { going = going; kind = c.kind-kind.ensures; bound = c.bound-bound.ensures; value = c.in_ok-value.ensures.below }) c.in_ok-value.ensures.ok c.in_ok-line.ensures.ok c.advance.ensures
-
-pub returns-clause-exactly : goal.returns-clause-exactly
-returns-clause-exactly g c path to refusal end =
     let tree = g.S.Splitting.tree c.args.design.now in
-    let answers = g.D.Draws.answers c.args.draws.now in
-    let settled = g.met.D.Draws.settled c.args.draws.now in
+    let lines = g.T.Trace.lines in
+    let entry : Entry = (c.kind-kind.result, c.bound-bound.result, c.in_ok-value.value) in
+    let going : tree.done c.loop-state.state ≡ false = search rules in
+    Walking-step tree (g.S.Splitting.belongs c.args.design.now) (g.met.S.Splitting.lawful c.args.design.now) g.D.Draws.source
+    (position c.args.state.now c.args.draws.now (lines c.args.trace.now)) (position c.loop-state.state c.loop-state.draws (lines c.loop-state.trace)) (position c.advance.new.state c.below.new.self (lines c.line.new.self)) entry
+    c.loop-state.invariant (record { going = going; kind = c.kind-kind.ensures; bound = c.bound-bound.ensures; value = c.in_ok-value.ensures.below })
+    (ap (λ d. d.answer) c.in_ok-value.ensures.drawn) (sym (ap (λ d. d.rest) c.in_ok-value.ensures.drawn)) c.in_ok-line.ensures.ok c.advance.ensures
+
+pub returns-clause-arrived : goal.returns-clause-arrived
+returns-clause-arrived g c =
+    let tree = g.S.Splitting.tree c.args.design.now in
     let walked = c.loop-state.invariant in
-    let done : tree.ended c.loop-state.state ≡ true = search rules in
-    let here = arrived_end tree answers settled (g.D.Draws.answers c.loop-state.draws) c.args.state.now c.loop-state.state walked.path (g.met.D.Draws.unasked c.loop-state.draws) walked.leads done walked.drew in
-    inl (ap end_result (one_end tree answers settled c.args.state.now c.loop-state.state to walked.path path _ refusal here end))
+    let done : tree.done c.loop-state.state ≡ true = search rules in
+    record {
+      path = walked.path;
+      ran = run_to_leaf g.D.Draws.source tree (g.S.Splitting.belongs c.args.design.now) (g.met.S.Splitting.lawful c.args.design.now) c.args.state.now c.loop-state.state walked.path c.args.draws.now c.loop-state.draws c.requires
+          (record { leads = walked.leads; done = done; gives = walked.gives });
+      told = walked.told;
+    }
 
-pub returns-in_err-value-clause-exactly : goal.returns-in_err-value-clause-exactly
-returns-in_err-value-clause-exactly g c path to refusal end =
+pub returns-in_err-value-clause-refused : goal.returns-in_err-value-clause-refused
+returns-in_err-value-clause-refused g c refusal h =
+    let source = g.D.Draws.source in
     let tree = g.S.Splitting.tree c.args.design.now in
-    let answers = g.D.Draws.answers c.args.draws.now in
-    let settled = g.met.D.Draws.settled c.args.draws.now in
+    let lines = g.T.Trace.lines in
     let walked = c.loop-state.invariant in
     let fault = c.in_err-value.field-0.0 in
-    let going : tree.ended c.loop-state.state ≡ false = search rules in
-    let gave : GaveFault answers walked.path (weight_sum (tree.parts c.loop-state.state)) fault =
-    subst (λ b. GaveFault answers walked.path b fault) c.bound-bound.ensures (GaveFault-at answers (g.D.Draws.answers c.loop-state.draws) (g.D.Draws.answers c.below.new.self) walked.path c.bound-bound.result fault walked.drew c.in_err-value.ensures.err) in
-    let here = refused_end tree answers settled c.args.state.now c.loop-state.state walked.path fault walked.leads going gave in
-    inl (search (rules, c.from_residual.ensures) ∙ ap end_result (one_end tree answers settled c.args.state.now c.loop-state.state to walked.path path _ refusal here end))
+    let going : tree.done c.loop-state.state ≡ false = search rules in
+    let is : c.from_residual.result ≡ Err (faults.Draw fault) = search (rules, c.from_residual.ensures) in
+    let same : fault ≡ refusal = cc in
+    let refused : source.next c.loop-state.draws (weight_sum (tree.parts c.loop-state.state)) ≡ record { answer = Err fault; rest = c.below.new.self } =
+    subst (λ b. source.next c.loop-state.draws b ≡ record { answer = Err fault; rest = c.below.new.self }) c.bound-bound.ensures c.in_err-value.ensures.drawn in
+    subst (λ f. Refused source tree f (position c.args.state.now c.args.draws.now (lines c.args.trace.now)) (position c.loop-state.state c.below.new.self (lines c.loop-state.trace))) same
+    (record {
+      path = walked.path;
+      ran = run_to_stop source tree (g.S.Splitting.belongs c.args.design.now) (g.met.S.Splitting.lawful c.args.design.now) c.args.state.now c.loop-state.state walked.path fault c.args.draws.now c.below.new.self c.requires
+          (record { asked = c.loop-state.draws; leads = walked.leads; going = going; gives = walked.gives; refused = refused });
+      told = walked.told;
+    })
+
+pub returns-in_err-line-clause-untold : goal.returns-in_err-line-clause-untold
+returns-in_err-line-clause-untold g c h =
+    let source = g.D.Draws.source in
+    let tree = g.S.Splitting.tree c.args.design.now in
+    let lines = g.T.Trace.lines in
+    let walked = c.loop-state.invariant in
+    let value = c.in_ok-value.value in
+    let state = c.loop-state.state in
+    let going : tree.done state ≡ false = search rules in
+    let answer : (source.next c.loop-state.draws (weight_sum (tree.parts state))).answer ≡ Ok value =
+    subst (λ b. (source.next c.loop-state.draws b).answer ≡ Ok value) c.bound-bound.ensures (ap (λ d. d.answer) c.in_ok-value.ensures.drawn) in
+    let left : (source.next c.loop-state.draws (weight_sum (tree.parts state))).rest ≡ c.below.new.self =
+    subst (λ b. (source.next c.loop-state.draws b).rest ≡ c.below.new.self) c.bound-bound.ensures (ap (λ d. d.rest) c.in_ok-value.ensures.drawn) in
+    let below : value < weight_sum (tree.parts state) = subst (λ b. value < b) c.bound-bound.ensures c.in_ok-value.ensures.below in
+    record {
+      path = walked.path;
+      value = value;
+      leads = walked.leads;
+      step = record { going = going; kind = refl; bound = refl; value = below };
+      gives = rw (← left) (Gives-push source walked.path (entry_at tree state value) c.args.draws.now c.loop-state.draws walked.gives answer);
+      told = c.in_err-line.ensures.err ∙ walked.told;
+    }

@@ -1,4 +1,5 @@
-use Rattle.smp_split.specs.Walks.{Walking}
+use Rattle.smp_split.specs.Runs.{position}
+use Rattle.smp_split.proofs.Steps.{Walking}
 use Rattle.smp_split.proofs.walking.walk.Given as goal
 
 abbrev pub invariant-loop-state : goal.invariant-loop-state
@@ -6,7 +7,7 @@ invariant-loop-state g l =
     let s = g.S.Splitting in
     let d = g.D.Draws in
     let t = g.T.Trace in
-    Walking (s.tree l.design) (s.belongs l.design) l.fn.state l.state (d.answers l.fn.draws) (d.answers l.draws) (t.lines l.fn.trace) (t.lines l.trace)
+    Walking d.source (s.tree l.design) (s.belongs l.design) (position l.fn.state l.fn.draws (t.lines l.fn.trace)) (position l.state l.draws (t.lines l.trace))
 
 abbrev pub decreases-loop-state : goal.decreases-loop-state
 decreases-loop-state g l = (g.S.Splitting.tree l.design).rank l.state

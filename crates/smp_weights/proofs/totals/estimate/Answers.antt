@@ -1,16 +1,7 @@
-use Rattle.std.proofs.Common.{◌≡◌, Result, Ok, Err, IfOk, true, false}
-use Rattle.smp_frac.specs.declared.fractions.Frac.{Frac}
-use Rattle.smp_frac.specs.declared.fractions.Wide.{Wide}
-use Rattle.smp_frac.specs.declared.signed.Signed.{Signed}
-use Rattle.smp_frac.specs.Fractions.{IsSum}
-use Rattle.smp_weights.specs.Totals.{IsDifference, IsEstimate}
+use Rattle.smp_weights.specs.Totals.{IsEstimate}
 use Rattle.smp_weights.proofs.Terms.{is_wide}
 use Rattle.smp_weights.proofs.Values.{estimate_value}
 use Rattle.smp_weights.proofs.totals.estimate.Goals as goal
-
-difference_from : (p q : Frac) (r : Result Signed Wide) → IfOk r (λ d. d.minus ≡ false → IsSum q d.size p) → IfOk r (λ d. d.minus ≡ true → IsSum p d.size q) → IfOk r (IsDifference p q)
-difference_from p q (Ok d) above below = record { above = above; below = below }
-difference_from p q (Err w) above below = tt
 
 pub returns-in_err-above : goal.returns-in_err-above
 returns-in_err-above c =
@@ -25,5 +16,5 @@ returns-in_err-below c =
 pub returns : goal.returns
 returns c =
     let d = c.difference.ensures in
-    let answer = IsEstimate.less _ _ _ _ c.in_ok-above.ensures c.in_ok-below.ensures (record { value = difference_from _ _ _ d.above d.below; fits = d.fits; wide = d.wide }) in
+    let answer = IsEstimate.less _ _ _ _ c.in_ok-above.ensures c.in_ok-below.ensures (record { value = d.value; fits = d.fits; wide = d.wide }) in
     record { answer = answer; value = estimate_value _ _ answer }

@@ -1,7 +1,7 @@
 use Rattle.std.proofs.Common.{◌≡◌, Err, get_or, true, false, pos, SFits, to_z-of_z, rules, sym, ◌∙◌}
 use Rattle.std.proofs.lemmas.List.{drop_all}
 use mir.Syntax.{w64}
-use Rattle.smp_frac.proofs.Unique.{same_fraction}
+use Rattle.smp_frac.proofs.Unique.{same_frac}
 use Rattle.smp_weights.specs.Totals.{AddsUp, has_sign, zero}
 use Rattle.smp_weights.proofs.Terms.{is_wide}
 use Rattle.smp_weights.proofs.Counted.{counted, left_out}
@@ -10,7 +10,8 @@ use Rattle.smp_weights.proofs.totals.total.Goals as goal
 
 pub loop-place-init : goal.loop-place-init
 loop-place-init c answer adds =
-    rw (same_fraction c.unwrap-total.result zero (rw c.unwrap-total.ensures at c.new.ensures.value)) at adds
+    let none = rw c.unwrap-total.ensures at c.new.ensures.value in
+    rw (same_frac c.unwrap-total.result zero (record { cross = none.cross })) at adds
 
 pub loop-place-preserved : goal.loop-place-preserved
 loop-place-preserved c answer adds =

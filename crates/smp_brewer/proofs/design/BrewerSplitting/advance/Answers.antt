@@ -1,6 +1,6 @@
 use Rattle.std.proofs.Common.{arith, ◌≡◌, ◌≢◌, false, sym, ap, ◌∙◌}
 use Rattle.smp_brewer.specs.Offers.{Offers, offering, brewing_ended, IsOffers, IsOffered, allowed, units_of}
-use Rattle.smp_brewer.specs.Picks.{passing}
+use Rattle.smp_brewer.specs.Kept.Picks.{passing}
 use Rattle.smp_brewer.proofs.States.{heavy, picked_offering, shares_now}
 use Rattle.smp_brewer.proofs.design.BrewerSplitting.advance.Goals as goal
 

@@ -1,6 +1,8 @@
-use Rattle.std.proofs.Common.{◌+◌, ◌*◌, ◌/◌}
+use Rattle.std.proofs.Common.{◌+◌, ◌*◌, ◌/◌, pos, ap}
 use Rattle.std.proofs.lemmas.Result.{IfOk-weaker}
-use Rattle.smp_frac.specs.Fractions.{IsRatio, IsSum}
+use Rattle.smp_fractions.specs.Fractions.{Same, positive_product, over, plus}
+use Rattle.smp_fractions.proofs.Over.{cross_from_over}
+use Rattle.smp_frac.specs.Fractions.{fraction}
 use Rattle.smp_frac.proofs.Coprime.{part_positive}
 use Rattle.smp_frac.proofs.Lowest.{coprime_from_lowest}
 use Rattle.smp_frac.proofs.Sums.{sum_apart, sum_rest_apart, sum_value}
@@ -30,5 +32,7 @@ returns-clause-value c =
     let g = c.gcd-common.result in
     let r = c.gcd-common.ensures.divides in
     let h = rw (c.in_ok-first.ensures.1, c.in_ok-second.ensures.1) at c.reduced.ensures.value in
-    IfOk-weaker c.reduced.result (IsRatio (p.num * (q.den / g) + q.num * (p.den / g)) (p.den / g * q.den)) (IsSum p q)
-    (λ f e. sum_value p.num p.den q.num q.den g f.num f.den r.0 r.1 e) h
+    let some = positive_product (p.den / g) q.den (part_positive _ _ p.positive r.0) q.positive in
+    IfOk-weaker c.reduced.result (λ f. Same (fraction f) (over (p.num * (q.den / g) + q.num * (p.den / g)) (p.den / g * q.den)))
+    (λ f. Same (fraction f) (plus (fraction p) (fraction q)))
+    (λ f same. record { cross = ap pos (sum_value p.num p.den q.num q.den g f.num f.den r.0 r.1 (cross_from_over f.num _ _ f.den f.positive some same)) }) h

@@ -1,4 +1,4 @@
-use Rattle.std.proofs.Common.{arith}
+use Rattle.std.proofs.Common.{arith, pos, ap}
 use Rattle.std.proofs.lemmas.Result.{err_from_is_err_and}
 use Rattle.smp_frac.proofs.Coprime.{divisor_positive}
 use Rattle.smp_frac.proofs.Products.{reduced_product}
@@ -31,7 +31,7 @@ invariant_of-result c =
 pub returns-clause-value : goal.returns-clause-value
 returns-clause-value c =
     let is = reduced_product c.args.self c.args.other _ _ c.gcd-falling.ensures.divides c.gcd-rising.ensures.divides in
-    rw (c.in_ok-num.ensures.1, c.in_ok-den.ensures.1) is.value
+    record { cross = ap pos (rw (c.in_ok-num.ensures.1, c.in_ok-den.ensures.1) is.value) }
 
 pub returns-clause-fits : goal.returns-clause-fits
 returns-clause-fits c =

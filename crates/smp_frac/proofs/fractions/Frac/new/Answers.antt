@@ -1,4 +1,5 @@
 use Rattle.std.proofs.Common.{arith}
+use Rattle.smp_fractions.proofs.Over.{over_from_cross}
 use Rattle.smp_frac.proofs.Coprime.{part_positive}
 use Rattle.smp_frac.proofs.Lowest.{lowest_parts, same_value}
 use Rattle.smp_frac.proofs.fractions.Frac.new.Goals as goal
@@ -10,4 +11,5 @@ invariant_of-result c = record {
 }
 
 pub returns-clause-value : goal.returns-clause-value
-returns-clause-value c = same_value _ _ _ c.gcd-divisor.ensures.divides.0 c.gcd-divisor.ensures.divides.1
+returns-clause-value c =
+    over_from_cross _ _ _ _ _ (omega arith) (same_value _ _ _ c.gcd-divisor.ensures.divides.0 c.gcd-divisor.ensures.divides.1)

@@ -1,6 +1,6 @@
-use Rattle.std.proofs.Common.{◌≡◌, ◌≢◌, ◌/◌, ◌%◌, arith, ap₂, ◌∙◌}
-use Rattle.std.specs.Ordering.{ordering_then}
-use Rattle.smp_frac.proofs.Orders.{nat_cmp_inverses, nat_cmp_parts}
+use Rattle.std.proofs.Common.{◌≡◌, ◌≢◌, ◌*◌, ◌/◌, ◌%◌, arith, ap₂, ◌∙◌}
+use Rattle.std.specs.Ordering.{nat_cmp, ordering_then}
+use Rattle.smp_frac.proofs.Orders.{nat_cmp_inverses, nat_cmp_parts, at_most_is, at_least_is}
 use Rattle.smp_frac.proofs.Unique.{equal_is_same}
 use Rattle.smp_frac.proofs.fractions.Frac.order.Goals as goal
 use Rattle.smp_frac.proofs.fractions.Frac.order.Goals.{then-loop-a-test+then-a-b-ne0+else-c-d-ne0, then-loop-a-test+else-a-b-ne0, else-loop-a-test}
@@ -11,8 +11,9 @@ loop-a-preserved c =
     let same = nat_cmp_inverses l.a l.b l.c l.d l.invariant.first l.invariant.second c.loop-a-test.true in
     record { first = omega arith; second = omega arith; same = same ∙ l.invariant.same }
 
-pub returns-clause-exact : goal.returns-clause-exact
-returns-clause-exact c =
+-- the order of the cross products
+exact : (c : goal.After-then) → c.then.result ≡ nat_cmp (c.args.self.num * c.args.other.den) (c.args.other.num * c.args.self.den)
+exact c =
     let l = c.loop-a in
     let last : l.a / l.b ≡ l.c / l.d → l.a % l.b ≢ 0 → l.c % l.d ≡ 0 =
     (λ e n. elim c.loop-a-test.branch [
@@ -23,5 +24,11 @@ returns-clause-exact c =
     c.then.ensures ∙ ap₂ ordering_then c.cmp.ensures c.cmp-2.ensures
     ∙ nat_cmp_parts l.a l.b l.c l.d l.invariant.first l.invariant.second last ∙ l.invariant.same
 
+pub returns-clause-at_most : goal.returns-clause-at_most
+returns-clause-at_most c = at_most_is c.args.self c.args.other c.then.result (exact c)
+
+pub returns-clause-at_least : goal.returns-clause-at_least
+returns-clause-at_least c = at_least_is c.args.self c.args.other c.then.result (exact c)
+
 pub returns-clause-same : goal.returns-clause-same
-returns-clause-same c = equal_is_same c.args.self c.args.other c.then.result (returns-clause-exact c)
+returns-clause-same c = equal_is_same c.args.self c.args.other c.then.result (exact c)

@@ -1,4 +1,6 @@
 use Rattle.std.proofs.Common.{◌≡◌, ◌*◌, ◌/◌, ◌≤◌, ap, sym, ◌∙◌, subst, ℕ}
+use Rattle.smp_fractions.specs.Fractions.{positive_product}
+use Rattle.smp_fractions.proofs.Over.{over_from_cross}
 use Rattle.smp_frac.specs.Divisors.{greatest_common_divisor}
 use Rattle.smp_frac.proofs.Lowest.{over-divisor, over-positive, over-lowest, over-value}
 use Rattle.smp_frac.proofs.fractions.Frac.reduced.Goals as goal
@@ -21,4 +23,5 @@ invariant_of-result c =
 pub returns-clause-value : goal.returns-clause-value
 returns-clause-value c =
     let a = c.args in
-    over-value a.num a.part a.den a.common _ c.requires.some_den c.requires.divides c.gcd-divisor.ensures.divides ∙ ap (λ d. a.num * d) (sym c.in_ok-den.ensures.1)
+    over_from_cross _ _ _ _ _ (positive_product a.part a.den c.requires.some_part c.requires.some_den)
+    (over-value a.num a.part a.den a.common _ c.requires.some_den c.requires.divides c.gcd-divisor.ensures.divides ∙ ap (λ d. a.num * d) (sym c.in_ok-den.ensures.1))

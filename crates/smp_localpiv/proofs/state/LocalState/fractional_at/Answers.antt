@@ -2,7 +2,7 @@ use Rattle.std.proofs.Common.{◌≡◌, ℕ, ◌+◌, ◌<◌, ◌∙◌, Bool,
 use Rattle.std.proofs.lemmas.List.{get_or_read}
 use Rattle.smp_split.specs.Numerators.{fractional}
 use Rattle.smp_localpiv.specs.Local.{Local, fractional_at, fractional_count}
-use Rattle.smp_localpiv.specs.Units.{count_before, count_before_more, count_before_all, fractional_at-before}
+use Rattle.smp_localpiv.specs.Laws.Units.{count_before, count_before_more, count_before_all, fractional_at-before}
 use Rattle.smp_localpiv.proofs.state.LocalState.fractional_at.Goals as goal
 use Rattle.smp_localpiv.proofs.state.LocalState.fractional_at.Goals.{then-is_fractional+else-before-place, else-is_fractional}
 

@@ -1,5 +1,5 @@
 use Rattle.std.proofs.Common.{◌≡◌, ◌≤◌}
-use Rattle.smp_localpiv.specs.Units.{count_before}
+use Rattle.smp_localpiv.specs.Laws.Units.{count_before}
 use Rattle.smp_localpiv.proofs.state.LocalState.fractional_at.Given as goal
 
 -- so many of the units before this one are fractional

@@ -1,4 +1,4 @@
-use Rattle.smp_localpiv.specs.Units.{met}
+use Rattle.smp_localpiv.specs.Laws.Units.{met}
 use Rattle.smp_localpiv.proofs.Steps.{points_kept, never_alone}
 use Rattle.smp_localpiv.proofs.state.LocalState.neighbour.Goals as goal
 

@@ -1,6 +1,6 @@
 use Rattle.std.proofs.Common.{◌≡◌, ◌∙◌, true, get_or, sym}
 use Rattle.smp_split.specs.Numerators.{fractional}
-use Rattle.smp_localpiv.specs.Units.{fractional_within}
+use Rattle.smp_localpiv.specs.Laws.Units.{fractional_within}
 use Rattle.smp_localpiv.proofs.Steps.{kept_settled, kept_open}
 use Rattle.smp_localpiv.proofs.state.LocalState.set_value.Goals as goal
 

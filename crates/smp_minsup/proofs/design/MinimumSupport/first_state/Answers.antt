@@ -1,6 +1,6 @@
 use Rattle.std.proofs.Common.{length, arith, ap, ◌∙◌}
 use Rattle.smp_prob.specs.Shares.{Shares}
-use Rattle.smp_minsup.specs.Splits.{draws_within}
+use Rattle.smp_minsup.specs.Laws.Splits.{draws_within}
 use Rattle.smp_minsup.proofs.design.MinimumSupport.first_state.Goals as goal
 
 pub take_largest-requires-clause-within : goal.take_largest-requires-clause-within

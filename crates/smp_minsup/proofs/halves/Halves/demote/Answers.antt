@@ -1,7 +1,7 @@
 use Rattle.std.proofs.Common.{◌≡◌, ◌+◌, ◌-◌, ◌<◌, ◌≤◌, false, ◌∷◌, length, arith, rules, subst, ap, sym, ◌∙◌}
 use Rattle.std.specs.BinaryHeap.{IsHeap, heap_items, heap_len, heap_capacity}
 use Rattle.std.specs.List.Sorted.{IsPermutation}
-use Rattle.smp_minsup.specs.Halves.{Halved, IsLeastLarge, large_count, placed, by_numer}
+use Rattle.smp_minsup.specs.Kept.Halves.{Halved, IsLeastLarge, large_count, placed, by_numer}
 use Rattle.smp_minsup.proofs.Halving.{least_large, some_large, some_true, demoted, down_view, down_within}
 use Rattle.smp_minsup.proofs.Queues.{on_ok}
 use Rattle.smp_minsup.proofs.halves.Halves.demote.Goals as goal

@@ -1,6 +1,6 @@
 use Rattle.std.proofs.Common.{◌≡◌, nat_eq, ◌&&◌, true, false, length, ap, sym, ◌∙◌}
 use Rattle.std.proofs.lemmas.Bool.{eq-eqb, ne_eqb}
-use Rattle.smp_minsup.specs.Halves.{largest_small, least_large}
+use Rattle.smp_minsup.specs.Kept.Halves.{largest_small, least_large}
 use Rattle.smp_minsup.proofs.States.{done_is}
 use Rattle.smp_minsup.proofs.halves.Halves.is_settled.Goals as goal
 

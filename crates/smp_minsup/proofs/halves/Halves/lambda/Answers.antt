@@ -1,5 +1,5 @@
 use Rattle.std.proofs.Common.{◌-◌, length, min, arith, ap, ◌∙◌}
-use Rattle.smp_minsup.specs.Halves.{largest_small}
+use Rattle.smp_minsup.specs.Kept.Halves.{largest_small}
 use Rattle.smp_minsup.proofs.States.{most_within, lambda_is}
 use Rattle.smp_minsup.proofs.halves.Halves.lambda.Goals as goal
 

@@ -1,7 +1,7 @@
 use Rattle.std.proofs.Common.{◌≡◌, ℕ, ◌<◌, ◌≤◌, false, length, arith, rules, subst, inl, inr}
 use Rattle.std.proofs.lemmas.Bool.{cases_Bool}
 use Rattle.std.specs.BinaryHeap.{heap_items, heap_capacity}
-use Rattle.smp_minsup.specs.Halves.{Halved, is_in, IsLeastLarge}
+use Rattle.smp_minsup.specs.Kept.Halves.{Halved, is_in, IsLeastLarge}
 use Rattle.smp_minsup.proofs.Halving.{least_large, length_view, some_large}
 use Rattle.smp_minsup.proofs.halves.Halves.least_large.Goals as goal
 

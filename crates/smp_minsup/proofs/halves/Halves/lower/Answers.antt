@@ -1,6 +1,6 @@
 use Rattle.std.proofs.Common.{◌≡◌, ℕ, ◌+◌, ◌^◌, ◌<◌, ◌≤◌, true, length, get_or, subst, ap, sym, ◌∙◌}
 use Rattle.std.specs.BinaryHeap.{heap_items, heap_capacity}
-use Rattle.smp_minsup.specs.Halves.{Halved, is_in, lowered_by}
+use Rattle.smp_minsup.specs.Kept.Halves.{Halved, is_in, lowered_by}
 use Rattle.smp_minsup.proofs.Halving.{lowered_kept, lowered_view}
 use Rattle.smp_minsup.proofs.halves.Halves.lower.Goals as goal
 

@@ -1,7 +1,7 @@
 use Rattle.std.proofs.Common.{◌≡◌, ℕ, ◌<◌, ◌≤◌, true, length, arith, rules, subst, inl, inr}
 use Rattle.std.proofs.lemmas.Bool.{cases_Bool}
 use Rattle.std.specs.BinaryHeap.{heap_items, heap_capacity}
-use Rattle.smp_minsup.specs.Halves.{Halved, is_in, IsMostSmall}
+use Rattle.smp_minsup.specs.Kept.Halves.{Halved, is_in, IsMostSmall}
 use Rattle.smp_minsup.proofs.Halving.{most_small, length_view, some_small}
 use Rattle.smp_minsup.proofs.halves.Halves.most_small.Goals as goal
 

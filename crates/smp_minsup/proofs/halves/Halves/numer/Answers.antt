@@ -2,7 +2,7 @@ use Rattle.std.proofs.Common.{◌≡◌, ◌-◌, ◌<◌, true, false, length, 
 use Rattle.std.proofs.lemmas.Grind.{get_or_default_zero}
 use Rattle.std.proofs.lemmas.List.{get_or_default}
 use Rattle.std.specs.Vec.{vec_len}
-use Rattle.smp_minsup.specs.Halves.{Halved, is_in}
+use Rattle.smp_minsup.specs.Kept.Halves.{Halved, is_in}
 use Rattle.smp_minsup.proofs.Halving.{length_view, at_large, at_small}
 use Rattle.smp_minsup.proofs.halves.Halves.numer.Goals as goal
 

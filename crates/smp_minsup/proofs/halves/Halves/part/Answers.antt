@@ -1,6 +1,6 @@
 use Rattle.std.proofs.Common.{◌≡◌, ◌<◌, false, true, sym, subst, ap, ◌∙◌}
 use Rattle.std.proofs.lemmas.Bool.{OnTrue_at}
-use Rattle.smp_minsup.specs.Halves.{Halved, IsMixed, IsLeastLarge, placed}
+use Rattle.smp_minsup.specs.Kept.Halves.{Halved, IsMixed, IsLeastLarge, placed}
 use Rattle.smp_minsup.proofs.Parting.{IsExchanged, disorder, mixed_fewer, exchange_falls, exchange_keeps, exchanged_trans}
 use Rattle.smp_minsup.proofs.halves.Halves.part.Goals as goal
 

@@ -1,7 +1,7 @@
 use Rattle.std.proofs.Common.{◌≡◌, ℕ, ◌+◌, ◌^◌, ◌<◌, ◌≤◌, true, ◌∷◌, length, get_or, arith, rules, subst, ap, sym, ◌∙◌}
 use Rattle.std.specs.BinaryHeap.{IsHeap, heap_items, heap_len, heap_capacity}
 use Rattle.std.specs.List.Sorted.{IsPermutation}
-use Rattle.smp_minsup.specs.Halves.{Halved, IsMostSmall, large_count, placed, by_numer_reversed}
+use Rattle.smp_minsup.specs.Kept.Halves.{Halved, IsMostSmall, large_count, placed, by_numer_reversed}
 use Rattle.smp_minsup.proofs.Halving.{length_view, at_small, small_known, small_in, small_numer, most_small, some_small, some_false, promoted, up_view}
 use Rattle.smp_minsup.proofs.Queues.{on_ok}
 use Rattle.smp_minsup.proofs.halves.Halves.promote.Goals as goal

@@ -1,5 +1,5 @@
 use Rattle.std.proofs.Common.{◌+◌, sym, subst}
-use Rattle.smp_minsup.specs.Halves.{Halved}
+use Rattle.smp_minsup.specs.Kept.Halves.{Halved}
 use Rattle.smp_minsup.proofs.Parting.{IsTaking, taking_more}
 use Rattle.smp_minsup.proofs.halves.Halves.take_largest.Goals as goal
 

@@ -1,6 +1,6 @@
 use Rattle.std.proofs.Common.{sym, ap, ◌∙◌}
 use Rattle.smp_minsup.specs.Support.{is_done}
-use Rattle.smp_minsup.specs.Halves.{shares_kept}
+use Rattle.smp_minsup.specs.Kept.Halves.{shares_kept}
 use Rattle.smp_minsup.proofs.States.{kept_done}
 use Rattle.smp_minsup.proofs.state.SupportState.is_done.Goals as goal
 

@@ -1,4 +1,4 @@
-use Rattle.smp_split.proofs.Fractions.{same_trans}
+use Rattle.smp_fractions.proofs.Fractions.{same_trans}
 use Rattle.smp_rows.proofs.Asked.{value_is_asked, rows_select}
 use Rattle.smp_rows.proofs.rows.Rows.select_as_asked.Goals as goal
 
@@ -8,6 +8,6 @@ returns-clause-probability g c row here =
     same_trans (c.mean_is_value.ensures.probability row here) (value_is_asked design.rows design.request.now (g.D.Splitting.tree design.design) c.args.state.now c.requires.serves row)
 
 pub returns-clause-count : goal.returns-clause-count
-returns-clause-count g c n fills =
+returns-clause-count g c n adds fills =
     let design = c.args.self.now in
-    rows_select design.rows design.request.now (g.D.Splitting.tree design.design) c.args.state.now c.requires.serves n c.requires.belongs.paired fills
+    rows_select design.rows design.request.now (g.D.Splitting.tree design.design) c.args.state.now c.requires.serves (g.D.Splitting.belongs design.design) n c.requires.belongs.paired adds fills

@@ -6,7 +6,7 @@ use Rattle.smp_minsup.specs.Support.{support_tree}
 use Rattle.smp_brewer.specs.Offers.{units_of, brewing_tree}
 use Rattle.smp_localpiv.specs.Local.{IsLocal, local_tree}
 use Rattle.smp_stage.specs.Stages.{local1_state, local2_state, local3_state, local4_state}
-use Rattle.smp_stage.proofs.Serves.{member_inside}
+use Rattle.smp_split.proofs.Embeds.{member_inside}
 use Rattle.smp_stage.specs.declared.stage.StageState.TheVariants as states
 use Rattle.smp_stage.proofs.stage.StageSplitting.advance.Goals.{in-Pivotal-Pivotal, in-Systematic-Systematic, in-MinimumSupport-MinimumSupport, in-Brewer-Brewer, in-LocalPivotal1-LocalPivotal1, in-LocalPivotal2-LocalPivotal2, in-LocalPivotal3-LocalPivotal3, in-LocalPivotal4-LocalPivotal4}
 use Rattle.smp_stage.proofs.stage.StageSplitting.advance.Goals as goal
