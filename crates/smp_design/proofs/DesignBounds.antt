@@ -7,7 +7,8 @@ use Rattle.smp_prob.specs.declared.orders.Order.{Order}
 use Rattle.smp_prob.specs.declared.orders.Order.TheVariants as the_order
 use Rattle.smp_design.specs.declared.design.Design.{Design}
 use Rattle.smp_design.specs.declared.method.Method.{Method}
-use Rattle.smp_design.specs.declared.method.Method.TheVariants.{Pivotal, Systematic, MinimumSupport, Brewer, LocalPivotal, Cube}
+use Rattle.smp_design.specs.declared.method.Needs.{Needs}
+use Rattle.smp_design.specs.declared.method.Needs.TheVariants.{Nothing, Balance, Near}
 use Rattle.smp_design.specs.declared.fault.DesignFault.{DesignFault}
 use Rattle.smp_design.specs.declared.fault.DesignFault.TheVariants.{Version, UnknownKey, MissingKey, Clash}
 use Rattle.smp_design.specs.declared.reading.UnitColumns.{UnitColumns}
@@ -16,35 +17,29 @@ use Rattle.smp_design.specs.declared.reading.SecondStage.{SecondStage}
 use Rattle.smp_design.specs.Bounds.{IsDesign, Ascend, least_values, most_values}
 use Rattle.smp_design.specs.Designs.{document, unit_columns, sample_size, value_columns, second_stage, values, design_of, is_version_1}
 use Rattle.smp_design.specs.Keys
-use Rattle.smp_design.specs.Keys.{has, lacks, unknown_key, missing_key}
+use Rattle.smp_design.specs.Keys.{has, unknown_key, missing_key}
 use Rattle.smp_design.specs.Reads.{Reads, good, holds, none_found}
 use Rattle.smp_design.specs.Values.{method}
-use Rattle.smp_design.specs.Words.{takes_order, is_cube, is_local_pivotal}
+use Rattle.smp_design.specs.Words.{row, is_balance, is_near}
 use Rattle.smp_design.proofs.Went.{went, is_good, found_none}
 use Rattle.smp_design.proofs.ValueBounds.{Few}
-use Rattle.smp_design.proofs.Stages.{NoneMissing, none_missing, NoClash, no_clash, stratum_there, SampleFacts, sample_facts, ValueFacts, value_facts, SecondFacts, second_facts, has_cube, has_local_pivotal}
+use Rattle.smp_design.proofs.Stages.{NoneMissing, none_missing, NoClash, no_clash, stratum_there, SampleFacts, sample_facts, ValueFacts, value_facts, SecondFacts, second_facts, needs-is}
 
--- the number of columns that a method takes
-record Fits (m : Method) (columns : List (List ℕ)) : Type 0 where
-  pub some : least_values m ≤ length columns
-  pub few : length columns ≤ most_values m
+-- the number of columns that a method with these needs takes
+record Fits (needs : Needs) (columns : List (List ℕ)) : Type 0 where
+  pub some : least_values needs ≤ length columns
+  pub few : length columns ≤ most_values needs
 
-fits_none : (m : Method) → least_values m ≡ 0 → (b n : Option (List (List ℕ))) → (is_some b && true) ≡ false → (is_some n && true) ≡ false → Fits m (unwrap_or b (unwrap_or n []))
-fits_none m none None None h k = record { some = omega arith; few = omega arith }
-fits_none m none (Some xs) n h k = absurd (cc)
-fits_none m none None (Some xs) h k = absurd (cc)
-
-fits : (m : Method) (b n : Option (List (List ℕ))) → IfSome b (Few 15) → IfSome n (Few 4) → (is_some b && not (is_cube m)) ≡ false → (is_some n && not (is_local_pivotal m)) ≡ false
-    → (m ≡ Cube → is_some b ≡ true) → (m ≡ LocalPivotal → is_some n ≡ true) → Fits m (unwrap_or b (unwrap_or n []))
-fits Cube (Some xs) n few few' h k cube local = record { some = few.0; few = few.1 }
-fits Cube None n few few' h k cube local = absurd (let there = cube refl in cc)
-fits LocalPivotal (Some xs) n few few' h k cube local = absurd (cc)
-fits LocalPivotal None (Some xs) few few' h k cube local = record { some = few'.0; few = few'.1 }
-fits LocalPivotal None None few few' h k cube local = absurd (let there = local refl in cc)
-fits Pivotal b n few few' h k cube local = fits_none Pivotal refl b n h k
-fits Systematic b n few few' h k cube local = fits_none Systematic refl b n h k
-fits MinimumSupport b n few few' h k cube local = fits_none MinimumSupport refl b n h k
-fits Brewer b n few few' h k cube local = fits_none Brewer refl b n h k
+fits : (needs : Needs) (b n : Option (List (List ℕ))) → IfSome b (Few 15) → IfSome n (Few 4) → (is_some b && not (is_balance needs)) ≡ false → (is_some n && not (is_near needs)) ≡ false
+    → (is_balance needs ≡ true → is_some b ≡ true) → (is_near needs ≡ true → is_some n ≡ true) → Fits needs (unwrap_or b (unwrap_or n []))
+fits Nothing None None few few' h k balance near = record { some = omega arith; few = omega arith }
+fits Nothing (Some xs) n few few' h k balance near = absurd (cc)
+fits Nothing None (Some xs) few few' h k balance near = absurd (cc)
+fits Balance (Some xs) n few few' h k balance near = record { some = few.0; few = few.1 }
+fits Balance None n few few' h k balance near = absurd (let there = balance refl in cc)
+fits Near (Some xs) n few few' h k balance near = absurd (cc)
+fits Near None (Some xs) few few' h k balance near = record { some = few'.0; few = few'.1 }
+fits Near None None few few' h k balance near = absurd (let there = near refl in cc)
 
 -- one of two tests holds, where not both fail
 both : (a b : Bool) → (a && not b) ≡ false → a ≡ true → b ≡ true
@@ -87,11 +82,12 @@ parts_are_design : (t : Members) (m : Method) (unit : UnitColumns) (sample : Sam
     → option_and_then method (get_member (codes "method") t) ≡ Some m → is_some unit.stratum ≡ has (codes "stratum") t → SampleFacts t sample → ValueFacts t columns → SecondFacts (get_member (codes "second") t) second
     → NoClash t m → Ascend sample.sizes → IsDesign (parts m unit sample columns second)
 parts_are_design t m unit sample columns second missing method_is stratum s v w clash ascend =
-    let f = subst (λ (xs : List (List ℕ)). Fits m xs) v.is (fits m v.balance v.near v.balance_few v.near_few
-    (ap (λ b. b && not (is_cube m)) v.balance_there ∙ clash.balance)
-    (ap (λ b. b && not (is_local_pivotal m)) v.near_there ∙ clash.near)
-    (λ cube. v.balance_there ∙ both _ (has (codes "balance") t) missing.balance (has_cube t (method_is ∙ ap Some cube)))
-    (λ local. v.near_there ∙ both _ (has (codes "near") t) missing.near (has_local_pivotal t (method_is ∙ ap Some local)))) in
+    let needs_is = needs-is t m method_is in
+    let f = subst (λ (xs : List (List ℕ)). Fits (row m).needs xs) v.is (fits (row m).needs v.balance v.near v.balance_few v.near_few
+    (ap (λ b. b && not (is_balance (row m).needs)) v.balance_there ∙ clash.balance)
+    (ap (λ b. b && not (is_near (row m).needs)) v.near_there ∙ clash.near)
+    (λ balance. v.balance_there ∙ both _ (has (codes "balance") t) missing.balance (ap is_balance needs_is ∙ balance))
+    (λ near. v.near_there ∙ both _ (has (codes "near") t) missing.near (ap is_near needs_is ∙ near))) in
     record {
       size = s.size;
       quotas = s.quotas;
@@ -99,14 +95,14 @@ parts_are_design t m unit sample columns second missing method_is stratum s v w 
       one_size = on_some sample.n _ (λ there. s.no_sizes (not_both (has (codes "n") t) (has (codes "sizes") t) clash.one_size (sym s.n_there ∙ there)));
       strata = if_none sample.n _ (λ none. stratum ∙ both (has (codes "sizes") t) (has (codes "stratum") t) clash.strata (one_of (has (codes "n") t) (has (codes "sizes") t) missing.sized (sym s.n_there ∙ none)));
       order = λ random. elim (cases_Bool (has (codes "order") t)) [
-        | inl there ↦ both (has (codes "order") t) (takes_order m) clash.order there
+        | inl there ↦ both (has (codes "order") t) (row m).takes_order clash.order there
         | inr none ↦ absurd (not_random sample.order (s.no_order none) random)
       ];
       some_values = f.some;
       few_values = f.few;
       second_size = w.size;
       second_method = w.method;
-      second_first = on_some second.second _ (λ there. not_both (has (codes "second") t) (is_local_pivotal m) clash.second (sym w.there ∙ there));
+      second_first = on_some second.second _ (λ there. not_both (has (codes "second") t) (is_near (row m).needs) clash.second (sym w.there ∙ there));
       psu = w.psu;
       second_sizes = w.sizes;
     }

@@ -1,7 +1,8 @@
 -- The keys of a table, and the first that passes a test.
-use Rattle.std.proofs.Common.{filter, IfSome, Less, nat_cmp, ◌≡◌, ℕ, Bool, true, false, cond, List, [], ◌∷◌, Option, Some, None, option_map, find, String, string_bytes, refl, sym, ◌∙◌, ap, Bor, inl, inr}
+use Rattle.std.proofs.Common.{filter, map, IfSome, Less, nat_cmp, ◌≡◌, ℕ, Bool, true, false, cond, List, [], ◌∷◌, Option, Some, None, option_map, find, String, string_bytes, refl, sym, ◌∙◌, ap, Bor, inl, inr}
 use Rattle.std.specs.Option.{option_copied}
-use Rattle.std.specs.List.{AllByRecursion}
+use Rattle.std.specs.List.{AllByRecursion, list_any}
+use Rattle.std.specs.Str.{bytes_eq}
 use Rattle.std.specs.List.Sorted.{IsStrictlySortedBy}
 use Rattle.std.specs.Cmp.Lexicographic.{slice_cmp}
 use Rattle.std.specs.Ordering.{ordering_reverse}
@@ -63,3 +64,8 @@ first_is_found p (k ∷ ks) h = elim (cases_Bool (p k)) [
 pub first_of : (p : List ℕ → Bool) (es : List (String Global × Value)) (r : Option (Bor (String Global))) → option_copied r ≡ find (λ k. p (string_bytes k)) (keys_of es) → IsStrictlySortedBy string_cmp (keys_of es)
     → option_map (λ k. string_bytes k.now) r ≡ keys.first_key (filter p (keys.keys_of (members_view es)))
 first_of p es r is ordered = text_of_ref r ∙ ap (option_map string_bytes) is ∙ found_key p es ∙ first_is_found p (keys.keys_of (members_view es)) (keys_ascend es ordered)
+
+-- a text is among some references' texts where it is the text of one of them
+pub among_refs : (refs : List (Bor (List ℕ))) (key : List ℕ) → list_any (λ other. bytes_eq other.now key) refs ≡ keys.is_among (map (λ other. other.now) refs) key
+among_refs [] key = refl
+among_refs (r ∷ refs) key = rw (among_refs refs key)

@@ -1,3 +1,4 @@
+pub mod ReadBack
 pub mod FirstKeys
 pub mod Documents
 pub mod QuotasOf

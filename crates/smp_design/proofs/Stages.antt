@@ -1,28 +1,29 @@
 -- What is true of each part of a design that was read.
-use Rattle.std.proofs.Common.{◌≡◌, ℕ, Bool, true, false, cond, not, ◌&&◌, List, [], Option, Some, None, IfSome, Result, Ok, codes, refl, ap, ◌∙◌, subst, arith}
+use Rattle.std.proofs.Common.{◌≡◌, ℕ, true, false, not, ◌&&◌, List, [], Option, Some, None, IfSome, Result, Ok, codes, refl, ap, ◌∙◌, subst, arith}
+use Rattle.std.specs.Option.{option_map_or}
 use Rattle.std.specs.Prelude.{All, IfNone, option_and_then, is_some, unwrap_or}
 use Rattle.toml.specs.Data.{Data, Members, get_member, as_str, as_table}
 use Rattle.smp_prob.specs.declared.orders.Order.TheVariants as the_order
 use Rattle.smp_design.specs.declared.design.Quota as quota
 use Rattle.smp_design.specs.declared.method.Method.{Method}
-use Rattle.smp_design.specs.declared.method.Method.TheVariants.{Pivotal, Systematic, MinimumSupport, Brewer, LocalPivotal, Cube}
+use Rattle.smp_design.specs.declared.method.Needs.TheVariants.{Nothing}
 use Rattle.smp_design.specs.declared.reading.UnitColumns.{UnitColumns}
 use Rattle.smp_design.specs.declared.reading.SampleSize.{SampleSize}
 use Rattle.smp_design.specs.declared.reading.SecondStage.{SecondStage}
-use Rattle.smp_design.specs.Bounds.{InRange, is_second_method}
+use Rattle.smp_design.specs.Bounds.{InRange}
 use Rattle.smp_design.specs.Designs.{unit_columns, sample_size, value_columns, second_stage_of, second_stage}
-use Rattle.smp_design.specs.Keys.{has, lacks, has_method, is_word, missing_key, clash}
+use Rattle.smp_design.specs.Keys.{has, lacks, needs, missing_key, clash}
 use Rattle.smp_design.specs.Reads.{good}
 use Rattle.smp_design.specs.Values.{number, method, second_method, order, names, quotas, optional}
-use Rattle.smp_design.specs.Words.{meaning, methods, takes_order, is_cube, is_local_pivotal}
+use Rattle.smp_design.specs.Words.{row, is_balance, is_near}
 use Rattle.smp_design.proofs.Went.{went, is_good, first_fails, goes_on}
 use Rattle.smp_design.proofs.ValueBounds.{Few, number-range, quotas-range, names-few, second_method-is, optional-holds, optional-there}
 
 -- no needed key is missing
 pub record NoneMissing (t : Members) : Type 0 where
   pub sized : (lacks (codes "n") t && lacks (codes "sizes") t) ≡ false
-  pub balance : (has_method (codes "cube") t && lacks (codes "balance") t) ≡ false
-  pub near : (has_method (codes "local_pivotal") t && lacks (codes "near") t) ≡ false
+  pub balance : (is_balance (needs t) && lacks (codes "balance") t) ≡ false
+  pub near : (is_near (needs t) && lacks (codes "near") t) ≡ false
 
 pub none_missing : (t : Members) → missing_key t ≡ None → NoneMissing t
 unfolding missing_key
@@ -30,28 +31,28 @@ none_missing t h =
     let a = first_fails (lacks (codes "method") t) (codes "method") _ h in
     let b = first_fails (lacks (codes "id") t) (codes "id") _ a.others in
     let c = first_fails (lacks (codes "n") t && lacks (codes "sizes") t) (codes "n") _ b.others in
-    let d = first_fails (has_method (codes "cube") t && lacks (codes "balance") t) (codes "balance") _ c.others in
-    let e = first_fails (has_method (codes "local_pivotal") t && lacks (codes "near") t) (codes "near") _ d.others in
+    let d = first_fails (is_balance (needs t) && lacks (codes "balance") t) (codes "balance") _ c.others in
+    let e = first_fails (is_near (needs t) && lacks (codes "near") t) (codes "near") _ d.others in
     record { sized = c.fails; balance = d.fails; near = e.fails }
 
 -- no two keys clash
 pub record NoClash (t : Members) (m : Method) : Type 0 where
   pub one_size : (has (codes "n") t && has (codes "sizes") t) ≡ false
   pub strata : (has (codes "sizes") t && lacks (codes "stratum") t) ≡ false
-  pub order : (has (codes "order") t && not (takes_order m)) ≡ false
-  pub balance : (has (codes "balance") t && not (is_cube m)) ≡ false
-  pub near : (has (codes "near") t && not (is_local_pivotal m)) ≡ false
-  pub second : (has (codes "second") t && is_local_pivotal m) ≡ false
+  pub order : (has (codes "order") t && not (row m).takes_order) ≡ false
+  pub balance : (has (codes "balance") t && not (is_balance (row m).needs)) ≡ false
+  pub near : (has (codes "near") t && not (is_near (row m).needs)) ≡ false
+  pub second : (has (codes "second") t && is_near (row m).needs) ≡ false
 
 pub no_clash : (t : Members) (m : Method) → clash t m ≡ None → NoClash t m
 unfolding clash
 no_clash t m h =
     let a = first_fails (has (codes "n") t && has (codes "sizes") t) (codes "n", codes "sizes") _ h in
     let b = first_fails (has (codes "sizes") t && lacks (codes "stratum") t) (codes "sizes", codes "stratum") _ a.others in
-    let c = first_fails (has (codes "order") t && not (takes_order m)) (codes "order", codes "method") _ b.others in
-    let d = first_fails (has (codes "balance") t && not (is_cube m)) (codes "balance", codes "method") _ c.others in
-    let e = first_fails (has (codes "near") t && not (is_local_pivotal m)) (codes "near", codes "method") _ d.others in
-    let f = first_fails (has (codes "second") t && is_local_pivotal m) (codes "second", codes "method") _ e.others in
+    let c = first_fails (has (codes "order") t && not (row m).takes_order) (codes "order", codes "method") _ b.others in
+    let d = first_fails (has (codes "balance") t && not (is_balance (row m).needs)) (codes "balance", codes "method") _ c.others in
+    let e = first_fails (has (codes "near") t && not (is_near (row m).needs)) (codes "near", codes "method") _ d.others in
+    let f = first_fails (has (codes "second") t && is_near (row m).needs) (codes "second", codes "method") _ e.others in
     record { one_size = a.fails; strata = b.fails; order = c.fails; balance = d.fails; near = e.fails; second = f.fails }
 
 pub stratum_there : (t : Members) (u : UnitColumns) → unit_columns t ≡ Ok u → is_some u.stratum ≡ has (codes "stratum") t
@@ -127,7 +128,7 @@ value_facts t columns h =
 -- the second stage
 pub record SecondFacts (o : Option Data) (s : SecondStage) : Type 0 where
   pub size : IfSome s.second (λ x. InRange x.n)
-  pub method : IfSome s.second (λ x. is_second_method x.method ≡ true)
+  pub method : IfSome s.second (λ x. (row x.method).in_second ≡ true)
   pub psu : is_some s.psu ≡ is_some s.second
   pub sizes : IfNone s.second (s.size ≡ None)
   pub there : is_some s.second ≡ is_some o
@@ -158,35 +159,6 @@ second_facts (Some value) s h =
     let table = went (good (codes "second") (as_table value)) second_stage_of s h in
     second_facts_of table.value value s table.gives
 
--- a method that is the cube, or the local pivotal method, has its word
-cube_word : (b1 b2 b3 b4 b5 b6 : Bool) → cond b1 (Some Pivotal) (cond b2 (Some Systematic) (cond b3 (Some MinimumSupport) (cond b4 (Some Brewer) (cond b5 (Some LocalPivotal) (cond b6 (Some Cube) None))))) ≡ Some Cube → b6 ≡ true
-cube_word true b2 b3 b4 b5 b6 h = absurd (cc)
-cube_word false true b3 b4 b5 b6 h = absurd (cc)
-cube_word false false true b4 b5 b6 h = absurd (cc)
-cube_word false false false true b5 b6 h = absurd (cc)
-cube_word false false false false true b6 h = absurd (cc)
-cube_word false false false false false true h = refl
-cube_word false false false false false false h = absurd (cc)
-
-local_word : (b1 b2 b3 b4 b5 b6 : Bool) → cond b1 (Some Pivotal) (cond b2 (Some Systematic) (cond b3 (Some MinimumSupport) (cond b4 (Some Brewer) (cond b5 (Some LocalPivotal) (cond b6 (Some Cube) None))))) ≡ Some LocalPivotal → b5 ≡ true
-local_word true b2 b3 b4 b5 b6 h = absurd (cc)
-local_word false true b3 b4 b5 b6 h = absurd (cc)
-local_word false false true b4 b5 b6 h = absurd (cc)
-local_word false false false true b5 b6 h = absurd (cc)
-local_word false false false false true b6 h = refl
-local_word false false false false false true h = absurd (cc)
-local_word false false false false false false h = absurd (cc)
-
-pub has_cube : (t : Members) → option_and_then method (get_member (codes "method") t) ≡ Some Cube → has_method (codes "cube") t ≡ true
-has_cube t h =
-    let value = goes_on method (get_member (codes "method") t) Cube h in
-    let text = goes_on (meaning methods) (as_str value.value) Cube value.gives in
-    let word : option_and_then as_str (get_member (codes "method") t) ≡ Some text.value = ap (option_and_then as_str) value.is ∙ text.is in
-    ap (is_word (codes "cube")) word ∙ cube_word _ _ _ _ _ _ text.gives
-
-pub has_local_pivotal : (t : Members) → option_and_then method (get_member (codes "method") t) ≡ Some LocalPivotal → has_method (codes "local_pivotal") t ≡ true
-has_local_pivotal t h =
-    let value = goes_on method (get_member (codes "method") t) LocalPivotal h in
-    let text = goes_on (meaning methods) (as_str value.value) LocalPivotal value.gives in
-    let word : option_and_then as_str (get_member (codes "method") t) ≡ Some text.value = ap (option_and_then as_str) value.is ∙ text.is in
-    ap (is_word (codes "local_pivotal")) word ∙ local_word _ _ _ _ _ _ text.gives
+-- what the method of a design needs is in the method's row
+pub needs-is : (t : Members) (m : Method) → option_and_then method (get_member (codes "method") t) ≡ Some m → needs t ≡ (row m).needs
+needs-is t m h = ap (λ o. option_map_or (λ m. (row m).needs) o Nothing) h

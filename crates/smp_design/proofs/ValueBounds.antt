@@ -1,15 +1,14 @@
 -- What is true of the values that keys have.
-use Rattle.std.proofs.Common.{◌≡◌, ℕ, ℤ, pos, negsuc, ◌≤◌, Bool, true, false, cond, ◌&&◌, nat_le, List, [], ◌∷◌, length, Option, Some, None, option_map, IfSome, sym, ap, subst}
+use Rattle.std.proofs.Common.{◌≡◌, ℕ, ℤ, pos, negsuc, ◌≤◌, true, ◌&&◌, nat_le, List, [], ◌∷◌, length, Option, Some, None, option_map, IfSome, sym, ap, subst}
 use Rattle.std.specs.Prelude.{All, option_and_then, is_some}
 use Rattle.std.proofs.lemmas.Bool.{and_parts, leb-true}
 use Rattle.std.proofs.lemmas.List.Elements.{All-nil, All-cons}
-use Rattle.toml.specs.Data.{Data, Members, no_members, member, as_integer, as_str, as_array, as_table}
+use Rattle.toml.specs.Data.{Data, Members, no_members, member, as_integer, as_array, as_table}
 use Rattle.smp_design.specs.declared.design.Quota as quota
 use Rattle.smp_design.specs.declared.method.Method.{Method}
-use Rattle.smp_design.specs.declared.method.Method.TheVariants.{Pivotal, Systematic, MinimumSupport, Brewer}
-use Rattle.smp_design.specs.Bounds.{InRange, is_second_method}
-use Rattle.smp_design.specs.Values.{number_of, number, second_method, few, names, strings, quotas_of, quotas, optional}
-use Rattle.smp_design.specs.Words.{meaning, second_methods}
+use Rattle.smp_design.specs.Bounds.{InRange}
+use Rattle.smp_design.specs.Values.{number_of, number, method, if_second, second_method, few, names, strings, quotas_of, quotas, optional}
+use Rattle.smp_design.specs.Words.{row}
 use Rattle.smp_design.proofs.Went.{goes_on, mapped, passes}
 
 number_of-range : (z : ℤ) (n : ℕ) → number_of z ≡ Some n → InRange n
@@ -53,18 +52,12 @@ names-few most value xs h =
     let is : step.value ≡ xs = (let same : ◌≡◌ {A = Option (List (List ℕ))} (Some step.value) (Some xs) = test.gives in cc) in
     subst (λ (ys : List (List ℕ)). Few most ys) is (leb-true 1 (length step.value) parts.0, leb-true (length step.value) most parts.1)
 
--- a word that stands first means this, or one of the others does
-means_second : (b1 b2 b3 b4 : Bool) (m : Method) → cond b1 (Some Pivotal) (cond b2 (Some Systematic) (cond b3 (Some MinimumSupport) (cond b4 (Some Brewer) None))) ≡ Some m → is_second_method m ≡ true
-means_second true b2 b3 b4 m h = let is : Pivotal ≡ m = cc in ap is_second_method (sym is)
-means_second false true b3 b4 m h = let is : Systematic ≡ m = cc in ap is_second_method (sym is)
-means_second false false true b4 m h = let is : MinimumSupport ≡ m = cc in ap is_second_method (sym is)
-means_second false false false true m h = let is : Brewer ≡ m = cc in ap is_second_method (sym is)
-means_second false false false false m h = absurd (cc)
-
-pub second_method-is : (value : Data) (m : Method) → second_method value ≡ Some m → is_second_method m ≡ true
+pub second_method-is : (value : Data) (m : Method) → second_method value ≡ Some m → (row m).in_second ≡ true
 second_method-is value m h =
-    let step = goes_on (meaning second_methods) (as_str value) m h in
-    means_second _ _ _ _ m step.gives
+    let step = goes_on if_second (method value) m h in
+    let test = passes (row step.value).in_second (Some step.value) m step.gives in
+    let is : step.value ≡ m = (let same : ◌≡◌ {A = Option Method} (Some step.value) (Some m) = test.gives in cc) in
+    subst (λ (k : Method). (row k).in_second ≡ true) is test.holds
 
 -- an optional value: what holds of every good one, and whether it is there
 pub optional-holds : {A : Type 0} (P : A → Type 0) (read : Data → Option A) → ((value : Data) (x : A) → read value ≡ Some x → P x) → (o : Option Data) (x : Option A) → optional read o ≡ Some x → IfSome x P

@@ -4,9 +4,13 @@ use Rattle.std.specs.Ordering.{nat_cmp, is_lt}
 use Rattle.std.specs.Cmp.Lexicographic.{slice_cmp}
 use Rattle.std.specs.Str.{bytes_eq}
 use Rattle.std.specs.List.{list_any}
-use Rattle.toml.specs.Data.{Members, no_members, member, get_member, as_str, as_table}
+use Rattle.std.specs.Option.{option_map_or}
+use Rattle.toml.specs.Data.{Members, no_members, member, get_member, as_table}
 use Rattle.smp_design.specs.declared.method.Method.{Method}
-use Rattle.smp_design.specs.Words.{takes_order, is_cube, is_local_pivotal}
+use Rattle.smp_design.specs.declared.method.Needs.{Needs}
+use Rattle.smp_design.specs.declared.method.Needs.TheVariants.{Nothing}
+use Rattle.smp_design.specs.Values
+use Rattle.smp_design.specs.Words.{row, is_balance, is_near}
 
 -- the keys of a design
 abbrev pub known_keys : List (List ℕ)
@@ -31,9 +35,13 @@ abbrev pub first_key : List (List ℕ) → Option (List ℕ)
 first_key [] = None
 first_key (key ∷ rest) = Some (earlier key (first_key rest))
 
+-- a key is among these
+abbrev pub is_among : List (List ℕ) → List ℕ → Bool
+is_among known key = list_any (λ other. bytes_eq other key) known
+
 -- the first key of a table, by its bytes, that isn't among these
 abbrev pub first_unknown : List (List ℕ) → Members → Option (List ℕ)
-first_unknown known t = first_key (filter (λ key. not (list_any (bytes_eq key) known)) (keys_of t))
+first_unknown known t = first_key (filter (λ key. not (is_among known key)) (keys_of t))
 
 -- the table `second` of a design, where `second` is a table
 abbrev pub second_table : Members → Option Members
@@ -61,14 +69,9 @@ abbrev pub table_lacks : List ℕ → Option Members → Bool
 table_lacks key None = false
 table_lacks key (Some t) = lacks key t
 
--- a value is the string of this word
-abbrev pub is_word : List ℕ → Option (List ℕ) → Bool
-is_word word None = false
-is_word word (Some text) = bytes_eq text word
-
--- `method` is the string of this word
-abbrev pub has_method : List ℕ → Members → Bool
-has_method word t = is_word word (option_and_then as_str (get_member (codes "method") t))
+-- the columns of values that the method of a design needs
+abbrev pub needs : Members → Needs
+needs t = option_map_or (λ m. (row m).needs) (option_and_then Values.method (get_member (codes "method") t)) Nothing
 
 -- what stands beside the first test that holds
 abbrev pub first_where : {A : Type 0} → List (Bool × A) → Option A
@@ -81,8 +84,8 @@ missing_key t = first_where (
     (lacks (codes "method") t, codes "method")
     ∷ (lacks (codes "id") t, codes "id")
     ∷ (lacks (codes "n") t && lacks (codes "sizes") t, codes "n")
-    ∷ (has_method (codes "cube") t && lacks (codes "balance") t, codes "balance")
-    ∷ (has_method (codes "local_pivotal") t && lacks (codes "near") t, codes "near")
+    ∷ (is_balance (needs t) && lacks (codes "balance") t, codes "balance")
+    ∷ (is_near (needs t) && lacks (codes "near") t, codes "near")
     ∷ (table_lacks (codes "psu") (second_table t), codes "second.psu")
     ∷ (table_lacks (codes "method") (second_table t), codes "second.method")
     ∷ (table_lacks (codes "n") (second_table t), codes "second.n")
@@ -93,8 +96,8 @@ unfoldable pub clash : Members → Method → Option (List ℕ × List ℕ)
 clash t method = first_where (
     (has (codes "n") t && has (codes "sizes") t, (codes "n", codes "sizes"))
     ∷ (has (codes "sizes") t && lacks (codes "stratum") t, (codes "sizes", codes "stratum"))
-    ∷ (has (codes "order") t && not (takes_order method), (codes "order", codes "method"))
-    ∷ (has (codes "balance") t && not (is_cube method), (codes "balance", codes "method"))
-    ∷ (has (codes "near") t && not (is_local_pivotal method), (codes "near", codes "method"))
-    ∷ (has (codes "second") t && is_local_pivotal method, (codes "second", codes "method"))
+    ∷ (has (codes "order") t && not (row method).takes_order, (codes "order", codes "method"))
+    ∷ (has (codes "balance") t && not (is_balance (row method).needs), (codes "balance", codes "method"))
+    ∷ (has (codes "near") t && not (is_near (row method).needs), (codes "near", codes "method"))
+    ∷ (has (codes "second") t && is_near (row method).needs, (codes "second", codes "method"))
     ∷ [])

@@ -4,7 +4,7 @@ use Rattle.toml.specs.Data.{Data, Items, no_items, item, Members, no_members, me
 use Rattle.smp_prob.specs.declared.orders.Order.{Order}
 use Rattle.smp_design.specs.declared.method.Method.{Method}
 use Rattle.smp_design.specs.declared.design.Quota as quota
-use Rattle.smp_design.specs.Words.{meaning, methods, second_methods, orders}
+use Rattle.smp_design.specs.Words.{row, method_of, order_of}
 
 -- a whole number from 1 to 100,000
 abbrev pub number_of : ℤ → Option ℕ
@@ -17,15 +17,19 @@ number value = option_and_then number_of (as_integer value)
 
 -- the word of a method
 abbrev pub method : Data → Option Method
-method value = option_and_then (meaning methods) (as_str value)
+method value = option_and_then method_of (as_str value)
 
--- the word of a method that a second stage can have
+-- a method, if a second stage may have it
+abbrev pub if_second : Method → Option Method
+if_second m = if (row m).in_second then Some m else None
+
+-- the word of a method that a second stage may have
 abbrev pub second_method : Data → Option Method
-second_method value = option_and_then (meaning second_methods) (as_str value)
+second_method value = option_and_then if_second (method value)
 
 -- the word of an order
 abbrev pub order : Data → Option Order
-order value = option_and_then (meaning orders) (as_str value)
+order value = option_and_then order_of (as_str value)
 
 -- values that are all strings
 abbrev pub strings : Items → Option (List (List ℕ))

@@ -7,11 +7,11 @@ ghost use Rattle.smp_design.specs.Keys;
 ghost use Rattle.smp_design.specs.Reads.{Reads, holds, none_found};
 ghost use Rattle.smp_design.specs.declared.fault.DesignFault.TheVariants as fault;
 
-use crate::keys::{has, has_method, second_table, unknown_key, unknown_second_key, value_at};
+use crate::keys::{KNOWN_KEYS, SECOND_KEYS, has, needs, second_table, unknown_key, value_at};
 use crate::{DesignFault, Method};
 use smp_frac::{NoMemory, Text};
 use std::alloc::Global;
-use toml::Table;
+use toml::{Table, Value};
 
 pub(crate) fn check_version(table: &Table) -> Result<(), DesignFault>
     ensures { Reads result (holds (Designs.is_version_1 (table_view table.now)) fault.Version) }
@@ -26,13 +26,7 @@ pub(crate) fn check_version(table: &Table) -> Result<(), DesignFault>
 fn is_version_1(table: &Table) -> bool
     ensures { result ≡ Designs.is_version_1 (table_view table.now) }
 {
-    let Some(version) = value_at(table, "version") else {
-        return false;
-    };
-    match version.as_integer() {
-        Some(version) => version == 1,
-        None => false,
-    }
+    value_at(table, "version").and_then(Value::as_integer) == Some(1)
 }
 
 // Every key of the design, and of its table `second`, is a known one.
@@ -49,13 +43,13 @@ pub(crate) fn check_known(alloc: Global, table: &Table) -> Result<(), DesignFaul
 fn unknown_name(alloc: Global, table: &Table) -> Result<Option<Text>, NoMemory>
     ensures { IfOk result (λ o. o ≡ Keys.unknown_key (table_view table.now)) }
 {
-    if let Some(key) = unknown_key(table) {
+    if let Some(key) = unknown_key(table, KNOWN_KEYS) {
         return Ok(Some(Text::from_str(alloc, key.as_str())?));
     }
     let Some(second) = second_table(table) else {
         return Ok(None);
     };
-    match unknown_second_key(second) {
+    match unknown_key(second, SECOND_KEYS) {
         Some(key) => Ok(Some(name_in_second(alloc, key.as_str())?)),
         None => Ok(None),
     }
@@ -86,6 +80,7 @@ pub(crate) fn check_needed(alloc: Global, table: &Table) -> Result<(), DesignFau
 fn missing_key(table: &Table) -> Option<&'static str>
     ensures { option_map (λ k. k.now) result ≡ Keys.missing_key (table_view table.now) }
 {
+    let needs = needs(table);
     let second = second_table(table);
     if !has(table, "method") {
         Some("method")
@@ -93,9 +88,9 @@ fn missing_key(table: &Table) -> Option<&'static str>
         Some("id")
     } else if !has(table, "n") && !has(table, "sizes") {
         Some("n")
-    } else if has_method(table, "cube") && !has(table, "balance") {
+    } else if needs.is_balance() && !has(table, "balance") {
         Some("balance")
-    } else if has_method(table, "local_pivotal") && !has(table, "near") {
+    } else if needs.is_near() && !has(table, "near") {
         Some("near")
     } else if lacks(second, "psu") {
         Some("second.psu")
@@ -112,10 +107,7 @@ fn missing_key(table: &Table) -> Option<&'static str>
 fn lacks(table: Option<&Table>, key: &str) -> bool
     ensures { result ≡ Keys.table_lacks key.now (option_map (λ t. table_view t.now) table.entry) }
 {
-    match table {
-        Some(table) => !has(table, key),
-        None => false,
-    }
+    table.is_some_and(|table| !has(table, key))
 }
 
 // The keys of a design with this method go together.
@@ -135,17 +127,18 @@ pub(crate) fn check_clash(alloc: Global, table: &Table, method: Method) -> Resul
 fn clash(table: &Table, method: Method) -> Option<(&'static str, &'static str)>
     ensures { option_map (λ k. (k.0.now, k.1.now)) result ≡ Keys.clash (table_view table.now) method }
 {
+    let row = method.row();
     if has(table, "n") && has(table, "sizes") {
         Some(("n", "sizes"))
     } else if has(table, "sizes") && !has(table, "stratum") {
         Some(("sizes", "stratum"))
-    } else if has(table, "order") && !method.takes_order() {
+    } else if has(table, "order") && !row.takes_order {
         Some(("order", "method"))
-    } else if has(table, "balance") && !method.is_cube() {
+    } else if has(table, "balance") && !row.needs.is_balance() {
         Some(("balance", "method"))
-    } else if has(table, "near") && !method.is_local_pivotal() {
+    } else if has(table, "near") && !row.needs.is_near() {
         Some(("near", "method"))
-    } else if has(table, "second") && method.is_local_pivotal() {
+    } else if has(table, "second") && row.needs.is_near() {
         Some(("second", "method"))
     } else {
         None

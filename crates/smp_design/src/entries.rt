@@ -8,9 +8,9 @@ ghost use Rattle.smp_design.specs.Bounds.{Ascend};
 ghost use Rattle.smp_design.specs.Values;
 ghost use Rattle.smp_design.specs.Values.{optional};
 
+use crate::Quotas;
 use crate::keys::value_at;
-use crate::values::{method, names, number, order, quotas, second_method, text};
-use crate::{Method, Quotas};
+use crate::values::{names, number, order, quotas, text};
 use smp_frac::{NoMemory, Text};
 use smp_frame::Names;
 use smp_prob::Order;
@@ -26,33 +26,6 @@ pub(crate) fn text_at(alloc: Global, table: &Table, key: &str) -> Result<Option<
     }
 }
 
-pub(crate) fn number_at(table: &Table, key: &str) -> Option<u32>
-    ensures { result ≡ option_and_then Values.number (get_member key.now (table_view table.now)) }
-{
-    match value_at(table, key) {
-        Some(value) => number(value),
-        None => None,
-    }
-}
-
-pub(crate) fn method_at(table: &Table, key: &str) -> Option<Method>
-    ensures { result ≡ option_and_then Values.method (get_member key.now (table_view table.now)) }
-{
-    match value_at(table, key) {
-        Some(value) => method(value),
-        None => None,
-    }
-}
-
-pub(crate) fn second_method_at(table: &Table, key: &str) -> Option<Method>
-    ensures { result ≡ option_and_then Values.second_method (get_member key.now (table_view table.now)) }
-{
-    match value_at(table, key) {
-        Some(value) => second_method(value),
-        None => None,
-    }
-}
-
 pub(crate) fn optional_text_at(
     alloc: Global,
     table: &Table,
@@ -63,10 +36,7 @@ pub(crate) fn optional_text_at(
     let Some(value) = value_at(table, key) else {
         return Ok(Some(None));
     };
-    match text(alloc, value)? {
-        Some(text) => Ok(Some(Some(text))),
-        None => Ok(None),
-    }
+    Ok(text(alloc, value)?.map(Some))
 }
 
 pub(crate) fn optional_number_at(table: &Table, key: &str) -> Option<Option<u32>>
@@ -98,10 +68,7 @@ pub(crate) fn optional_quotas_at(
     let Some(value) = value_at(table, key) else {
         return Ok(Some(None));
     };
-    match quotas(alloc, value)? {
-        Some(quotas) => Ok(Some(Some(quotas))),
-        None => Ok(None),
-    }
+    Ok(quotas(alloc, value)?.map(Some))
 }
 
 pub(crate) fn optional_names_at(
@@ -115,8 +82,5 @@ pub(crate) fn optional_names_at(
     let Some(value) = value_at(table, key) else {
         return Ok(Some(None));
     };
-    match names(alloc, value, most)? {
-        Some(names) => Ok(Some(Some(names))),
-        None => Ok(None),
-    }
+    Ok(names(alloc, value, most)?.map(Some))
 }

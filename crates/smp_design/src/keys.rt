@@ -1,18 +1,27 @@
-//! The keys of a table: which are there, the first that isn't known, and the table `second`.
+//! The keys of a design: which there can be, which are there, and the first that isn't known; and what `method` and
+//! `second` say of the keys that are needed.
 
-ghost use Rattle.std.specs.Prelude.{◌≡◌, option_map, find, not, string_bytes, is_some};
-ghost use Rattle.std.specs.List.{list_any};
+ghost use Rattle.std.specs.Prelude.{◌≡◌, option_map, find, map, not, string_bytes};
 ghost use Rattle.std.specs.List.Sorted.{IsStrictlySortedBy};
-ghost use Rattle.std.specs.Str.{bytes_eq};
 ghost use Rattle.std.specs.String.{string_cmp};
 ghost use Rattle.std.specs.Option.{option_copied};
 ghost use Rattle.std.specs.BTreeMap.{keys};
 ghost use Rattle.toml.specs.Data.{get_member};
 ghost use Rattle.toml.specs.View.{view, table_view};
 ghost use Rattle.smp_design.specs.Keys;
-ghost use Rattle.smp_design.specs.Keys.{known_keys, second_keys};
 
+use crate::method::Needs;
+use crate::values::method;
 use toml::{Table, Value};
+
+// The keys of a design.
+pub(crate) const KNOWN_KEYS: &[&str] = &[
+    "version", "method", "id", "stratum", "size", "n", "sizes", "order", "balance", "near",
+    "second",
+];
+
+// The keys of its table `second`.
+pub(crate) const SECOND_KEYS: &[&str] = &["psu", "method", "n", "size"];
 
 // The value at a key.
 pub(crate) fn value_at<'a>(table: &'a Table, key: &str) -> Option<&'a Value>
@@ -31,73 +40,37 @@ pub(crate) fn has(table: &Table, key: &str) -> bool
 pub(crate) fn second_table(table: &Table) -> Option<&Table>
     ensures { option_map (λ t. table_view t.now) result ≡ Keys.second_table (table_view table.now) }
 {
-    match value_at(table, "second") {
-        Some(second) => second.as_table(),
-        None => None,
+    value_at(table, "second")?.as_table()
+}
+
+// The columns of values that the method of a design needs.
+pub(crate) fn needs(table: &Table) -> Needs
+    ensures { result ≡ Keys.needs (table_view table.now) }
+{
+    match value_at(table, "method").and_then(method) {
+        Some(method) => method.row().needs,
+        None => Needs::Nothing,
     }
 }
 
-pub(crate) fn has_method(table: &Table, word: &str) -> bool
-    ensures { result ≡ Keys.has_method word.now (table_view table.now) }
+// The first key of a table that isn't among the known ones.
+pub(crate) fn unknown_key<'a>(table: &'a Table, known: &[&str]) -> Option<&'a String>
+    ensures { let words = map (λ k. k.now) known.now in
+        option_map (λ k. string_bytes k.now) result ≡ Keys.first_unknown words (table_view table.now) }
 {
-    let Some(method) = value_at(table, "method") else {
-        return false;
-    };
-    match method.as_str() {
-        Some(method) => method == word,
-        None => false,
-    }
+    find_unknown_key(table, known)
 }
 
-// The first key that isn't one of a design.
-pub(crate) fn unknown_key(table: &Table) -> Option<&String>
-    ensures { option_map (λ k. string_bytes k.now) result ≡ Keys.first_unknown known_keys (table_view table.now) }
-{
-    find_unknown_key(table)
-}
-
-fn find_unknown_key(table: &Table) -> Option<&String>
-    ensures found { option_copied result ≡ find (λ k. not (list_any (bytes_eq (string_bytes k)) known_keys)) (keys table.now) }
+fn find_unknown_key<'a>(table: &'a Table, known: &[&str]) -> Option<&'a String>
+    ensures found { let words = map (λ k. k.now) known.now in
+        option_copied result ≡ find (λ k. not (Keys.is_among words (string_bytes k))) (keys table.now) }
     ensures ordered { IsStrictlySortedBy string_cmp (keys table.now) }
 {
-    table.keys().find(|key| !is_known_key(key.as_str()))
+    table.keys().find(|key| !is_known(key.as_str(), known))
 }
 
-fn is_known_key(key: &str) -> bool
-    ensures { result ≡ list_any (bytes_eq key.now) known_keys }
+fn is_known(key: &str, known: &[&str]) -> bool
+    ensures { result ≡ Keys.is_among (map (λ k. k.now) known.now) key.now }
 {
-    matches!(
-        key,
-        "version"
-            | "method"
-            | "id"
-            | "stratum"
-            | "size"
-            | "n"
-            | "sizes"
-            | "order"
-            | "balance"
-            | "near"
-            | "second"
-    )
-}
-
-// The first key that isn't one of the table `second`.
-pub(crate) fn unknown_second_key(second: &Table) -> Option<&String>
-    ensures { option_map (λ k. string_bytes k.now) result ≡ Keys.first_unknown second_keys (table_view second.now) }
-{
-    find_unknown_second_key(second)
-}
-
-fn find_unknown_second_key(second: &Table) -> Option<&String>
-    ensures found { option_copied result ≡ find (λ k. not (list_any (bytes_eq (string_bytes k)) second_keys)) (keys second.now) }
-    ensures ordered { IsStrictlySortedBy string_cmp (keys second.now) }
-{
-    second.keys().find(|key| !is_second_key(key.as_str()))
-}
-
-fn is_second_key(key: &str) -> bool
-    ensures { result ≡ list_any (bytes_eq key.now) second_keys }
-{
-    matches!(key, "psu" | "method" | "n" | "size")
+    known.contains(&key)
 }

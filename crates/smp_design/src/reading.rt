@@ -11,10 +11,11 @@ ghost use Rattle.smp_design.specs.Reads.{Reads, ReadsBy};
 
 use crate::check::{check_clash, check_known, check_needed, check_version};
 use crate::entries::{
-    method_at, number_at, optional_names_at, optional_number_at, optional_order_at,
-    optional_quotas_at, optional_text_at, second_method_at, text_at,
+    optional_names_at, optional_number_at, optional_order_at, optional_quotas_at, optional_text_at,
+    text_at,
 };
 use crate::keys::value_at;
+use crate::values::{method, number, second_method};
 use crate::{Design, DesignFault, Quotas, Second};
 use smp_frac::Text;
 use smp_frame::{Columns, Names};
@@ -76,7 +77,7 @@ fn values(alloc: Global, table: &Table) -> Result<Design, DesignFault>
     ensures reads { Reads result (Designs.values (table_view table.now)) }
     ensures ascending { IfOk result (λ d. Ascend d.sizes) }
 {
-    let method = good(alloc, "method", method_at(table, "method"))?;
+    let method = good(alloc, "method", value_at(table, "method").and_then(method))?;
     let unit = unit_columns(alloc, table)?;
     let sample = sample_size(alloc, table)?;
     let values = value_columns(alloc, table)?;
@@ -198,8 +199,12 @@ fn second_stage_of(alloc: Global, table: &Table) -> Result<SecondStage, DesignFa
     ensures { Reads result (Designs.second_stage_of (table_view table.now)) }
 {
     let psu = good(alloc, "second.psu", text_at(alloc, table, "psu")?)?;
-    let method = good(alloc, "second.method", second_method_at(table, "method"))?;
-    let n = good(alloc, "second.n", number_at(table, "n"))?;
+    let method = good(
+        alloc,
+        "second.method",
+        value_at(table, "method").and_then(second_method),
+    )?;
+    let n = good(alloc, "second.n", value_at(table, "n").and_then(number))?;
     let size = good(
         alloc,
         "second.size",

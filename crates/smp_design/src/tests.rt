@@ -1,3 +1,5 @@
+//! Tests: which fault is named first, and what is read from a design.
+
 use super::{Design, DesignFault, read_design};
 use smp_frac::Text;
 use smp_frame::Columns;

@@ -1,6 +1,6 @@
 //! What the values of a design's keys mean. `None` is a bad value.
 
-ghost use Rattle.std.specs.Prelude.{◌≡◌, IfOk, IfSome, option_map, option_and_then};
+ghost use Rattle.std.specs.Prelude.{◌≡◌, IfOk, IfSome, option_map};
 ghost use Rattle.toml.specs.Data.{as_str};
 ghost use Rattle.toml.specs.View.{view, items_view, table_view};
 ghost use Rattle.smp_design.specs.Bounds.{Ascend};
@@ -38,28 +38,20 @@ pub(crate) fn number(value: &Value) -> Option<u32>
 pub(crate) fn method(value: &Value) -> Option<Method>
     ensures { result ≡ Values.method (view value.now) }
 {
-    match value.as_str() {
-        Some(word) => Method::from_word(word),
-        None => None,
-    }
+    Method::from_word(value.as_str()?)
 }
 
+// A method that a second stage may have.
 pub(crate) fn second_method(value: &Value) -> Option<Method>
     ensures { result ≡ Values.second_method (view value.now) }
 {
-    match value.as_str() {
-        Some(word) => Method::from_second_word(word),
-        None => None,
-    }
+    method(value).filter(|method| method.row().in_second)
 }
 
 pub(crate) fn order(value: &Value) -> Option<Order>
     ensures { result ≡ Values.order (view value.now) }
 {
-    match value.as_str() {
-        Some(word) => order_from_word(word),
-        None => None,
-    }
+    order_from_word(value.as_str()?)
 }
 
 // An array of 1 to `most` strings.
