@@ -15,7 +15,7 @@ use Rattle.smp_frame.specs.Bounds.{sizes_of}
 use Rattle.smp_frame.specs.Frames.{frame_of}
 use Rattle.smp_prob.specs.Requested.{positive_units}
 use Rattle.smp_design.specs.Designs.{design_of}
-use Rattle.smp_stage.specs.declared.stage.StageState.{StageState}
+use Rattle.smp_methods.specs.declared.any.AnyState.{AnyState}
 use Rattle.smp_words.specs.declared.command.QuickArguments.{QuickArguments}
 use Rattle.smp_words.specs.declared.command.DrawArguments.{DrawArguments}
 use Rattle.smp_words.specs.declared.command.DesignArguments.{DesignArguments}
@@ -208,19 +208,19 @@ of_designed design frame fs plan h =
     record { asked = asked.value; held = of_asked design fs asked.value asked.first_is; is_plan = of_plan asked.value frame fs plan asked.then_is }
 
 -- the leaf at which a run ended, with no value left
-record AtLeaf (outcome : Outcome StageState Values) (drawn : Drawn) : Type 0 where
+record AtLeaf (outcome : Outcome AnyState Values) (drawn : Drawn) : Type 0 where
   pub end : Values
   pub is : outcome ≡ leaf drawn.state drawn.path end
   pub all : end.left ≡ []
 
-with_none_left : (plan : Plan) (state : StageState) (path : List Entry) (end : Values) (drawn : Drawn) (left : List ℕ) → end.left ≡ left → drawn_at plan state path left ≡ Ok drawn → AtLeaf (leaf state path end) drawn
+with_none_left : (plan : Plan) (state : AnyState) (path : List Entry) (end : Values) (drawn : Drawn) (left : List ℕ) → end.left ≡ left → drawn_at plan state path left ≡ Ok drawn → AtLeaf (leaf state path end) drawn
 with_none_left plan state path end drawn [] none h =
     let same : ◌≡◌ {A = Result Drawn Stop} (Ok (record { plan = plan; state = state; path = path })) (Ok drawn) = h in
     let is : record { plan = plan; state = state; path = path } ≡ drawn = cc in
     record { end = end; is = ap (λ (d : Drawn). leaf d.state d.path end) is; all = none }
 with_none_left plan state path end drawn (value ∷ left) some h = absurd (cc)
 
-at_leaf : (plan : Plan) (outcome : Outcome StageState Values) (drawn : Drawn) → drawn_of plan outcome ≡ Ok drawn → AtLeaf outcome drawn
+at_leaf : (plan : Plan) (outcome : Outcome AnyState Values) (drawn : Drawn) → drawn_of plan outcome ≡ Ok drawn → AtLeaf outcome drawn
 at_leaf plan (leaf state path end) drawn h = with_none_left plan state path end drawn end.left refl h
 at_leaf plan (stopped state path fault end) drawn h = absurd (cc)
 

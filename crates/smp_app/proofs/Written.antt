@@ -1,7 +1,7 @@
 -- Texts that are written row by row.
-use Rattle.std.proofs.Common.{◌≡◌, ℕ, length-append, ◌+◌, ◌*◌, ◌<◌, ◌≤◌, max, suc, zero, Bool, true, false, List, [], ◌∷◌, ◌++◌, length, get_or, drop, append_assoc, arith, refl, sym, ap, ◌∙◌, drop-cons, mul-pos, true≢false}
+use Rattle.std.proofs.Common.{◌≡◌, ℕ, length-append, ◌+◌, ◌*◌, ◌<◌, ◌≤◌, max, suc, zero, Bool, true, false, List, [], ◌∷◌, ◌++◌, length, get_or, drop, Option, Some, append_assoc, arith, refl, sym, ap, ◌∙◌, drop-cons, mul-pos, true≢false}
 use Rattle.std.specs.List.{All, flat_map}
-use Rattle.std.specs.Prelude.{slice_index}
+use Rattle.std.specs.Prelude.{slice_index, option_map}
 use Rattle.std.proofs.lemmas.Grind.{flat_map-append}
 use Rattle.std.proofs.lemmas.Int.{ints}
 use Rattle.std.proofs.lemmas.List.{get_or-map, append-nil, drop_all}
@@ -20,20 +20,20 @@ use Rattle.smp_prob.specs.Requests.{IsRequest}
 use Rattle.smp_prob.specs.Standings.{standing, is_taken, fraction_at, asked_fraction}
 use Rattle.smp_rows.specs.Laws.Rows.{free_within}
 use Rattle.smp_weights.specs.Chosen.{Chosen, chosen_units}
+use Rattle.smp_weights.specs.Rows.{AddsRow}
 use Rattle.smp_weights.specs.Sample.{sample_row}
+use Rattle.smp_weights.proofs.Written.{row_added}
 use Rattle.smp_app.specs.Plans.{Plan, size_probability, row_probability, chosen_from}
 use Rattle.smp_app.specs.Texts.{pair_row, probability_row, weight_row}
 
 -- the row of one more element
-pub next_row : {A : Type 0} (row : A → List ℕ) (xs : List A) (i : ℕ) (x : A) (text next whole : List ℕ) → i < length xs → x ≡ get_or xs i x → next ≡ text ++ row x → text ++ flat_map row (drop i xs) ≡ whole → next ++ flat_map row (drop (i + 1) xs) ≡ whole
-next_row row xs i x text next whole within is written so_far =
+pub next_row : {A : Type 0} (line : A → List ℕ) (xs : List A) (i : ℕ) (x : A) (old new : Option (List ℕ)) (text whole : List ℕ) → i < length xs → x ≡ get_or xs i x → AddsRow old new text → text ≡ line x
+    → option_map (λ before. before ++ flat_map line (drop i xs)) old ≡ Some whole → option_map (λ before. before ++ flat_map line (drop (i + 1) xs)) new ≡ Some whole
+next_row line xs i x old new text whole within is adds row_is so_far =
     let here : drop i xs ≡ x ∷ drop (suc i) xs = drop-cons xs i x within ∙ ap (λ y. y ∷ drop (suc i) xs) (sym is) in
     let on : i + 1 ≡ suc i = omega arith in
-    ap (λ t. t ++ flat_map row (drop (i + 1) xs)) written
-    ∙ append_assoc text (row x) (flat_map row (drop (i + 1) xs))
-    ∙ ap (λ n. text ++ (row x ++ flat_map row (drop n xs))) on
-    ∙ ap (λ rest. text ++ flat_map row rest) (sym here)
-    ∙ so_far
+    let rest : flat_map line (drop i xs) ≡ text ++ flat_map line (drop (i + 1) xs) = ap (flat_map line) here ∙ ap (λ front. front ++ flat_map line (drop (suc i) xs)) (sym row_is) ∙ ap (λ n. text ++ flat_map line (drop n xs)) (sym on) in
+    row_added old new text (flat_map line (drop (i + 1) xs)) whole adds (ap (λ tail. option_map (λ before. before ++ tail) old) (sym rest) ∙ so_far)
 
 -- ---- probabilities and weights
 

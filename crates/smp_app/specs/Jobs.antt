@@ -7,7 +7,8 @@ use Rattle.smp_split.specs.Means.{inclusion_probability}
 use Rattle.smp_frame.specs.Bounds.{IsFrame, sizes_of}
 use Rattle.smp_prob.specs.Requests.{IsRequest}
 use Rattle.smp_prob.specs.Standings.{IsRising, asked_fraction}
-use Rattle.smp_stage.specs.Stages.{BelongsToStage, IsWhole, stage_tree}
+use Rattle.smp_values.specs.Starts.{IsWhole}
+use Rattle.smp_methods.specs.Designs.{method_of}
 use Rattle.smp_rows.specs.Rows.{rows_tree, BelongsToRows, Fills}
 use Rattle.smp_app.specs.declared.misfit.Misfit.{Misfit}
 use Rattle.smp_app.specs.declared.misfit.Misfit.TheVariants as misfits
@@ -93,7 +94,7 @@ pub record IsDrawnBy (plan : Plan) (drawn : Drawn) : Type 0 where
 
 -- a done state of the plan's design over the rows
 pub record IsSelection (plan : Plan) (selection : Selection) : Type 0 where
-  pub tree : rows_tree selection.design.rows selection.design.request.now (stage_tree selection.design.design) ≡ tree_of plan
-  pub belongs : BelongsToRows selection.design.request.now (stage_tree selection.design.design) (BelongsToStage selection.design.design) selection.state
+  pub tree : rows_tree selection.design.rows selection.design.request.now (method_of selection.design.design).tree ≡ tree_of plan
+  pub belongs : BelongsToRows selection.design.request.now (method_of selection.design.design).tree (method_of selection.design.design).belongs selection.state
   pub done : (tree_of plan).done selection.state ≡ true
   pub drawn : IsDrawnBy plan (selection_view plan selection)

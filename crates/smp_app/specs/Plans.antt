@@ -1,5 +1,5 @@
 -- What is asked of a frame, and the draw that follows from it.
-use Rattle.std.specs.Prelude.{ℕ, List, [], ◌∷◌, Bool, ◌&&◌, is_none, length, slice_index, ◌+◌, Option, Some, None, option_map, if◌then◌else◌, codes}
+use Rattle.std.specs.Prelude.{ℕ, ℤ, List, [], ◌∷◌, Bool, ◌&&◌, is_none, length, map, slice_index, slice_index_or, ◌+◌, Option, Some, None, if◌then◌else◌, codes}
 use Rattle.smp_fractions.specs.Fractions.{Fraction}
 use Rattle.smp_split.specs.Trees.{Tree}
 use Rattle.smp_frame.specs.declared.columns.Columns.{Columns}
@@ -9,15 +9,13 @@ use Rattle.smp_prob.specs.declared.orders.Order.{Order}
 use Rattle.smp_prob.specs.declared.orders.Order.TheVariants.{Frame}
 use Rattle.smp_prob.specs.declared.requests.Request.{Request}
 use Rattle.smp_prob.specs.Requested.{requested_of, requested_fraction}
-use Rattle.smp_design.specs.declared.method.Method.{Method}
-use Rattle.smp_design.specs.declared.method.Method.TheVariants as methods
 use Rattle.smp_design.specs.declared.design.Design.{Design}
-use Rattle.smp_stage.specs.declared.procedure.Procedure.{Procedure}
-use Rattle.smp_stage.specs.declared.procedure.Procedure.TheVariants as procedure
-use Rattle.smp_stage.specs.declared.stage.Stage.{Stage}
-use Rattle.smp_stage.specs.declared.stage.StageState.{StageState}
-use Rattle.smp_stage.specs.Coordinates.{dimensions_of}
-use Rattle.smp_stage.specs.Stages.{stage_of, first_state, stage_tree}
+use Rattle.smp_methods.specs.declared.procedure.Procedure.{Procedure}
+use Rattle.smp_methods.specs.declared.procedure.Procedure.TheVariants as procedure
+use Rattle.smp_methods.specs.declared.any.AnyDesign.{AnyDesign}
+use Rattle.smp_methods.specs.declared.any.AnyState.{AnyState}
+use Rattle.smp_methods.specs.Procedures.{procedure_of}
+use Rattle.smp_methods.specs.Designs.{design_of, first_state, method_of}
 use Rattle.smp_rows.specs.Rows.{rows_tree}
 use Rattle.smp_app.specs.declared.asked.Asked.{Asked}
 
@@ -29,15 +27,6 @@ quick_columns = record { id = codes "id"; stratum = None; psu = None; size = Som
 
 abbrev pub quick_asked : ℕ → Asked
 quick_asked n = record { procedure = procedure.Pivotal Frame; columns = quick_columns; n = n }
-
--- the procedure of a method that is served, where so many columns of values are asked
-abbrev pub procedure_of : Method → Order → ℕ → Option Procedure
-procedure_of methods.Pivotal order columns = Some (procedure.Pivotal order)
-procedure_of methods.Systematic order columns = Some (procedure.Systematic order)
-procedure_of methods.MinimumSupport order columns = Some procedure.MinimumSupport
-procedure_of methods.Brewer order columns = Some procedure.Brewer
-procedure_of methods.LocalPivotal order columns = option_map procedure.LocalPivotal (dimensions_of columns)
-procedure_of other order columns = None
 
 abbrev pub asked_by : Option Procedure → Columns → Option ℕ → Option Asked
 asked_by (Some way) columns (Some n) = Some (record { procedure = way; columns = columns; n = n })
@@ -62,16 +51,23 @@ pub record Plan : Type 0 where
 abbrev pub request_of : Plan → Request
 request_of plan = requested_of (sizes_of plan.units) plan.n
 
+-- the values of the unit in a row, and none past the last row; those of the free units
+abbrev pub values_at : List unit.Unit → ℕ → List ℤ
+values_at units row = slice_index_or (map (λ u. u.values) units) row []
+
+abbrev pub free_values : Request → List unit.Unit → List (List ℤ)
+free_values request units = map (values_at units) request.free
+
 -- the design of the free units
-abbrev pub stage_of_plan : Plan → Stage
-stage_of_plan plan = stage_of plan.procedure (request_of plan) plan.units
+abbrev pub design_of_plan : Plan → AnyDesign
+design_of_plan plan = design_of plan.procedure (request_of plan) (free_values (request_of plan) plan.units)
 
 -- the draw tree, whose units are the rows of the frame, and the state from which a draw starts
-abbrev pub tree_of : Plan → Tree StageState
-tree_of plan = rows_tree (length plan.units) (request_of plan) (stage_tree (stage_of_plan plan))
+abbrev pub tree_of : Plan → Tree AnyState
+tree_of plan = rows_tree (length plan.units) (request_of plan) (method_of (design_of_plan plan)).tree
 
-abbrev pub start_of : Plan → StageState
-start_of plan = first_state (stage_of_plan plan)
+abbrev pub start_of : Plan → AnyState
+start_of plan = first_state (design_of_plan plan)
 
 -- the probability that is requested of a unit of this size, and of a row
 abbrev pub size_probability : Plan → ℕ → Fraction
@@ -86,5 +82,5 @@ chosen_from place chosen [] = []
 chosen_from place chosen (u ∷ units) = if chosen place then u ∷ chosen_from (place + 1) chosen units else chosen_from (place + 1) chosen units
 
 -- the units that a leaf selects, in frame order
-abbrev pub drawn_units : Plan → StageState → List unit.Unit
+abbrev pub drawn_units : Plan → AnyState → List unit.Unit
 drawn_units plan leaf = chosen_from 0 ((tree_of plan).selected leaf) plan.units

@@ -2,20 +2,20 @@
 use Rattle.std.specs.Prelude.{ℕ, List, [], ◌∷◌, ◌++◌, length, codes}
 use Rattle.std.specs.List.{flat_map}
 use Rattle.std.specs.Fmt.{decimal}
-use Rattle.csv.specs.Writing.{default_writer, row_text}
 use Rattle.smp_fractions.specs.Fractions.{inverse}
 use Rattle.smp_frac.specs.Fractions.{fraction_text}
 use Rattle.smp_split.specs.Paths.{Entry}
 use Rattle.smp_split.specs.Kinds.{kind_word}
 use Rattle.smp_frame.specs.declared.frame.Unit as unit
+use Rattle.smp_weights.specs.Rows.{row}
 use Rattle.smp_app.specs.Plans.{Plan, size_probability}
 
 -- a CSV row of one field, and of two
 abbrev pub field_row : List ℕ → List ℕ
-field_row field = row_text default_writer (field ∷ [])
+field_row field = row (field ∷ [])
 
 abbrev pub pair_row : List ℕ → List ℕ → List ℕ
-pair_row first second = row_text default_writer (first ∷ second ∷ [])
+pair_row first second = row (first ∷ second ∷ [])
 
 -- the ids of units: the header `id`, then an id a row
 abbrev pub ids_text : List unit.Unit → List ℕ

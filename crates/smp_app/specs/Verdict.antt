@@ -15,7 +15,7 @@ use Rattle.smp_frame.specs.Bounds.{sizes_of}
 use Rattle.smp_frame.specs.declared.frame.Unit as unit
 use Rattle.smp_design.specs.Designs.{design_of}
 use Rattle.smp_prob.specs.Requested.{positive_units}
-use Rattle.smp_stage.specs.declared.stage.StageState.{StageState}
+use Rattle.smp_methods.specs.declared.any.AnyState.{AnyState}
 use Rattle.smp_words.specs.declared.command.QuickArguments.{QuickArguments}
 use Rattle.smp_words.specs.declared.command.DrawArguments.{DrawArguments}
 use Rattle.smp_words.specs.declared.command.Command.{Command}
@@ -68,11 +68,11 @@ plan_of asked units =
 -- what is drawn: the leaf to which the values of the tape lead, and the path to it
 pub record Drawn : Type 0 where
   pub plan : Plan
-  pub state : StageState
+  pub state : AnyState
   pub path : List Entry
 
 -- at a leaf, where these values are left: what is drawn, unless there are some
-abbrev pub drawn_at : Plan → StageState → List Entry → List ℕ → Result Drawn Stop
+abbrev pub drawn_at : Plan → AnyState → List Entry → List ℕ → Result Drawn Stop
 drawn_at plan state path [] = Ok (record { plan = plan; state = state; path = path })
 drawn_at plan state path (value ∷ left) = Err (Refused (TapeLong (length (value ∷ left))))
 
@@ -82,7 +82,7 @@ draw_status Short bound taken = TapeShort taken
 draw_status (TooBig place value) bound taken = TapeValue place value bound
 draw_status (Rejected rejected) bound taken = NotYet
 
-abbrev pub drawn_of : Plan → Outcome StageState Values → Result Drawn Stop
+abbrev pub drawn_of : Plan → Outcome AnyState Values → Result Drawn Stop
 drawn_of plan (leaf state path tape) = drawn_at plan state path tape.left
 drawn_of plan (stopped state path fault tape) =
     Err (Refused (draw_status fault (weight_sum ((tree_of plan).parts state)) (length tape.taken)))

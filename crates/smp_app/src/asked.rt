@@ -1,10 +1,10 @@
 ghost use Rattle.std.specs.Prelude.{◌≡◌, IfOk};
-ghost use Rattle.smp_app.specs.Plans.{quick_columns, quick_asked, procedure_of, asked_of};
+ghost use Rattle.smp_app.specs.Plans.{quick_columns, quick_asked, asked_of};
 
-use smp_design::{Design, Method, Order};
+use smp_design::{Design, Order};
 use smp_frac::{NoMemory, Text};
 use smp_frame::{Columns, Names};
-use smp_stage::{Dimensions, Procedure};
+use smp_methods::Procedure;
 use std::alloc::Global;
 
 /// What is asked of a frame.
@@ -37,7 +37,7 @@ impl Asked {
         if design.columns.stratum.is_some() || design.second.is_some() {
             return None;
         }
-        let procedure = procedure_for(
+        let procedure = Procedure::of_method(
             design.method,
             design.order,
             design.columns.values.as_slice().len(),
@@ -62,17 +62,4 @@ fn columns_of_quick(alloc: Global) -> Result<Columns, NoMemory>
         second_size: None,
         values: Names::from_vec(Vec::new(alloc)),
     })
-}
-
-fn procedure_for(method: Method, order: Order, columns: usize) -> Option<Procedure>
-    ensures { result ≡ procedure_of method order columns }
-{
-    match method {
-        Method::Pivotal => Some(Procedure::Pivotal(order)),
-        Method::Systematic => Some(Procedure::Systematic(order)),
-        Method::MinimumSupport => Some(Procedure::MinimumSupport),
-        Method::Brewer => Some(Procedure::Brewer),
-        Method::LocalPivotal => Some(Procedure::LocalPivotal(Dimensions::of_coordinates(columns)?)),
-        Method::Cube => None,
-    }
 }

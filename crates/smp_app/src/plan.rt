@@ -11,8 +11,8 @@ use smp_design::read_design;
 use smp_frac::{Bytes, NoMemory, Text};
 use smp_frame::{Frame, Unit, read_frame};
 use smp_io::{Store, StoreFault};
+use smp_methods::Procedure;
 use smp_prob::{ProbFault, Request, requested};
-use smp_stage::Procedure;
 use std::alloc::Global;
 
 /// The units of a frame, how many of them are drawn and how, and the request that follows from their sizes.

@@ -3,25 +3,60 @@ ghost use Rattle.smp_io.specs.Counts.{Rose, NeverFalls};
 ghost use Rattle.smp_io.specs.Store.{Files};
 ghost use Rattle.smp_tape.specs.Laws.Tapes.{tape_source};
 ghost use Rattle.smp_split.specs.Runs.{run};
-ghost use Rattle.smp_app.specs.Plans.{tree_of, start_of};
+ghost use Rattle.smp_methods.specs.Starts.{IsStarted};
+ghost use Rattle.smp_app.specs.Plans.{tree_of, start_of, values_at, free_values};
 ghost use Rattle.smp_app.specs.Verdict.{drawn_of, drawn_stage};
 ghost use Rattle.smp_app.specs.Jobs.{Follows, IsOfContent, IsOfInputs, IsPlanned, IsSelection, plan_view, selection_view, result_view};
 
 use crate::Status;
 use crate::plan::{FramePlan, read_input};
+use smp_frac::NoMemory;
+use smp_frame::{Numbers, Unit};
 use smp_io::Store;
+use smp_methods::{AnyDesign, AnyState, Started};
+use smp_prob::Request;
 use smp_rows::Rows;
 use smp_split::{Lines, Splitting, WalkFault, walk};
-use smp_stage::{Stage, StageState, Started};
 use smp_tape::{DrawFault, Tape};
 use std::alloc::Global;
 
 /// A design over the rows of a frame, the done state at which a walk ended, and the lines of its steps.
 #[derive(Drop)]
 pub struct Selection<'a> {
-    pub design: Rows<'a, Stage>,
-    pub state: StageState,
+    pub design: Rows<'a, AnyDesign>,
+    pub state: AnyState,
     pub lines: Lines,
+}
+
+// The values of the unit in a row; none past the last row.
+fn values_at(alloc: Global, units: &[Unit], row: usize) -> Result<Numbers, NoMemory>
+    ensures { IfOk result (λ values. values ≡ values_at units.now row) }
+{
+    match units.get(row) {
+        Some(unit) => Numbers::from_slice(alloc, unit.values.as_slice()),
+        None => Numbers::from_slice(alloc, &[]),
+    }
+}
+
+// The values of the free units of a request, in their order.
+fn free_values(alloc: Global, request: &Request, units: &[Unit]) -> Result<Vec<Numbers>, NoMemory>
+    ensures { IfOk result (λ values. values.items ≡ free_values request.now units.now) }
+{
+    let mut values = Vec::new(alloc);
+    for row in request.free.as_slice() {
+        values.push(values_at(alloc, units, *row)?)?;
+    }
+    Ok(values)
+}
+
+// The design of a plan's free units, at its first state.
+fn started(alloc: Global, plan: &FramePlan) -> Result<Started, NoMemory>
+    requires { IsPlanned plan.now }
+    ensures { IfOk result (IsStarted plan.now.procedure plan.now.request
+        (free_values plan.now.request plan.now.frame)) }
+{
+    let values = free_values(alloc, &plan.request, plan.frame.units())?;
+    Started::new(alloc, plan.procedure, &plan.request, values.as_slice())
 }
 
 /// Selects by a plan with the values of a tape. All values are taken, or it is refused.
@@ -34,9 +69,9 @@ pub fn select<'a>(alloc: Global, plan: &'a FramePlan, tape: Tape) -> Result<Sele
     ensures selection { IfOk result (IsSelection (plan_view plan.now)) }
 {
     let units = plan.frame.units();
-    let Started { stage, mut state } = Started::new(alloc, plan.procedure, &plan.request, units)?;
+    let Started { design, mut state } = started(alloc, plan)?;
     let design = Rows {
-        design: stage,
+        design,
         request: &plan.request,
         rows: units.len(),
     };

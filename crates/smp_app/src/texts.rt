@@ -1,16 +1,17 @@
-ghost use Rattle.std.specs.Prelude.{◌≡◌, ◌++◌, ◌<◌, length, IfOk, OnOk, string_bytes};
+ghost use Rattle.std.specs.Prelude.{◌≡◌, ◌<◌, length, IfOk, OnOk, string_bytes};
 ghost use Rattle.smp_app.specs.Texts;
 ghost use Rattle.smp_app.specs.Texts.{step_text, field_row, pair_row};
 ghost use Rattle.smp_app.specs.Plans.{tree_of, drawn_units};
 ghost use Rattle.smp_app.specs.Jobs.{IsPlanned, IsSelection, plan_view};
 ghost use Rattle.smp_frac.specs.Fractions.{fraction, fraction_text};
+ghost use Rattle.smp_weights.specs.Rows.{AddsRow};
 
 use crate::plan::FramePlan;
 use crate::selection::Selection;
 use smp_frac::{Bytes, Frac, NoMemory};
 use smp_frame::Unit;
 use smp_split::{Kind, Splitting};
-use smp_weights::{push_row, sample_bytes};
+use smp_weights::{CsvRows, sample_bytes};
 use std::alloc::{AllocError, Global};
 
 // Whether a row is drawn.
@@ -27,20 +28,20 @@ pub fn ids_text(alloc: Global, plan: &FramePlan, selection: &Selection) -> Resul
     requires { IsSelection (plan_view plan.now) selection.now }
     ensures { IfOk result (λ text. text ≡ Texts.ids_text (drawn_units (plan_view plan.now) selection.now.state)) }
 {
-    let mut text = Bytes::new(alloc);
-    push_field(alloc, &mut text, "id")?;
+    let mut rows = CsvRows::new(alloc);
+    push_field(&mut rows, "id")?;
     for (row, unit) in plan.frame.units().iter().enumerate() {
         if is_drawn(plan, selection, row) {
-            push_field(alloc, &mut text, unit.id.as_str())?;
+            push_field(&mut rows, unit.id.as_str())?;
         }
     }
-    Ok(text)
+    rows.into_bytes(alloc)
 }
 
-fn push_field(alloc: Global, text: &mut Bytes, field: &str) -> Result<(), NoMemory>
-    ensures { OnOk result (text.new ≡ text.old ++ field_row field.now) }
+fn push_field(rows: &mut CsvRows, field: &str) -> Result<(), NoMemory>
+    ensures { OnOk result (AddsRow rows.old rows.new (field_row field.now)) }
 {
-    push_row(alloc, text, &[field.as_bytes()])
+    rows.push(&[field.as_bytes()])
 }
 
 /// The sample file: the drawn units with their design weights.
@@ -113,37 +114,32 @@ pub fn probabilities_text(alloc: Global, plan: &FramePlan) -> Result<Bytes, NoMe
     requires { IsPlanned plan.now }
     ensures { IfOk result (λ text. text ≡ Texts.probabilities_text (plan_view plan.now)) }
 {
-    let mut text = Bytes::new(alloc);
-    push_pair(alloc, &mut text, b"id", b"probability")?;
+    let mut rows = CsvRows::new(alloc);
+    push_pair(&mut rows, b"id", b"probability")?;
     for (row, unit) in plan.frame.units().iter().enumerate() {
-        push_probability(alloc, &mut text, unit, plan.request.asked(row))?;
+        push_probability(alloc, &mut rows, unit, plan.request.asked(row))?;
     }
-    Ok(text)
+    rows.into_bytes(alloc)
 }
 
-fn push_pair(alloc: Global, text: &mut Bytes, first: &[u8], second: &[u8]) -> Result<(), NoMemory>
-    ensures { OnOk result (text.new ≡ text.old ++ pair_row first.now second.now) }
+fn push_pair(rows: &mut CsvRows, first: &[u8], second: &[u8]) -> Result<(), NoMemory>
+    ensures { OnOk result (AddsRow rows.old rows.new (pair_row first.now second.now)) }
 {
-    push_row(alloc, text, &[first, second])
+    rows.push(&[first, second])
 }
 
 fn push_probability(
     alloc: Global,
-    text: &mut Bytes,
+    rows: &mut CsvRows,
     unit: &Unit,
     probability: Frac,
 ) -> Result<(), NoMemory>
-    ensures { OnOk result (text.new
-        ≡ text.old ++ pair_row unit.now.id (fraction_text (fraction probability))) }
+    ensures { OnOk result (AddsRow rows.old rows.new
+        (pair_row unit.now.id (fraction_text (fraction probability)))) }
 {
     let mut fraction = Bytes::new(alloc);
     probability.write(&mut fraction)?;
-    push_pair(
-        alloc,
-        text,
-        unit.id.as_str().as_bytes(),
-        fraction.as_slice(),
-    )
+    push_pair(rows, unit.id.as_str().as_bytes(), fraction.as_slice())
 }
 
 /// What is said of a design and a frame that are accepted: how many units there are, and in how many strata.

@@ -1,4 +1,4 @@
+pub mod Offered
 pub mod Drawn
-pub mod States
 pub mod Counts
-pub mod Requests
+pub mod Starts

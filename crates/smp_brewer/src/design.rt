@@ -1,21 +1,19 @@
 //! Brewer's method as a design.
-#![tactic(auto)]
 
-ghost use Rattle.std.specs.Prelude.{◌≡◌, ℕ, ◌<◌, ◌≤◌, length, sum, IfOk};
-ghost use Rattle.smp_prob.specs.Standings.{free_fraction};
+ghost use Rattle.std.specs.Prelude.{◌≡◌, sum, IfOk};
 ghost use Rattle.smp_prob.specs.Requests.{IsRequest};
-ghost use Rattle.smp_fractions.specs.Fractions.{Fraction, Same};
-ghost use Rattle.smp_split.specs.Means.{mean, value_sum, inclusion_probability};
-ghost use Rattle.smp_split.specs.Counts.{AddsUp, LeavesSelect};
-ghost use Rattle.smp_brewer.specs.Offers.{Brewing, IsBrewing, offering, units_of, started, offers_unit_value, allowed, brewing_tree};
-ghost use Rattle.smp_brewer.specs.Kept.Picks.{IsKept, IsStart, brewing_of};
-ghost use Rattle.smp_brewer.specs.Laws.Splits.{brewing_lawful};
+ghost use Rattle.smp_split.specs.Methods.{Starts};
+ghost use Rattle.smp_values.specs.Starts.{IsRequested};
+ghost use Rattle.smp_brewer.specs.Brewer.{Brewing, offering, units_of, started, is_spent};
+ghost use Rattle.smp_brewer.specs.Method.{method_of};
+ghost use Rattle.smp_brewer.specs.Kept.States.{IsKept, IsStart, brewing_of};
 
-use crate::pivots::Pivots;
-use crate::sizes::{find_offer, largest_of, offer_weight, total_of};
+use crate::offers::Offers;
+use crate::sizes::OpenSizes;
 use smp_frac::NoMemory;
 use smp_prob::Request;
-use smp_split::{Kind, Splitting, mean_is_value};
+use smp_split::{Kind, Splitting};
+use smp_values::{PivotalSteps, Values};
 use std::alloc::Global;
 use std::marker::Model;
 
@@ -24,21 +22,20 @@ use std::marker::Model;
 /// It is seen as the state before the first step.
 #[derive(Drop)]
 pub struct Brewer {
-    sizes: Vec<u32>,
-    draws: u32,
+    offers: Offers,
 }
 
 impl Model for Brewer {
     ghost Value = { Brewing };
 
-    ghost view = { λ a. offering (record { sizes = a.sizes.items; draws = a.draws; refused = 0 }) };
+    ghost view = { λ a. offering a.offers };
 
-    ghost invariant = { λ a. IsStart (record { sizes = a.sizes.items; draws = a.draws; refused = 0 }) };
+    ghost invariant = { λ a. IsStart a.offers };
 }
 
 /// Where a selection stands.
 #[derive(Clone, Copy)]
-pub(crate) enum Stage {
+pub(crate) enum Phase {
     /// A unit is to be offered.
     Offering,
     /// This unit is offered.
@@ -48,184 +45,143 @@ pub(crate) enum Stage {
 }
 
 /// A state of a selection by Brewer's method.
+///
+/// The room for the values of the pivotal steps is there from the start, so no step takes memory.
 #[derive(Drop)]
 pub struct BrewerState {
-    sizes: Vec<u32>,
-    draws: u32,
-    refused: u64,
-    total: u64,
-    top: u32,
-    stage: Stage,
-    pivots: Pivots,
+    offers: Offers,
+    phase: Phase,
+    room: Values,
+    steps: PivotalSteps,
 }
 
 impl Model for BrewerState {
     ghost Value = { Brewing };
 
-    ghost view = { λ a. brewing_of a.stage (record { sizes = a.sizes.items; draws = a.draws; refused = a.refused }) a.pivots };
+    ghost view = { λ a. brewing_of a.phase a.offers a.steps };
 
-    ghost invariant = { λ a. IsKept (record { sizes = a.sizes.items; draws = a.draws; refused = a.refused }) a.total a.top a.pivots };
+    ghost invariant = { λ a. IsKept a.phase a.offers a.room };
 }
 
 impl Brewer {
-    /// The design of a request whose shapes add up to its total: its units are the request's free units.
+    /// The design of a request whose shapes add up to its total: its units are the request's free units, and each has the value that is
+    /// requested of it.
     pub fn new(alloc: Global, request: &Request) -> Result<Brewer, NoMemory>
         requires request { IsRequest request.now }
         requires whole { sum request.now.shape ≡ request.now.total }
-        ensures shares { IfOk result (λ design. design ≡ started request.now) }
-
-        // Each unit starts with the probability that is requested of it.
-        ensures values { IfOk result (λ design. (unit : ℕ) → unit < length request.now.free →
-            Same (offers_unit_value design unit) (free_fraction request.now unit)) }
-
-        // The values add up to `r`.
-        ensures whole { IfOk result (λ design. 1 ≤ length request.now.free →
-            AddsUp (brewing_tree (units_of design)) request.now.r design) }
+        ensures design { IfOk result (λ design. design ≡ started request.now) }
+        ensures requested { IfOk result (λ design.
+            IsRequested (method_of design).tree request.now design) }
     {
-        let sizes = Vec::from_slice(alloc, request.shape.as_slice())?;
+        let sizes = OpenSizes::new(alloc, request.shape.as_slice())?;
         let draws = if request.free.as_slice().is_empty() {
             0
         } else {
             request.r
         };
-        Ok(Brewer { sizes, draws })
-    }
-
-    /// The state before the first step, in which each unit has its value.
-    pub fn start(&self, alloc: Global) -> Result<BrewerState, NoMemory>
-        ensures start { IfOk result (λ state. state ≡ self.now) }
-        ensures belongs { IfOk result (λ state. IsBrewing (units_of self.now) state) }
-
-        // Over all draws, the mean of the sum of any numbers c over the selected units is the sum of c times the value.
-        ensures mean { IfOk result (λ state. (c : ℕ → Fraction) →
-            Same (mean (brewing_tree (units_of self.now)) c state)
-            (value_sum (brewing_tree (units_of self.now)) c state)) }
-
-        // In particular, each unit's probability of selection is its value.
-        ensures probability { IfOk result (λ state. (unit : ℕ) → unit < units_of self.now →
-            Same (inclusion_probability (brewing_tree (units_of self.now)) state unit) (offers_unit_value self.now unit)) }
-
-        // Each leaf selects as many units as the values add up to.
-        ensures count { IfOk result (λ state. (n : ℕ) →
-            AddsUp (brewing_tree (units_of self.now)) n state →
-            LeavesSelect (brewing_tree (units_of self.now)) n state) }
-    {
-        let state = self.first_state(alloc)?;
-        mean_is_value(self, &state);
-        Ok(state)
-    }
-
-    fn first_state(&self, alloc: Global) -> Result<BrewerState, NoMemory>
-        ensures start { IfOk result (λ state. state ≡ self.now) }
-        ensures belongs { IfOk result (λ state. IsBrewing (units_of self.now) state) }
-    {
-        let sizes = Vec::from_slice(alloc, self.sizes.as_slice())?;
-        let pivots = Pivots::with_room(alloc, sizes.len())?;
-        let total = total_of(sizes.as_slice());
-        let top = largest_of(sizes.as_slice());
-        Ok(BrewerState {
-            sizes,
-            draws: self.draws,
-            refused: 0,
-            total,
-            top,
-            stage: Stage::Offering,
-            pivots,
+        Ok(Brewer {
+            offers: Offers {
+                sizes,
+                draws,
+                refused: 0,
+            },
         })
     }
 
-    // How many offers may be refused in a selection.
-    fn allowed(&self) -> u64
-        ensures { result ≡ allowed (units_of self.now) }
+    /// The state before the first step. Over all draws, each unit is selected with the probability that is its value, and where the values
+    /// add up to a whole number, that many units are.
+    pub fn start(&self, alloc: Global) -> Result<BrewerState, NoMemory>
+        ensures state { IfOk result (λ state. state ≡ self.now) }
+        ensures starts { IfOk result (Starts (method_of self.now)) }
     {
-        64 * self.sizes.len() as u64
+        Ok(BrewerState {
+            offers: self.offers.copy(alloc)?,
+            phase: Phase::Offering,
+            room: Values::with_room(alloc, self.offers.sizes.len())?,
+            steps: PivotalSteps::from_values(Values::with_room(alloc, 0)?),
+        })
+    }
+
+    // Whether as many offers were refused as may be in a selection.
+    fn is_spent(&self, offers: &Offers) -> bool
+        ensures { result ≡ is_spent (units_of self.now) offers.now }
+    {
+        offers.refused == 64 * self.offers.sizes.len() as u64
     }
 }
 
 impl Splitting for Brewer {
     type State = BrewerState;
 
-    ghost tree = { λ design. brewing_tree (units_of design) };
+    ghost tree = { λ design. (method_of design).tree };
 
-    ghost belongs = { λ design. IsBrewing (units_of design) };
+    ghost belongs = { λ design. (method_of design).belongs };
 
-    ghost lawful = { λ design. brewing_lawful (units_of design) };
+    ghost lawful = { λ design. (method_of design).lawful };
 
     fn units(&self) -> usize {
-        self.sizes.len()
+        self.offers.sizes.len()
     }
 
     fn done(&self, state: &BrewerState) -> bool {
-        match state.stage {
-            Stage::Offering => state.draws == 0,
-            Stage::Offered(_) => false,
-            Stage::Spent => state.pivots.is_done(),
+        match state.phase {
+            Phase::Offering => state.offers.draws == 0,
+            Phase::Offered(_) => false,
+            Phase::Spent => state.steps.is_done(),
         }
     }
 
     fn kind(&self, state: &BrewerState) -> Kind {
-        match state.stage {
-            Stage::Offering => {
-                if state.refused == self.allowed() {
+        match state.phase {
+            Phase::Offering => {
+                if self.is_spent(&state.offers) {
                     Kind::Spent
                 } else {
                     Kind::Offer
                 }
             }
-            Stage::Offered(_) => Kind::Take,
-            Stage::Spent => state.pivots.kind(),
+            Phase::Offered(_) => Kind::Take,
+            Phase::Spent => state.steps.kind(),
         }
     }
 
     fn bound(&self, state: &BrewerState) -> u128 {
-        match state.stage {
-            Stage::Offering => {
-                if state.refused == self.allowed() {
+        match state.phase {
+            Phase::Offering => {
+                if self.is_spent(&state.offers) {
                     1
                 } else {
-                    state.total as u128
+                    state.offers.sizes.total() as u128
                 }
             }
-            Stage::Offered(unit) => {
-                offer_weight(state.total, state.top, state.draws, state.sizes[unit])
-            }
-            Stage::Spent => state.pivots.bound(),
+            Phase::Offered(unit) => state.offers.bound(unit),
+            Phase::Spent => state.steps.bound(),
         }
     }
 
     fn advance(&self, state: &mut BrewerState, draw: u128) {
-        let allowed = self.allowed();
-        match state.stage {
-            Stage::Offering => {
-                if state.refused == allowed {
-                    state
-                        .pivots
-                        .set(state.sizes.as_slice(), state.draws, state.total);
-                    state.stage = Stage::Spent;
+        match state.phase {
+            Phase::Offering => {
+                if self.is_spent(&state.offers) {
+                    state.offers.fill(&mut state.room);
+                    state.steps.set(&mut state.room);
+                    state.phase = Phase::Spent;
                 } else {
-                    state.stage = Stage::Offered(find_offer(state.sizes.as_slice(), draw));
+                    state.phase = Phase::Offered(state.offers.find(draw));
                 }
             }
-            Stage::Offered(unit) => {
-                let size = state.sizes[unit];
-                if draw < offer_weight(state.total, size, state.draws, state.top) {
-                    state.sizes[unit] = 0;
-                    state.draws -= 1;
-                    state.total -= size as u64;
-                    state.top = largest_of(state.sizes.as_slice());
-                } else {
-                    state.refused += 1;
-                }
-                state.stage = Stage::Offering;
+            Phase::Offered(unit) => {
+                state.offers.answer(unit, draw);
+                state.phase = Phase::Offering;
             }
-            Stage::Spent => state.pivots.advance(draw),
+            Phase::Spent => state.steps.advance(draw),
         }
     }
 
     fn selected(&self, state: &BrewerState, unit: usize) -> bool {
-        match state.stage {
-            Stage::Spent => state.pivots.is_one(unit),
-            _ => state.sizes[unit] == 0,
+        match state.phase {
+            Phase::Spent => state.steps.is_one(unit),
+            _ => state.offers.sizes.is_taken(unit),
         }
     }
 }

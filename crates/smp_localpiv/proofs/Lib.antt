@@ -1,3 +1,4 @@
+pub mod Coordinates
 pub mod Counts
-pub mod Requests
+pub mod Starts
 pub mod Steps

@@ -1,18 +1,16 @@
 -- Local pivotal selection, by the local pivotal method 2 of Grafström, Lundström and Schelin (2012). Each unit lies at a point.
 -- As long as two or more units are fractional, each of them may be chosen, with equal weights, and the chosen one meets the
 -- nearest of the others in a pivotal step (Deville and Tillé 1998). A unit that is left alone is settled by itself.
-use Rattle.std.specs.Prelude.{◌≡◌, ℕ, ◌+◌, ◌*◌, ◌^◌, ◌<◌, Bool, true, nat_lt, nat_eq, if◌then◌else◌, ℤ, List, length, map, slice_index, Option, Some, None, is_some, unwrap_or}
-use Rattle.std.specs.List.{count_by, filter, range_with_len}
+use Rattle.std.specs.Prelude.{◌≡◌, ℕ, ◌+◌, ◌*◌, ◌^◌, ◌<◌, true, nat_lt, if◌then◌else◌, ℤ, List, length, map, Option, Some, None, is_some, unwrap_or}
 use Rattle.smp_near.specs.Nearest.{LivingPoints, nearest}
-use Rattle.smp_pivotal.specs.Steps.{IsShares, with_one, pair_parts, lone_parts, value_at, is_one}
 use Rattle.smp_prob.specs.declared.requests.Request.{Request}
 use Rattle.smp_prob.specs.Shares.{Shares, shares_of}
-use Rattle.smp_fractions.specs.Fractions.{Fraction}
-use Rattle.smp_split.specs.Numerators.{fractional}
 use Rattle.smp_split.specs.Parts.{equal_parts, moved}
 use Rattle.smp_split.specs.Trees.{Part, Tree}
 use Rattle.smp_split.specs.declared.kind.Kind.{Kind}
 use Rattle.smp_split.specs.declared.kind.Kind.TheVariants.{Pivot, Lone, Choose}
+use Rattle.smp_values.specs.Steps.{pair_parts, lone_parts}
+use Rattle.smp_values.specs.Values.{IsValues, fractional, fractional_at, fractional_count, is_fractional, is_one, is_settled, value_at}
 
 -- where the units lie, their values, and the unit that meets its neighbour next, once it is chosen
 pub record Local : Type 0 where
@@ -20,17 +18,9 @@ pub record Local : Type 0 where
   pub state : Shares
   pub chosen : Option ℕ
 
--- how many units are fractional
-abbrev pub fractional_count : Shares → ℕ
-fractional_count s = count_by (fractional s.den) s.numer
-
--- the fractional units, in the order of the frame
-abbrev pub fractional_units : Shares → List ℕ
-fractional_units s = filter (λ unit. fractional s.den (slice_index s.numer unit)) (range_with_len 0 (length s.numer))
-
--- the fractional unit at a place among them
-abbrev pub fractional_at : Shares → ℕ → ℕ
-fractional_at s place = slice_index (fractional_units s) place
+-- values of units that lie at these points, with none chosen
+abbrev pub located_values : List (List ℤ) → Shares → Local
+located_values coords values = record { coords = coords; state = values; chosen = None }
 
 -- the units at their points, of which the fractional ones are living
 abbrev pub points_of : Local → LivingPoints
@@ -45,7 +35,7 @@ neighbour s unit = unwrap_or (nearest (points_of s) unit) unit
 
 -- the same units with these values, and none chosen
 abbrev pub unchosen : Local → Shares → Local
-unchosen s shares = record { coords = s.coords; state = shares; chosen = None }
+unchosen s values = located_values s.coords values
 
 -- the same units with this one chosen
 abbrev pub choosing : Local → ℕ → Local
@@ -72,35 +62,23 @@ parts_from s None = if nat_lt 1 (fractional_count s.state) then choice s else se
 abbrev pub kind_of : Local → Kind
 kind_of s = if is_some s.chosen then Pivot else if nat_lt 1 (fractional_count s.state) then Choose else Lone
 
--- no unit is fractional
-abbrev pub is_done : Local → Bool
-is_done s = nat_eq (fractional_count s.state) 0
-
--- the value of a unit
-abbrev pub local_value : Local → ℕ → Fraction
-local_value s unit = value_at s.state unit
-
--- the value of a unit is 1
-abbrev pub is_selected : Local → ℕ → Bool
-is_selected s unit = is_one s.state unit
-
--- the draw tree over so many units
+-- The draw tree over so many units. It is done where no unit is fractional, and selects the units of value 1.
 abbrev pub local_tree : ℕ → Tree Local
 local_tree units = record {
   units = units;
-  done = is_done;
+  done = λ s. is_settled s.state;
   kind = kind_of;
   parts = λ s. parts_from s s.chosen;
   rank = λ s. 2 * fractional_count s.state + (if is_some s.chosen then 0 else 1);
-  value = local_value;
-  selected = is_selected;
+  value = λ s unit. value_at s.state unit;
+  selected = λ s unit. is_one s.state unit;
 }
 
 -- ---- the states of a selection
 
 -- a unit that may meet its neighbour: it is fractional, and another one is
 pub record MayMeet (s : Shares) (unit : ℕ) : Type 0 where
-  pub open_at : fractional s.den (slice_index s.numer unit) ≡ true
+  pub open_at : is_fractional s unit ≡ true
   pub another : 1 < fractional_count s
 
 -- a unit that is chosen may meet its neighbour
@@ -108,19 +86,13 @@ abbrev pub IsChosen : Shares → Option ℕ → Type 0
 IsChosen s None = Unit {0}
 IsChosen s (Some unit) = MayMeet s unit
 
--- a state of a selection of so many units over this denominator
-pub record IsLocal (units den : ℕ) (s : Local) : Type 0 where
-  pub shares : IsShares units den s.state
+-- a state of a selection of so many units
+pub record IsLocal (units : ℕ) (s : Local) : Type 0 where
+  pub values : IsValues units (2 ^ 80) s.state
   pub few : units < 2 ^ 64
   pub placed : length s.coords ≡ units
   pub meets : IsChosen s.state s.chosen
 
 -- the state before the first step, with the requested values
 abbrev pub started : Request → List (List ℤ) → Local
-started request coords = record { coords = coords; state = shares_of request; chosen = None }
-
--- ---- what the code does on the way
-
--- the same state with another value of a unit
-abbrev pub with_value : Local → ℕ → ℕ → Local
-with_value s unit numer = record { coords = s.coords; state = with_one s.state unit numer; chosen = s.chosen }
+started request coords = located_values coords (shares_of request)

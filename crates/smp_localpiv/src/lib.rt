@@ -6,12 +6,19 @@
 //! points. The mean of every value stays what it was.
 //!
 //! The source draws one at random of several units at the same distance. Here the first of them in the frame is taken.
+//!
+//! [`LocalPivotal`] is the design over points whose number of coordinates the type says, [`AnyLocalPivotal`] that over points with
+//! one to four of them.
 #![tactic(auto)]
 
+mod any;
 mod design;
+mod dimensions;
 mod state;
 #[cfg(test)]
 mod tests;
 
+pub use crate::any::{AnyLocalPivotal, AnyLocalState};
 pub use crate::design::LocalPivotal;
+pub use crate::dimensions::Dimensions;
 pub use crate::state::LocalState;

@@ -1,16 +1,62 @@
 ghost use Rattle.std.specs.Prelude.{◌≡◌, ◌*◌, ◌^◌, ◌≤◌, ◌<◌, ◌&&◌, nat_lt, length, IsTrue, IfOk};
 ghost use Rattle.std.specs.List.{list_all};
-ghost use Rattle.smp_prob.specs.declared.requests.Request.{Request};
 ghost use Rattle.smp_prob.specs.Requests.{IsRequest};
 
 use super::*;
 use smp_frac::NoMemory;
-use smp_prob::{Places, Request, Shapes};
+use smp_frame::Numbers;
+use smp_prob::{Places, Request, Shapes, requested};
 use smp_split::{Kind, Lines, Splitting, walk};
 use smp_tape::Tape;
 use std::alloc::Global;
 use std::test::Fail;
 
+// Whether the walk from this state over these values has these lines and selects these units.
+fn walks<S: Splitting>(
+    alloc: Global,
+    design: &S,
+    state: &mut S::State,
+    values: &[u128],
+    lines: &[(Kind, u128, u128)],
+    selected: &[usize],
+) -> Result<bool, Fail>
+    requires { S.belongs design.now state.old }
+{
+    let mut tape = Tape::from_values(alloc, values)?;
+    let mut path = Lines::new(alloc);
+    walk(design, state, &mut tape, &mut path)?;
+    if !design.done(state) || path.as_slice() != lines {
+        return Ok(false);
+    }
+    for unit in 0..design.units() {
+        if design.selected(state, unit) != selected.contains(&unit) {
+            return Ok(false);
+        }
+    }
+    Ok(true)
+}
+
+// The same from the first state of the design of a request over these points.
+fn walks_over<const K: usize>(
+    alloc: Global,
+    request: &Request,
+    coords: &[[i32; K]],
+    values: &[u128],
+    lines: &[(Kind, u128, u128)],
+    selected: &[usize],
+) -> Result<bool, Fail>
+    requires request { IsRequest request.now }
+    requires dimensions { (1 ≤ K) × (K ≤ 4) }
+{
+    if coords.len() != request.free.as_slice().len() {
+        return Ok(false);
+    }
+    let design = LocalPivotal::new(alloc, request, coords)?;
+    let mut state = design.start(alloc)?;
+    walks(alloc, &design, &mut state, values, lines, selected)
+}
+
+// A request whose shapes needn't add up to the total.
 fn request(
     alloc: Global,
     free: &[usize],
@@ -23,8 +69,7 @@ fn request(
     requires shapes { IsTrue (list_all (λ z. nat_lt 0 z && nat_lt z (2 ^ 31) && nat_lt (z * r) total) shape.now) }
     requires narrow { total < 2 ^ 49 }
     requires drawn { 1 ≤ length free.now → 1 ≤ r }
-    ensures request { IfOk result IsRequest }
-    ensures free { IfOk result (λ request. request.free ≡ free.now) }
+    ensures { IfOk result IsRequest }
 {
     Ok(Request {
         certain: Places::from_slice(alloc, &[])?,
@@ -35,41 +80,12 @@ fn request(
     })
 }
 
-// Whether the walk over these values has these lines and selects these units.
-fn walks<const K: usize>(
-    alloc: Global,
-    request: &Request,
-    coords: &[[i32; K]],
-    values: &[u128],
-    lines: &[(Kind, u128, u128)],
-    selected: &[usize],
-) -> Result<bool, Fail>
-    requires request { IsRequest request.now }
-    requires dimensions { (1 ≤ K) × (K ≤ 4) }
-    requires placed { length coords.now ≡ length request.now.free }
-{
-    let design = LocalPivotal::new(alloc, request, coords)?;
-    let mut state = design.start(alloc)?;
-    let mut tape = Tape::from_values(alloc, values)?;
-    let mut path = Lines::new(alloc);
-    walk(&design, &mut state, &mut tape, &mut path)?;
-    if !design.done(&state) || path.as_slice() != lines {
-        return Ok(false);
-    }
-    for unit in 0..design.units() {
-        if design.selected(&state, unit) != selected.contains(&unit) {
-            return Ok(false);
-        }
-    }
-    Ok(true)
-}
-
 #[test]
 fn walks_to_neighbours(rt: HostRuntime) -> Result<(), Fail> {
     let alloc = rt.alloc();
 
     // Two units lie equally near to the second, and the earlier one is met. Places are counted among the fractional units.
-    let four = request(alloc, &[0, 1, 2, 3], &[1, 1, 1, 1], 2, 4)?;
+    let four = requested(alloc, &[1, 1, 1, 1], 2)?;
     let steps = [
         (Kind::Choose, 4, 1),
         (Kind::Pivot, 2, 1),
@@ -77,7 +93,7 @@ fn walks_to_neighbours(rt: HostRuntime) -> Result<(), Fail> {
         (Kind::Pivot, 2, 0),
     ];
     assert!(rt;
-        walks(
+        walks_over(
             alloc,
             &four,
             &[[0], [2], [4], [9]],
@@ -88,7 +104,7 @@ fn walks_to_neighbours(rt: HostRuntime) -> Result<(), Fail> {
     );
 
     // Three units at one point.
-    let two_of_three = request(alloc, &[0, 1, 2], &[1, 1, 1], 2, 3)?;
+    let two_of_three = requested(alloc, &[1, 1, 1], 2)?;
     let steps = [
         (Kind::Choose, 3, 2),
         (Kind::Pivot, 2, 0),
@@ -96,7 +112,7 @@ fn walks_to_neighbours(rt: HostRuntime) -> Result<(), Fail> {
         (Kind::Pivot, 3, 1),
     ];
     assert!(rt;
-        walks(
+        walks_over(
             alloc,
             &two_of_three,
             &[[7, -7], [7, -7], [7, -7]],
@@ -107,32 +123,19 @@ fn walks_to_neighbours(rt: HostRuntime) -> Result<(), Fail> {
     );
 
     // The second unit lies nearly four times as far from the first as the third does, in squares.
-    let one_of_three = request(alloc, &[0, 1, 2], &[1, 1, 1], 1, 3)?;
+    let one_of_three = requested(alloc, &[1, 1, 1], 1)?;
     let steps = [
         (Kind::Choose, 3, 0),
         (Kind::Pivot, 2, 1),
         (Kind::Choose, 2, 0),
         (Kind::Pivot, 3, 1),
     ];
+    let (low, high) = (-2_147_483_647, 2_147_483_647);
     assert!(rt;
-        walks(
+        walks_over(
             alloc,
             &one_of_three,
-            &[
-                [
-                    -2_147_483_647,
-                    -2_147_483_647,
-                    -2_147_483_647,
-                    -2_147_483_647
-                ],
-                [2_147_483_647, 2_147_483_647, 2_147_483_647, 2_147_483_647],
-                [
-                    2_147_483_647,
-                    -2_147_483_647,
-                    -2_147_483_647,
-                    -2_147_483_647
-                ],
-            ],
+            &[[low; 4], [high; 4], [high, low, low, low]],
             &[0, 1, 0, 1],
             steps.as_slice(),
             &[2]
@@ -144,10 +147,10 @@ fn walks_to_neighbours(rt: HostRuntime) -> Result<(), Fail> {
 #[test]
 fn few_units(rt: HostRuntime) -> Result<(), Fail> {
     let alloc = rt.alloc();
-    let two = request(alloc, &[0, 1], &[1, 2], 1, 3)?;
+    let two = requested(alloc, &[1, 2], 1)?;
     let steps = [(Kind::Choose, 2, 1), (Kind::Pivot, 3, 2)];
     assert!(rt;
-        walks(
+        walks_over(
             alloc,
             &two,
             &[[1, 2, 3], [4, 5, 6]],
@@ -157,10 +160,45 @@ fn few_units(rt: HostRuntime) -> Result<(), Fail> {
         )?
     );
     let lone = request(alloc, &[0], &[1], 1, 3)?;
-    assert!(rt; walks(alloc, &lone, &[[5]], &[0], &[(Kind::Lone, 3, 0)], &[0])?);
-    assert!(rt; walks(alloc, &lone, &[[5]], &[1], &[(Kind::Lone, 3, 1)], &[])?);
-    assert!(rt; walks(alloc, &lone, &[[5]], &[2], &[(Kind::Lone, 3, 2)], &[])?);
+    assert!(rt; walks_over(alloc, &lone, &[[5]], &[0], &[(Kind::Lone, 3, 0)], &[0])?);
+    assert!(rt; walks_over(alloc, &lone, &[[5]], &[1], &[(Kind::Lone, 3, 1)], &[])?);
+    assert!(rt; walks_over(alloc, &lone, &[[5]], &[2], &[(Kind::Lone, 3, 2)], &[])?);
     let none = request(alloc, &[], &[], 0, 0)?;
-    assert!(rt; walks::<1>(alloc, &none, &[], &[], &[], &[])?);
+    assert!(rt; walks_over::<1>(alloc, &none, &[], &[], &[], &[])?);
+    Ok(())
+}
+
+#[test]
+fn coordinates_among_other_values(rt: HostRuntime) -> Result<(), Fail> {
+    let alloc = rt.alloc();
+    assert_eq!(rt; Dimensions::of_coordinates(2), Some(Dimensions::Two));
+    assert_eq!(rt; Dimensions::of_coordinates(5), None);
+
+    // The points are [3, 4], [0, 0] and [3, 0], behind a first column.
+    let values = [
+        Numbers::from_slice(alloc, &[-9, 3, 4])?,
+        Numbers::from_slice(alloc, &[-8])?,
+        Numbers::from_slice(alloc, &[100, 3])?,
+    ];
+    let request = requested(alloc, &[1, 1, 1], 1)?;
+    assert_eq!(rt; request.free.as_slice().len(), 3);
+    let design = AnyLocalPivotal::new(alloc, &request, Dimensions::Two, 1, values.as_slice())?;
+    let mut state = design.start(alloc)?;
+    let steps = [
+        (Kind::Choose, 3, 0),
+        (Kind::Pivot, 2, 1),
+        (Kind::Choose, 2, 0),
+        (Kind::Pivot, 3, 1),
+    ];
+    assert!(rt;
+        walks(
+            alloc,
+            &design,
+            &mut state,
+            &[0, 1, 0, 1],
+            steps.as_slice(),
+            &[2]
+        )?
+    );
     Ok(())
 }

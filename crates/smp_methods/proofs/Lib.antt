@@ -1,2 +1,2 @@
-pub mod Serves
-pub mod Filling
+pub mod Starts
+pub mod Moved

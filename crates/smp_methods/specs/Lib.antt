@@ -1,4 +1,3 @@
-pub mod Coordinates
-pub mod Stages
+pub mod Procedures
+pub mod Designs
 pub mod Starts
-pub mod Laws

@@ -1,14 +1,13 @@
-//! The design of a stage by any of the selection methods.
+//! The selection methods as one design.
 //!
-//! A [`Procedure`] says how units are drawn. [`Stage`] is the design of a request by a procedure: the free units of the request are its
-//! units, and its draw tree is that of the procedure's method. A further method is one more variant.
+//! A [`Procedure`] says how units are drawn. [`AnyDesign`] is the design of a request by a procedure: the free units of the request are its
+//! units, and its draw tree is that of the procedure's method. What a further method adds is a variant here and an arm in each list of methods.
 #![tactic(auto)]
 
-mod points;
+mod any;
 mod procedure;
-mod stage;
 mod start;
 
-pub use procedure::{Dimensions, Procedure};
-pub use stage::{Stage, StageState};
+pub use any::{AnyDesign, AnyState};
+pub use procedure::Procedure;
 pub use start::Started;

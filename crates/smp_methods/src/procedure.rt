@@ -1,37 +1,12 @@
+//! How units are drawn.
+
 ghost use Rattle.std.specs.Prelude.{◌≡◌};
-ghost use Rattle.smp_stage.specs.Coordinates.{dimensions_of};
+ghost use Rattle.smp_methods.specs.Procedures.{procedure_of};
 
-use smp_prob::Order;
+use smp_design::{Method, Order};
+use smp_localpiv::Dimensions;
 
-/// How many coordinates a point has.
-#[derive(Clone, Copy, Debug, PartialEq, Eq)]
-pub enum Dimensions {
-    /// One, on a line.
-    One,
-    /// Two, in a plane.
-    Two,
-    /// Three.
-    Three,
-    /// Four.
-    Four,
-}
-
-impl Dimensions {
-    /// The dimensions of points with so many coordinates, from 1 to 4; `None` for any other number.
-    pub fn of_coordinates(count: usize) -> Option<Dimensions>
-        ensures { result ≡ dimensions_of count }
-    {
-        match count {
-            1 => Some(Dimensions::One),
-            2 => Some(Dimensions::Two),
-            3 => Some(Dimensions::Three),
-            4 => Some(Dimensions::Four),
-            _ => None,
-        }
-    }
-}
-
-/// How the units of a stage are drawn.
+/// How the units of a request are drawn.
 #[derive(Clone, Copy, Debug, PartialEq, Eq)]
 pub enum Procedure {
     /// By sequential pivotal steps (Deville and Tillé 1998), with the units in this order.
@@ -44,4 +19,23 @@ pub enum Procedure {
     Brewer,
     /// By local pivotal steps (Grafström, Lundström and Schelin 2012), with the first values of each unit as its coordinates.
     LocalPivotal(Dimensions),
+}
+
+impl Procedure {
+    /// The procedure of a design file's method, with the units in this order, over a frame of which so many columns of values are read.
+    /// `None` where the method isn't built, or can't be used with so many columns.
+    pub fn of_method(method: Method, order: Order, columns: usize) -> Option<Procedure>
+        ensures { result ≡ procedure_of method order columns }
+    {
+        match method {
+            Method::Pivotal => Some(Procedure::Pivotal(order)),
+            Method::Systematic => Some(Procedure::Systematic(order)),
+            Method::MinimumSupport => Some(Procedure::MinimumSupport),
+            Method::Brewer => Some(Procedure::Brewer),
+            Method::LocalPivotal => {
+                Some(Procedure::LocalPivotal(Dimensions::of_coordinates(columns)?))
+            }
+            Method::Cube => None,
+        }
+    }
 }

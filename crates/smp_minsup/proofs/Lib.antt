@@ -1,7 +1,6 @@
-pub mod Counts
 pub mod FewLeaves
 pub mod Requests
 pub mod Queues
-pub mod Halving
+pub mod Ranking
 pub mod Parting
 pub mod States

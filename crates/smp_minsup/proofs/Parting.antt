@@ -1,4 +1,4 @@
--- Units that change halves, until each large one counts as larger than each small one.
+-- Units that change groups, until each large one counts as larger than each small one.
 use Rattle.std.proofs.Common.{◌≡◌, ◌≢◌, ℕ, zero, suc, ◌+◌, ◌<◌, ◌≤◌, min, Bool, true, false, cond, List, [], ◌∷◌, length, map, get_or, set, arith, refl, sym, ap, ◌∙◌, subst, inl, inr, length-set}
 use Rattle.std.specs.List.{count_by, range_with_len}
 use Rattle.std.proofs.lemmas.Bool.{cases_Bool, cases_eq, cases_lt}
@@ -6,14 +6,14 @@ use Rattle.std.proofs.lemmas.List.{get_or_past}
 use Rattle.std.proofs.lemmas.List.FromFn.{length-map-range_with_len, get_or-map-range_with_len}
 use Rattle.std.proofs.lemmas.List.Sums.{sum_by-set, count_by-le-length}
 use Rattle.smp_minsup.specs.Support.{is_larger, larger_units, largest, least}
-use Rattle.smp_minsup.specs.Laws.Sums.{sums, sums_but, weight_true, weight_false}
+use Rattle.smp_split.proofs.NumberSums.{sums, sums_but, weight_true, weight_false}
 use Rattle.smp_minsup.specs.Laws.Ranks.{larger_of, larger_total, fewer_larger}
 use Rattle.smp_minsup.specs.Laws.Bounds.{largest-at, least-at, least_within}
-use Rattle.smp_minsup.specs.Kept.Halves.{Halved, IsMostSmall, IsLeastLarge, IsParted, IsMixed, is_in, large_count, largest_small, least_large, placed}
+use Rattle.smp_minsup.specs.Kept.Ranked.{RankedUnits, IsMostSmall, IsLeastLarge, IsParted, IsMixed, is_in, large_count, largest_small, least_large, placed}
 use Rattle.smp_minsup.proofs.Queues.{count-cons, none_passes}
-use Rattle.smp_minsup.proofs.Halving.{placed_here, placed_other}
+use Rattle.smp_minsup.proofs.Ranking.{placed_here, placed_other}
 
--- a unit is in one half alone
+-- a unit is in one group alone
 pub not_both : (large : List Bool) (i j : ℕ) → is_in large i ≡ true → is_in large j ≡ false → i ≢ j
 not_both large i j is not e = let other : is_in large i ≡ false = ap (is_in large) e ∙ not in cc
 
@@ -30,7 +30,7 @@ pub none_large : (large : List Bool) → count_by (λ b. b) large ≡ 0 → (k :
 none_large large none k =
     elim (cases_lt k (length large)) [ inl h ↦ none_passes (λ b. b) large none k false h | inr h ↦ get_or_past large k false h ]
 
-pub parted_none : (v : Halved) → large_count v ≡ 0 → IsParted v
+pub parted_none : (v : RankedUnits) → large_count v ≡ 0 → IsParted v
 parted_none v none unit other h l is small = let not : is_in v.large unit ≡ false = none_large v.large none unit in absurd (cc)
 
 -- where a small unit is left, there are fewer large ones than units
@@ -45,7 +45,7 @@ fewer_than_all (b ∷ large) (suc k) h is =
 
 -- ---- a small unit becomes large
 
-module _ (v : Halved) (paired : length v.large ≡ length v.numer) where
+module _ (v : RankedUnits) (paired : length v.large ≡ length v.numer) where
   only_most : (i j : ℕ) → IsMostSmall v i → IsMostSmall v j → i ≡ j
   only_most i j one other =
       elim (cases_eq i j) [
@@ -68,7 +68,7 @@ module _ (v : Halved) (paired : length v.large ≡ length v.numer) where
 
   -- ---- an exchange
 
-  abbrev measure_of : Halved → ℕ
+  abbrev measure_of : RankedUnits → ℕ
   measure_of w = sums (length w.numer) (λ k. cond (is_in w.large k) (larger_units w.numer k) 0)
 
   measure_up : (y : ℕ) → y < length v.numer → is_in v.large y ≡ false → measure_of (placed v y true) ≡ measure_of v + larger_units v.numer y
@@ -90,13 +90,13 @@ module _ (v : Halved) (paired : length v.large ≡ length v.numer) where
       omega (arith, moved, now, was)
 
 -- what an exchange of units keeps
-pub record IsExchanged (was now : Halved) : Type 0 where
+pub record IsExchanged (was now : RankedUnits) : Type 0 where
   pub numer : now.numer ≡ was.numer
   pub lowered : now.lowered ≡ was.lowered
   pub paired : length now.large ≡ length now.numer
   pub count : large_count now ≡ large_count was
 
-pub exchanged_trans : (a b c : Halved) → IsExchanged a b → IsExchanged b c → IsExchanged a c
+pub exchanged_trans : (a b c : RankedUnits) → IsExchanged a b → IsExchanged b c → IsExchanged a c
 exchanged_trans a b c first second = record {
   numer = second.numer ∙ first.numer;
   lowered = second.lowered ∙ first.lowered;
@@ -104,11 +104,11 @@ exchanged_trans a b c first second = record {
   count = second.count ∙ first.count;
 }
 
--- by how much the halves are out of order
-abbrev pub disorder : Halved → ℕ
+-- by how much the groups are out of order
+abbrev pub disorder : RankedUnits → ℕ
 disorder v = sums (length v.numer) (λ k. cond (is_in v.large k) (larger_units v.numer k) 0)
 
-module _ (v : Halved) (paired : length v.large ≡ length v.numer) (mixed : IsMixed v) (y : ℕ) (most : IsMostSmall v y) where
+module _ (v : RankedUnits) (paired : length v.large ≡ length v.numer) (mixed : IsMixed v) (y : ℕ) (most : IsMostSmall v y) where
   y_is : mixed.small ≡ y
   y_is = only_most v paired mixed.small y mixed.most most
 
@@ -156,7 +156,7 @@ module _ (v : Halved) (paired : length v.large ≡ length v.numer) (mixed : IsMi
 
 -- ---- the units that come next
 
-module _ (v : Halved) (bound : ℕ) where
+module _ (v : RankedUnits) (bound : ℕ) where
   abbrev smalls : ℕ → ℕ
   smalls k = cond (is_in v.large k) 0 (get_or v.numer k 0)
 
@@ -207,15 +207,15 @@ not_larger numer i j is =
       | inr l ↦ l
     ]
 
-pub largest_small_is : (v : Halved) (unit : ℕ) → IsMostSmall v unit → get_or v.numer unit 0 ≡ largest_small v
+pub largest_small_is : (v : RankedUnits) (unit : ℕ) → IsMostSmall v unit → get_or v.numer unit 0 ≡ largest_small v
 largest_small_is v unit most =
     omega (arith, largest_small_at v 0 unit most.within most.small, largest_small_within v 0 (get_or v.numer unit 0) (λ k h e. not_larger v.numer k unit (most.most k h e)))
 
-pub largest_small_none : (v : Halved) → ((k : ℕ) → k < length v.numer → is_in v.large k ≡ true) → 0 ≡ largest_small v
+pub largest_small_none : (v : RankedUnits) → ((k : ℕ) → k < length v.numer → is_in v.large k ≡ true) → 0 ≡ largest_small v
 largest_small_none v all =
     omega (arith, largest_small_within v 0 0 (λ k h e. (let is : is_in v.large k ≡ true = all k h in absurd (cc))))
 
-pub least_large_is : (v : Halved) (bound unit : ℕ) → IsLeastLarge v unit → min (get_or v.numer unit 0) bound ≡ least_large bound v
+pub least_large_is : (v : RankedUnits) (bound unit : ℕ) → IsLeastLarge v unit → min (get_or v.numer unit 0) bound ≡ least_large bound v
 least_large_is v bound unit is =
     omega (
       arith,
@@ -225,20 +225,20 @@ least_large_is v bound unit is =
           (λ k h e. omega (arith, not_larger v.numer unit k (is.least k h e))),
     )
 
-pub least_large_none : (v : Halved) (bound : ℕ) → ((k : ℕ) → k < length v.numer → is_in v.large k ≡ false) → bound ≡ least_large bound v
+pub least_large_none : (v : RankedUnits) (bound : ℕ) → ((k : ℕ) → k < length v.numer → is_in v.large k ≡ false) → bound ≡ least_large bound v
 least_large_none v bound none =
     omega (arith, least_large_bound v bound, least_large_within v bound bound (omega arith) (λ k h e. (let not : is_in v.large k ≡ false = none k h in absurd (cc))))
 
 -- ---- the largest units taken one after the other
 
-pub record IsTaking (was : Halved) (taken : ℕ) (now : Halved) : Type 0 where
+pub record IsTaking (was : RankedUnits) (taken : ℕ) (now : RankedUnits) : Type 0 where
   pub numer : now.numer ≡ was.numer
   pub lowered : now.lowered ≡ was.lowered
   pub paired : length now.large ≡ length now.numer
   pub count : large_count now ≡ taken
   pub parted : IsParted now
 
-pub taking_more : (was now : Halved) (taken y : ℕ) → IsTaking was taken now → IsMostSmall now y → IsTaking was (taken + 1) (placed now y true)
+pub taking_more : (was now : RankedUnits) (taken y : ℕ) → IsTaking was taken now → IsMostSmall now y → IsTaking was (taken + 1) (placed now y true)
 taking_more was now taken y is most = record {
   numer = is.numer;
   lowered = is.lowered;

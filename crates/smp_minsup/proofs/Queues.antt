@@ -1,4 +1,4 @@
--- A queue has one entry for each unit of a half, and none besides.
+-- A queue has one entry for each unit of a group, and none besides.
 use Rattle.std.proofs.Common.{◌≡◌, ◌≢◌, ℕ, zero, suc, ◌+◌, ◌<◌, ◌≤◌, Bool, true, false, cond, nat_eq, List, [], ◌∷◌, length, get_or, Result, Ok, Err, arith, rules, sym, ap, ◌∙◌, subst, inl, inr}
 use Rattle.std.specs.Result.{IsOk, OnOk}
 use Rattle.std.specs.List.{All, AllByRecursion, count_by}
@@ -6,8 +6,8 @@ use Rattle.std.specs.List.Sorted.{IsPermutation}
 use Rattle.std.proofs.lemmas.Bool.{cases_Bool, cases_eq, eqb-true, eq-eqb, ne_eqb}
 use Rattle.std.proofs.lemmas.List.Sums.{sum_by-cons, count_by-le-length}
 use Rattle.std.proofs.lemmas.List.Sorted.{All-permutation, sum_by_popped, sum_by_pushed}
-use Rattle.smp_minsup.specs.Laws.Sums.{weight_true, weight_false}
-use Rattle.smp_minsup.specs.Kept.Halves.{IsQueue}
+use Rattle.smp_split.proofs.NumberSums.{weight_true, weight_false}
+use Rattle.smp_minsup.specs.Kept.Ranked.{IsQueue}
 
 -- what is said of an Ok
 pub on_ok : {T E : Type 0} (P : Type 0) (r : Result T E) → IsOk r → OnOk r P → P
@@ -41,9 +41,9 @@ module _ {Entry : Type 0} (unit : Entry → ℕ) where
         | inr e ↦ passes entry Q k queue each.1 (λ j d l. entries (suc j) d (omega (arith, l))) (omega (arith, h, count-cons (λ y. nat_eq (unit y) k) x queue, weight_false e))
       ]
 
-  module _ (entry : ℕ → Entry) (half : ℕ → Bool) (units : ℕ) (queue : List Entry) (is : IsQueue unit entry half units queue) where
-    in_half : (k : ℕ) → k < units → 1 ≤ held queue k → half k ≡ true
-    in_half k l h = elim (cases_Bool (half k)) [ inl e ↦ e | inr e ↦ absurd (omega (arith, is.once k l, weight_false e, h)) ]
+  module _ (entry : ℕ → Entry) (group : ℕ → Bool) (units : ℕ) (queue : List Entry) (is : IsQueue unit entry group units queue) where
+    in_group : (k : ℕ) → k < units → 1 ≤ held queue k → group k ≡ true
+    in_group k l h = elim (cases_Bool (group k)) [ inl e ↦ e | inr e ↦ absurd (omega (arith, is.once k l, weight_false e, h)) ]
 
     -- what the first entry is
     pub front_known : (e : Entry) → 1 ≤ length queue → e ≡ get_or queue 0 e → unit e < units
@@ -52,17 +52,17 @@ module _ {Entry : Type 0} (unit : Entry → ℕ) where
     pub front_entry : (e : Entry) → 1 ≤ length queue → e ≡ get_or queue 0 e → e ≡ entry (unit e)
     front_entry e h at = subst (λ (x : Entry). x ≡ entry (unit x)) (sym at) (is.entries 0 e (omega (arith, h)))
 
-    pub front_half : (e : Entry) → 1 ≤ length queue → e ≡ get_or queue 0 e → half (unit e) ≡ true
-    front_half e h at = in_half (unit e) (front_known e h at) (front_counts queue e h at)
+    pub front_group : (e : Entry) → 1 ≤ length queue → e ≡ get_or queue 0 e → group (unit e) ≡ true
+    front_group e h at = in_group (unit e) (front_known e h at) (front_counts queue e h at)
 
-    -- what holds of each entry holds of that of each unit of the half
-    pub holds_of : (Q : Entry → Type 0) → AllByRecursion Q queue → (k : ℕ) → k < units → half k ≡ true → Q (entry k)
+    -- what holds of each entry holds of that of each unit of the group
+    pub holds_of : (Q : Entry → Type 0) → AllByRecursion Q queue → (k : ℕ) → k < units → group k ≡ true → Q (entry k)
     holds_of Q each k l h = passes entry Q k queue each is.entries (omega (arith, is.once k l, weight_true h))
 
-    pub has_some : (k : ℕ) → k < units → half k ≡ true → 1 ≤ length queue
+    pub has_some : (k : ℕ) → k < units → group k ≡ true → 1 ≤ length queue
     has_some k l h = omega (arith, is.once k l, weight_true h, count_by-le-length (λ e. nat_eq (unit e) k) queue)
 
-    module _ (entry' : ℕ → Entry) (half' : ℕ → Bool) (k : ℕ) (same_entry : (j : ℕ) → j ≢ k → entry' j ≡ entry j) (same_half : (j : ℕ) → j ≢ k → half' j ≡ half j) where
+    module _ (entry' : ℕ → Entry) (group' : ℕ → Bool) (k : ℕ) (same_entry : (j : ℕ) → j ≢ k → entry' j ≡ entry j) (same_group : (j : ℕ) → j ≢ k → group' j ≡ group j) where
       -- entries of other units stay what they are
       kept_entries : (rest : List Entry) → All (λ e. e ≡ entry (unit e)) rest → held rest k ≡ 0 → All (λ e. e ≡ entry' (unit e)) rest
       kept_entries rest entries none j d l =
@@ -70,11 +70,11 @@ module _ {Entry : Type 0} (unit : Entry → ℕ) where
           entries j d l ∙ sym (same_entry (unit (get_or rest j d)) other)
 
       -- the entry of unit k is taken out
-      pub popped : (e : Entry) (rest : List Entry) → 1 ≤ length queue → e ≡ get_or queue 0 e → unit e ≡ k → half' k ≡ false → IsPermutation queue (e ∷ rest) → IsQueue unit entry' half' units rest
+      pub popped : (e : Entry) (rest : List Entry) → 1 ≤ length queue → e ≡ get_or queue 0 e → unit e ≡ k → group' k ≡ false → IsPermutation queue (e ∷ rest) → IsQueue unit entry' group' units rest
       popped e rest h at e_is gone moved =
           let counts : (j : ℕ) → held rest j + cond (nat_eq (unit e) j) 1 0 ≡ held queue j = λ j. sum_by_popped (λ x. cond (nat_eq (unit x) j) 1 0) e queue rest moved in
           let known : unit e < units = front_known e h at in
-          let was : half k ≡ true = subst (λ j. half j ≡ true) e_is (front_half e h at) in
+          let was : group k ≡ true = subst (λ j. group j ≡ true) e_is (front_group e h at) in
           let none : held rest k ≡ 0 = omega (arith, counts k, weight_true (eq-eqb (unit e) k e_is), is.once k (omega (arith, known, e_is)), weight_true was) in
           record {
             entries = kept_entries rest (λ j d l. All-permutation (λ x. x ≡ entry (unit x)) queue (e ∷ rest) moved is.entries (suc j) d (omega (arith, l))) none;
@@ -83,12 +83,12 @@ module _ {Entry : Type 0} (unit : Entry → ℕ) where
               | inl same ↦ rw (same, gone) none
               | inr ne ↦
                   (let other : unit e ≢ j = λ f. ne (sym f ∙ e_is) in
-                  rw (same_half j ne) (omega (arith, counts j, weight_false (ne_eqb (unit e) j other), is.once j l)))
+                  rw (same_group j ne) (omega (arith, counts j, weight_false (ne_eqb (unit e) j other), is.once j l)))
             ];
           }
 
       -- an entry of unit k is put in
-      pub pushed : (rest : List Entry) → k < units → half k ≡ false → half' k ≡ true → unit (entry' k) ≡ k → IsPermutation (entry' k ∷ queue) rest → IsQueue unit entry' half' units rest
+      pub pushed : (rest : List Entry) → k < units → group k ≡ false → group' k ≡ true → unit (entry' k) ≡ k → IsPermutation (entry' k ∷ queue) rest → IsQueue unit entry' group' units rest
       pushed rest l was now unit_is moved =
           let counts : (j : ℕ) → held rest j ≡ cond (nat_eq (unit (entry' k)) j) 1 0 + held queue j = λ j. sum_by_pushed (λ x. cond (nat_eq (unit x) j) 1 0) (entry' k) queue rest moved in
           let none : held queue k ≡ 0 = omega (arith, is.once k l, weight_false was) in
@@ -100,7 +100,7 @@ module _ {Entry : Type 0} (unit : Entry → ℕ) where
               | inl same ↦ rw (same, now) (omega (arith, counts k, weight_true (eq-eqb (unit (entry' k)) k unit_is), none))
               | inr ne ↦
                   (let other : unit (entry' k) ≢ j = λ f. ne (sym f ∙ unit_is) in
-                  rw (same_half j ne) (omega (arith, counts j, weight_false (ne_eqb (unit (entry' k)) j other), is.once j m)))
+                  rw (same_group j ne) (omega (arith, counts j, weight_false (ne_eqb (unit (entry' k)) j other), is.once j m)))
             ];
           }
         where

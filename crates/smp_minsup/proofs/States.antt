@@ -5,14 +5,15 @@ use Rattle.std.proofs.lemmas.Bool.{cases_Bool, cases_eq, lt-ltb, le-ltb, eqb-fal
 use Rattle.std.proofs.lemmas.List.{get_or-map, length-map}
 use Rattle.std.proofs.lemmas.List.FromFn.{fill_by_all, length-map-range_with_len, get_or-map-range_with_len}
 use Rattle.smp_prob.specs.Shares.{Shares}
-use Rattle.smp_split.specs.Numerators.{fractional}
+use Rattle.smp_values.specs.Values.{fractional, fractional_count, is_settled}
 use Rattle.smp_split.specs.Trees.{weight_sum, picked}
-use Rattle.smp_split.proofs.Settled.{fractional_den, not_fractional}
-use Rattle.smp_minsup.specs.Support.{IsSupport, is_larger, larger_units, draws_of, is_large, most_small, least_large as least_of, largest, least, lambda, settled, lowered, support_parts, fractional_units, is_done}
-use Rattle.smp_minsup.specs.Laws.Sums.{counts, sums_most, sums_less, weight_true, weight_false, counts_found, sum_by-list}
+use Rattle.smp_values.proofs.Fractional.{fractional_den, fractional_is, not_fractional}
+use Rattle.smp_values.proofs.Units.{none_fractional}
+use Rattle.smp_minsup.specs.Support.{IsSupport, is_larger, larger_units, draws_of, is_large, most_small, least_large as least_of, largest, least, lambda, settled, lowered, support_parts}
+use Rattle.smp_split.proofs.NumberSums.{counts, sums_most, sums_less, weight_true, weight_false, counts_found, sum_by-list}
 use Rattle.smp_minsup.specs.Laws.Ranks.{larger_trans, not_itself, larger_units_are}
-use Rattle.smp_minsup.specs.Laws.Splits.{draws_are, large_positive, small_below, lambda_large, lambda_less, lowered_sum, lowered_belongs, none_between, fractional_between, fractional_is}
-use Rattle.smp_minsup.specs.Kept.Halves.{Halved, IsCut, IsParted, is_in, large_count, largest_small, least_large, lowered_by, shares_over, shares_kept}
+use Rattle.smp_minsup.specs.Laws.Splits.{draws_are, large_positive, small_below, lambda_large, lambda_less, lowered_sum, lowered_belongs, fractional_count_is}
+use Rattle.smp_minsup.specs.Kept.Ranked.{RankedUnits, IsCut, IsParted, is_in, large_count, largest_small, least_large, lowered_by, shares_over, shares_kept}
 use Rattle.smp_minsup.proofs.Queues.{count-cons}
 use Rattle.smp_minsup.proofs.Parting.{largest_small_within, largest_small_at, least_large_within, least_large_at, least_large_bound}
 
@@ -21,7 +22,7 @@ for_same : {X : Type 0} (n : ℕ) (f g : ℕ → X) (d : X) → ((k : ℕ) → k
 for_same n f g d h =
     fill_by_all f (map g (range_with_len 0 n)) n d (length-map-range_with_len g 0 n) (λ k l. get_or-map-range_with_len g 0 n k k d l (omega arith) ∙ h k l)
 
-module _ (den : ℕ) (v : Halved) (cut : IsCut den v) where
+module _ (den : ℕ) (v : RankedUnits) (cut : IsCut den v) where
   abbrev s : Shares
   s = shares_over den v
 
@@ -74,16 +75,16 @@ module _ (den : ℕ) (v : Halved) (cut : IsCut den v) where
 
   module _ (units : ℕ) (ok : IsSupport units s) where
     pub most_within : largest_small v ≤ den
-    most_within = largest_small_within v 0 den (λ k h e. ok.each k)
+    most_within = largest_small_within v 0 den (λ k h e. ok.values.each k)
 
     -- nothing is fractional where the largest small one is 0 and the least large one is 1
-    pub done_is : (nat_eq (largest_small v) 0 && nat_eq (least_large den v) den) ≡ is_done s
+    pub done_is : (nat_eq (largest_small v) 0 && nat_eq (least_large den v) den) ≡ is_settled s
     done_is =
-        elim (cases_eq (fractional_units s) 0) [
+        elim (cases_eq (fractional_count s) 0) [
           | inl none ↦
               (let smalls : largest_small v ≡ 0 = omega (
                 arith,
-                largest_small_within v 0 0 (λ k h e. elim (not_fractional den (get_or v.numer k 0) (ok.each k) (none_between units s ok none k h)) [
+                largest_small_within v 0 0 (λ k h e. elim (not_fractional den (get_or v.numer k 0) (ok.values.each k) (none_fractional s none k)) [
                   | inl nought ↦ omega (arith, nought)
                   | inr full ↦ absurd (omega (arith, full, small_below units s ok k h (sym (cut_is k h) ∙ e)))
                 ]),
@@ -91,16 +92,16 @@ module _ (den : ℕ) (v : Halved) (cut : IsCut den v) where
               let larges : least_large den v ≡ den = omega (
                 arith,
                 least_large_bound v den,
-                least_large_within v den den (omega arith) (λ k h e. elim (not_fractional den (get_or v.numer k 0) (ok.each k) (none_between units s ok none k h)) [
+                least_large_within v den den (omega arith) (λ k h e. elim (not_fractional den (get_or v.numer k 0) (ok.values.each k) (none_fractional s none k)) [
                   | inl nought ↦ absurd (omega (arith, nought, large_positive units s ok k (sym (cut_is k h) ∙ e)))
                   | inr full ↦ omega (arith, full)
                 ]),
               ) in
-              rw (eq-eqb (largest_small v) 0 smalls, eq-eqb (least_large den v) den larges, eq-eqb (fractional_units s) 0 none) refl)
+              rw (eq-eqb (largest_small v) 0 smalls, eq-eqb (least_large den v) den larges, eq-eqb (fractional_count s) 0 none) refl)
           | inr some ↦
-              (let found = counts_found (length v.numer) (λ k. fractional den (get_or v.numer k 0)) (omega (arith, some, fractional_is units s ok)) in
-              let between = fractional_between den (get_or v.numer found.0 0) found.1.1 in
-              rw (ne_eqb (fractional_units s) 0 some) (elim (cases_Bool (is_in v.large found.0)) [
+              (let found = counts_found (length v.numer) (λ k. fractional den (get_or v.numer k 0)) (omega (arith, some, fractional_count_is units s ok)) in
+              let between = fractional_is den (get_or v.numer found.0 0) found.1.1 in
+              rw (ne_eqb (fractional_count s) 0 some) (elim (cases_Bool (is_in v.large found.0)) [
                 | inl e ↦ and_right (nat_eq (largest_small v) 0) (nat_eq (least_large den v) den) (ne_eqb (least_large den v) den (omega (arith, least_large_at v den found.0 found.1.0 e, between.1)))
                 | inr e ↦ and_left (nat_eq (largest_small v) 0) (nat_eq (least_large den v) den) (ne_eqb (largest_small v) 0 (omega (arith, largest_small_at v 0 found.0 found.1.0 e, between.0)))
               ]))
@@ -113,18 +114,18 @@ module _ (den : ℕ) (v : Halved) (cut : IsCut den v) where
     pub lower_within : (unit : ℕ) → unit < length v.numer → is_in v.large unit ≡ true → lambda s ≤ get_or v.numer unit 0
     lower_within k h e = lambda_large units s ok k h (sym (cut_is k h) ∙ e)
 
-    module _ (going : 1 ≤ fractional_units s) where
+    module _ (going : 1 ≤ fractional_count s) where
       pub lowered_is : (lowered_by v (lambda s)).numer ≡ (lowered s).numer
       lowered_is =
           for_same (length v.numer) (λ k. cond (is_large s k) (get_or v.numer k 0 - lambda s) (get_or v.numer k 0)) (λ k. cond (is_in v.large k) (get_or v.numer k 0 - lambda s) (get_or v.numer k 0)) 0 (λ k h. rw (cut_is k h) refl)
 
       pub lowered_narrow : (unit : ℕ) → get_or (lowered_by v (lambda s)).numer unit 0 < 2 ^ 126
       lowered_narrow unit =
-          let each : get_or (lowered s).numer unit 0 ≤ den - lambda s = (lowered_belongs units s ok going).each unit in
-          rw lowered_is (omega (arith, each, ok.narrow))
+          let each : get_or (lowered s).numer unit 0 ≤ den - lambda s = (lowered_belongs units s ok going).values.each unit in
+          rw lowered_is (omega (arith, each, ok.values.narrow))
 
       -- after the exchanges the large units are again the largest
-      pub cut_again : (w : Halved) → w.numer ≡ (lowered_by v (lambda s)).numer → w.lowered ≡ (lowered_by v (lambda s)).lowered → length w.large ≡ length w.numer → large_count w ≡ large_count (lowered_by v (lambda s)) → IsParted w → IsCut (den - lambda s) w
+      pub cut_again : (w : RankedUnits) → w.numer ≡ (lowered_by v (lambda s)).numer → w.lowered ≡ (lowered_by v (lambda s)).lowered → length w.large ≡ length w.numer → large_count w ≡ large_count (lowered_by v (lambda s)) → IsParted w → IsCut (den - lambda s) w
       cut_again w numer_is lowered_to paired count parted = record {
         paired = paired;
         parted = parted;
@@ -134,17 +135,17 @@ module _ (den : ℕ) (v : Halved) (cut : IsCut den v) where
       }
 
 -- the kept state, whether or not it is settled
-pub kept_den : (b : Bool) (den : ℕ) (v : Halved) → (shares_kept b den v).den ≡ den
+pub kept_den : (b : Bool) (den : ℕ) (v : RankedUnits) → (shares_kept b den v).den ≡ den
 kept_den true den v = refl
 kept_den false den v = refl
 
 pub bound_is : (s : Shares) → weight_sum (support_parts s) ≡ s.den
 bound_is s = omega arith
 
-pub kept_done : (den : ℕ) (v : Halved) → is_done (shares_kept true den v) ≡ true
+pub kept_done : (den : ℕ) (v : RankedUnits) → is_settled (shares_kept true den v) ≡ true
 kept_done den v =
     let none : (large : List Bool) → count_by (fractional den) (map (λ b. cond b den 0) large) ≡ 0 = none_between_ends den in
-    eq-eqb (fractional_units (shares_kept true den v)) 0 (none v.large)
+    eq-eqb (fractional_count (shares_kept true den v)) 0 (none v.large)
   where
     none_between_ends : (den : ℕ) (large : List Bool) → count_by (fractional den) (map (λ b. cond b den 0) large) ≡ 0
     none_between_ends den [] = refl
@@ -159,23 +160,23 @@ pub picked_lowered : (s : Shares) (draw : ℕ) → lambda s ≤ draw → draw < 
 picked_lowered s draw h within = rw (le-ltb draw (lambda s) h, lt-ltb (draw - lambda s) (s.den - lambda s) (omega (arith, h, within))) refl
 
 -- a settled unit is selected where it is large
-pub selected_is : (den : ℕ) (v : Halved) (unit : ℕ) → 1 ≤ den → unit < length v.large → is_in v.large unit ≡ nat_eq (get_or (shares_kept true den v).numer unit 0) den
+pub selected_is : (den : ℕ) (v : RankedUnits) (unit : ℕ) → 1 ≤ den → unit < length v.large → is_in v.large unit ≡ nat_eq (get_or (shares_kept true den v).numer unit 0) den
 selected_is den v unit one h =
     let value : get_or (shares_kept true den v).numer unit 0 ≡ cond (is_in v.large unit) den 0 = get_or-map (λ b. cond b den 0) v.large unit false 0 h in
     rw value (elim (cases_Bool (is_in v.large unit)) [ inl e ↦ rw (e, eq-eqb den den refl) refl | inr e ↦ rw (e, ne_eqb 0 den (omega (arith, one))) refl ])
 
 -- a state that goes on isn't settled
-pub record IsOpen (b : Bool) (den : ℕ) (v : Halved) (s : Shares) : Type 0 where
+pub record IsOpen (b : Bool) (den : ℕ) (v : RankedUnits) (s : Shares) : Type 0 where
   pub is_open : b ≡ false
   pub same : s ≡ shares_over den v
   pub cut : IsCut den v
   pub state : IsSupport (length v.numer) (shares_over den v)
-  pub going : 1 ≤ fractional_units (shares_over den v)
+  pub going : 1 ≤ fractional_count (shares_over den v)
 
-pub opened : (b : Bool) (den : ℕ) (v : Halved) (s : Shares) → shares_kept b den v ≡ s → (b ≡ false → IsCut den v) → IsSupport (length s.numer) s → is_done s ≡ false → IsOpen b den v s
+pub opened : (b : Bool) (den : ℕ) (v : RankedUnits) (s : Shares) → shares_kept b den v ≡ s → (b ≡ false → IsCut den v) → IsSupport (length s.numer) s → is_settled s ≡ false → IsOpen b den v s
 opened true den v s is cut state going =
-    let done : is_done s ≡ true = subst (λ (t : Shares). is_done t ≡ true) is (kept_done den v) in absurd (cc)
+    let done : is_settled s ≡ true = subst (λ (t : Shares). is_settled t ≡ true) is (kept_done den v) in absurd (cc)
 opened false den v s is cut state going =
     let ok : IsSupport (length v.numer) (shares_over den v) = subst (λ (t : Shares). IsSupport (length t.numer) t) (sym is) state in
-    let some : fractional_units (shares_over den v) ≢ 0 = eqb-false (fractional_units (shares_over den v)) 0 (subst (λ (t : Shares). is_done t ≡ false) (sym is) going) in
+    let some : fractional_count (shares_over den v) ≢ 0 = eqb-false (fractional_count (shares_over den v)) 0 (subst (λ (t : Shares). is_settled t ≡ false) (sym is) going) in
     record { is_open = refl; same = sym is; cut = cut refl; state = ok; going = omega (arith, some) }

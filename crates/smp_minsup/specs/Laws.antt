@@ -1,5 +1,4 @@
 -- The laws of the definitions. They stand here, and not in proofs/, where a ghost member of the crate cites them.
-pub mod Sums
 pub mod Ranks
 pub mod Bounds
 pub mod Splits

@@ -1,4 +1,4 @@
 pub mod Support
-pub mod Leaves
+pub mod Method
 pub mod Laws
 pub mod Kept

@@ -1,14 +1,13 @@
 -- The minimum support design (Deville and Tillé 1998). The values of the units are numerators over one denominator, and they
 -- add up to a whole number r. In a step the r largest units are selected and the design ends, or it goes on without what
 -- this took of their values.
-use Rattle.std.specs.Prelude.{◌≡◌, ℕ, ◌-◌, ◌*◌, ◌/◌, ◌^◌, ◌≤◌, ◌<◌, max, min, Bool, nat_lt, nat_eq, ◌&&◌, ◌||◌, if◌then◌else◌, List, [], ◌∷◌, length, map, slice_index}
+use Rattle.std.specs.Prelude.{ℕ, ◌-◌, ◌/◌, ◌^◌, max, min, Bool, nat_lt, nat_eq, ◌&&◌, ◌||◌, if◌then◌else◌, List, [], ◌∷◌, length, map, slice_index}
 use Rattle.std.specs.List.{sum, count_by, range_with_len}
 use Rattle.smp_prob.specs.declared.requests.Request.{Request}
 use Rattle.smp_prob.specs.Shares.{Shares, shares_of}
-use Rattle.smp_fractions.specs.Fractions.{Fraction, over}
-use Rattle.smp_split.specs.Numerators.{fractional}
 use Rattle.smp_split.specs.Trees.{Part, Tree}
 use Rattle.smp_split.specs.declared.kind.Kind.TheVariants.{Support}
+use Rattle.smp_values.specs.Values.{AddTo, IsValues, values_tree}
 
 -- whether unit j counts as larger than unit k: its numerator is larger, or it is as large and comes later in the frame
 abbrev pub is_larger : List ℕ → ℕ → ℕ → Bool
@@ -66,43 +65,13 @@ lowered s = record {
 abbrev pub support_parts : Shares → List (Part Shares)
 support_parts s = record { weight = lambda s; state = settled s } ∷ record { weight = s.den - lambda s; state = lowered s } ∷ []
 
--- how many units are fractional
-abbrev pub fractional_units : Shares → ℕ
-fractional_units s = count_by (fractional s.den) s.numer
-
-abbrev pub is_done : Shares → Bool
-is_done s = nat_eq (fractional_units s) 0
-
--- the value of a unit, and whether it is 1
-abbrev pub support_value : Shares → ℕ → Fraction
-support_value s unit = over (slice_index s.numer unit) s.den
-
-abbrev pub is_one : Shares → ℕ → Bool
-is_one s unit = nat_eq (slice_index s.numer unit) s.den
-
 abbrev pub support_tree : ℕ → Tree Shares
-support_tree units = record {
-  units = units;
-  done = is_done;
-  kind = λ _. Support;
-  parts = support_parts;
-  rank = fractional_units;
-  value = support_value;
-  selected = is_one;
-}
+support_tree units = values_tree units (λ _. Support) support_parts (λ fractional. fractional)
 
--- values from 0 to 1 of so many units, which add up to a whole number
+-- values of so many units, which add up to a whole number
 pub record IsSupport (units : ℕ) (s : Shares) : Type 0 where
-  pub count : length s.numer ≡ units
-  pub positive : 1 ≤ s.den
-  pub narrow : s.den < 2 ^ 126
-  pub each : (unit : ℕ) → slice_index s.numer unit ≤ s.den
-  pub whole : sum s.numer ≡ draws_of s * s.den
-
--- what the code keeps of a design: a state, and how many units are to be selected
-pub record IsStart (draws : ℕ) (s : Shares) : Type 0 where
-  pub state : IsSupport (length s.numer) s
-  pub draws_are : draws ≡ draws_of s
+  pub values : IsValues units (2 ^ 126 - 1) s
+  pub whole : AddTo (draws_of s) s
 
 -- the state before the first step, with the requested values
 abbrev pub started : Request → Shares

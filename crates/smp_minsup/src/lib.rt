@@ -2,12 +2,12 @@
 //!
 //! Each unit has a value from 0 to 1, at first the probability that is requested of it, and the values add up to a whole
 //! number r. By one draw, either the r units of the largest values are selected, or the values go on without what this took
-//! of them. Each such step settles one more unit at least, and the mean of every value stays what it was. So a design of N
-//! units has at most N samples that can come out, the least number that serves in general.
+//! of them. Each such step settles one more unit at least, and the mean of every value stays what it was. So where there is a
+//! unit, there are at most as many leaves as units, and no more samples can come out.
 #![tactic(auto)]
 
 mod design;
-mod halves;
+mod ranked;
 mod state;
 #[cfg(test)]
 mod tests;

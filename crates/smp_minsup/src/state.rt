@@ -1,13 +1,13 @@
 //! A state of a minimum support selection.
-#![tactic(auto)]
 
 ghost use Rattle.std.specs.Prelude.{◌≡◌, ℕ, ◌<◌, false, length};
 ghost use Rattle.smp_split.specs.Trees.{weight_sum, picked};
 ghost use Rattle.smp_prob.specs.Shares.{Shares};
-ghost use Rattle.smp_minsup.specs.Support.{IsSupport, is_done, is_one, support_parts, support_tree};
-ghost use Rattle.smp_minsup.specs.Kept.Halves.{IsCut, shares_over, shares_kept};
+ghost use Rattle.smp_values.specs.Values.{is_one, is_settled};
+ghost use Rattle.smp_minsup.specs.Support.{IsSupport, support_parts, support_tree};
+ghost use Rattle.smp_minsup.specs.Kept.Ranked.{IsCut, shares_over, shares_kept};
 
-use crate::halves::Halves;
+use crate::ranked::Ranked;
 use smp_split::Kind;
 use std::marker::Model;
 
@@ -17,7 +17,7 @@ use std::marker::Model;
 /// them share, and exchanges the units whose order this turns; the part that ends the design touches none.
 #[derive(Drop)]
 pub struct SupportState {
-    halves: Halves,
+    ranked: Ranked,
     den: u128,
     settled: bool,
 }
@@ -25,73 +25,73 @@ pub struct SupportState {
 impl Model for SupportState {
     ghost Value = { Shares };
 
-    ghost view = { λ a. shares_kept a.settled a.den a.halves };
+    ghost view = { λ a. shares_kept a.settled a.den a.ranked };
 
-    ghost invariant = { λ a. a.settled ≡ false → IsCut a.den a.halves };
+    ghost invariant = { λ a. a.settled ≡ false → IsCut a.den a.ranked };
 }
 
 impl SupportState {
     /// The state with these numerators over `den`, of which the large ones are the largest.
-    pub(crate) fn new(halves: Halves, den: u128) -> SupportState
-        requires { IsCut den halves }
-        ensures { result ≡ shares_over den halves }
+    pub(crate) fn new(ranked: Ranked, den: u128) -> SupportState
+        requires { IsCut den ranked }
+        ensures { result ≡ shares_over den ranked }
     {
         SupportState {
-            halves,
+            ranked,
             den,
             settled: false,
         }
     }
 
     /// Whether no step is left, as each value is 0 or 1.
-    pub fn is_done(&self) -> bool
+    pub(crate) fn is_done(&self) -> bool
         requires { IsSupport (length self.now.numer) self.now }
-        ensures { result ≡ is_done self.now }
+        ensures { result ≡ is_settled self.now }
     {
-        self.settled || self.halves.is_settled(self.den)
+        self.settled || self.ranked.is_settled(self.den)
     }
 
     /// The kind of the next step.
-    pub fn kind(&self) -> Kind
+    pub(crate) fn kind(&self) -> Kind
         ensures { result ≡ (support_tree (length self.now.numer)).kind self.now }
     {
         Kind::Support
     }
 
     /// The bound of the next step's draw.
-    pub fn bound(&self) -> u128
+    pub(crate) fn bound(&self) -> u128
         ensures { result ≡ weight_sum (support_parts self.now) }
     {
         self.den
     }
 
     /// Makes the step that this draw leads to.
-    pub fn advance(&mut self, draw: u128)
+    pub(crate) fn advance(&mut self, draw: u128)
         requires state { IsSupport (length self.old.numer) self.old }
-        requires going { is_done self.old ≡ false }
+        requires going { is_settled self.old ≡ false }
         requires within { draw < weight_sum (support_parts self.old) }
         ensures { self.new ≡ picked self.old (support_parts self.old) draw }
     {
-        let lambda = self.halves.lambda(self.den);
+        let lambda = self.ranked.lambda(self.den);
         if draw < lambda {
             self.settled = true;
         } else {
-            self.halves.lower(lambda);
-            self.halves.part();
+            self.ranked.lower(lambda);
+            self.ranked.part();
             self.den -= lambda;
         }
     }
 
     /// Whether a unit is selected: its value is 1.
-    pub fn is_selected(&self, unit: usize) -> bool
+    pub(crate) fn is_selected(&self, unit: usize) -> bool
         requires state { IsSupport (length self.now.numer) self.now }
         requires unit { unit < length self.now.numer }
         ensures { result ≡ is_one self.now unit }
     {
         if self.settled {
-            self.halves.is_large(unit)
+            self.ranked.is_large(unit)
         } else {
-            self.halves.numer(unit) == self.den
+            self.ranked.numer(unit) == self.den
         }
     }
 }

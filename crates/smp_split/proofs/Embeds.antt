@@ -1,11 +1,12 @@
 -- A variant of an enum of designs is a lens that closes.
-use Rattle.std.proofs.Common.{◌≡◌, ℕ, Option, Some, refl, sym, ap, subst, ◌∙◌}
+use Rattle.std.proofs.Common.{◌≡◌, ℕ, true, false, List, Option, Some, None, refl, sym, subst}
 use Rattle.smp_split.specs.Counts.{AddsUp, LeavesSelect, selected_count}
-use Rattle.smp_split.specs.Embeds.{embedded}
-use Rattle.smp_split.specs.Lenses.{as_unit, Lens, Closes, Inside}
-use Rattle.smp_split.specs.Trees.{Tree, Lawful}
+use Rattle.smp_split.specs.Embeds.{embedded, BelongsInside}
+use Rattle.smp_split.specs.Lenses.{as_unit, Lens, Closes}
+use Rattle.smp_split.specs.Parts.{moved}
+use Rattle.smp_split.specs.Trees.{Part, Tree, Lawful, LawfulParts, LawfulSplit, LawfulEnd}
 use Rattle.smp_fractions.proofs.Fractions.{same_refl}
-use Rattle.smp_split.proofs.Lenses.{lawful_through, leaves_through}
+use Rattle.smp_split.proofs.Lenses.{leaves_through, parts_through}
 
 module _ {Inner Outer : Type 0} (into : Inner → Outer) (out : Outer → Option Inner) (inner : Tree Inner) (back : (i : Inner) → out (into i) ≡ Some i) (belongs : Inner → Type 0) where
   pub embedded_lens : Lens inner belongs (embedded into out inner) into as_unit
@@ -21,8 +22,31 @@ module _ {Inner Outer : Type 0} (into : Inner → Outer) (out : Outer → Option
   pub embedded_closes : Closes inner (embedded into out inner) into as_unit
   embedded_closes = record { done = λ i e. rw (back i) e; selected = λ i e k h. rw (back i) refl }
 
-  pub embedded_lawful : Lawful inner belongs → Lawful (embedded into out inner) (Inside into belongs)
-  embedded_lawful lawful = lawful_through inner belongs (embedded into out inner) into as_unit embedded_lens embedded_closes lawful
+  -- the states that are such are a lawful design's
+  module _ (lawful : Lawful inner belongs) where
+    split_at : (s : Outer) (o : Option Inner) → out s ≡ o → BelongsInside into out inner belongs s → (embedded into out inner).done s ≡ false → LawfulSplit (embedded into out inner) (BelongsInside into out inner belongs) s
+    split_at s None e here going = absurd (rw e at here)
+    split_at s (Some i) e here going =
+        let member : belongs i = rw e at here in
+        let split = lawful.split i member (rw e at going) in
+        let Q : List (Part Outer) → Type 0 = λ ps. LawfulParts (embedded into out inner) (BelongsInside into out inner belongs) s ps in
+        let parts : (embedded into out inner).parts s ≡ moved into (inner.parts i) = rw e refl in
+        subst Q (sym parts)
+        (parts_through inner belongs (embedded into out inner) (BelongsInside into out inner belongs) into as_unit i s
+        (record {
+          within = λ k h. h;
+          part = λ p is. record { heavy = is.heavy; falls = rw (back p.state, e) is.falls; member = rw (back p.state) is.member };
+          value = λ k h. rw e (same_refl (inner.value i k));
+          values = λ j here k h. rw (back j) (same_refl (inner.value j k));
+        })
+        (inner.parts i) split)
+
+    end_at : (s : Outer) (o : Option Inner) → out s ≡ o → BelongsInside into out inner belongs s → (embedded into out inner).done s ≡ true → LawfulEnd (embedded into out inner) s
+    end_at s None e here done = absurd (rw e at here)
+    end_at s (Some i) e here done = λ k h. rw e (lawful.end i (rw e at here) (rw e at done) k h)
+
+    pub embedded_lawful : Lawful (embedded into out inner) (BelongsInside into out inner belongs)
+    embedded_lawful = record { split = λ s here going. split_at s (out s) refl here going; end = λ s here done. end_at s (out s) refl here done }
 
   pub embedded_count : (n : ℕ) (i : Inner) → LeavesSelect inner n i → LeavesSelect (embedded into out inner) n (into i)
   embedded_count n i count =
@@ -34,10 +58,3 @@ module _ {Inner Outer : Type 0} (into : Inner → Outer) (out : Outer → Option
 
   pub adds_up_inside : (n : ℕ) (i : Inner) → AddsUp (embedded into out inner) n (into i) → AddsUp inner n i
   adds_up_inside n i adds = rw (back i) at adds
-
-  -- a state that is put in place belongs to the design
-  pub member_inside : (i : Inner) → Inside into belongs (into i) → belongs i
-  member_inside i here =
-      let same : Some i ≡ Some here.inside = sym (back i) ∙ ap out here.is ∙ back here.inside in
-      let is : i ≡ here.inside = cc in
-      subst belongs (sym is) here.member

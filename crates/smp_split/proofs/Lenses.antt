@@ -3,7 +3,7 @@ use Rattle.std.proofs.Common.{◌≡◌, ℕ, ◌<◌, Bool, true, false, cond, 
 use Rattle.std.proofs.lemmas.Bool.{cases_Bool}
 use Rattle.smp_fractions.specs.Fractions.{Fraction, Same, whole, times}
 use Rattle.smp_split.specs.Parts.{moved}
-use Rattle.smp_split.specs.Trees.{Part, Tree, EachPart, IsPart, LawfulSplit, LawfulEnd, Lawful, weight_sum, picked, weighted}
+use Rattle.smp_split.specs.Trees.{Part, Tree, EachPart, IsPart, LawfulParts, LawfulSplit, LawfulEnd, Lawful, weight_sum, picked, weighted}
 use Rattle.smp_split.specs.Paths.{Entry, IsStep, Leads}
 use Rattle.smp_split.specs.Lenses.{View, fixed, as_unit, as_share, seen, Within, Lens, Shows, Closes, Inside}
 use Rattle.smp_fractions.proofs.Fractions.{same_refl, same_sym, same_trans, plus_same, times_same, times-plus, times_left_comm, times-zero}
@@ -22,36 +22,52 @@ module _ {Inner : Type 0} (inner : Tree Inner) (belongs : Inner → Type 0) wher
   all_parts P h [] = tt
   all_parts P h (p ∷ ps) = (h p, all_parts P h ps)
 
-  -- an inner split keeps what an outer unit is seen to have
-  seen_even : (i : Inner) → LawfulSplit inner belongs i → (view : View) → Within inner.units view → Same (weighted (λ j. seen view (inner.value j)) (inner.parts i)) (times (whole (weight_sum (inner.parts i))) (seen view (inner.value i)))
-  seen_even i split (fixed c) within = weighted-same (λ j. c) c (inner.parts i) (all_parts (λ p. c ≡ c) (λ p. refl) (inner.parts i))
-  seen_even i split (as_unit k) within = split.even k within
-  seen_even i split (as_share a k) within =
-      same_trans (weighted-times a (λ j. inner.value j k) (inner.parts i))
-      (same_trans (times_same (same_refl a) (split.even k within)) (times_left_comm a (whole (weight_sum (inner.parts i))) (inner.value i k)))
+  -- inner parts keep what an outer unit is seen to have
+  seen_even : (i : Inner) (parts : List (Part Inner)) → LawfulParts inner belongs i parts → (view : View) → Within inner.units view → Same (weighted (λ j. seen view (inner.value j)) parts) (times (whole (weight_sum parts)) (seen view (inner.value i)))
+  seen_even i parts split (fixed c) within = weighted-same (λ j. c) c parts (all_parts (λ p. c ≡ c) (λ p. refl) parts)
+  seen_even i parts split (as_unit k) within = split.even k within
+  seen_even i parts split (as_share a k) within =
+      same_trans (weighted-times a (λ j. inner.value j k) parts)
+      (same_trans (times_same (same_refl a) (split.even k within)) (times_left_comm a (whole (weight_sum parts)) (inner.value i k)))
+
+-- Inner parts that are lawful, put in place, are lawful parts of an outer state, where each of them falls and belongs, and where the outer
+-- units have the values that their views give them, in the state as in the parts.
+module _ {Inner Outer : Type 0} (inner : Tree Inner) (belongs : Inner → Type 0) (outer : Tree Outer) (outside : Outer → Type 0) (put : Inner → Outer) (view : ℕ → View) (i : Inner) (s : Outer) where
+  pub record Through : Type 0 where
+    pub within : (k : ℕ) → k < outer.units → Within inner.units (view k)
+    pub part : (p : Part Inner) → IsPart inner belongs i p → IsPart outer outside s (record { weight = p.weight; state = put p.state })
+    pub value : (k : ℕ) → k < outer.units → Same (outer.value s k) (seen (view k) (inner.value i))
+    pub values : (j : Inner) → belongs j → (k : ℕ) → k < outer.units → Same (outer.value (put j) k) (seen (view k) (inner.value j))
+
+  even_of : Through → (parts : List (Part Inner)) → LawfulParts inner belongs i parts → (k : ℕ) → k < outer.units → Same (weighted (λ t. outer.value t k) (moved put parts)) (times (whole (weight_sum parts)) (outer.value s k))
+  even_of through parts split k h =
+      rw (weighted-moved put (λ t. outer.value t k) parts)
+      (same_trans (weighted_same (IsPart inner belongs i) (λ j. outer.value (put j) k) (λ j. seen (view k) (inner.value j)) (λ p is. through.values p.state is.member k h) parts split.each)
+      (same_trans (seen_even inner belongs i parts split (view k) (through.within k h))
+      (times_same (same_refl (whole (weight_sum parts))) (same_sym (through.value k h)))))
+
+  pub parts_through : Through → (parts : List (Part Inner)) → LawfulParts inner belongs i parts → LawfulParts outer outside s (moved put parts)
+  parts_through through parts split = record {
+    some = rw (weight_sum-moved put parts) split.some;
+    narrow = rw (weight_sum-moved put parts) split.narrow;
+    each = each_moved put (IsPart inner belongs i) (IsPart outer outside s) through.part parts split.each;
+    even = λ k h. (let W : ℕ → Type 0 = λ n. Same (weighted (λ t. outer.value t k) (moved put parts)) (times (whole n) (outer.value s k)) in
+        subst W (sym (weight_sum-moved put parts)) (even_of through parts split k h));
+  }
 
 module _ {Inner Outer : Type 0} (inner : Tree Inner) (belongs : Inner → Type 0) (outer : Tree Outer) (put : Inner → Outer) (view : ℕ → View) (lens : Lens inner belongs outer put view) where
   module _ (outside : Outer → Type 0) (member : (i : Inner) → belongs i → outside (put i)) where
     part_through : (i : Inner) (p : Part Inner) → IsPart inner belongs i p → IsPart outer outside (put i) (record { weight = p.weight; state = put p.state })
     part_through i p is = record { heavy = is.heavy; falls = lens.falls i p.state is.falls; member = member p.state is.member }
 
-    even_through : (i : Inner) → belongs i → LawfulSplit inner belongs i → (k : ℕ) → k < outer.units → Same (weighted (λ s. outer.value s k) (moved put (inner.parts i))) (times (whole (weight_sum (inner.parts i))) (outer.value (put i) k))
-    even_through i here split k h =
-        rw (weighted-moved put (λ s. outer.value s k) (inner.parts i))
-        (same_trans (weighted_same (IsPart inner belongs i) (λ j. outer.value (put j) k) (λ j. seen (view k) (inner.value j)) (λ p is. lens.value p.state is.member k h) (inner.parts i) split.each)
-        (same_trans (seen_even inner belongs i split (view k) (lens.within k h))
-        (times_same (same_refl (whole (weight_sum (inner.parts i)))) (same_sym (lens.value i here k h)))))
-
     -- the outer split is lawful
     pub split_through : (i : Inner) → belongs i → inner.done i ≡ false → LawfulSplit inner belongs i → LawfulSplit outer outside (put i)
-    split_through i here going split = record {
-      some = rw (lens.parts i going, weight_sum-moved put (inner.parts i)) split.some;
-      narrow = rw (lens.parts i going, weight_sum-moved put (inner.parts i)) split.narrow;
-      each = rw (lens.parts i going) (each_moved put (IsPart inner belongs i) (IsPart outer outside (put i)) (part_through i) (inner.parts i) split.each);
-      even = λ k h. (let Q : List (Part Outer) → Type 0 = λ ps. Same (weighted (λ s. outer.value s k) ps) (times (whole (weight_sum ps)) (outer.value (put i) k)) in
-          let W : ℕ → Type 0 = λ n. Same (weighted (λ s. outer.value s k) (moved put (inner.parts i))) (times (whole n) (outer.value (put i) k)) in
-          subst Q (sym (lens.parts i going)) (subst W (sym (weight_sum-moved put (inner.parts i))) (even_through i here split k h)));
-    }
+    split_through i here going split =
+        let Q : List (Part Outer) → Type 0 = λ ps. LawfulParts outer outside (put i) ps in
+        subst Q (sym (lens.parts i going))
+        (parts_through inner belongs outer outside put view i (put i)
+        (record { within = lens.within; part = part_through i; value = lens.value i here; values = lens.value })
+        (inner.parts i) split)
 
   -- ---- where the outer design is done with the inner one
 

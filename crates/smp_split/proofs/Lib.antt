@@ -10,7 +10,9 @@ pub mod MeanOf
 pub mod Besides
 pub mod Embeds
 pub mod Counts
+pub mod Filters
 pub mod Mirrors
-pub mod Settled
 pub mod Orders
 pub mod Sums
+pub mod NumberSums
+pub mod Methods

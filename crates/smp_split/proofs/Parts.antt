@@ -1,17 +1,17 @@
 -- Parts of weight 1, and parts whose states are put into others.
-use Rattle.std.proofs.Common.{◌≡◌, ℕ, zero, suc, ◌+◌, ◌-◌, ◌<◌, ◌≤◌, nat_lt, List, [], ◌∷◌, map, arith, refl, ap, ◌∙◌, inl, inr}
+use Rattle.std.proofs.Common.{◌≡◌, ◌≢◌, ℕ, zero, suc, ◌+◌, ◌-◌, ◌<◌, ◌≤◌, nat_eq, nat_lt, List, [], ◌∷◌, map, arith, refl, sym, ap, subst, ◌∙◌, inl, inr}
 use Rattle.std.specs.List.{range_with_len, sum_by}
-use Rattle.std.proofs.lemmas.Bool.{cases_Bool, ltb-true, ltb-false}
+use Rattle.std.proofs.lemmas.Bool.{cases_Bool, ltb-true, ltb-false, eqb-true, eqb-false}
 use Rattle.std.proofs.lemmas.List.Sums.{sum_by-cons}
 use Rattle.smp_fractions.specs.Fractions.{Fraction, Same, whole, plus, times}
 use Rattle.smp_split.specs.Trees.{Part, EachPart, weight_sum, picked, weighted, weighted_number}
-use Rattle.smp_split.specs.Parts.{equal_parts, moved}
-use Rattle.smp_fractions.proofs.Fractions.{same_refl, same_sym, same_trans, plus_same, times_same, plus-times, zero-times}
+use Rattle.smp_split.specs.Parts.{equal_parts, moved, part_of_weight}
+use Rattle.smp_fractions.proofs.Fractions.{same_refl, same_sym, same_trans, plus_same, times_same, plus-times, plus-zero, zero-times}
 use Rattle.smp_fractions.proofs.Integers.{diff-same, diffs}
 
 -- ---- parts that have one value
 
-plus-whole : (m n : ℕ) → Same (plus (whole m) (whole n)) (whole (m + n))
+pub plus-whole : (m n : ℕ) → Same (plus (whole m) (whole n)) (whole (m + n))
 plus-whole m n = record { cross = simp diffs (diff-same _ _ _ _ (omega arith)) }
 
 module _ {State : Type 0} (f : State → Fraction) (a : Fraction) where
@@ -70,6 +70,30 @@ module _ {State : Type 0} (f : ℕ → State) where
   pub each_equal : (P : Part State → Type 0) (n : ℕ) → ((draw : ℕ) → draw < n → P (record { weight = 1; state = f draw })) → EachPart P (equal_parts n f)
   unfolding from
   each_equal P n h = each_from P n 0 (λ d l. h d (omega arith))
+
+-- ---- a part that is there where its weight isn't 0
+
+module _ {State : Type 0} (b : ℕ) (s : State) where
+  pub weighted-part : (f : State → Fraction) → Same (weighted f (part_of_weight b s)) (times (whole b) (f s))
+  weighted-part f =
+      elim (cases_Bool (nat_eq b 0)) [
+        | inl e ↦ (let none : b ≡ 0 = eqb-true b 0 e in rw e (subst (λ (n : ℕ). Same (whole 0) (times (whole n) (f s))) (sym none) (same_sym (zero-times (f s)))))
+        | inr e ↦ rw e (plus-zero (times (whole b) (f s)))
+      ]
+
+  pub weight_sum-part : weight_sum (part_of_weight b s) ≡ b
+  weight_sum-part =
+      elim (cases_Bool (nat_eq b 0)) [
+        | inl e ↦ (let none : b ≡ 0 = eqb-true b 0 e in rw e (sym none))
+        | inr e ↦ rw e (omega arith)
+      ]
+
+  pub each_part : (P : Part State → Type 0) → (1 ≤ b → P (record { weight = b; state = s })) → EachPart P (part_of_weight b s)
+  each_part P h =
+      elim (cases_Bool (nat_eq b 0)) [
+        | inl e ↦ rw e tt
+        | inr e ↦ (let ne : b ≢ 0 = eqb-false b 0 e in rw e (h (omega arith), tt))
+      ]
 
 -- ---- parts whose states are put into others
 

@@ -1,12 +1,15 @@
 -- How many units the values add up to, and how many the leaves of a design select.
-use Rattle.std.specs.Prelude.{◌≡◌, ℕ, Bool}
-use Rattle.std.specs.List.{count_by, range_with_len}
+use Rattle.std.specs.Prelude.{◌≡◌, ℕ, Bool, List}
+use Rattle.std.specs.List.{count_by, filter, range_with_len}
 use Rattle.smp_fractions.specs.Fractions.{Same, whole}
 use Rattle.smp_split.specs.Trees.{Tree, weight_sum, picked}
 use Rattle.smp_split.specs.Means.{value_sum}
 use Rattle.smp_split.specs.Paths.{AtEachLeaf}
 
--- the number of units that are selected
+-- the units that are selected, in order, and their number
+abbrev pub selected_units : {State : Type 0} → Tree State → State → List ℕ
+selected_units tree state = filter (tree.selected state) (range_with_len 0 tree.units)
+
 abbrev pub selected_count : {State : Type 0} → Tree State → State → ℕ
 selected_count tree state = count_by (tree.selected state) (range_with_len 0 tree.units)
 

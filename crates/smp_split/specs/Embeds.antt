@@ -28,6 +28,10 @@ module _ {Inner Outer : Type 0} (into : Inner → Outer) (out : Outer → Option
   value_at None unit = whole 0
   value_at (Some state) unit = inner.value state unit
 
+  abbrev belongs_at : (Inner → Type 0) → Option Inner → Type 0
+  belongs_at belongs None = ⊥
+  belongs_at belongs (Some state) = belongs state
+
   abbrev selected_at : Option Inner → ℕ → Bool
   selected_at None unit = false
   selected_at (Some state) unit = inner.selected state unit
@@ -42,3 +46,7 @@ module _ {Inner Outer : Type 0} (into : Inner → Outer) (out : Outer → Option
     value = λ state unit. value_at (out state) unit;
     selected = λ state unit. selected_at (out state) unit;
   }
+
+  -- the states that are such
+  abbrev pub BelongsInside : (Inner → Type 0) → Outer → Type 0
+  BelongsInside belongs state = belongs_at belongs (out state)

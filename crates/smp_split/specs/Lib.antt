@@ -9,4 +9,5 @@ pub mod Besides
 pub mod Embeds
 pub mod Orders
 pub mod Counts
-pub mod Numerators
+pub mod Methods
+pub mod Leaves

@@ -44,13 +44,17 @@ pub record IsPart {State : Type 0} (tree : Tree State) (belongs : State → Type
   pub falls : tree.rank part.state < tree.rank state
   pub member : belongs part.state
 
--- A state that isn't done is split lawfully: for each unit, the sum of weight times value over the parts is the sum of the
+-- A state is split lawfully into these parts: for each unit, the sum of weight times value over the parts is the sum of the
 -- weights times its value in the state. The sum of the weights is the bound of the draw.
-pub record LawfulSplit {State : Type 0} (tree : Tree State) (belongs : State → Type 0) (state : State) : Type 0 where
-  pub some : 1 ≤ weight_sum (tree.parts state)
-  pub narrow : weight_sum (tree.parts state) < 2 ^ 126
-  pub each : EachPart (IsPart tree belongs state) (tree.parts state)
-  pub even : (unit : ℕ) → unit < tree.units → Same (weighted (λ s. tree.value s unit) (tree.parts state)) (times (whole (weight_sum (tree.parts state))) (tree.value state unit))
+pub record LawfulParts {State : Type 0} (tree : Tree State) (belongs : State → Type 0) (state : State) (parts : List (Part State)) : Type 0 where
+  pub some : 1 ≤ weight_sum parts
+  pub narrow : weight_sum parts < 2 ^ 126
+  pub each : EachPart (IsPart tree belongs state) parts
+  pub even : (unit : ℕ) → unit < tree.units → Same (weighted (λ s. tree.value s unit) parts) (times (whole (weight_sum parts)) (tree.value state unit))
+
+-- the split of a state into its own parts
+abbrev pub LawfulSplit : {State : Type 0} → Tree State → (State → Type 0) → State → Type 0
+LawfulSplit tree belongs state = LawfulParts tree belongs state (tree.parts state)
 
 -- in a done state each value is 1 or 0, and the units of value 1 are selected
 abbrev pub LawfulEnd : {State : Type 0} → Tree State → State → Type 0

@@ -11,7 +11,7 @@ mod walking;
 
 pub use kind::Kind;
 pub use order::UnitOrder;
-pub use splitting::{Splitting, mean_is_value};
+pub use splitting::{Splitting, mean_is_value, selected_units};
 pub use trace::{Lines, NoMemory, NoTrace, Trace};
 pub use walking::{WalkFault, walk};
 

@@ -1,9 +1,11 @@
-ghost use Rattle.std.specs.Prelude.{◌≡◌, ℕ, ◌<◌, true, false};
+ghost use Rattle.std.specs.Prelude.{◌≡◌, ℕ, ◌<◌, true, false, IfOk};
 ghost use Rattle.smp_fractions.specs.Fractions.{Fraction, Same};
 ghost use Rattle.smp_split.specs.Trees.{Tree, Lawful, weight_sum, picked};
+ghost use Rattle.smp_split.specs.Counts.{selected_units};
 ghost use Rattle.smp_split.specs.Means.{mean, value_sum, inclusion_probability};
 
-use crate::Kind;
+use crate::{Kind, NoMemory};
+use std::alloc::Global;
 
 /// A selection design: its states, the weighted parts of each, and what its leaves select. The value that implements it
 /// is the design and doesn't change; a state does.
@@ -61,3 +63,22 @@ pub fn mean_is_value<S: Splitting>(design: &S, state: &S::State)
     ensures mean { (c : ℕ → Fraction) → Same (mean (S.tree design.now) c state.now) (value_sum (S.tree design.now) c state.now) }
     ensures probability { (unit : ℕ) → unit < (S.tree design.now).units → Same (inclusion_probability (S.tree design.now) state.now unit) ((S.tree design.now).value state.now unit) }
 {}
+
+/// The units that a done state selects, in order.
+pub fn selected_units<S: Splitting>(
+    alloc: Global,
+    design: &S,
+    state: &S::State,
+) -> Result<Vec<usize>, NoMemory>
+    requires belongs { S.belongs design.now state.now }
+    requires done { (S.tree design.now).done state.now ≡ true }
+    ensures { IfOk result (λ units. units.items ≡ selected_units (S.tree design.now) state.now) }
+{
+    let mut units = Vec::new(alloc);
+    for unit in 0..design.units() {
+        if design.selected(state, unit) {
+            units.push(unit)?;
+        }
+    }
+    Ok(units)
+}

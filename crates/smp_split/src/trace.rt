@@ -3,7 +3,7 @@ ghost use Rattle.smp_split.specs.Paths.{Entry};
 ghost use Rattle.smp_split.specs.Runs.{and_then};
 
 use crate::Kind;
-use std::alloc::{AllocError, Global};
+use std::alloc::{AllocError, AllocFailed, Global};
 use std::marker::Model;
 
 /// There was no memory.
@@ -12,6 +12,12 @@ pub struct NoMemory;
 
 impl From<AllocError> for NoMemory {
     fn from(_: AllocError) -> NoMemory {
+        NoMemory
+    }
+}
+
+impl<T: Drop> From<AllocFailed<T>> for NoMemory {
+    fn from(_: AllocFailed<T>) -> NoMemory {
         NoMemory
     }
 }
@@ -81,9 +87,7 @@ impl Trace for Lines {
     ghost may_refuse = { true };
 
     fn line(&mut self, kind: Kind, bound: u128, value: u128) -> Result<(), NoMemory> {
-        match self.lines.push((kind, bound, value)) {
-            Ok(()) => Ok(()),
-            Err(_) => Err(NoMemory),
-        }
+        self.lines.push((kind, bound, value))?;
+        Ok(())
     }
 }

@@ -1,4 +1,2 @@
 pub mod Sampling
-pub mod Counts
 pub mod Steps
-pub mod Requests

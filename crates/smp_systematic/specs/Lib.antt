@@ -1,2 +1,3 @@
 pub mod Systematic
+pub mod Method
 pub mod Laws

@@ -1,23 +1,23 @@
 //! Systematic selection as a design.
-#![tactic(auto)]
 
-ghost use Rattle.std.specs.Prelude.{◌≡◌, ℕ, ◌+◌, ◌<◌, ◌≤◌, false, length, slice_index, sum, IfOk};
+ghost use Rattle.std.specs.Prelude.{◌≡◌, ℕ, ◌-◌, ◌^◌, ◌<◌, false, length, slice_index, IfOk};
 ghost use Rattle.std.specs.Bool.{Decides};
-ghost use Rattle.smp_prob.specs.Standings.{free_fraction};
 ghost use Rattle.smp_prob.specs.Requests.{IsRequest};
 ghost use Rattle.smp_prob.specs.Shares.{Shares};
-ghost use Rattle.smp_fractions.specs.Fractions.{Fraction, Same};
-ghost use Rattle.smp_split.specs.Trees.{weight_sum, picked};
-ghost use Rattle.smp_split.specs.Means.{mean, value_sum, inclusion_probability};
+ghost use Rattle.smp_split.specs.Counts.{draws_selecting};
+ghost use Rattle.smp_split.specs.Methods.{Starts};
 ghost use Rattle.smp_split.specs.Orders.{Ordered, frame_order};
-ghost use Rattle.smp_split.specs.Counts.{AddsUp, LeavesSelect, draws_selecting};
-ghost use Rattle.smp_systematic.specs.Systematic.{IsOpen, IsSystematic, Meets, cumulated, first_order, started, systematic_value, systematic_tree};
-ghost use Rattle.smp_systematic.specs.Laws.Splits.{systematic_lawful};
+ghost use Rattle.smp_split.specs.Trees.{weight_sum};
+ghost use Rattle.smp_values.specs.Starts.{IsRequested, ordered_values};
+ghost use Rattle.smp_values.specs.Values.{IsValues};
+ghost use Rattle.smp_systematic.specs.Systematic.{PointsAt, numerator_of, selected_after, started};
+ghost use Rattle.smp_systematic.specs.Method.{method_of};
 
 use crate::state::SystematicState;
 use smp_frac::NoMemory;
 use smp_prob::{Order, Request};
-use smp_split::{Kind, Splitting, UnitOrder, mean_is_value};
+use smp_split::{Kind, Splitting};
+use smp_values::{Values, unit_order};
 use std::alloc::Global;
 use std::marker::Model;
 
@@ -27,103 +27,59 @@ use std::marker::Model;
 #[derive(Drop)]
 pub struct Systematic {
     order: Order,
-    numer: Vec<u128>,
-    den: u128,
+    values: Values,
 }
 
 impl Model for Systematic {
     ghost Value = { Ordered Shares };
 
-    ghost view = { λ a. record { order = first_order a.order (length a.numer.items); state = record { numer = a.numer.items; den = a.den } } };
+    ghost view = { λ a. ordered_values a.order a.values };
 
-    ghost invariant = { λ a. IsOpen (record { numer = a.numer.items; den = a.den }) };
-}
-
-// So many units in this order, before the first step.
-fn unit_order(alloc: Global, order: Order, units: usize) -> Result<UnitOrder, NoMemory>
-    ensures { IfOk result (λ placed. placed ≡ first_order order units) }
-{
-    let placed = match order {
-        Order::Frame => UnitOrder::in_frame(alloc, units),
-        Order::Random => UnitOrder::undrawn(alloc, units),
-    };
-    placed.map_err(|_| NoMemory)
+    ghost invariant = { λ a. (length a.values.numer < 2 ^ 64)
+        × IsValues (length a.values.numer) (2 ^ 126 - 1) a.values };
 }
 
 impl Systematic {
-    /// The design of a request: its units are the request's free units.
+    /// The design of a request: its units are the request's free units, and each has the value that is requested of it.
     pub fn new(alloc: Global, request: &Request, order: Order) -> Result<Systematic, NoMemory>
         requires { IsRequest request.now }
-        ensures shares { IfOk result (λ design. design ≡ started request.now order) }
-
-        // Each unit starts with the probability that is requested of it.
-        ensures values { IfOk result (λ design. (unit : ℕ) → unit < length request.now.free →
-            Same (systematic_value design unit) (free_fraction request.now unit)) }
-
-        // Where the shapes add up to the total, the values add up to `r`.
-        ensures whole { IfOk result (λ design. 1 ≤ length request.now.free →
-            sum request.now.shape ≡ request.now.total →
-            AddsUp (systematic_tree (length design.state.numer)) request.now.r design) }
+        ensures design { IfOk result (λ design. design ≡ started request.now order) }
+        ensures requested { IfOk result (λ design. IsRequested (method_of design).tree request.now design) }
     {
-        let den = request.common_denominator() as u128;
         Ok(Systematic {
             order,
-            numer: request.numerators(alloc)?,
-            den,
+            values: Values::requested(alloc, request)?,
         })
     }
 
-    /// The state before the first step, in which each unit has its value.
+    /// The state before the first step. Over all draws, each unit is selected with the probability that is its value, and where the values
+    /// add up to a whole number, that many units are.
     pub fn start(&self, alloc: Global) -> Result<SystematicState, NoMemory>
-        ensures start { IfOk result (λ state. state ≡ self.now) }
-        ensures belongs { IfOk result (λ state. IsSystematic (length self.now.state.numer) state) }
-
-        // Over all draws, the mean of the sum of any numbers c over the selected units is the sum of c times the value.
-        ensures mean { IfOk result (λ state. (c : ℕ → Fraction) →
-            Same (mean (systematic_tree (length self.now.state.numer)) c state)
-            (value_sum (systematic_tree (length self.now.state.numer)) c state)) }
-
-        // In particular, each unit's probability of selection is its value.
-        ensures probability { IfOk result (λ state. (unit : ℕ) → unit < length self.now.state.numer →
-            Same (inclusion_probability (systematic_tree (length self.now.state.numer)) state unit) (systematic_value self.now unit)) }
-
-        // Where the values add up to a whole number, each leaf selects that many units.
-        ensures count { IfOk result (λ state. (n : ℕ) →
-            AddsUp (systematic_tree (length self.now.state.numer)) n state →
-            LeavesSelect (systematic_tree (length self.now.state.numer)) n state) }
+        ensures state { IfOk result (λ state. state ≡ self.now) }
+        ensures starts { IfOk result (Starts (method_of self.now)) }
 
         // In the order of the frame, each unit is selected by exactly as many of the draws as its numerator says.
         ensures draws { IfOk result (λ state.
             self.now.order ≡ frame_order (length self.now.state.numer) →
             (unit : ℕ) → unit < length self.now.state.numer →
-            draws_selecting (systematic_tree (length self.now.state.numer)) state unit ≡ slice_index self.now.state.numer unit) }
+            draws_selecting (method_of self.now).tree state unit ≡ slice_index self.now.state.numer unit) }
     {
-        let state = self.first_state(alloc)?;
-        mean_is_value(self, &state);
-        Ok(state)
-    }
-
-    fn first_state(&self, alloc: Global) -> Result<SystematicState, NoMemory>
-        ensures start { IfOk result (λ state. state ≡ self.now) }
-        ensures belongs { IfOk result (λ state. IsSystematic (length self.now.state.numer) state) }
-    {
-        let numer = Vec::from_slice(alloc, self.numer.as_slice())?;
-        let order = unit_order(alloc, self.order, self.numer.len())?;
-        Ok(SystematicState::new(order, numer, self.den))
+        let order = unit_order(alloc, self.order, self.values.len())?;
+        Ok(SystematicState::new(order, self.values.copy(alloc)?))
     }
 }
 
 impl Splitting for Systematic {
     type State = SystematicState;
 
-    ghost tree = { λ design. systematic_tree (length design.state.numer) };
+    ghost tree = { λ design. (method_of design).tree };
 
-    ghost belongs = { λ design. IsSystematic (length design.state.numer) };
+    ghost belongs = { λ design. (method_of design).belongs };
 
-    ghost lawful = { λ design. systematic_lawful (length design.state.numer) };
+    ghost lawful = { λ design. (method_of design).lawful };
 
     fn units(&self) -> usize {
-        self.numer.len()
+        self.values.len()
     }
 
     fn done(&self, state: &SystematicState) -> bool {
@@ -149,19 +105,20 @@ impl Splitting for Systematic {
 
 /// The systematic step, once the order of the units is drawn. It runs nothing: its contract is the theorem.
 pub fn draws_of_units(design: &Systematic, state: &SystematicState)
-    requires belongs { IsSystematic (length design.now.state.numer) state.now }
+    requires belongs { (method_of design.now).belongs state.now }
     requires drawn { state.now.order.left ≡ 0 }
-    requires going { (systematic_tree (length design.now.state.numer)).done state.now ≡ false }
+    requires going { (method_of design.now).tree.done state.now ≡ false }
 
     // There are as many draws as the common denominator says.
-    ensures bound { weight_sum ((systematic_tree (length design.now.state.numer)).parts state.now) ≡ state.now.state.den }
+    ensures bound { weight_sum ((method_of design.now).tree.parts state.now) ≡ state.now.state.den }
 
-    // A draw selects the unit at a place exactly where some whole j of 0 or more puts draw + j * den on the unit's piece.
-    ensures selects { (draw unit : ℕ) → draw < state.now.state.den → unit < length design.now.state.numer →
-        Decides ((systematic_tree (length design.now.state.numer)).selected (picked state.now ((systematic_tree (length design.now.state.numer)).parts state.now) draw) unit)
-        (Meets state.now.state.den (cumulated state.now.state.numer (slice_index state.now.order.places unit)) (cumulated state.now.state.numer (slice_index state.now.order.places unit + 1)) draw) }
+    // A draw selects a unit exactly where some whole j of 0 or more puts draw + j * den on the unit's piece.
+    ensures selects { (draw unit : ℕ) → draw < state.now.state.den →
+        unit < (method_of design.now).tree.units →
+        Decides (selected_after (method_of design.now).tree state.now draw unit)
+        (PointsAt state.now draw unit) }
 
     // Each unit is selected by exactly as many of the draws as its numerator says.
-    ensures exactly { (unit : ℕ) → unit < length design.now.state.numer →
-        draws_selecting (systematic_tree (length design.now.state.numer)) state.now unit ≡ slice_index state.now.state.numer (slice_index state.now.order.places unit) }
+    ensures exactly { (unit : ℕ) → unit < (method_of design.now).tree.units →
+        draws_selecting (method_of design.now).tree state.now unit ≡ numerator_of state.now unit }
 {}

@@ -1,37 +1,11 @@
-ghost use Rattle.std.specs.Prelude.{◌≡◌, ◌*◌, ◌^◌, ◌≤◌, ◌<◌, ◌&&◌, nat_lt, length, IsTrue, IfOk};
-ghost use Rattle.std.specs.List.{list_all};
 ghost use Rattle.smp_prob.specs.Requests.{IsRequest};
 
 use super::*;
-use smp_frac::NoMemory;
-use smp_prob::{Order, Places, Request, Shapes};
+use smp_prob::{Order, Places, Request, Shapes, requested};
 use smp_split::{Kind, Lines, Splitting, walk};
 use smp_tape::Tape;
 use std::alloc::Global;
 use std::test::Fail;
-
-fn request(
-    alloc: Global,
-    free: &[usize],
-    shape: &[u32],
-    r: u32,
-    total: u64,
-) -> Result<Request, NoMemory>
-    requires few { length free.now ≤ 200000 }
-    requires paired { length shape.now ≡ length free.now }
-    requires shapes { IsTrue (list_all (λ z. nat_lt 0 z && nat_lt z (2 ^ 31) && nat_lt (z * r) total) shape.now) }
-    requires narrow { total < 2 ^ 49 }
-    requires drawn { 1 ≤ length free.now → 1 ≤ r }
-    ensures { IfOk result IsRequest }
-{
-    Ok(Request {
-        certain: Places::from_slice(alloc, &[])?,
-        free: Places::from_slice(alloc, free)?,
-        shape: Shapes::from_slice(alloc, shape)?,
-        r,
-        total,
-    })
-}
 
 // Whether the walk over these values has these lines and selects these units.
 fn walks(
@@ -63,7 +37,7 @@ fn walks(
 #[test]
 fn walks_in_both_orders(rt: HostRuntime) -> Result<(), Fail> {
     let alloc = rt.alloc();
-    let four = request(alloc, &[0, 1, 2, 3], &[1, 2, 3, 4], 2, 10)?;
+    let four = requested(alloc, &[1, 2, 3, 4], 2)?;
     for (draw, first, second) in [(0, 0, 2), (1, 1, 3), (2, 1, 3), (3, 2, 3), (4, 2, 3)] {
         assert!(rt;
             walks(
@@ -93,7 +67,13 @@ fn walks_in_both_orders(rt: HostRuntime) -> Result<(), Fail> {
             &[1, 3]
         )?
     );
-    let one = request(alloc, &[0], &[1], 1, 3)?;
+    let one = Request {
+        certain: Places::from_slice(alloc, &[])?,
+        free: Places::from_slice(alloc, &[0])?,
+        shape: Shapes::from_slice(alloc, &[1])?,
+        r: 1,
+        total: 3,
+    };
     assert!(rt;
         walks(
             alloc,
@@ -114,7 +94,7 @@ fn walks_in_both_orders(rt: HostRuntime) -> Result<(), Fail> {
             &[]
         )?
     );
-    let none = request(alloc, &[], &[], 0, 0)?;
+    let none = requested(alloc, &[1], 1)?;
     assert!(rt; walks(alloc, &none, Order::Random, &[], &[], &[])?);
     Ok(())
 }

@@ -1,12 +1,20 @@
--- Numerators over one denominator that are all settled, at 0 or at the denominator.
-use Rattle.std.proofs.Common.{◌≡◌, ◌≢◌, ℕ, suc, ◌+◌, ◌*◌, ◌<◌, ◌≤◌, Bool, false, cond, nat_eq, nat_lt, List, [], ◌∷◌, length, get_or, arith, sym, ap, subst, inl, inr, ◌⊎◌}
+-- Numerators over one denominator: those that are fractional, and those that are settled, at 0 or at the denominator.
+use Rattle.std.proofs.Common.{◌≡◌, ◌≢◌, ℕ, suc, ◌+◌, ◌*◌, ◌<◌, ◌≤◌, Bool, true, false, cond, nat_eq, nat_lt, List, [], ◌∷◌, length, get_or, arith, refl, sym, ap, subst, inl, inr, ◌⊎◌}
 use Rattle.std.specs.List.{sum, count_by}
-use Rattle.std.proofs.lemmas.Bool.{and_cases, and_right, eq-eqb, ltb-false, le-ltb, ne_eqb}
+use Rattle.std.proofs.lemmas.Bool.{and_cases, and_parts, and_right, eq-eqb, lt-ltb, ltb-true, ltb-false, le-ltb, ne_eqb}
 use Rattle.std.proofs.lemmas.List.Sums.{sum_by-cons}
-use Rattle.smp_split.specs.Numerators.{fractional}
+use Rattle.smp_values.specs.Values.{fractional}
 use Rattle.smp_fractions.specs.Fractions.{Same, whole, over}
 use Rattle.smp_fractions.proofs.Fractions.{cancel}
 use Rattle.smp_fractions.proofs.Over.{over_zero, over_one}
+
+pub fractional_is : (den a : ℕ) → fractional den a ≡ true → (0 < a) × (a < den)
+fractional_is den a h =
+    let parts = and_parts (nat_lt 0 a) (nat_lt a den) h in
+    (ltb-true 0 a parts.0, ltb-true a den parts.1)
+
+pub is_fractional-between : (den a : ℕ) → 0 < a → a < den → fractional den a ≡ true
+is_fractional-between den a some less = rw (lt-ltb 0 a some, lt-ltb a den less) refl
 
 abbrev pub IsSettled : ℕ → ℕ → Type 0
 IsSettled den a = (a ≡ 0) ⊎ (a ≡ den)

@@ -2,3 +2,4 @@ pub mod Chosen
 pub mod Counted
 pub mod Terms
 pub mod Values
+pub mod Written

@@ -2,3 +2,5 @@ pub mod Chosen
 pub mod Sample
 pub mod Totals
 pub mod Values
+pub mod Rows
+pub mod Kept

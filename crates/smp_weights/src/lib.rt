@@ -7,7 +7,7 @@ mod sample;
 mod totals;
 mod weights;
 
-pub use rows::push_row;
+pub use rows::CsvRows;
 pub use sample::sample_bytes;
 pub use totals::estimate;
 

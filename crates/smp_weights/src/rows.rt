@@ -1,32 +1,84 @@
-ghost use Rattle.std.specs.Prelude.{◌≡◌, ◌++◌, map, IfOk, OnOk, OnErr};
-ghost use Rattle.csv.specs.Writing.{default_writer, row_text};
+//! Rows of CSV, written one after another.
 
-use csv::Writer;
+ghost use Rattle.std.specs.Prelude.{◌≡◌, map, None, Some, [], IfOk, OnOk, OnErr};
+ghost use Rattle.smp_weights.specs.Rows.{AddsRow, row};
+
+use csv::{Writer, WriterBuilder};
 use smp_frac::{Bytes, NoMemory};
 use std::alloc::Global;
+use std::marker::Model;
 
-// The text of a row. A writer over memory fails only where memory runs out.
-fn row_bytes(alloc: Global, fields: &[&[u8]]) -> Result<Vec<u8>, NoMemory>
-    ensures { IfOk result (λ row.
-        row.items ≡ row_text default_writer (map (λ f. f.now) fields.now)) }
-{
-    let mut writer = Writer::from_writer(Vec::new(alloc));
-    if writer.write_fields(fields).is_err() {
-        return Err(NoMemory);
+/// Rows of CSV, written one after another by one writer: the fields with a comma in between, each in quotes where it needs
+/// them, and a line feed. A lone empty field is `""`.
+///
+/// It is seen as the text of its rows, or as no text once memory ran out.
+#[derive(Drop)]
+pub struct CsvRows {
+    writer: Option<Writer<Vec<u8>>>,
+}
+
+impl Model for CsvRows {
+    ghost use Rattle.std.specs.Prelude.{ℕ, List, Option, Some, IfSome, option_and_then};
+    ghost use Rattle.csv.specs.Writing.{text_written};
+    ghost use Rattle.smp_weights.specs.Kept.{IsBetween};
+
+    ghost Value = { Option (List ℕ) };
+
+    ghost view = { λ a. option_and_then (text_written (λ v. Some v.items)) a.writer };
+
+    ghost invariant = { λ a. IfSome a.writer IsBetween };
+}
+
+impl CsvRows {
+    /// No rows.
+    pub fn new(alloc: Global) -> CsvRows
+        ensures { result ≡ Some [] }
+    {
+        CsvRows {
+            writer: Some(
+                WriterBuilder::new()
+                    .flexible(true)
+                    .from_writer(Vec::new(alloc)),
+            ),
+        }
     }
-    match writer.into_inner() {
-        Ok(row) => Ok(row),
-        Err(_) => Err(NoMemory),
+
+    /// Writes a row behind those before. After want of memory nothing is told any more.
+    pub fn push(&mut self, fields: &[&[u8]]) -> Result<(), NoMemory>
+        ensures ok { OnOk result (AddsRow self.old self.new (row (map (λ f. f.now) fields.now))) }
+        ensures err { OnErr result (self.new ≡ None) }
+    {
+        let Some(writer) = &mut self.writer else {
+            return Err(NoMemory);
+        };
+        match writer.write_fields(fields) {
+            Ok(()) => Ok(()),
+            Err(_) => {
+                self.writer = None;
+                Err(NoMemory)
+            }
+        }
+    }
+
+    /// The text of the rows.
+    pub fn into_bytes(self, alloc: Global) -> Result<Bytes, NoMemory>
+        ensures { IfOk result (λ bytes. self ≡ Some bytes) }
+    {
+        let CsvRows { writer } = self;
+        let Some(writer) = writer else {
+            return Err(NoMemory);
+        };
+        match writer.into_inner() {
+            Ok(text) => bytes_of(alloc, text.as_slice()),
+            Err(_) => Err(NoMemory),
+        }
     }
 }
 
-/// Appends a row of CSV, or nothing where memory runs out: the fields with a comma in between,
-/// each in quotes where it needs them, and a line feed. A lone empty field is `""`.
-pub fn push_row(alloc: Global, text: &mut Bytes, fields: &[&[u8]]) -> Result<(), NoMemory>
-    ensures ok { OnOk result (text.new
-        ≡ text.old ++ row_text default_writer (map (λ f. f.now) fields.now)) }
-    ensures err { OnErr result (text.new ≡ text.old) }
+fn bytes_of(alloc: Global, text: &[u8]) -> Result<Bytes, NoMemory>
+    ensures { IfOk result (λ bytes. bytes ≡ text.now) }
 {
-    let row = row_bytes(alloc, fields)?;
-    text.push_all(&row)
+    let mut bytes = Bytes::new(alloc);
+    bytes.push_all(text)?;
+    Ok(bytes)
 }

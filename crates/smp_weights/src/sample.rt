@@ -1,21 +1,22 @@
-ghost use Rattle.std.specs.Prelude.{◌≡◌, ◌≤◌, ◌++◌, length, IfOk, OnOk};
+ghost use Rattle.std.specs.Prelude.{◌≡◌, ◌≤◌, length, IfOk, OnOk};
 ghost use Rattle.smp_weights.specs.Chosen.{ChosenArePositive};
+ghost use Rattle.smp_weights.specs.Rows.{AddsRow};
 ghost use Rattle.smp_weights.specs.Sample.{sample_row, sample_text};
 
-use crate::push_row;
+use crate::CsvRows;
 use crate::weights::weight_of;
 use smp_frac::{Bytes, Frac, NoMemory, Text};
 use std::alloc::Global;
 
 // Appends the row of a chosen unit.
-fn push_unit(alloc: Global, text: &mut Bytes, id: &Text, asked: Frac) -> Result<(), NoMemory>
+fn push_unit(alloc: Global, rows: &mut CsvRows, id: &Text, asked: Frac) -> Result<(), NoMemory>
     requires { 1 ≤ asked.num }
-    ensures { OnOk result (text.new
-        ≡ text.old ++ sample_row (record { value = id.now; asked = asked })) }
+    ensures { OnOk result (AddsRow rows.old rows.new
+        (sample_row (record { value = id.now; asked = asked }))) }
 {
     let mut weight = Bytes::new(alloc);
     weight_of(asked).write(&mut weight)?;
-    push_row(alloc, text, &[id.as_str().as_bytes(), weight.as_slice()])
+    rows.push(&[id.as_str().as_bytes(), weight.as_slice()])
 }
 
 /// The sample file: CSV with the header `id,weight`, then a row for each chosen unit, in order,
@@ -32,12 +33,12 @@ pub fn sample_bytes(
     requires positive { ChosenArePositive asked.now chosen.now }
     ensures { IfOk result (λ text. text ≡ sample_text ids.now asked.now chosen.now) }
 {
-    let mut text = Bytes::new(alloc);
-    push_row(alloc, &mut text, &[b"id", b"weight"])?;
+    let mut rows = CsvRows::new(alloc);
+    rows.push(&[b"id", b"weight"])?;
     for (place, id) in ids.iter().enumerate() {
         if chosen[place] {
-            push_unit(alloc, &mut text, id, asked[place])?;
+            push_unit(alloc, &mut rows, id, asked[place])?;
         }
     }
-    Ok(text)
+    rows.into_bytes(alloc)
 }

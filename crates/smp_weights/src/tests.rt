@@ -1,7 +1,7 @@
 ghost use Rattle.std.specs.Prelude.{◌≤◌};
 
 use super::*;
-use smp_frac::{Bytes, Frac, Signed, Text, Wide};
+use smp_frac::{Frac, Signed, Text, Wide};
 use std::test::Fail;
 
 fn frac(num: u128, den: u128) -> Frac
@@ -14,13 +14,10 @@ fn frac(num: u128, den: u128) -> Frac
 
 #[test]
 fn rows(rt: HostRuntime) -> Result<(), Fail> {
-    let mut text = Bytes::new(rt.alloc());
-    push_row(
-        rt.alloc(),
-        &mut text,
-        &[b"a", b"b,c", b"", b"say \"so\"", b"two\nlines"],
-    )?;
-    push_row(rt.alloc(), &mut text, &[b""])?;
+    let mut rows = CsvRows::new(rt.alloc());
+    rows.push(&[b"a", b"b,c", b"", b"say \"so\"", b"two\nlines"])?;
+    rows.push(&[b""])?;
+    let text = rows.into_bytes(rt.alloc())?;
     let wanted = b"a,\"b,c\",,\"say \"\"so\"\"\",\"two\nlines\"\n\"\"\n";
     assert_eq!(rt; text.as_slice(), wanted.as_slice());
     Ok(())

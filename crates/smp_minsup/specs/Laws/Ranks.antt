@@ -2,7 +2,7 @@
 use Rattle.std.proofs.Common.{◌≡◌, ◌≢◌, ℕ, zero, suc, ◌+◌, ◌-◌, ◌<◌, ◌≤◌, true, false, cond, nat_lt, nat_eq, ◌&&◌, List, length, get_or, arith, refl, sym, ap, ◌∙◌, inl, inr, ◌⊎◌}
 use Rattle.std.proofs.lemmas.Bool.{cases_Bool, cases_eq, cases_order, or_cases, and_parts, ltb-true, lt-ltb, le-ltb, eqb-true, eq-eqb, false_from_ne_true}
 use Rattle.smp_minsup.specs.Support.{is_larger, larger_units}
-use Rattle.smp_minsup.specs.Laws.Sums.{counts, sums_less, sums-none, sums_constant, sum_by-range, weight_true, weight_false}
+use Rattle.smp_split.proofs.NumberSums.{counts, sums_less, sums-none, sums_constant, sum_by-range, weight_true, weight_false}
 
 module _ (numer : List ℕ) where
   abbrev at : ℕ → ℕ

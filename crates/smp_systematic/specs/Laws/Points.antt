@@ -1,14 +1,25 @@
 -- The points that a systematic draw picks: the draw, and all points that are whole multiples of the denominator further on.
 use Rattle.std.proofs.Common.{◌≡◌, ℕ, zero, suc, ◌+◌, ◌-◌, ◌*◌, ◌/◌, ◌%◌, ◌<◌, ◌≤◌, Bool, true, false, cond, nat_lt, nat_le, ◌&&◌, length, arith, refl, sym, ap, ◌∙◌, inl, inr}
 use Rattle.std.specs.Bool.{Decides}
-use Rattle.std.specs.List.{list_any, range_with_len, sum_by, count_by}
+use Rattle.std.specs.List.{list_any, range_with_len}
 use Rattle.std.proofs.Math.Nat.{add-mul-div_right, div-eq_of_lt, mul-le-mul_right, mul-le-mul_left}
 use Rattle.std.proofs.lemmas.Bool.{cases_Bool, cases_lt, ltb-true, ltb-false, leb-true, lt-ltb, le-ltb, le-leb, lt-leb, and_parts, and_right}
 use Rattle.std.proofs.lemmas.List.Folds.{list_any_at}
 use Rattle.std.proofs.lemmas.List.FromFn.{length-range_with_len, get_or-range_with_len}
-use Rattle.std.proofs.lemmas.List.Sums.{sum_by-cons}
-use Rattle.smp_split.proofs.Sums.{sum_by-last}
+use Rattle.smp_split.proofs.NumberSums.{sums, counts, sums_same, sums-none}
 use Rattle.smp_systematic.specs.Systematic.{meets, Meets}
+
+-- ---- sums
+
+sums_plus : (n : ℕ) (f g h : ℕ → ℕ) → ((k : ℕ) → k < n → f k ≡ g k + h k) → sums n f ≡ sums n g + sums n h
+sums_plus zero f g h e = refl
+sums_plus (suc n) f g h e = omega (arith, sums_plus n f g h (λ k l. e k (omega arith)), e n (omega arith))
+
+sums_front : (n : ℕ) (f : ℕ → ℕ) → sums (suc n) f ≡ f 0 + sums n (λ k. f (suc k))
+sums_front zero f = omega arith
+sums_front (suc n) f = omega (arith, sums_front n f)
+
+-- ---- points and pieces
 
 -- `gap` is how far the first point that isn't before `start` lies from it, and `steps` is how many points lie before it
 pub record IsGap (den start draw gap steps : ℕ) : Type 0 where
@@ -111,47 +122,20 @@ turn den x p =
     let one : x + den ≡ x + 1 * den = omega arith in
     ap (λ y. y / den) one ∙ add-mul-div_right x 1 some
 
--- the sum over n draws from i on
-abbrev sum_over : ℕ → ℕ → (ℕ → ℕ) → ℕ
-sum_over i n f = sum_by f (range_with_len i n)
-
-sum_cons : (i n : ℕ) (f : ℕ → ℕ) → sum_over i (suc n) f ≡ f i + sum_over (i + 1) n f
-sum_cons i n f = sum_by-cons f i (range_with_len (i + 1) n)
-
-sum_shift : (n i : ℕ) (f g : ℕ → ℕ) → ((d : ℕ) → d < i + n → f (d + 1) ≡ g d) → sum_over (i + 1) n f ≡ sum_over i n g
-sum_shift zero i f g e = refl
-sum_shift (suc n) i f g e =
-    omega (arith, sum_cons (i + 1) n f, sum_cons i n g, e i (omega arith), sum_shift n (i + 1) f g (λ d l. e d (omega arith)))
-
-pub sum_plus : (n i : ℕ) (f g h : ℕ → ℕ) → ((d : ℕ) → d < i + n → f d ≡ g d + h d) → sum_over i n f ≡ sum_over i n g + sum_over i n h
-sum_plus zero i f g h e = refl
-sum_plus (suc n) i f g h e =
-    omega (arith, sum_cons i n f, sum_cons i n g, sum_cons i n h, e i (omega arith), sum_plus n (i + 1) f g h (λ d l. e d (omega arith)))
-
-pub sum_same : (n i : ℕ) (f g : ℕ → ℕ) → ((d : ℕ) → d < i + n → f d ≡ g d) → sum_over i n f ≡ sum_over i n g
-sum_same zero i f g e = refl
-sum_same (suc n) i f g e = omega (arith, sum_cons i n f, sum_cons i n g, e i (omega arith), sum_same n (i + 1) f g (λ d l. e d (omega arith)))
-
-sum_none : (n i : ℕ) (f : ℕ → ℕ) → ((d : ℕ) → d < i + n → f d ≡ 0) → sum_over i n f ≡ 0
-sum_none zero i f e = refl
-sum_none (suc n) i f e = omega (arith, sum_cons i n f, e i (omega arith), sum_none n (i + 1) f (λ d l. e d (omega arith)))
-
 -- over all draws, each number below c is a point once
-points_sum : (m c : ℕ) → sum_over 0 (suc m) (points (suc m) c) ≡ c
-points_sum m zero = sum_none (suc m) 0 (points (suc m) 0) (λ d l. div-eq_of_lt (omega arith))
+points_sum : (m c : ℕ) → sums (suc m) (points (suc m) c) ≡ c
+points_sum m zero = sums-none (suc m) (points (suc m) 0) (λ d l. div-eq_of_lt (omega arith))
 points_sum m (suc c) =
-    let den : ℕ = suc m in
     let first : points (suc m) (suc c) 0 ≡ points (suc m) c m + 1 =
     (let e : suc c + (suc m - 1 - 0) ≡ c + suc m = omega arith in
     let f : c + (suc m - 1 - m) ≡ c = omega arith in
     ap (λ x. x / suc m) e ∙ turn (suc m) c (omega arith) ∙ ap (λ x. x / suc m + 1) (sym f)) in
-    let rest : sum_over 1 m (points (suc m) (suc c)) ≡ sum_over 0 m (points (suc m) c) =
-    sum_shift m 0 (points (suc m) (suc c)) (points (suc m) c) (λ d l. (let e : suc c + (suc m - 1 - (d + 1)) ≡ c + (suc m - 1 - d) = omega arith in ap (λ x. x / suc m) e)) in
-    let last : sum_over 0 (suc m) (points (suc m) c) ≡ sum_over 0 m (points (suc m) c) + points (suc m) c m =
-    (let z : 0 + m ≡ m = omega arith in sum_by-last m 0 (points (suc m) c) ∙ ap (λ x. sum_over 0 m (points (suc m) c) + points (suc m) c x) z) in
-    omega (arith, points_sum m c, sum_cons 0 m (points (suc m) (suc c)))
+    let rest : sums m (λ d. points (suc m) (suc c) (suc d)) ≡ sums m (points (suc m) c) =
+    sums_same m (λ d. points (suc m) (suc c) (suc d)) (points (suc m) c)
+    (λ d l. (let e : suc c + (suc m - 1 - suc d) ≡ c + (suc m - 1 - d) = omega arith in ap (λ x. x / suc m) e)) in
+    omega (arith, sums_front m (points (suc m) (suc c)), points_sum m c)
 
-pub points_sum_all : (den c : ℕ) → 1 ≤ den → sum_over 0 den (points den c) ≡ c
+points_sum_all : (den c : ℕ) → 1 ≤ den → sums den (points den c) ≡ c
 points_sum_all zero c h = absurd (omega arith)
 points_sum_all (suc m) c h = points_sum m c
 
@@ -165,9 +149,9 @@ points_next den start size after draw h le end =
     ∙ sym (ap (λ b. cond b 1 0 + points den start draw) (meets_is den start draw gap (points den start draw) is size after end))
 
 -- a piece is met by as many draws as it is long
-pub meets_sum : (den start size after : ℕ) → 1 ≤ den → size ≤ den → after ≡ start + size → count_by (meets den start after) (range_with_len 0 den) ≡ size
-meets_sum den start size after one le end =
-    omega (arith, sum_plus den 0 (points den after) (λ d. cond (meets den start after d) 1 0) (points den start) (λ d l. points_next den start size after d (omega arith) le end), points_sum_all den after one, points_sum_all den start one)
+pub meets_count : (den start size after : ℕ) → 1 ≤ den → size ≤ den → after ≡ start + size → counts den (meets den start after) ≡ size
+meets_count den start size after one le end =
+    omega (arith, sums_plus den (points den after) (λ d. cond (meets den start after d) 1 0) (points den start) (λ d l. points_next den start size after d l le end), points_sum_all den after one, points_sum_all den start one)
 
 -- before 0 no point lies, and before n times the denominator n of them do
 pub points_zero : (den draw : ℕ) → draw < den → points den 0 draw ≡ 0

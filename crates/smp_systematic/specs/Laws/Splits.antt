@@ -1,42 +1,26 @@
--- The law of systematic selection.
-use Rattle.std.proofs.Common.{◌≡◌, ℕ, zero, suc, ◌+◌, ◌*◌, ◌<◌, ◌≤◌, Bool, true, false, not, cond, List, [], ◌∷◌, length, map, get_or, arith, refl, sym, ap, ◌∙◌, inl, inr}
-use Rattle.std.specs.List.{list_any, range_with_len, swap, sum_by, count_by}
-use Rattle.std.proofs.lemmas.Bool.{cases_Bool, cases_lt}
+-- The law of systematic selection: its split is lawful, and keeps a whole sum of the values.
+use Rattle.std.proofs.Common.{◌≡◌, ℕ, zero, suc, ◌+◌, ◌-◌, ◌*◌, ◌^◌, ◌<◌, ◌≤◌, Bool, true, false, cond, nat_eq, List, length, get_or, arith, refl, sym, ap, ◌∙◌, inl, inr}
+use Rattle.std.specs.List.{sum}
+use Rattle.std.proofs.Math.Seq.{take-length}
+use Rattle.std.proofs.lemmas.Bool.{cases_lt, eq-eqb}
 use Rattle.std.proofs.lemmas.List.{get_or_past}
-use Rattle.std.proofs.lemmas.List.Edits.{length-swap}
-use Rattle.std.proofs.lemmas.List.Folds.{list_any_at}
 use Rattle.std.proofs.lemmas.List.FromFn.{get_or-map-range_with_len, length-map-range_with_len}
-use Rattle.std.proofs.lemmas.List.Sorted.{IsPermutation-swap, list_any-IsPermutation}
-use Rattle.std.proofs.lemmas.List.Sums.{sum_by_more, sum_by-cons}
+use Rattle.std.proofs.lemmas.List.Sums.{sum_by_more}
 use Rattle.smp_fractions.specs.Fractions.{Same, whole, times, over}
-use Rattle.smp_split.specs.Trees.{IsPart, LawfulSplit, LawfulEnd, Lawful, weight_sum, weighted, weighted_number}
+use Rattle.smp_prob.specs.Shares.{Shares}
+use Rattle.smp_split.specs.Counts.{AddsUp, LeavesSelect}
+use Rattle.smp_split.specs.Orders.{Ordered}
 use Rattle.smp_split.specs.Parts.{equal_parts}
-use Rattle.smp_split.specs.Orders.{IsExchange, exchange}
+use Rattle.smp_split.specs.Trees.{EachPart, IsPart, LawfulSplit, Lawful, weight_sum, weighted, weighted_number}
+use Rattle.smp_split.specs.declared.kind.Kind.TheVariants.{System}
+use Rattle.smp_split.proofs.NumberSums.{counts, sums_same, sums-none, sums_scaled, weight_false, sum_by-range, sum_by-map-range}
 use Rattle.smp_split.proofs.Over.{even_over}
 use Rattle.smp_split.proofs.Parts.{weight_sum-equal, weighted_number-equal, each_equal}
-use Rattle.smp_split.proofs.Orders.{get_or-swap, get_or-swap_exchange, ordered_lawful}
-use Rattle.smp_split.proofs.Settled.{IsSettled, fractional_den, not_fractional, over_settled}
-use Rattle.smp_split.specs.Numerators.{fractional}
-use Rattle.smp_prob.specs.Shares.{Shares}
-use Rattle.smp_systematic.specs.Systematic.{IsShares, IsSystematic, cumulated, takes, sampled, is_done, places_tree, exchanged_shares, systematic_tree}
-use Rattle.smp_systematic.specs.Laws.Points.{meets_sum}
-
--- ---- settled values
-
-none_at : (test : ℕ → Bool) (xs : List ℕ) (k : ℕ) → k < length xs → list_any test xs ≡ false → test (get_or xs k 0) ≡ false
-none_at test xs k h none =
-    elim (cases_Bool (test (get_or xs k 0))) [
-      | inl e ↦ absurd (let some : list_any test xs ≡ true = list_any_at test xs k 0 h e in cc)
-      | inr e ↦ e
-    ]
-
-not_false : (b : Bool) → not b ≡ true → b ≡ false
-not_false true h = absurd (cc)
-not_false false h = refl
-
-pub done_settled : (units : ℕ) (s : Shares) → IsShares units s → is_done s ≡ true → (k : ℕ) → k < length s.numer → IsSettled s.den (get_or s.numer k 0)
-done_settled units s ok done k h =
-    not_fractional s.den (get_or s.numer k 0) (ok.each k) (none_at (fractional s.den) s.numer k h (not_false (list_any (fractional s.den) s.numer) done))
+use Rattle.smp_values.specs.Values.{AddTo, IsValues, fractional, fractional_count, is_settled}
+use Rattle.smp_values.proofs.Designs.{in_order_lawful, in_order_count}
+use Rattle.smp_values.proofs.Fractional.{fractional_den}
+use Rattle.smp_systematic.specs.Systematic.{IsSystematic, cumulated, takes, sampled, places_tree, systematic_tree}
+use Rattle.smp_systematic.specs.Laws.Points.{points, meets_count, points_next, points_zero, points_whole}
 
 -- ---- what a draw leads to
 
@@ -47,41 +31,30 @@ cumulated_next numer k h = sum_by_more (λ a. a) numer k 0 h
 pub sampled_at : (s : Shares) (draw k : ℕ) → k < length s.numer → get_or (sampled s draw).numer k 0 ≡ cond (takes s draw k) s.den 0
 sampled_at s draw k h = get_or-map-range_with_len (λ place. cond (takes s draw place) s.den 0) 0 (length s.numer) k k 0 h (omega arith)
 
-none_over : (test : ℕ → Bool) (f : ℕ → ℕ) → ((k : ℕ) → test (f k) ≡ false) → (n i : ℕ) → list_any test (map f (range_with_len i n)) ≡ false
-none_over test f h zero i = refl
-none_over test f h (suc n) i = rw (h i) (none_over test f h n (i + 1))
-
 settled_either : (den : ℕ) (b : Bool) → fractional den (cond b den 0) ≡ false
 settled_either den true = fractional_den den
 settled_either den false = refl
-
-pub sampled_done : (s : Shares) (draw : ℕ) → is_done (sampled s draw) ≡ true
-sampled_done s draw =
-    ap not (none_over (fractional s.den) (λ place. cond (takes s draw place) s.den 0) (λ k. settled_either s.den (takes s draw k)) (length s.numer) 0)
-
-pub scaled_sum : (den : ℕ) (test : ℕ → Bool) (n i : ℕ) → sum_by (λ k. cond (test k) den 0) (range_with_len i n) ≡ den * count_by test (range_with_len i n)
-scaled_sum den test zero i = omega arith
-scaled_sum den test (suc n) i =
-    let one : cond (test i) den 0 ≡ den * cond (test i) 1 0 = elim (cases_Bool (test i)) [ inl e ↦ rw e (omega arith) | inr e ↦ rw e (omega arith) ] in
-    let count : count_by test (range_with_len i (suc n)) ≡ cond (test i) 1 0 + count_by test (range_with_len (i + 1) n) = sum_by-cons (λ k. cond (test k) 1 0) i (range_with_len (i + 1) n) in
-    sum_by-cons (λ k. cond (test k) den 0) i (range_with_len (i + 1) n) ∙ omega (arith, scaled_sum den test n (i + 1), ap (λ x. den * x) count)
-
-sum_by_same : (f g : ℕ → ℕ) → ((k : ℕ) → f k ≡ g k) → (xs : List ℕ) → sum_by f xs ≡ sum_by g xs
-sum_by_same f g h [] = refl
-sum_by_same f g h (x ∷ xs) = sum_by-cons f x xs ∙ ap (λ n. n + sum_by f xs) (h x) ∙ ap (λ n. g x + n) (sum_by_same f g h xs) ∙ sym (sum_by-cons g x xs)
 
 either_within : (den : ℕ) (b : Bool) → cond b den 0 ≤ den
 either_within den true = omega arith
 either_within den false = omega arith
 
--- ---- the split
+-- it leaves no value fractional
+sampled_done : (s : Shares) (draw : ℕ) → is_settled (sampled s draw) ≡ true
+sampled_done s draw =
+    let none : fractional_count (sampled s draw) ≡ 0 =
+    sum_by-map-range (length s.numer) (λ a. cond (fractional s.den a) 1 0) (λ place. cond (takes s draw place) s.den 0)
+    ∙ sums-none (length s.numer) _ (λ k _. weight_false (settled_either s.den (takes s draw k))) in
+    eq-eqb (fractional_count (sampled s draw)) 0 none
 
-module _ (units : ℕ) (s : Shares) (ok : IsShares units s) where
+module _ (units : ℕ) (s : Shares) (ok : IsValues units (2 ^ 126 - 1) s) where
+  -- ---- the split
+
   -- so many of the draws take what stands at a place
-  pub draws_taking : (place : ℕ) → place < units → count_by (λ draw. takes s draw place) (range_with_len 0 s.den) ≡ get_or s.numer place 0
+  pub draws_taking : (place : ℕ) → place < units → counts s.den (λ draw. takes s draw place) ≡ get_or s.numer place 0
   draws_taking place h =
       let here : place < length s.numer = omega (arith, ok.count) in
-      meets_sum s.den (cumulated s.numer place) (get_or s.numer place 0) (cumulated s.numer (place + 1)) ok.positive (ok.each place) (cumulated_next s.numer place here)
+      meets_count s.den (cumulated s.numer place) (get_or s.numer place 0) (cumulated s.numer (place + 1)) ok.positive (ok.each place) (cumulated_next s.numer place here)
 
   sampled_within : (draw k : ℕ) → get_or (sampled s draw).numer k 0 ≤ s.den
   sampled_within draw k =
@@ -92,7 +65,7 @@ module _ (units : ℕ) (s : Shares) (ok : IsShares units s) where
             rw none (omega arith))
       ]
 
-  sampled_part : is_done s ≡ false → (draw : ℕ) → IsPart (places_tree units) (IsShares units) s (record { weight = 1; state = sampled s draw })
+  sampled_part : is_settled s ≡ false → (draw : ℕ) → IsPart (places_tree units) (IsValues units (2 ^ 126 - 1)) s (record { weight = 1; state = sampled s draw })
   sampled_part going draw = record {
     heavy = omega arith;
     falls = rw (sampled_done s draw, going) (omega arith);
@@ -109,51 +82,58 @@ module _ (units : ℕ) (s : Shares) (ok : IsShares units s) where
       let here : place < length s.numer = omega (arith, ok.count) in
       let at : Shares → ℕ = λ t. get_or t.numer place 0 in
       let den_of : Shares → ℕ = λ t. t.den in
-      let total : weighted_number at (equal_parts s.den (sampled s)) ≡ weight_sum (equal_parts s.den (sampled s)) * get_or s.numer place 0 =
+      let total : weighted_number at (equal_parts s.den (sampled s)) ≡ get_or s.numer place 0 * s.den =
       weighted_number-equal (sampled s) at s.den
-      ∙ sum_by_same (λ draw. at (sampled s draw)) (λ draw. cond (takes s draw place) s.den 0) (λ draw. sampled_at s draw place here) (range_with_len 0 s.den)
-      ∙ scaled_sum s.den (λ draw. takes s draw place) s.den 0
-      ∙ ap (λ n. s.den * n) (draws_taking place h)
-      ∙ ap (λ n. n * get_or s.numer place 0) (sym (weight_sum-equal (sampled s) s.den)) in
-      even_over at den_of s.den (get_or s.numer place 0) (equal_parts s.den (sampled s)) (each_equal (sampled s) (λ p. p.state.den ≡ s.den) s.den (λ _ _. refl)) total
+      ∙ sum_by-range s.den (λ draw. at (sampled s draw))
+      ∙ sums_same s.den _ _ (λ draw _. sampled_at s draw place here)
+      ∙ sums_scaled s.den s.den (λ draw. takes s draw place)
+      ∙ ap (λ n. n * s.den) (draws_taking place h) in
+      let weights : weight_sum (equal_parts s.den (sampled s)) ≡ s.den = weight_sum-equal (sampled s) s.den in
+      even_over at den_of s.den (get_or s.numer place 0) (equal_parts s.den (sampled s)) (each_equal (sampled s) (λ p. p.state.den ≡ s.den) s.den (λ _ _. refl))
+      (rw weights (omega (arith, total)))
 
-  places_split : is_done s ≡ false → LawfulSplit (places_tree units) (IsShares units) s
+  pub places_split : is_settled s ≡ false → LawfulSplit (places_tree units) (IsValues units (2 ^ 126 - 1)) s
   places_split going = record {
     some = rw (weight_sum-equal (sampled s) s.den) ok.positive;
-    narrow = rw (weight_sum-equal (sampled s) s.den) ok.narrow;
-    each = each_equal (sampled s) (IsPart (places_tree units) (IsShares units) s) s.den (λ draw _. sampled_part going draw);
+    narrow = rw (weight_sum-equal (sampled s) s.den) (omega (arith, ok.narrow));
+    each = each_equal (sampled s) (IsPart (places_tree units) (IsValues units (2 ^ 126 - 1)) s) s.den (λ draw _. sampled_part going draw);
     even = sampled_even;
   }
 
-  places_end : is_done s ≡ true → LawfulEnd (places_tree units) s
-  places_end done place h =
-      over_settled s.den (get_or s.numer place 0) ok.positive (done_settled units s ok done place (omega (arith, ok.count)))
+  -- ---- how many a draw takes
 
-pub places_lawful : (units : ℕ) → Lawful (places_tree units) (IsShares units)
-places_lawful units = record { split = λ s ok e. places_split units s ok e; end = λ s ok e. places_end units s ok e }
+  module _ (draw : ℕ) (within : draw < s.den) where
+    -- of the first places, as many as it has points before their end
+    taken_points : (m : ℕ) → m ≤ length s.numer → counts m (takes s draw) ≡ points s.den (cumulated s.numer m) draw
+    taken_points zero h = sym (points_zero s.den draw within)
+    taken_points (suc m) h =
+        let one_more : m + 1 ≡ suc m = omega arith in
+        let next : points s.den (cumulated s.numer (m + 1)) draw ≡ cond (takes s draw m) 1 0 + points s.den (cumulated s.numer m) draw =
+        points_next s.den (cumulated s.numer m) (get_or s.numer m 0) (cumulated s.numer (m + 1)) draw within (ok.each m) (cumulated_next s.numer m (omega arith)) in
+        omega (arith, taken_points m (omega arith), ap (λ k. points s.den (cumulated s.numer k) draw) one_more)
 
--- ---- exchanges of places
+    sampled_total : (n : ℕ) → AddTo n s → AddTo n (sampled s draw)
+    sampled_total n whole =
+        sum_by-map-range (length s.numer) (λ a. a) (λ place. cond (takes s draw place) s.den 0)
+        ∙ sums_scaled (length s.numer) s.den (takes s draw)
+        ∙ ap (λ k. k * s.den)
+        (taken_points (length s.numer) (omega arith)
+        ∙ ap (λ xs. points s.den (sum xs) draw) (take-length s.numer)
+        ∙ ap (λ c. points s.den c draw) whole
+        ∙ points_whole s.den n draw within)
 
-pub places_exchange : (units : ℕ) → IsExchange (places_tree units) (IsShares units) exchanged_shares
-places_exchange units = record {
-  member = λ i j s hi hj ok.
-      (let i_in : i < length s.numer = omega (arith, ok.count) in
-      let j_in : j < length s.numer = omega (arith, ok.count) in
-      record {
-        count = length-swap s.numer i j ∙ ok.count;
-        positive = ok.positive;
-        narrow = ok.narrow;
-        each = λ k. rw (get_or-swap s.numer i j k 0 i_in j_in) (ok.each (exchange i j k));
-      });
-  rank = λ i j s hi hj ok.
-      (let i_in : i < length s.numer = omega (arith, ok.count) in
-      let j_in : j < length s.numer = omega (arith, ok.count) in
-      ap (λ (b : Bool). cond (not b) 0 1) (sym (list_any-IsPermutation (fractional s.den) s.numer (swap s.numer i j) (IsPermutation-swap s.numer (swap s.numer i j) i j i_in j_in refl))));
-  value = λ i j s hi hj ok place.
-      (let i_in : i < length s.numer = omega (arith, ok.count) in
-      let j_in : j < length s.numer = omega (arith, ok.count) in
-      ap (λ n. over n s.den) (get_or-swap_exchange s.numer i j place 0 i_in j_in));
-}
+  pub places_keep : (n : ℕ) → AddTo n s → EachPart (λ p. AddTo n p.state) (equal_parts s.den (sampled s))
+  places_keep n whole = each_equal (sampled s) (λ p. AddTo n p.state) s.den (λ draw within. sampled_total draw within n whole)
+
+-- ---- in either order
+
+abbrev one_step : ℕ → ℕ
+one_step fractional = cond (nat_eq fractional 0) 0 1
 
 pub systematic_lawful : (units : ℕ) → Lawful (systematic_tree units) (IsSystematic units)
-systematic_lawful units = ordered_lawful (places_tree units) (IsShares units) exchanged_shares (places_lawful units) (places_exchange units)
+systematic_lawful units = in_order_lawful units (2 ^ 126 - 1) (λ _. System) (λ s. equal_parts s.den (sampled s)) one_step (places_split units)
+
+-- where the values add up to n, each leaf selects n units
+pub leaf_count : (units n : ℕ) (s : Ordered Shares) → IsSystematic units s → AddsUp (systematic_tree units) n s → LeavesSelect (systematic_tree units) n s
+leaf_count units n s ok adds =
+    in_order_count units (2 ^ 126 - 1) (λ _. System) (λ t. equal_parts t.den (sampled t)) one_step (places_split units) n (λ t here _ whole. places_keep units t here n whole) s ok adds

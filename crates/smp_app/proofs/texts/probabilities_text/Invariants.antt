@@ -1,4 +1,4 @@
-use Rattle.std.proofs.Common.{◌≡◌, ◌++◌, drop}
+use Rattle.std.proofs.Common.{◌≡◌, ◌++◌, drop, Some, option_map}
 use Rattle.std.specs.List.{flat_map}
 use Rattle.smp_app.specs.Jobs.{plan_view}
 use Rattle.smp_app.specs.Texts.{probability_row, probabilities_text}
@@ -6,4 +6,4 @@ use Rattle.smp_app.proofs.texts.probabilities_text.Given as goal
 
 abbrev pub invariant-loop-row : goal.invariant-loop-row
 invariant-loop-row l =
-    l.text ++ flat_map (probability_row (plan_view l.plan)) (drop l.row l.plan.frame) ≡ probabilities_text (plan_view l.plan)
+    option_map (λ text. text ++ flat_map (probability_row (plan_view l.plan)) (drop l.row l.plan.frame)) l.rows ≡ Some (probabilities_text (plan_view l.plan))

@@ -5,9 +5,9 @@ use Rattle.std.proofs.lemmas.List.{length-map}
 use Rattle.smp_frame.specs.Bounds.{sizes_of}
 use Rattle.smp_prob.specs.declared.requests.Request.{Request}
 use Rattle.smp_prob.specs.Standings.{standing, is_taken}
-use Rattle.smp_stage.specs.Stages.{stage_tree}
+use Rattle.smp_methods.specs.Designs.{method_of}
 use Rattle.smp_app.specs.Jobs.{plan_view}
-use Rattle.smp_app.specs.Plans.{tree_of, stage_of_plan, drawn_units}
+use Rattle.smp_app.specs.Plans.{tree_of, design_of_plan, drawn_units}
 use Rattle.smp_app.specs.Texts.{pair_row, weight_row}
 use Rattle.smp_app.proofs.Written.{skipped, gathered, all_gathered, weight_row-is, drawn_positive}
 use Rattle.smp_app.proofs.texts.sample_text.Goals.{then-is_drawn+in_ok-copy+in_ok-push+in_ok-push-2+in_ok-push-3, else-is_drawn}
@@ -26,7 +26,7 @@ loop-row-preserved c =
       | then-is_drawn+in_ok-copy+in_ok-push+in_ok-push-2+in_ok-push-3 w ↦
           (let in_sizes : c.loop-row.row < length (sizes_of c.args.plan.now.frame) = omega (arith, length-map c.args.plan.now.frame (λ u. u.size), within) in
           let taken = sym c.is_drawn.ensures ∙ w.if-is_drawn.true in
-          let standing_so = subst (λ (r : Request). is_taken ((stage_tree (stage_of_plan (plan_view c.args.plan.now))).selected c.args.selection.now.state) (standing r c.loop-row.row) ≡ true) (sym c.requires.planned.request_is) taken in
+          let standing_so = subst (λ (r : Request). is_taken ((method_of (design_of_plan (plan_view c.args.plan.now))).tree.selected c.args.selection.now.state) (standing r c.loop-row.row) ≡ true) (sym c.requires.planned.request_is) taken in
           let some = drawn_positive c.args.plan.now.request c.requires.planned.is_request _ w.asked.result row standing_so w.asked.ensures in
           let row_is = weight_row-is plan row u within here _ w.asked.result (c.requires.planned.asked c.loop-row.row in_sizes) w.asked.ensures some in
           gathered plan chosen whole row u within here c.loop-row.ids.items c.loop-row.asked.items c.loop-row.chosen.items c.loop-row.invariant

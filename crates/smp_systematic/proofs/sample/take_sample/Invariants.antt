@@ -3,4 +3,4 @@ use Rattle.smp_systematic.proofs.sample.take_sample.Given as goal
 
 -- the values after the draw, as far as the pass has come
 abbrev pub invariant-loop-place : goal.invariant-loop-place
-invariant-loop-place l = IsSampling (record { numer = l.fn.numer.items; den = l.den }) l.draw l.numer.items l.gap l.place
+invariant-loop-place l = IsSampling l.fn.values l.draw l.values l.gap l.place

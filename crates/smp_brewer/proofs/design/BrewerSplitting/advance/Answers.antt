@@ -1,33 +1,20 @@
-use Rattle.std.proofs.Common.{arith, ◌≡◌, ◌≢◌, false, sym, ap, ◌∙◌}
-use Rattle.smp_brewer.specs.Offers.{Offers, offering, brewing_ended, IsOffers, IsOffered, allowed, units_of}
-use Rattle.smp_brewer.specs.Kept.Picks.{passing}
-use Rattle.smp_brewer.proofs.States.{heavy, picked_offering, shares_now}
+use Rattle.std.proofs.Common.{◌≡◌, ◌≢◌, false, arith, refl}
+use Rattle.std.proofs.lemmas.Bool.{eqb-false}
+use Rattle.smp_brewer.specs.Brewer.{offering, brewing_ended, IsOffers, IsOffered, units_of}
+use Rattle.smp_brewer.specs.Kept.States.{IsReady}
+use Rattle.smp_brewer.specs.Laws.Splits.{spent_belongs}
 use Rattle.smp_brewer.proofs.design.BrewerSplitting.advance.Goals as goal
 
-pub set-requires-clause-shares : goal.set-requires-clause-shares
-set-requires-clause-shares c =
-    let o : Offers = record { sizes = c.state.inside.sizes.items; draws = c.state.inside.draws; refused = c.state.inside.refused } in
-    let ok : IsOffers (units_of c.args.self.now) o = rw (← c.state.view_is, c.in-Offering.is) at c.requires.state in
-    let going : brewing_ended (units_of c.args.self.now) (offering o) ≡ false = rw (← c.state.view_is, c.in-Offering.is) at c.requires.going in
-    shares_now (units_of c.args.self.now) o c.state.inside.total c.state.inside.top c.state.inside.pivots c.state.invariant ok going c.as_slice.result.now c.as_slice.ensures.value
+pub set-requires : goal.set-requires
+set-requires c =
+    let ok : IsOffers (units_of c.args.self.now) c.state.inside.offers = rw (← c.state.view_is, c.in-Offering.is) at c.requires.state in
+    let going : brewing_ended (units_of c.args.self.now) (offering c.state.inside.offers) ≡ false = rw (← c.state.view_is, c.in-Offering.is) at c.requires.going in
+    let some : c.state.inside.offers.draws ≢ 0 = eqb-false c.state.inside.offers.draws 0 going in
+    let is = spent_belongs (units_of c.args.self.now) c.state.inside.offers ok (omega (arith, some)) in
+    rw c.fill.ensures (record { count = refl; positive = is.positive; narrow = is.narrow; each = is.each })
 
-pub offer_weight-requires-clause-light : goal.offer_weight-requires-clause-light
-offer_weight-requires-clause-light c =
-    let o : Offers = record { sizes = c.state.inside.sizes.items; draws = c.state.inside.draws; refused = c.state.inside.refused } in
-    let ok : IsOffered (units_of c.args.self.now) o c.in-Offered.unit = rw (← c.state.view_is, c.in-Offered.is) at c.requires.state in
-    heavy (units_of c.args.self.now) o c.state.inside.total c.state.inside.top c.state.inside.pivots c.state.invariant ok.offers ok.going
-
-pub overflow_add-state : goal.overflow_add-state
-overflow_add-state c =
-    let o : Offers = record { sizes = c.state.inside.sizes.items; draws = c.state.inside.draws; refused = c.state.inside.refused } in
-    let ok : IsOffered (units_of c.args.self.now) o c.in-Offered.unit = rw (← c.state.view_is, c.in-Offered.is) at c.requires.state in
-    let fits = c.allowed-allowed.type_inv in
-    omega (arith, ok.left, fits, c.allowed-allowed.ensures)
-
-pub returns-else-state-allowed : goal.returns-else-state-allowed
-returns-else-state-allowed c =
-    let o : Offers = record { sizes = c.state.inside.sizes.items; draws = c.state.inside.draws; refused = c.state.inside.refused } in
-    let ne : c.state.inside.refused ≢ allowed (units_of c.args.self.now) = λ e. c.if-state-allowed.false (e ∙ sym c.allowed-allowed.ensures) in
-    let within = rw (← c.state.view_is, c.in-Offering.is) at c.requires.within in
-    let place : c.find_offer.result ≡ passing c.state.inside.sizes.items c.args.draw = c.find_offer.ensures ∙ ap (λ sizes. passing sizes c.args.draw) c.as_slice-else-state-allowed.ensures.value in
-    rw (← c.state.view_is, c.in-Offering.is, place) (picked_offering (units_of c.args.self.now) o c.state.inside.total c.state.inside.top c.state.inside.pivots c.state.invariant _ c.args.draw ne within)
+pub answer-requires-clause-counted : goal.answer-requires-clause-counted
+answer-requires-clause-counted c =
+    let ok : IsOffered (units_of c.args.self.now) c.state.inside.offers c.in-Offered.unit = rw (← c.state.view_is, c.in-Offered.is) at c.requires.state in
+    let ready : IsReady c.state.inside.offers c.state.inside.room = rw c.in-Offered.is at c.state.invariant in
+    omega (arith, ok.left, ok.offers.count, ready.few)

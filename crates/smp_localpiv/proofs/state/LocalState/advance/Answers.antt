@@ -1,7 +1,7 @@
 use Rattle.std.proofs.Common.{◌≡◌, ℕ, ◌≤◌, ◌∙◌, None, length, sym, ap, arith}
 use Rattle.std.proofs.lemmas.List.Sums.{count_by-le-length}
-use Rattle.smp_split.specs.Numerators.{fractional}
-use Rattle.smp_localpiv.specs.Local.{Local, choosing, fractional_count}
+use Rattle.smp_values.specs.Values.{fractional, fractional_at, fractional_count}
+use Rattle.smp_localpiv.specs.Local.{Local, choosing}
 use Rattle.smp_localpiv.proofs.Steps.{choice_within, choice_picked, settling_picked}
 use Rattle.smp_localpiv.proofs.state.LocalState.advance.Goals as goal
 
@@ -26,13 +26,13 @@ overflow_cast-place g c =
 pub fractional_at-requires : goal.fractional_at-requires
 fractional_at-requires g c =
     let now = seen _ c.args.self.now c.self.inside.left c.self.view_is c.in-None.is c.self.invariant.counted in
-    (omega arith, choice_within c.args.self.now now.none (omega arith) c.args.draw c.requires.within)
+    rw (← c.self.view_is) at (choice_within c.args.self.now now.none (omega arith) c.args.draw c.requires.within)
 
 pub returns-in-None : goal.returns-in-None
 returns-in-None g c =
     let now = seen _ c.args.self.now c.self.inside.left c.self.view_is c.in-None.is c.self.invariant.counted in
     ap (λ (s : Local). choosing s c.fractional_at.result) c.self.view_is
-    ∙ ap (choosing c.args.self.now) c.fractional_at.ensures.unit
+    ∙ ap (choosing c.args.self.now) (c.fractional_at.ensures.unit ∙ ap (λ (s : Local). fractional_at s.state c.args.draw) c.self.view_is)
     ∙ sym (choice_picked c.args.self.now now.none (omega arith) c.args.draw (choice_within c.args.self.now now.none (omega arith) c.args.draw c.requires.within))
 
 pub returns-in-None-2 : goal.returns-in-None-2

@@ -1,5 +1,6 @@
+use Rattle.smp_localpiv.specs.Local.{Local}
 use Rattle.std.proofs.Common.{◌≡◌, ◌∙◌, None, sym, ap, arith}
-use Rattle.smp_localpiv.specs.Local.{Local, fractional_count}
+use Rattle.smp_values.specs.Values.{fractional_count}
 use Rattle.smp_localpiv.proofs.Steps.{choice_bound}
 use Rattle.smp_localpiv.proofs.state.LocalState.bound.Goals as goal
 

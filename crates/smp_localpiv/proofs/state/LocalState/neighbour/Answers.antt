@@ -1,4 +1,4 @@
-use Rattle.smp_localpiv.specs.Laws.Units.{met}
+use Rattle.smp_localpiv.specs.Laws.Neighbours.{met}
 use Rattle.smp_localpiv.proofs.Steps.{points_kept, never_alone}
 use Rattle.smp_localpiv.proofs.state.LocalState.neighbour.Goals as goal
 
@@ -8,5 +8,5 @@ returns-clause-met g c = met c.args.self.now c.args.unit c.requires
 pub unreachable-requires : goal.unreachable-requires
 unreachable-requires g c =
     never_alone c.self.inside.points c.args.self.now c.args.unit
-    (points_kept c.self.inside.points c.self.inside.numer.items c.self.inside.den c.self.inside.chosen c.args.self.now c.self.view_is c.self.invariant.alive)
+    (points_kept c.self.inside.points c.self.inside.values c.self.inside.chosen c.args.self.now c.self.view_is c.self.invariant.alive)
     c.requires c.in-None.ensures.nearest

@@ -1,27 +1,28 @@
-use Rattle.std.proofs.Common.{◌≡◌, length, arith, rules, sym, ap, ◌∙◌}
-use Rattle.std.specs.Vec.{vec_len}
-use Rattle.std.proofs.lemmas.Bool.{eqb-true, eqb-false}
+use Rattle.std.proofs.Common.{◌≡◌, length, refl, arith, ap, ◌∙◌}
+use Rattle.smp_fractions.proofs.Fractions.{same_refl}
+use Rattle.smp_prob.specs.Shares.{Shares, shares_of}
 use Rattle.smp_prob.proofs.Fractions.{length-numerators}
-use Rattle.smp_minsup.proofs.Requests.{start_requested, starts_whole, values_requested}
-use Rattle.smp_minsup.proofs.design.MinimumSupport.new.Goals.{then-is_empty, else-is_empty}
+use Rattle.smp_values.specs.Values.{value_at}
+use Rattle.smp_values.proofs.Requests.{requested_values}
+use Rattle.smp_minsup.specs.Support.{support_tree}
+use Rattle.smp_minsup.proofs.Requests.{start_requested}
+use Rattle.smp_minsup.proofs.design.MinimumSupport.new.Goals.{then-len-eq0, else-len-eq0}
 use Rattle.smp_minsup.proofs.design.MinimumSupport.new.Goals as goal
 
 pub invariant_of-result : goal.invariant_of-result
 invariant_of-result c =
-    let as_many : length c.in_ok-numer.numer.items ≡ length c.args.request.now.free = ap length c.in_ok-numer.ensures.value ∙ length-numerators c.args.request.now c.requires.request in
-    let len : length c.in_ok-numer.numer.items ≡ vec_len c.in_ok-numer.numer = search rules in
-    rw (c.in_ok-numer.ensures.value, c.common_denominator-den.ensures.value) (start_requested c.args.request.now c.requires.request c.if-is_empty.draws c.requires.whole
-    (λ none. elim c.if-is_empty.branch [
-      | then-is_empty w ↦ w.draws-is
-      | else-is_empty w ↦ absurd (eqb-false (vec_len c.in_ok-numer.numer) 0 (sym c.is_empty.ensures ∙ w.if-is_empty.false) (omega (arith, as_many, len, none)))
+    let units : c.len.result ≡ length c.args.request.now.free = c.len.ensures ∙ ap (λ (s : Shares). length s.numer) c.in_ok-values.ensures ∙ length-numerators c.args.request.now c.requires.request in
+    rw c.in_ok-values.ensures (start_requested c.args.request.now c.requires.request c.requires.whole c.if-len-eq0.draws
+    (λ none. elim c.if-len-eq0.branch [
+      | then-len-eq0 w ↦ w.draws-is
+      | else-len-eq0 w ↦ absurd (w.if-len-eq0.false (units ∙ none))
     ])
-    (λ some. elim c.if-is_empty.branch [
-      | then-is_empty w ↦ absurd (omega (arith, as_many, len, some, eqb-true (vec_len c.in_ok-numer.numer) 0 (sym c.is_empty.ensures ∙ w.if-is_empty.true)))
-      | else-is_empty w ↦ w.draws-is
+    (λ some. elim c.if-len-eq0.branch [
+      | then-len-eq0 w ↦ absurd (omega (arith, w.if-len-eq0.true))
+      | else-len-eq0 w ↦ w.draws-is
     ]))
 
-pub returns-clause-values : goal.returns-clause-values
-returns-clause-values c unit here = rw (c.in_ok-numer.ensures.value, c.common_denominator-den.ensures.value) (values_requested c.args.request.now c.requires.request unit here)
-
-pub returns-clause-whole : goal.returns-clause-whole
-returns-clause-whole c some = rw (c.in_ok-numer.ensures.value, c.common_denominator-den.ensures.value) (starts_whole c.args.request.now c.requires.request some c.requires.whole)
+pub returns-clause-requested : goal.returns-clause-requested
+returns-clause-requested c =
+    rw c.in_ok-values.ensures
+    (requested_values c.args.request.now c.requires.request (support_tree (length (shares_of c.args.request.now).numer)) (shares_of c.args.request.now) refl (λ k _. same_refl (value_at (shares_of c.args.request.now) k)))

@@ -1,17 +1,18 @@
-use Rattle.std.proofs.Common.{◌≤◌, length, arith}
-use Rattle.std.proofs.lemmas.List.Sums.{count_by-le-length}
-use Rattle.smp_split.specs.Numerators.{fractional}
-use Rattle.smp_minsup.specs.Support.{fractional_units}
-use Rattle.smp_minsup.proofs.Counts.{leaf_count}
-use Rattle.smp_minsup.proofs.FewLeaves.{few_leaves}
+use Rattle.std.proofs.Common.{◌≡◌, length, arith, refl, ap, ◌∙◌}
+use Rattle.smp_minsup.specs.Laws.Splits.{draws_within}
+use Rattle.smp_minsup.proofs.FewLeaves.{support_starts, leaves_few}
 use Rattle.smp_minsup.proofs.design.MinimumSupport.start.Goals as goal
 
-pub returns-clause-count : goal.returns-clause-count
-returns-clause-count c n adds =
-    leaf_count (length c.args.self.now.numer) n c.in_ok-state.state c.in_ok-state.ensures.belongs adds
+pub take_largest-requires-clause-within : goal.take_largest-requires-clause-within
+take_largest-requires-clause-within c =
+    omega (arith, draws_within (length c.self.inside.values.numer) c.self.inside.values c.self.invariant.state, c.self.invariant.draws_are, ap length (c.in_ok-ranked.ensures.numer ∙ c.numerators.ensures))
+
+-- the state is the design's own
+started_is : (c : goal.After-new) → c.new.result ≡ c.self.inside.values
+started_is c = rw (c.new.ensures, c.take_largest.ensures.numer, c.in_ok-ranked.ensures.numer, c.numerators.ensures, c.denominator.ensures) refl
+
+pub returns-clause-starts : goal.returns-clause-starts
+returns-clause-starts c = rw (started_is c, ← c.self.view_is) (support_starts c.self.inside.values c.self.invariant.state)
 
 pub returns-clause-support : goal.returns-clause-support
-returns-clause-support c some =
-    let few = few_leaves (length c.args.self.now.numer) (fractional_units c.in_ok-state.state) c.in_ok-state.state c.in_ok-state.ensures.belongs (omega arith) in
-    let within : fractional_units c.in_ok-state.state ≤ length c.in_ok-state.state.numer = count_by-le-length (fractional c.in_ok-state.state.den) c.in_ok-state.state.numer in
-    omega (arith, few, within, some, c.in_ok-state.ensures.belongs.count)
+returns-clause-support c = rw (started_is c, ← c.self.view_is) (leaves_few c.self.inside.values c.self.invariant.state)

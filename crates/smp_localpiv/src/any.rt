@@ -1,0 +1,191 @@
+//! Local pivotal selection in any number of dimensions, from one to four.
+
+ghost use Rattle.std.specs.Prelude.{◌≡◌, ◌≤◌, length, IfOk};
+ghost use Rattle.smp_prob.specs.Requests.{IsRequest};
+ghost use Rattle.smp_split.specs.Methods.{Starts};
+ghost use Rattle.smp_values.specs.Starts.{IsRequested};
+ghost use Rattle.smp_localpiv.specs.Coordinates.{coordinate_count, points_from};
+ghost use Rattle.smp_localpiv.specs.Local.{started};
+ghost use Rattle.smp_localpiv.specs.Method.{method_of};
+
+use crate::design::LocalPivotal;
+use crate::dimensions::{Dimensions, points};
+use crate::state::LocalState;
+use smp_frac::NoMemory;
+use smp_frame::Numbers;
+use smp_prob::Request;
+use smp_split::{Kind, Splitting};
+use std::alloc::Global;
+use std::marker::Model;
+
+/// A design that selects by local pivotal steps, over units that lie at points with one to four coordinates.
+///
+/// It is seen as the state before the first step. Its draw tree is that of [`LocalPivotal`], which doesn't depend on the
+/// number of coordinates.
+#[derive(Drop)]
+pub struct AnyLocalPivotal {
+    design: Designs,
+}
+
+// The design by the number of coordinates.
+#[derive(Drop)]
+enum Designs {
+    One(LocalPivotal<1>),
+    Two(LocalPivotal<2>),
+    Three(LocalPivotal<3>),
+    Four(LocalPivotal<4>),
+}
+
+impl Model for AnyLocalPivotal {
+    ghost use Rattle.smp_localpiv.specs.Local.{Local};
+    ghost use Rattle.smp_localpiv.specs.Kept.Dimensions.{design_in};
+
+    ghost Value = { Local };
+
+    ghost view = { λ a. design_in a.design };
+}
+
+/// A state of a local pivotal selection over points with one to four coordinates.
+#[derive(Drop)]
+pub struct AnyLocalState {
+    state: States,
+}
+
+// The state by the number of coordinates.
+#[derive(Drop)]
+enum States {
+    One(LocalState<1>),
+    Two(LocalState<2>),
+    Three(LocalState<3>),
+    Four(LocalState<4>),
+}
+
+impl Model for AnyLocalState {
+    ghost use Rattle.smp_localpiv.specs.Local.{Local};
+    ghost use Rattle.smp_localpiv.specs.Kept.Dimensions.{state_in};
+
+    ghost Value = { Local };
+
+    ghost view = { λ a. state_in a.state };
+}
+
+// What is said of a design or a state, whatever the number of its coordinates.
+macro_rules! in_each {
+    ($kind:ident, $of:expr, $inner:ident => $answer:expr) => {
+        match $of {
+            $kind::One($inner) => $answer,
+            $kind::Two($inner) => $answer,
+            $kind::Three($inner) => $answer,
+            $kind::Four($inner) => $answer,
+        }
+    };
+}
+
+impl AnyLocalPivotal {
+    /// The design of a request: its units are the request's free units, and each has the value that is requested of it.
+    ///
+    /// `values` has a list for each of the units, in their order. The coordinates of a unit are the values of its list from
+    /// `place` on, as many as there are dimensions, and 0 where the list is shorter.
+    pub fn new(
+        alloc: Global,
+        request: &Request,
+        dimensions: Dimensions,
+        place: usize,
+        values: &[Numbers],
+    ) -> Result<AnyLocalPivotal, NoMemory>
+        requires request { IsRequest request.now }
+        requires paired { length values.now ≡ length request.now.free }
+        ensures design { IfOk result (λ design. design ≡
+            started request.now (points_from (coordinate_count dimensions) place values.now)) }
+        ensures requested { IfOk result (λ design.
+            IsRequested (method_of design).tree request.now design) }
+    {
+        macro_rules! located {
+            ($variant:ident) => {
+                Ok(AnyLocalPivotal {
+                    design: Designs::$variant(located(alloc, request, place, values)?),
+                })
+            };
+        }
+        match dimensions {
+            Dimensions::One => located!(One),
+            Dimensions::Two => located!(Two),
+            Dimensions::Three => located!(Three),
+            Dimensions::Four => located!(Four),
+        }
+    }
+
+    /// The state before the first step. Over all draws, each unit is selected with the probability that is its value, and
+    /// where the values add up to a whole number, that many units are.
+    pub fn start(&self, alloc: Global) -> Result<AnyLocalState, NoMemory>
+        ensures state { IfOk result (λ state. state ≡ self.now) }
+        ensures starts { IfOk result (Starts (method_of self.now)) }
+    {
+        macro_rules! started {
+            ($variant:ident, $design:expr) => {
+                Ok(AnyLocalState {
+                    state: States::$variant($design.start(alloc)?),
+                })
+            };
+        }
+        match &self.design {
+            Designs::One(design) => started!(One, design),
+            Designs::Two(design) => started!(Two, design),
+            Designs::Three(design) => started!(Three, design),
+            Designs::Four(design) => started!(Four, design),
+        }
+    }
+}
+
+// The design of a request over points with `K` coordinates.
+fn located<const K: usize>(
+    alloc: Global,
+    request: &Request,
+    place: usize,
+    values: &[Numbers],
+) -> Result<LocalPivotal<K>, NoMemory>
+    requires request { IsRequest request.now }
+    requires dimensions { (1 ≤ K) × (K ≤ 4) }
+    requires paired { length values.now ≡ length request.now.free }
+    ensures design { IfOk result (λ design. design ≡
+        started request.now (points_from K place values.now)) }
+    ensures requested { IfOk result (λ design.
+        IsRequested (method_of design).tree request.now design) }
+{
+    let coords = points::<K>(alloc, place, values)?;
+    LocalPivotal::new(alloc, request, coords.as_slice())
+}
+
+impl Splitting for AnyLocalPivotal {
+    type State = AnyLocalState;
+
+    ghost tree = { λ design. (method_of design).tree };
+
+    ghost belongs = { λ design. (method_of design).belongs };
+
+    ghost lawful = { λ design. (method_of design).lawful };
+
+    fn units(&self) -> usize {
+        in_each!(Designs, &self.design, design => design.units())
+    }
+
+    fn done(&self, state: &AnyLocalState) -> bool {
+        in_each!(States, &state.state, inner => inner.is_done())
+    }
+
+    fn kind(&self, state: &AnyLocalState) -> Kind {
+        in_each!(States, &state.state, inner => inner.kind())
+    }
+
+    fn bound(&self, state: &AnyLocalState) -> u128 {
+        in_each!(States, &state.state, inner => inner.bound())
+    }
+
+    fn advance(&self, state: &mut AnyLocalState, draw: u128) {
+        in_each!(States, &mut state.state, inner => inner.advance(draw))
+    }
+
+    fn selected(&self, state: &AnyLocalState, unit: usize) -> bool {
+        in_each!(States, &state.state, inner => inner.is_selected(unit))
+    }
+}

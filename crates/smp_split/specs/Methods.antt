@@ -1,0 +1,21 @@
+-- What a selection method owes, and what a selection by it starts with.
+use Rattle.std.specs.Prelude.{ℕ, ◌<◌}
+use Rattle.smp_fractions.specs.Fractions.{Fraction, Same}
+use Rattle.smp_split.specs.Trees.{Tree, Lawful}
+use Rattle.smp_split.specs.Means.{mean, value_sum, inclusion_probability}
+use Rattle.smp_split.specs.Counts.{AddsUp, LeavesSelect}
+
+-- a draw tree, which states are the method's own, and the law that each split of these is lawful
+pub record Method (State : Type 0) : Type 1 where
+  pub tree : Tree State
+  pub belongs : State → Type 0
+  pub lawful : Lawful tree belongs
+
+-- What holds of a state from which a selection starts. Over all draws, the mean of the sum of any numbers c over the selected units is the
+-- sum of c times the value; so each unit's probability of selection is its value; and where the values add up to a whole number, each leaf
+-- selects that many units.
+pub record Starts {State : Type 0} (method : Method State) (state : State) : Type 0 where
+  pub member : method.belongs state
+  pub mean : (c : ℕ → Fraction) → Same (mean method.tree c state) (value_sum method.tree c state)
+  pub probability : (unit : ℕ) → unit < method.tree.units → Same (inclusion_probability method.tree state unit) (method.tree.value state unit)
+  pub count : (n : ℕ) → AddsUp method.tree n state → LeavesSelect method.tree n state

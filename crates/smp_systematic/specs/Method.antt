@@ -1,0 +1,15 @@
+-- Systematic selection as a method.
+use Rattle.std.specs.Prelude.{length}
+use Rattle.smp_prob.specs.Shares.{Shares}
+use Rattle.smp_split.specs.Methods.{Method}
+use Rattle.smp_split.specs.Orders.{Ordered}
+use Rattle.smp_systematic.specs.Systematic.{IsSystematic, systematic_tree}
+use Rattle.smp_systematic.specs.Laws.Splits.{systematic_lawful}
+
+-- the method over as many units as the design has
+abbrev pub method_of : Ordered Shares → Method (Ordered Shares)
+method_of design = record {
+  tree = systematic_tree (length design.state.numer);
+  belongs = IsSystematic (length design.state.numer);
+  lawful = systematic_lawful (length design.state.numer);
+}

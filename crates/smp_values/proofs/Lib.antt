@@ -1,0 +1,10 @@
+pub mod Fractional
+pub mod Units
+pub mod Changes
+pub mod PairNumbers
+pub mod LawfulSteps
+pub mod Searches
+pub mod Sums
+pub mod Designs
+pub mod Requests
+pub mod Pivotal

@@ -1,0 +1,5 @@
+pub mod Values
+pub mod Pairs
+pub mod Steps
+pub mod Starts
+pub mod Kept

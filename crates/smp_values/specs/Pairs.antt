@@ -1,0 +1,33 @@
+-- A pivotal step on a pair of units (Deville and Tillé 1998). The two have the values a and b, numerators over den.
+-- One of them gets all that both have, up to den, and the other what is left; the weights keep the mean of each.
+use Rattle.std.specs.Prelude.{ℕ, ◌+◌, ◌-◌, min, nat_lt, nat_le, if◌then◌else◌}
+use Rattle.smp_values.specs.declared.pairs.TwoWeights.{TwoWeights}
+
+-- the weights of the two parts
+abbrev pub pair_weights : ℕ → ℕ → ℕ → TwoWeights
+pair_weights a b den =
+    if nat_le (a + b) den then record { first = a; second = b } else record { first = den - b; second = den - a }
+
+-- the bound of the draw
+abbrev pub pair_bound : ℕ → ℕ → ℕ → ℕ
+pair_bound a b den = (pair_weights a b den).first + (pair_weights a b den).second
+
+-- all that both have, up to den
+abbrev pub taken : ℕ → ℕ → ℕ → ℕ
+taken a b den = min (a + b) den
+
+-- what is left, or 0
+abbrev pub left : ℕ → ℕ → ℕ → ℕ
+left a b den = a + b - den
+
+-- in the first part the first unit takes, in the second part the second one does
+abbrev pub pair_first : ℕ → ℕ → ℕ → ℕ × ℕ
+pair_first a b den = (taken a b den, left a b den)
+
+abbrev pub pair_second : ℕ → ℕ → ℕ → ℕ × ℕ
+pair_second a b den = (left a b den, taken a b den)
+
+-- the values that a draw leads to
+abbrev pub pair_at : ℕ → ℕ → ℕ → ℕ → ℕ × ℕ
+pair_at a b den draw =
+    if nat_lt draw (pair_weights a b den).first then pair_first a b den else pair_second a b den

@@ -1,0 +1,18 @@
+//! Values of units, from 0 to 1, as selection methods change them.
+//!
+//! A selection starts with the probabilities that are requested of its units. Step by step it settles their values at 0 or 1, and the mean of
+//! each stays what it was. [`Values`] holds them as numerators over one denominator; [`PivotalSteps`] makes sequential pivotal steps on them
+//! (Deville and Tillé 1998), of which [`pair`] is the arithmetic; and [`unit_order`] is the order in which a method takes its units.
+#![tactic(auto)]
+
+mod orders;
+mod pairs;
+mod steps;
+#[cfg(test)]
+mod tests;
+mod values;
+
+pub use orders::unit_order;
+pub use pairs::{TwoWeights, pair, pair_apply, pair_bound};
+pub use steps::PivotalSteps;
+pub use values::Values;
