@@ -1,5 +1,5 @@
 -- A row divided by its content.
-use Rattle.std.proofs.Common.{◌≡◌, ℕ, zero, ◌+◌, ◌*◌, ◌<◌, ◌≤◌, ◌^◌, List, ℤ, pos, ◌*ℤ◌, length, arith, sym, subst, ap, ◌∙◌, refl, inl, inr, suc, [], ◌∷◌, le_of_suc-le-suc, eq-zero-or-pos}
+use Rattle.std.proofs.Common.{◌≡◌, ℕ, zero, ◌+◌, ◌*◌, ◌<◌, ◌≤◌, ◌^◌, List, ℤ, pos, ◌*ℤ◌, ◌<ℤ◌, length, arith, sym, subst, ap, ◌∙◌, refl, inl, inr, suc, [], ◌∷◌, le_of_suc-le-suc, eq-zero-or-pos}
 use Rattle.std.proofs.lemmas.Int.{ints, unsigned_abs-mul}
 use Rattle.std.proofs.lemmas.Bool.{cases_lt}
 use Rattle.std.proofs.lemmas.List.{get_or_past}
@@ -7,7 +7,7 @@ use Rattle.std.specs.Int.RustNames.{unsigned_abs, int_div}
 use Rattle.smp_kernel.proofs.Quotients.{exact}
 use Rattle.smp_kernel.proofs.Limits.{Within-same}
 use Rattle.smp_kernel.proofs.Ring.{abs_zero, positive_some}
-use Rattle.smp_kernel.proofs.Primitive.{cancel_left, same_sizes, one_from_le}
+use Rattle.smp_kernel.proofs.Primitive.{cancel_left, cancel_factor, factors_same, same_sizes, one_from_le}
 use Rattle.std.proofs.Math.Nat.{le_of_dvd, mul-dvd-mul_left, eq-zero_of_zero-dvd}
 use Prim.Native.Nat.{◌∣◌}
 use Rattle.smp_kernel.specs.Vectors.{entry, IsZero, IsPrimitive, Within}
@@ -16,7 +16,7 @@ use Rattle.std.proofs.lemmas.Nat.Gcd.{dvd_trans}
 use Rattle.smp_frac.specs.Divisors.{IsContent, IsContentOfFirst, greatest_common_divisor}
 use Rattle.smp_frac.proofs.Gcds.{IsGcd-greatest_common_divisor}
 use Rattle.smp_frac.proofs.Contents.{content_more}
-use Rattle.smp_kernel.specs.Kept.Steps.{IsReduced, IsTooLong}
+use Rattle.smp_kernel.specs.Reduced.{IsReduced, IsTooLong}
 use lib.IntN.{*ℤ-zero}
 
 -- a divisor of a smaller number: that number is 0
@@ -97,13 +97,28 @@ content_first row (suc n) =
 pub primitive_part : List ℤ → List ℤ
 primitive_part row = quotients (content_first row (length row)).0 row
 
+pub length-primitive_part : (row : List ℤ) → length (primitive_part row) ≡ length row
+unfolding primitive_part
+length-primitive_part row = length_quotients (content_first row (length row)).0 row
+
 pub primitive_part_is : (row : List ℤ) → (IsZero row → ⊥) → IsReduced row (primitive_part row)
 unfolding primitive_part
 primitive_part_is row some =
     let c = content_first row (length row) in
     is_reduced row c.0 c.1 some (quotients c.0 row) (length_quotients c.0 row) (λ i l. ap (λ x. pos c.0 *ℤ x) (entry_quotients c.0 row i l) ∙ exact (entry row i) c.0 (c.1.0 i l))
 
--- and has one reduced row, up to the sign
+-- and has one reduced row
+pub one_reduced : (row e f : List ℤ) → IsReduced row e → IsReduced row f → (i : ℕ) → entry e i ≡ entry f i
+one_reduced row e f r s i =
+    let both : (j : ℕ) → r.divisor *ℤ entry e j ≡ s.divisor *ℤ entry f j = λ j. r.product j ∙ sym (s.product j) in
+    let sizes : unsigned_abs r.divisor ≡ unsigned_abs s.divisor = factors_same r.divisor s.divisor e f (positive_some r.divisor r.positive) (positive_some s.divisor s.positive) r.primitive s.primitive both in
+    let same : r.divisor ≡ s.divisor = same_positive r.divisor s.divisor r.positive s.positive sizes in
+    cancel_factor r.divisor (entry e i) (entry f i) (positive_some r.divisor r.positive) (both i ∙ ap (λ z. z *ℤ entry f i) (sym same))
+  where
+    same_positive : (x y : ℤ) → pos 0 <ℤ x → pos 0 <ℤ y → unsigned_abs x ≡ unsigned_abs y → x ≡ y
+    same_positive x y p q h = omega (arith, ints)
+
+-- within any limit that another one keeps
 pub reduced_within : (limit : ℕ) (row e f : List ℤ) → IsReduced row e → IsReduced row f → Within limit e → Within limit f
 reduced_within limit row e f r s w =
     Within-same limit e f (same_sizes s.divisor r.divisor f e (positive_some s.divisor s.positive) (positive_some r.divisor r.positive) s.primitive r.primitive (λ i. s.product i ∙ sym (r.product i))) w

@@ -1,4 +1,4 @@
--- What the code keeps on the way. Of it the public clauses of `search` and `reduced` alone cite what they answer.
+-- What the code keeps on the way. No public clause cites it.
 pub mod Tables
 pub mod Steps
 pub mod Ratios

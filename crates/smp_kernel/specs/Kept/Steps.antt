@@ -1,21 +1,9 @@
 -- One step of elimination.
-use Rattle.std.specs.Prelude.{◌≡◌, ◌≢◌, ℕ, ◌<◌, ◌^◌, List, ℤ, pos, neg_ℤ, ◌<ℤ◌, ◌*ℤ◌, Bool, false, slice_index_or}
+use Rattle.std.specs.Prelude.{◌≡◌, ◌≢◌, ℕ, ◌<◌, ◌^◌, List, ℤ, pos, neg_ℤ, Bool, false, slice_index_or}
 use Rattle.std.specs.List.{All}
-use Rattle.smp_kernel.specs.Vectors.{entry, plus, times, IsPrimitive, Within}
+use Rattle.smp_kernel.specs.Vectors.{entry, plus, times, Within}
+use Rattle.smp_kernel.specs.Reduced.{IsReduced, IsTooLong}
 use Rattle.smp_kernel.specs.Kept.Tables.{at_place}
-
--- e is primitive, and some positive number times e is the row
-pub record IsReduced (row e : List ℤ) : Type 0 where
-  pub primitive : IsPrimitive e
-  pub divisor : ℤ
-  pub positive : pos 0 <ℤ divisor
-  pub product : (j : ℕ) → divisor *ℤ entry e j ≡ entry row j
-
--- the reduced row has an entry past 2^44
-pub record IsTooLong (row : List ℤ) : Type 0 where
-  pub reduced : List ℤ
-  pub is : IsReduced row reduced
-  pub long : Within (2 ^ 44) reduced → ⊥
 
 -- the first place that isn't used and has a product other than 0
 pub record IsFirstOpen (q : ℕ) (products : List ℤ) (used : List Bool) (place : ℕ) : Type 0 where
