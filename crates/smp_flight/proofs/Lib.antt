@@ -1,0 +1,14 @@
+pub mod Differences
+pub mod Along
+pub mod Entries
+pub mod Reaching
+pub mod LineEnds
+pub mod Nexts
+pub mod OneMove
+pub mod Sizes
+pub mod FoundEnds
+pub mod Moved
+pub mod Places
+pub mod Reducing
+pub mod Searched
+pub mod Making

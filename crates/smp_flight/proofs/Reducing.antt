@@ -1,0 +1,90 @@
+-- A direction by an array: only the entries of a row decide its reduced row.
+use Rattle.std.proofs.Common.{◌≡◌, ℕ, ◌<◌, ◌≤◌, ◌^◌, false, List, [], ◌∷◌, ℤ, pos, ◌*ℤ◌, map, take, length, get_or, arith, refl, sym, ap, ap₂, ◌∙◌, subst, inl, inr, length-take, get_or-take}
+use Rattle.std.proofs.lemmas.Bool.{cases_Bool, cases_lt}
+use Rattle.std.proofs.lemmas.List.{ext_get_or, length-map, get_or-map, get_or_past, take-take}
+use Rattle.smp_kernel.specs.Vectors.{entry, IsZero, Within}
+use Rattle.smp_kernel.specs.Elimination.{cut}
+use Rattle.smp_kernel.specs.Reduced.{IsReduced, IsTooLong}
+use Rattle.smp_kernel.proofs.Ring.{positive_some, zero_of_product}
+use Rattle.smp_kernel.proofs.Reduce.{primitive_part, primitive_part_is, length-primitive_part, one_reduced, reduced_within}
+use Rattle.smp_flight.specs.States.{Units, size, column, columns_of}
+use Rattle.smp_flight.specs.Moves.{sized}
+use Rattle.smp_flight.specs.Steps.{direction, entries_fit}
+use Rattle.smp_flight.proofs.Entries.{length-sized, entry-sized}
+use Rattle.smp_flight.proofs.Nexts.{within_from}
+
+-- ---- arrays as lists
+
+pub products_are : (units : Units) (us : List ℕ) (w ps : List ℤ) (n : ℕ) → n ≤ length us → n ≤ length w → n ≤ length ps → ((k : ℕ) → k < n → entry ps k ≡ pos (size units (get_or us k 0)) *ℤ entry w k) → take n ps ≡ sized units (take n us) (take n w)
+products_are units us w ps n lu lw lp h =
+    let same : length (take n us) ≡ length (take n w) = omega (arith, length-take n us, length-take n w) in
+    ext_get_or (pos 0) (take n ps) (sized units (take n us) (take n w)) (omega (arith, length-take n ps, length-take n us, length-sized units (take n us) (take n w) same))
+    (λ k l.
+    (let b : k < n = omega (arith, l, length-take n ps) in
+    get_or-take n ps k (pos 0) b ∙ h k b
+    ∙ sym (ap (λ x. pos (size units x) *ℤ entry w k) (get_or-take n us k 0 b)) ∙ sym (ap (λ x. pos (size units (get_or (take n us) k 0)) *ℤ x) (get_or-take n w k (pos 0) b))
+    ∙ sym (entry-sized units (take n us) (take n w) k (omega (arith, b, lu, length-take n us)) (omega (arith, b, lw, length-take n w)))))
+
+pub columns_are : (units : Units) (us : List ℕ) (cols : List (List ℤ)) (rows n : ℕ) → n ≤ length us → n ≤ length cols → ((k : ℕ) → k < n → take rows (get_or cols k []) ≡ column units (get_or us k 0)) → map (take rows) (take n cols) ≡ columns_of units (take n us)
+columns_are units us cols rows n lu lc h =
+    ext_get_or [] (map (take rows) (take n cols)) (columns_of units (take n us)) (length-map (take n cols) (take rows) ∙ omega (arith, length-take n cols, length-take n us) ∙ sym (length-map (take n us) (column units)))
+    (λ k l.
+    (let b : k < n = omega (arith, l, length-map (take n cols) (take rows), length-take n cols) in
+    get_or-map (take rows) (take n cols) k [] [] (omega (arith, b, lc, length-take n cols)) ∙ ap (take rows) (get_or-take n cols k [] b) ∙ h k b
+    ∙ ap (column units) (sym (get_or-take n us k 0 b)) ∙ sym (get_or-map (column units) (take n us) k 0 [] (omega (arith, b, lu, length-take n us)))))
+
+-- columns cut to all rows, and then to those in force
+pub cut_twice : (q rows : ℕ) → q ≤ rows → (cols : List (List ℤ)) → cut q cols ≡ cut q (map (take rows) cols)
+cut_twice q rows l [] = refl
+cut_twice q rows l (c ∷ cols) = ap₂ (λ x xs. x ∷ xs) (sym (take-take q rows c l)) (cut_twice q rows l cols)
+
+-- ---- the reduced row of an array
+
+same_rows : (row other e : List ℤ) → ((i : ℕ) → entry row i ≡ entry other i) → IsReduced row e → IsReduced other e
+same_rows row other e h r = record { primitive = r.primitive; divisor = r.divisor; positive = r.positive; product = λ j. r.product j ∙ h j }
+
+module _ (row : List ℤ) (n : ℕ) (past : (j : ℕ) → n ≤ j → entry row j ≡ pos 0) where
+  -- a row that is 0 from a place on
+  pub front_row : (i : ℕ) → entry (take n row) i ≡ entry row i
+  front_row i =
+      elim (cases_lt i n) [
+        | inl l ↦ get_or-take n row i (pos 0) l
+        | inr m ↦ get_or_past (take n row) i (pos 0) (omega (arith, m, length-take n row)) ∙ sym (past i m)
+      ]
+
+  pub past_reduced : (e : List ℤ) → IsReduced row e → (j : ℕ) → n ≤ j → entry e j ≡ pos 0
+  past_reduced e r j l = zero_of_product r.divisor (entry e j) (positive_some r.divisor r.positive) (r.product j ∙ past j l)
+
+  pub front_is : (e : List ℤ) → n ≤ length row → length e ≡ length row → (IsZero (take n row) → ⊥) → IsReduced row e → take n e ≡ primitive_part (take n row)
+  front_is e lr le some r =
+      let whole : IsReduced (take n row) e = same_rows row (take n row) e (λ i. sym (front_row i)) r in
+      ext_get_or (pos 0) (take n e) (primitive_part (take n row)) (omega (arith, length-take n e, length-take n row, length-primitive_part (take n row)))
+      (λ k l. (let b : k < n = omega (arith, l, length-take n e) in get_or-take n e k (pos 0) b ∙ one_reduced (take n row) e (primitive_part (take n row)) whole (primitive_part_is (take n row) some) k))
+
+  -- where the reduced row is too long, so is the direction
+  pub front_long : (IsZero (take n row) → ⊥) → IsTooLong row → Within (2 ^ 44) (primitive_part (take n row)) → ⊥
+  front_long some t w =
+      t.long (reduced_within (2 ^ 44) (take n row) (primitive_part (take n row)) t.reduced (primitive_part_is (take n row) some) (same_rows row (take n row) t.reduced (λ i. sym (front_row i)) t.is) w)
+
+-- ---- the direction that arrays hold
+
+module _ (units : Units) (us : List ℕ) (w row : List ℤ) (n number : ℕ) (ln : n ≤ number) (lu : n ≤ length us) (lw : n ≤ length w) (lr : n ≤ length row) (is : take n row ≡ sized units (take n us) (take n w)) (past : (j : ℕ) → n ≤ j → entry row j ≡ pos 0) (some : IsZero (sized units (take n us) (take n w)) → ⊥) where
+  front_same : take (length (take n w)) (take number us) ≡ take n us
+  front_same = ap (λ k. take k (take number us)) (let e : length (take n w) ≡ n = omega (arith, length-take n w) in e) ∙ take-take n number us ln
+
+  some_row : IsZero (take n row) → ⊥
+  some_row z = some (subst IsZero is z)
+
+  parts_same : primitive_part (take n row) ≡ (direction units (take number us) (take n w)).entries
+  parts_same = ap primitive_part is ∙ ap (λ ks. primitive_part (sized units ks (take n w))) (sym front_same)
+
+  pub direction_is : (e : List ℤ) → length e ≡ length row → IsReduced row e → record { units = take n us; entries = take n e } ≡ direction units (take number us) (take n w)
+  direction_is e le r =
+      ap₂ (λ ks es. record { units = ks; entries = es }) (sym front_same) (front_is row n past e lr le some_row r ∙ parts_same)
+
+  pub direction_long : IsTooLong row → entries_fit (direction units (take number us) (take n w)) ≡ false
+  direction_long t =
+      elim (cases_Bool (entries_fit (direction units (take number us) (take n w)))) [
+        | inr f ↦ f
+        | inl h ↦ absurd (front_long row n past some_row t (subst (Within (2 ^ 44)) (sym parts_same) (within_from (2 ^ 44) (direction units (take number us) (take n w)).entries h)))
+      ]

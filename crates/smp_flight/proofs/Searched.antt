@@ -1,0 +1,61 @@
+-- What a search that found a circuit leads to, and what an answer allows.
+use Rattle.std.proofs.Common.{◌≡◌, ℕ, ◌≤◌, ◌^◌, false, List, ℤ, pos, take, length, arith, refl, sym, ap, ◌∙◌, subst, inl, inr, length-take, get_or-take}
+use Rattle.std.proofs.lemmas.Bool.{cases_lt}
+use Rattle.std.proofs.lemmas.List.{take-take}
+use Rattle.std.specs.Int.RustNames.{unsigned_abs}
+use Rattle.smp_kernel.specs.Vectors.{entry, IsZero, Within}
+use Rattle.smp_kernel.specs.Searches.{found}
+use Rattle.smp_kernel.proofs.SearchLaw.{search, search_is}
+use Rattle.smp_values.specs.Values.{fractional_units}
+use Rattle.smp_flight.specs.States.{Units, Flight, IsFlight, columns_of}
+use Rattle.smp_flight.specs.Moves.{IsLine, IsOrder, sized}
+use Rattle.smp_flight.specs.Steps.{wide, direction, entries_fit, next_along, next_of, next_on, next}
+use Rattle.smp_flight.specs.Statements.{Finds}
+use Rattle.smp_flight.specs.Answers.{Allows, answer_of}
+use Rattle.smp_flight.specs.Kept.Lines.{IsPaddedIn}
+use Rattle.smp_flight.specs.declared.steps.Next.{Next as Answer}
+use Rattle.smp_flight.specs.declared.steps.Next.TheVariants as answers
+use Rattle.smp_flight.proofs.Entries.{frame_order}
+use Rattle.smp_flight.proofs.Nexts.{circuit_within, direction_line, independent_columns, is_direction, some_sized}
+
+module _ (units : Units) (s : Flight) (is_flight : IsFlight units s) (us : List ℕ) (number : ℕ) (lu : number ≤ length us) (ok : IsOrder s.shares (take number us)) (w : List ℤ) (n : ℕ) (lw : n ≤ length w) (e : found (take n w) ≡ search s.rows (columns_of units (take number us))) (past : (i : ℕ) → n ≤ i → entry w i ≡ pos 0) where
+  pub finds : Finds units s (take number us) (found (take n w))
+  finds = subst (Finds units s (take number us)) (sym e) (search_is s.rows (columns_of units (take number us)))
+
+  count : length (take n w) ≡ n
+  count = omega (arith, length-take n w)
+
+  pub found_fewer : n ≤ number
+  found_fewer = omega (arith, count, circuit_within units s (take number us) (take n w) finds, length-take number us)
+
+  pub found_small : (j : ℕ) → unsigned_abs (entry w j) ≤ 2 ^ 44
+  found_small j =
+      elim (cases_lt j n) [
+        | inr m ↦ rw (past j m) (omega arith)
+        | inl l ↦
+            (let within : Within (2 ^ 44) (take n w) = subst (Within (2 ^ 44)) (sym finds.is) finds.closes.fits in
+            let h : unsigned_abs (entry (take n w) j) ≤ 2 ^ 44 = within j (pos 0) (omega (arith, l, count)) in
+            rw (get_or-take n w j (pos 0) l) at h)
+      ]
+
+  pub found_units : take (length (take n w)) (take number us) ≡ take n us
+  found_units = ap (λ k. take k (take number us)) count ∙ take-take n number us found_fewer
+
+  pub found_some : IsZero (sized units (take n us) (take n w)) → ⊥
+  found_some z = some_sized units s is_flight (take number us) ok (take n w) finds (subst (λ ks. IsZero (sized units ks (take n w))) (sym found_units) z)
+
+  pub found_line : IsLine s.shares (direction units (take number us) (take n w))
+  found_line = direction_line units s.shares (take number us) ok (take n w) (direction units (take number us) (take n w)) (is_direction units s is_flight (take number us) ok (take n w) finds)
+
+  pub found_next : next_along units.requested.den s.shares (direction units (take number us) (take n w)) ≡ next_on units (take number us) s
+  found_next = ap (next_of units s.shares (take number us)) e
+
+  -- where its direction doesn't fit
+  pub found_wide : entries_fit (direction units (take number us) (take n w)) ≡ false → wide ≡ next_on units (take number us) s
+  found_wide h = (let f : wide ≡ next_along units.requested.den s.shares (direction units (take number us) (take n w)) = rw h refl in f) ∙ found_next
+
+-- what an answer of the frame's order allows
+pub allowed : (units : Units) (s : Flight) (result : Answer) → answer_of result ≡ next units s → IsPaddedIn result → Allows units s result
+allowed units s (answers.Move m) e padded = record { order = fractional_units s.shares; is_order = frame_order s.shares; is = sym e; padded = padded }
+allowed units s answers.Independent e padded = independent_columns units s (fractional_units s.shares) (sym e)
+allowed units s answers.Wide e padded = tt
