@@ -48,11 +48,15 @@ fn values_and_steps(rt: HostRuntime) -> Result<(), Fail> {
     assert!(rt; !steps.is_done());
     assert_eq!(rt; (steps.kind(), steps.bound()), (Kind::Pivot, 3));
     steps.advance(0);
+    assert!(rt; !steps.is_done());
     assert_eq!(rt; steps.bound(), 4);
     steps.advance(3);
+    assert!(rt; !steps.is_done());
     assert_eq!(rt; steps.bound(), 5);
     steps.advance(4);
-    assert!(rt; steps.is_done() && steps.is_one(2) && steps.is_one(3) && !steps.is_one(0));
+    assert!(rt; steps.is_done());
+    assert_eq!(rt; steps.len(), 4);
+    assert!(rt; !steps.is_one(0) && !steps.is_one(1) && steps.is_one(2) && steps.is_one(3));
 
     let room = Values::with_room(alloc, 2)?;
     assert_eq!(rt; (room.denominator(), room.numerator(1)), (1, 0));
