@@ -2,18 +2,18 @@ ghost use Rattle.std.specs.Prelude.{◌≡◌, ◌^◌, ◌≤◌, ◌<◌, Each
 
 use super::*;
 use smp_prob::requested;
-use smp_split::{Kind, Lines, Splitting, walk};
-use smp_tape::Tape;
+use smp_split::Kind;
+use smp_walks::walks;
 use std::alloc::Global;
 use std::test::Fail;
 
-// Whether the walk over the values of these lines, for so many units of these sizes, has the lines and selects these units.
-fn walks(
+// Whether, of n units by these sizes, the walk takes this path, and then selects these units.
+fn walks_of(
     alloc: Global,
     sizes: &[u32],
     n: u32,
-    lines: &[(Kind, u128, u128)],
-    selected: &[usize],
+    path: &[(Kind, u128, u128)],
+    units: &[usize],
 ) -> Result<bool, Fail>
     requires few { length sizes.now ≤ 200000 }
     requires small { EachIndex sizes.now (λ i. slice_index sizes.now i < 2 ^ 31) }
@@ -22,24 +22,7 @@ fn walks(
     let request = requested(alloc, sizes, n)?;
     let design = Brewer::new(alloc, &request)?;
     let mut state = design.start(alloc)?;
-    let mut values = Vec::new(alloc);
-    for &(_, bound, value) in lines {
-        if bound > 1 {
-            values.push(value)?;
-        }
-    }
-    let mut tape = Tape::from_values(alloc, values.as_slice())?;
-    let mut path = Lines::new(alloc);
-    walk(&design, &mut state, &mut tape, &mut path)?;
-    if !design.done(&state) || path.as_slice() != lines {
-        return Ok(false);
-    }
-    for unit in 0..design.units() {
-        if design.selected(&state, unit) != selected.contains(&unit) {
-            return Ok(false);
-        }
-    }
-    Ok(true)
+    Ok(walks(alloc, &design, &mut state, path, units)?)
 }
 
 // So many offers that are refused, each with its two lines.
@@ -69,7 +52,7 @@ fn offers(rt: HostRuntime) -> Result<(), Fail> {
         (Kind::Offer, 6, 3),
         (Kind::Take, 9, 0),
     ];
-    assert!(rt; walks(alloc, &[1, 2, 3, 4], 2, lines.as_slice(), &[2, 3])?);
+    assert!(rt; walks_of(alloc, &[1, 2, 3, 4], 2, lines.as_slice(), &[2, 3])?);
 
     // Of units of one size no offer is refused.
     let lines = [
@@ -78,10 +61,10 @@ fn offers(rt: HostRuntime) -> Result<(), Fail> {
         (Kind::Offer, 2, 1),
         (Kind::Take, 1, 0),
     ];
-    assert!(rt; walks(alloc, &[1, 1, 1], 2, lines.as_slice(), &[0, 2])?);
+    assert!(rt; walks_of(alloc, &[1, 1, 1], 2, lines.as_slice(), &[0, 2])?);
 
     // Where all units are certain, none is free.
-    assert!(rt; walks(alloc, &[1], 1, &[], &[])?);
+    assert!(rt; walks_of(alloc, &[1], 1, &[], &[])?);
     Ok(())
 }
 
@@ -95,7 +78,7 @@ fn too_many_refusals(rt: HostRuntime) -> Result<(), Fail> {
     lines.push((Kind::Spent, 1, 0))?;
     lines.push((Kind::Pivot, 4, 0))?;
     lines.push((Kind::Pivot, 5, 4))?;
-    assert!(rt; walks(alloc, &[1, 2, 2], 2, lines.as_slice(), &[0, 2])?);
+    assert!(rt; walks_of(alloc, &[1, 2, 2], 2, lines.as_slice(), &[0, 2])?);
 
     // 64 times four, of which some come before the second unit is taken.
     let mut lines = Vec::new(alloc);
@@ -106,6 +89,6 @@ fn too_many_refusals(rt: HostRuntime) -> Result<(), Fail> {
     lines.push((Kind::Spent, 1, 0))?;
     lines.push((Kind::Pivot, 4, 0))?;
     lines.push((Kind::Pivot, 5, 4))?;
-    assert!(rt; walks(alloc, &[1, 2, 2, 2], 3, lines.as_slice(), &[0, 1, 3])?);
+    assert!(rt; walks_of(alloc, &[1, 2, 2, 2], 3, lines.as_slice(), &[0, 1, 3])?);
     Ok(())
 }

@@ -1,49 +1,21 @@
-ghost use Rattle.std.specs.Prelude.{◌≡◌, ◌*◌, ◌^◌, ◌≤◌, ◌<◌, ◌&&◌, nat_lt, length, IsTrue, IfOk};
-ghost use Rattle.std.specs.List.{list_all};
+ghost use Rattle.std.specs.Prelude.{◌≤◌};
 ghost use Rattle.smp_prob.specs.Requests.{IsRequest};
 
 use super::*;
-use smp_frac::NoMemory;
 use smp_frame::Numbers;
-use smp_prob::{Places, Request, Shapes, requested};
-use smp_split::{Kind, Lines, Splitting, walk};
-use smp_tape::Tape;
+use smp_prob::{Request, requested};
+use smp_split::Kind;
+use smp_walks::walks;
 use std::alloc::Global;
 use std::test::Fail;
 
-// Whether the walk from this state over these values has these lines and selects these units.
-fn walks<S: Splitting>(
-    alloc: Global,
-    design: &S,
-    state: &mut S::State,
-    values: &[u128],
-    lines: &[(Kind, u128, u128)],
-    selected: &[usize],
-) -> Result<bool, Fail>
-    requires { S.belongs design.now state.old }
-{
-    let mut tape = Tape::from_values(alloc, values)?;
-    let mut path = Lines::new(alloc);
-    walk(design, state, &mut tape, &mut path)?;
-    if !design.done(state) || path.as_slice() != lines {
-        return Ok(false);
-    }
-    for unit in 0..design.units() {
-        if design.selected(state, unit) != selected.contains(&unit) {
-            return Ok(false);
-        }
-    }
-    Ok(true)
-}
-
-// The same from the first state of the design of a request over these points.
+// Whether the walk over units at these points takes this path, and then selects these units.
 fn walks_over<const K: usize>(
     alloc: Global,
     request: &Request,
     coords: &[[i32; K]],
-    values: &[u128],
-    lines: &[(Kind, u128, u128)],
-    selected: &[usize],
+    path: &[(Kind, u128, u128)],
+    units: &[usize],
 ) -> Result<bool, Fail>
     requires request { IsRequest request.now }
     requires dimensions { (1 ≤ K) × (K ≤ 4) }
@@ -53,31 +25,7 @@ fn walks_over<const K: usize>(
     }
     let design = LocalPivotal::new(alloc, request, coords)?;
     let mut state = design.start(alloc)?;
-    walks(alloc, &design, &mut state, values, lines, selected)
-}
-
-// A request whose shapes needn't add up to the total.
-fn request(
-    alloc: Global,
-    free: &[usize],
-    shape: &[u32],
-    r: u32,
-    total: u64,
-) -> Result<Request, NoMemory>
-    requires few { length free.now ≤ 200000 }
-    requires paired { length shape.now ≡ length free.now }
-    requires shapes { IsTrue (list_all (λ z. nat_lt 0 z && nat_lt z (2 ^ 31) && nat_lt (z * r) total) shape.now) }
-    requires narrow { total < 2 ^ 49 }
-    requires drawn { 1 ≤ length free.now → 1 ≤ r }
-    ensures { IfOk result IsRequest }
-{
-    Ok(Request {
-        certain: Places::from_slice(alloc, &[])?,
-        free: Places::from_slice(alloc, free)?,
-        shape: Shapes::from_slice(alloc, shape)?,
-        r,
-        total,
-    })
+    Ok(walks(alloc, &design, &mut state, path, units)?)
 }
 
 #[test]
@@ -97,7 +45,6 @@ fn walks_to_neighbours(rt: HostRuntime) -> Result<(), Fail> {
             alloc,
             &four,
             &[[0], [2], [4], [9]],
-            &[1, 1, 0, 0],
             steps.as_slice(),
             &[0, 2]
         )?
@@ -116,7 +63,6 @@ fn walks_to_neighbours(rt: HostRuntime) -> Result<(), Fail> {
             alloc,
             &two_of_three,
             &[[7, -7], [7, -7], [7, -7]],
-            &[2, 0, 0, 1],
             steps.as_slice(),
             &[1, 2]
         )?
@@ -136,7 +82,6 @@ fn walks_to_neighbours(rt: HostRuntime) -> Result<(), Fail> {
             alloc,
             &one_of_three,
             &[[low; 4], [high; 4], [high, low, low, low]],
-            &[0, 1, 0, 1],
             steps.as_slice(),
             &[2]
         )?
@@ -149,22 +94,13 @@ fn few_units(rt: HostRuntime) -> Result<(), Fail> {
     let alloc = rt.alloc();
     let two = requested(alloc, &[1, 2], 1)?;
     let steps = [(Kind::Choose, 2, 1), (Kind::Pivot, 3, 2)];
-    assert!(rt;
-        walks_over(
-            alloc,
-            &two,
-            &[[1, 2, 3], [4, 5, 6]],
-            &[1, 2],
-            steps.as_slice(),
-            &[0]
-        )?
-    );
-    let lone = request(alloc, &[0], &[1], 1, 3)?;
-    assert!(rt; walks_over(alloc, &lone, &[[5]], &[0], &[(Kind::Lone, 3, 0)], &[0])?);
-    assert!(rt; walks_over(alloc, &lone, &[[5]], &[1], &[(Kind::Lone, 3, 1)], &[])?);
-    assert!(rt; walks_over(alloc, &lone, &[[5]], &[2], &[(Kind::Lone, 3, 2)], &[])?);
-    let none = request(alloc, &[], &[], 0, 0)?;
-    assert!(rt; walks_over::<1>(alloc, &none, &[], &[], &[], &[])?);
+    assert!(rt; walks_over(alloc, &two, &[[1, 2, 3], [4, 5, 6]], steps.as_slice(), &[0])?);
+    let lone = Request::all_free(alloc, &[1], 1, 3)?;
+    assert!(rt; walks_over(alloc, &lone, &[[5]], &[(Kind::Lone, 3, 0)], &[0])?);
+    assert!(rt; walks_over(alloc, &lone, &[[5]], &[(Kind::Lone, 3, 1)], &[])?);
+    assert!(rt; walks_over(alloc, &lone, &[[5]], &[(Kind::Lone, 3, 2)], &[])?);
+    let none = requested(alloc, &[1], 1)?;
+    assert!(rt; walks_over::<1>(alloc, &none, &[], &[], &[])?);
     Ok(())
 }
 
@@ -190,15 +126,6 @@ fn coordinates_among_other_values(rt: HostRuntime) -> Result<(), Fail> {
         (Kind::Choose, 2, 0),
         (Kind::Pivot, 3, 1),
     ];
-    assert!(rt;
-        walks(
-            alloc,
-            &design,
-            &mut state,
-            &[0, 1, 0, 1],
-            steps.as_slice(),
-            &[2]
-        )?
-    );
+    assert!(rt; walks(alloc, &design, &mut state, steps.as_slice(), &[2])?);
     Ok(())
 }

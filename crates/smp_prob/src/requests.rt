@@ -1,11 +1,12 @@
-ghost use Rattle.std.specs.Prelude.{◌≡◌, ◌≤◌, position, nat_eq};
+ghost use Rattle.std.specs.Prelude.{◌≡◌, ◌≤◌, position, nat_eq, IfOk};
+ghost use Rattle.std.specs.List.{range_with_len};
 ghost use Rattle.smp_frac.specs.Fractions.{fraction};
 ghost use Rattle.smp_fractions.specs.Fractions.{Same, over};
 ghost use Rattle.smp_prob.specs.Standings.{Rises};
 
 use crate::{Places, Shapes, Standing};
 use smp_frac::{Frac, NoMemory, gcd};
-use std::alloc::Global;
+use std::alloc::{AllocError, Global};
 
 /// Requested inclusion probabilities: which units are certain, and which are free.
 ///
@@ -25,10 +26,26 @@ pub struct Request {
 }
 
 impl Request {
-    ghost use Rattle.std.specs.Prelude.{◌≡◌, IfOk, EachIndex, slice_index};
-    ghost use Rattle.smp_prob.specs.Requests.{IsRequest};
+    ghost use Rattle.std.specs.Prelude.{◌≡◌, EachIndex, slice_index};
+    ghost use Rattle.smp_prob.specs.Requests.{IsRequest, all_free};
     ghost use Rattle.smp_prob.specs.Standings.{IsRising, standing, free_fraction, asked_fraction};
     ghost use Rattle.smp_prob.specs.Shares.{common_divisor, common_denominator, numerators};
+
+    /// The request in which every unit is free: unit i is selected with the probability `shapes[i] * r / total`. The
+    /// number of units that are selected needn't be whole.
+    pub fn all_free(alloc: Global, shapes: &[u32], r: u32, total: u64) -> Result<Request, NoMemory>
+        requires { IsRequest (all_free shapes.now r total) }
+        ensures value { IfOk result (λ request. request ≡ all_free shapes.now r total) }
+        ensures request { IfOk result IsRequest }
+    {
+        Ok(Request {
+            certain: Places::from_vec(Vec::new(alloc)),
+            free: Places::from_vec(first_places(alloc, shapes.len())?),
+            shape: Shapes::from_slice(alloc, shapes)?,
+            r,
+            total,
+        })
+    }
 
     // The divisor that brings r / total to lowest terms.
     fn common_divisor(&self) -> u128
@@ -101,6 +118,13 @@ impl Request {
             Standing::Never => lowest(0, 1),
         }
     }
+}
+
+// The places of so many units, in order.
+fn first_places(alloc: Global, units: usize) -> Result<Vec<usize>, AllocError>
+    ensures { IfOk result (λ places. places.items ≡ range_with_len 0 units) }
+{
+    (0..units).collect(alloc)
 }
 
 // The fraction in lowest terms.
