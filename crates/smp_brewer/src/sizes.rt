@@ -1,7 +1,8 @@
 //! Sizes of units, of which 0 stands for a unit that is taken.
 
 ghost use Rattle.std.specs.Prelude.{◌≡◌, ℕ, ◌^◌, ◌<◌, List, length, sum, slice_index, slice_set, IfOk};
-ghost use Rattle.smp_brewer.specs.Sizes.{marks_taken, largest_size};
+ghost use Rattle.smp_values.specs.Largest.{largest_of};
+ghost use Rattle.smp_brewer.specs.Sizes.{marks_taken};
 ghost use Rattle.smp_brewer.specs.Kept.Sizes.{IsSummed, passing};
 
 use smp_frac::NoMemory;
@@ -80,7 +81,7 @@ impl OpenSizes {
 
     /// The largest size.
     pub(crate) fn largest(&self) -> u32
-        ensures { result ≡ largest_size self.now }
+        ensures { result ≡ largest_of self.now }
     {
         self.largest
     }
@@ -125,7 +126,7 @@ fn total_of(sizes: &[u32]) -> u64
 
 // The largest size, or 0 where there is none.
 fn largest_of(sizes: &[u32]) -> u32
-    ensures { result ≡ largest_size sizes.now }
+    ensures { result ≡ largest_of sizes.now }
 {
     let mut largest = 0;
     for &size in sizes {

@@ -181,6 +181,10 @@ plus-divided n = two_apart (λ a b. Same (divided (plus a b) n) (plus (divided a
 pub times-divided : (n : ℕ) (a b : Fraction) → Same (divided (times a b) n) (times a (divided b n))
 times-divided n = two_apart (λ a b. Same (divided (times a b) n) (times a (divided b n))) (λ p p' d h q q' e k. record { cross = simp diffs (diff-same _ _ _ _ (omega arith)) })
 
+-- a mean, times the sum of its weights
+pub times-back : (n : ℕ) (a : Fraction) → 1 ≤ n → Same (times (whole n) (divided a n)) a
+times-back n a positive = same_trans (same_sym (times-divided n (whole n) a)) (divided-times n a positive)
+
 -- ---- inverses
 
 negated_same : (a b : Fraction) → Same a b → Same (negated a) (negated b)

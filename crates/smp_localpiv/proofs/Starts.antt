@@ -1,8 +1,6 @@
 -- A selection starts from any fractional values, and in particular from those of a request.
-use Rattle.std.proofs.Common.{◌≡◌, ℕ, ◌+◌, ◌≤◌, Bool, true, cond, List, [], ◌∷◌, length, map, replicate, get_or, suc, ◌<◌, arith, refl, sym, ap, ◌∙◌}
+use Rattle.std.proofs.Common.{◌≡◌, ℕ, ◌≤◌, Bool, true, List, [], ◌∷◌, length, map, replicate, get_or, suc, ◌<◌, arith, refl, sym, ap, ◌∙◌}
 use Rattle.std.specs.Prelude.{ℤ}
-use Rattle.std.specs.List.{count_by}
-use Rattle.std.proofs.lemmas.List.Sums.{sum_by-cons}
 use Rattle.smp_fractions.proofs.Fractions.{same_refl}
 use Rattle.smp_near.specs.Nearest.{all_living}
 use Rattle.smp_prob.specs.declared.requests.Request.{Request}
@@ -14,28 +12,16 @@ use Rattle.smp_split.proofs.Methods.{starts}
 use Rattle.smp_values.specs.Starts.{IsRequested}
 use Rattle.smp_values.specs.Values.{fractional, value_at}
 use Rattle.smp_values.proofs.Requests.{few_shares, requested_values, shares_fractional, shares_in_range}
-use Rattle.smp_localpiv.specs.Local.{IsLocal, local_tree, located_values, started}
-use Rattle.smp_localpiv.specs.Method.{method_of}
+use Rattle.smp_values.proofs.Units.{all_counted}
+use Rattle.smp_localpiv.specs.Local.{IsLocal, local_tree, located_values}
+use Rattle.smp_localpiv.specs.Method.{method_of, started}
 use Rattle.smp_localpiv.specs.Kept.States.{IsKept, IsOpen}
 use Rattle.smp_localpiv.proofs.Counts.{leaf_count}
 
--- ---- values that are all fractional
-
-module _ (den : ℕ) where
-  -- all their points are living
-  all_alive : (xs : List ℕ) → ((k : ℕ) → k < length xs → fractional den (get_or xs k 0) ≡ true) → replicate (length xs) true ≡ map (fractional den) xs
-  all_alive [] all = refl
-  all_alive (x ∷ xs) all = rw (all 0 (omega arith)) (ap (λ (rest : List Bool). true ∷ rest) (all_alive xs (λ k h. all (suc k) (omega arith))))
-
-  -- and they are as many as there are values
-  all_counted : (xs : List ℕ) → ((k : ℕ) → k < length xs → fractional den (get_or xs k 0) ≡ true) → count_by (fractional den) xs ≡ length xs
-  all_counted [] all = refl
-  all_counted (x ∷ xs) all =
-      let f : ℕ → ℕ = λ a. cond (fractional den a) 1 0 in
-      let one : f x ≡ 1 = rw (all 0 (omega arith)) refl in
-      let more : count_by (fractional den) (x ∷ xs) ≡ f x + count_by (fractional den) xs = sum_by-cons f x xs in
-      let rest : count_by (fractional den) xs ≡ length xs = all_counted xs (λ k h. all (suc k) (omega arith)) in
-      omega arith
+-- the points of values that are all fractional are all living
+all_alive : (den : ℕ) (xs : List ℕ) → ((k : ℕ) → k < length xs → fractional den (get_or xs k 0) ≡ true) → replicate (length xs) true ≡ map (fractional den) xs
+all_alive den [] all = refl
+all_alive den (x ∷ xs) all = rw (all 0 (omega arith)) (ap (λ (rest : List Bool). true ∷ rest) (all_alive den xs (λ k h. all (suc k) (omega arith))))
 
 -- the state that the code starts with
 pub first_kept : (dimensions : ℕ) (coords : List (List ℤ)) (s : Shares) → IsOpen dimensions coords s → IsKept (all_living coords).living s (length s.numer)

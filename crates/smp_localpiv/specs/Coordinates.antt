@@ -7,7 +7,11 @@ use Rattle.smp_localpiv.specs.declared.dimensions.Dimensions.TheVariants.{One, T
 -- the dimensions of points with so many coordinates, from 1 to 4
 abbrev pub dimensions_of : ℕ → Option Dimensions
 dimensions_of count =
-    if count == 1 then Some One else if count == 2 then Some Two else if count == 3 then Some Three else if count == 4 then Some Four else None
+    if count == 1 then Some One
+    else if count == 2 then Some Two
+    else if count == 3 then Some Three
+    else if count == 4 then Some Four
+    else None
 
 -- how many coordinates they have
 abbrev pub coordinate_count : Dimensions → ℕ

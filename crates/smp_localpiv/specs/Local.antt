@@ -3,8 +3,7 @@
 -- nearest of the others in a pivotal step (Deville and Tillé 1998). A unit that is left alone is settled by itself.
 use Rattle.std.specs.Prelude.{◌≡◌, ℕ, ◌+◌, ◌*◌, ◌^◌, ◌<◌, true, nat_lt, if◌then◌else◌, ℤ, List, length, map, Option, Some, None, is_some, unwrap_or}
 use Rattle.smp_near.specs.Nearest.{LivingPoints, nearest}
-use Rattle.smp_prob.specs.declared.requests.Request.{Request}
-use Rattle.smp_prob.specs.Shares.{Shares, shares_of}
+use Rattle.smp_prob.specs.Shares.{Shares}
 use Rattle.smp_split.specs.Parts.{equal_parts, moved}
 use Rattle.smp_split.specs.Trees.{Part, Tree}
 use Rattle.smp_split.specs.declared.kind.Kind.{Kind}
@@ -47,7 +46,8 @@ meeting s unit = moved (unchosen s) (pair_parts s.state unit (neighbour s unit))
 
 -- each fractional unit is chosen with the weight 1, in the order of the frame
 abbrev pub choice : Local → List (Part Local)
-choice s = equal_parts (fractional_count s.state) (λ place. choosing s (fractional_at s.state place))
+choice s =
+    equal_parts (fractional_count s.state) (λ place. choosing s (fractional_at s.state place))
 
 -- the only fractional unit is settled by itself
 abbrev pub settling : Local → List (Part Local)
@@ -60,7 +60,8 @@ parts_from s None = if nat_lt 1 (fractional_count s.state) then choice s else se
 
 -- the kind of the next step
 abbrev pub kind_of : Local → Kind
-kind_of s = if is_some s.chosen then Pivot else if nat_lt 1 (fractional_count s.state) then Choose else Lone
+kind_of s =
+    if is_some s.chosen then Pivot else if nat_lt 1 (fractional_count s.state) then Choose else Lone
 
 -- The draw tree over so many units. It is done where no unit is fractional, and selects the units of value 1.
 abbrev pub local_tree : ℕ → Tree Local
@@ -92,7 +93,3 @@ pub record IsLocal (units : ℕ) (s : Local) : Type 0 where
   pub few : units < 2 ^ 64
   pub placed : length s.coords ≡ units
   pub meets : IsChosen s.state s.chosen
-
--- the state before the first step, with the requested values
-abbrev pub started : Request → List (List ℤ) → Local
-started request coords = located_values coords (shares_of request)

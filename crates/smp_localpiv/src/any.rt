@@ -4,9 +4,8 @@ ghost use Rattle.std.specs.Prelude.{◌≡◌, ◌≤◌, length, IfOk};
 ghost use Rattle.smp_prob.specs.Requests.{IsRequest};
 ghost use Rattle.smp_split.specs.Methods.{Starts};
 ghost use Rattle.smp_values.specs.Starts.{IsRequested};
-ghost use Rattle.smp_localpiv.specs.Coordinates.{coordinate_count, points_from};
-ghost use Rattle.smp_localpiv.specs.Local.{started};
-ghost use Rattle.smp_localpiv.specs.Method.{method_of};
+ghost use Rattle.smp_localpiv.specs.Coordinates.{points_from};
+ghost use Rattle.smp_localpiv.specs.Method.{method_of, started, started_from};
 
 use crate::design::LocalPivotal;
 use crate::dimensions::{Dimensions, points};
@@ -69,15 +68,25 @@ impl Model for AnyLocalState {
     ghost view = { λ a. state_in a.state };
 }
 
-// What is said of a design or a state, whatever the number of its coordinates.
+// Whatever the number of coordinates: a design with so many; its state; or what is said of either.
 macro_rules! in_each {
-    ($kind:ident, $of:expr, $inner:ident => $answer:expr) => {
-        match $of {
-            $kind::One($inner) => $answer,
-            $kind::Two($inner) => $answer,
-            $kind::Three($inner) => $answer,
-            $kind::Four($inner) => $answer,
+    (of [$($count:ident),*] design $dimensions:expr => $made:expr) => {
+        match $dimensions {
+            $(Dimensions::$count => Ok(AnyLocalPivotal { design: Designs::$count($made) }),)*
         }
+    };
+    (of [$($count:ident),*] state $of:expr, $design:ident => $made:expr) => {
+        match $of {
+            $(Designs::$count($design) => Ok(AnyLocalState { state: States::$count($made) }),)*
+        }
+    };
+    (of [$($count:ident),*] $kind:ident, $of:expr, $inner:ident => $answer:expr) => {
+        match $of {
+            $($kind::$count($inner) => $answer,)*
+        }
+    };
+    ($($said:tt)*) => {
+        in_each!(of [One, Two, Three, Four] $($said)*)
     };
 }
 
@@ -95,24 +104,12 @@ impl AnyLocalPivotal {
     ) -> Result<AnyLocalPivotal, NoMemory>
         requires request { IsRequest request.now }
         requires paired { length values.now ≡ length request.now.free }
-        ensures design { IfOk result (λ design. design ≡
-            started request.now (points_from (coordinate_count dimensions) place values.now)) }
+        ensures design { IfOk result (λ design.
+            design ≡ started_from request.now dimensions place values.now) }
         ensures requested { IfOk result (λ design.
             IsRequested (method_of design).tree request.now design) }
     {
-        macro_rules! located {
-            ($variant:ident) => {
-                Ok(AnyLocalPivotal {
-                    design: Designs::$variant(located(alloc, request, place, values)?),
-                })
-            };
-        }
-        match dimensions {
-            Dimensions::One => located!(One),
-            Dimensions::Two => located!(Two),
-            Dimensions::Three => located!(Three),
-            Dimensions::Four => located!(Four),
-        }
+        in_each!(design dimensions => located(alloc, request, place, values)?)
     }
 
     /// The state before the first step. Over all draws, each unit is selected with the probability that is its value, and
@@ -121,19 +118,7 @@ impl AnyLocalPivotal {
         ensures state { IfOk result (λ state. state ≡ self.now) }
         ensures starts { IfOk result (Starts (method_of self.now)) }
     {
-        macro_rules! started {
-            ($variant:ident, $design:expr) => {
-                Ok(AnyLocalState {
-                    state: States::$variant($design.start(alloc)?),
-                })
-            };
-        }
-        match &self.design {
-            Designs::One(design) => started!(One, design),
-            Designs::Two(design) => started!(Two, design),
-            Designs::Three(design) => started!(Three, design),
-            Designs::Four(design) => started!(Four, design),
-        }
+        in_each!(state &self.design, design => design.start(alloc)?)
     }
 }
 

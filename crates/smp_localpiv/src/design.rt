@@ -5,9 +5,9 @@ ghost use Rattle.smp_near.specs.Nearest.{all_living};
 ghost use Rattle.smp_prob.specs.Requests.{IsRequest};
 ghost use Rattle.smp_split.specs.Methods.{Starts};
 ghost use Rattle.smp_values.specs.Starts.{IsRequested};
-ghost use Rattle.smp_localpiv.specs.Local.{Local, located_values, started};
+ghost use Rattle.smp_localpiv.specs.Local.{Local, located_values};
 ghost use Rattle.smp_localpiv.specs.Kept.States.{IsOpen};
-ghost use Rattle.smp_localpiv.specs.Method.{method_of};
+ghost use Rattle.smp_localpiv.specs.Method.{method_of, started};
 
 use crate::state::LocalState;
 use smp_frac::NoMemory;

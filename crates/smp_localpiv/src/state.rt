@@ -2,7 +2,7 @@
 
 ghost use Rattle.std.specs.Prelude.{◌≡◌, ◌^◌, ◌<◌, ◌≤◌, true, false, length, None};
 ghost use Rattle.smp_split.specs.Trees.{weight_sum, picked};
-ghost use Rattle.smp_values.specs.Values.{fractional_at, fractional_count, is_fractional, is_one, is_settled, with_one};
+ghost use Rattle.smp_values.specs.Values.{fractional_count, is_fractional, is_one, is_settled, with_one};
 ghost use Rattle.smp_localpiv.specs.Local.{IsLocal, Local, MayMeet, kind_of, located_values, meeting, neighbour, parts_from, settling};
 ghost use Rattle.smp_localpiv.specs.Kept.States.{IsKept};
 ghost use Rattle.smp_localpiv.specs.Laws.Neighbours.{IsMet};
@@ -30,24 +30,6 @@ impl<const K: usize> Model for LocalState<K> {
     ghost view = { λ a. record { coords = a.points.coords; state = a.values; chosen = a.chosen } };
 
     ghost invariant = { λ a. IsKept a.points.living a.values a.left };
-}
-
-// The fractional unit at a place among them, in order.
-fn fractional_at(values: &Values, place: usize) -> usize
-    requires { place < fractional_count values.now }
-    ensures unit { result ≡ fractional_at values.now place }
-    ensures open_at { is_fractional values.now result ≡ true }
-{
-    let mut before = 0;
-    for unit in 0..values.len() {
-        if values.is_fractional(unit) {
-            if before == place {
-                return unit;
-            }
-            before += 1;
-        }
-    }
-    unreachable!()
 }
 
 impl<const K: usize> LocalState<K> {
@@ -113,7 +95,7 @@ impl<const K: usize> LocalState<K> {
             Some(unit) => self.meet(unit, draw),
             None if self.left > 1 => {
                 let place = draw as usize;
-                self.chosen = Some(fractional_at(&self.values, place));
+                self.chosen = Some(self.values.fractional_at(place));
             }
             None => self.settle_alone(draw),
         }
@@ -177,7 +159,7 @@ impl<const K: usize> LocalState<K> {
         requires within { draw < weight_sum (settling self.old) }
         ensures { self.new ≡ picked self.old (settling self.old) draw }
     {
-        let unit = fractional_at(&self.values, 0);
+        let unit = self.values.fractional_at(0);
         let wins = draw < self.values.numerator(unit);
         let settled = if wins { self.values.denominator() } else { 0 };
         self.set_value(unit, settled);

@@ -1,23 +1,14 @@
--- The design of a request by any procedure: one list of the methods, each with its design, its states and what it owes.
-use Rattle.std.specs.Prelude.{ℤ, List, Option, Some, None, refl}
+-- The design of a request by any procedure, and what it owes. Each method has a row in each of two
+-- lists: how it starts, and how its states stand among those of all methods.
+use Rattle.std.specs.Prelude.{◌≡◌, ℤ, List, Option, Some, None, refl}
 use Rattle.smp_prob.specs.declared.requests.Request.{Request}
-use Rattle.smp_prob.specs.Shares.{Shares}
 use Rattle.smp_split.specs.Methods.{Method}
-use Rattle.smp_split.specs.Orders.{Ordered}
 use Rattle.smp_split.proofs.Methods.{embedded_method}
-use Rattle.smp_pivotal.specs.Pivotal as pivotal
-use Rattle.smp_pivotal.specs.Method as of_pivotal
-use Rattle.smp_systematic.specs.Systematic as systematic
-use Rattle.smp_systematic.specs.Method as of_systematic
-use Rattle.smp_minsup.specs.Support as support
-use Rattle.smp_minsup.specs.Method as of_support
-use Rattle.smp_brewer.specs.Brewer as brewer
-use Rattle.smp_brewer.specs.Brewer.{Brewing}
-use Rattle.smp_brewer.specs.Method as of_brewer
-use Rattle.smp_localpiv.specs.Local as local
-use Rattle.smp_localpiv.specs.Local.{Local}
-use Rattle.smp_localpiv.specs.Coordinates.{coordinate_count, points_from}
-use Rattle.smp_localpiv.specs.Method as of_local
+use Rattle.smp_pivotal.specs.Method as pivotal
+use Rattle.smp_systematic.specs.Method as systematic
+use Rattle.smp_minsup.specs.Method as support
+use Rattle.smp_brewer.specs.Method as brewer
+use Rattle.smp_localpiv.specs.Method as local
 use Rattle.smp_methods.specs.declared.procedure.Procedure.{Procedure}
 use Rattle.smp_methods.specs.declared.procedure.Procedure.TheVariants as procedure
 use Rattle.smp_methods.specs.declared.any.AnyDesign.{AnyDesign}
@@ -25,47 +16,50 @@ use Rattle.smp_methods.specs.declared.any.AnyDesign.TheVariants as designs
 use Rattle.smp_methods.specs.declared.any.AnyState.{AnyState}
 use Rattle.smp_methods.specs.declared.any.AnyState.TheVariants as states
 
--- the design of a request by a procedure, with the requested values; the values of the free units serve as coordinates
+-- The design of a request by a procedure, with the requested values. The values of the free units
+-- serve as coordinates.
 abbrev pub design_of : Procedure → Request → List (List ℤ) → AnyDesign
-design_of (procedure.Pivotal order) request values = designs.Pivotal (pivotal.started request order)
-design_of (procedure.Systematic order) request values = designs.Systematic (systematic.started request order)
-design_of procedure.MinimumSupport request values = designs.MinimumSupport (support.started request)
+design_of (procedure.Pivotal order) request values =
+    designs.Pivotal (pivotal.started request order)
+design_of (procedure.Systematic order) request values =
+    designs.Systematic (systematic.started request order)
+design_of procedure.MinimumSupport request values =
+    designs.MinimumSupport (support.started request)
 design_of procedure.Brewer request values = designs.Brewer (brewer.started request)
-design_of (procedure.LocalPivotal dimensions) request values = designs.LocalPivotal (local.started request (points_from (coordinate_count dimensions) 0 values))
+design_of (procedure.LocalPivotal dimensions) request values =
+    designs.LocalPivotal (local.started_from request dimensions 0 values)
+
+-- One method's design among all: what the method owes; the design, which is seen as its first state;
+-- `into`, which puts the method's states among those of all methods, and `out`, which gives them back.
+pub data Variant : Type 1 where
+  variant : {State : Type 0} → Method State → State → (into : State → AnyState)
+      → (out : AnyState → Option State) → ((state : State) → out (into state) ≡ Some state)
+      → Variant
+
+-- the list of the methods
+abbrev pub variant_of : AnyDesign → Variant
+variant_of (designs.Pivotal s) = variant (pivotal.method_of s) s states.Pivotal
+    (elim [ states.Pivotal state ↦ Some state | other ↦ None ]) (λ _. refl)
+variant_of (designs.Systematic s) = variant (systematic.method_of s) s states.Systematic
+    (elim [ states.Systematic state ↦ Some state | other ↦ None ]) (λ _. refl)
+variant_of (designs.MinimumSupport s) = variant (support.method_of s) s states.MinimumSupport
+    (elim [ states.MinimumSupport state ↦ Some state | other ↦ None ]) (λ _. refl)
+variant_of (designs.Brewer s) = variant (brewer.method_of s) s states.Brewer
+    (elim [ states.Brewer state ↦ Some state | other ↦ None ]) (λ _. refl)
+variant_of (designs.LocalPivotal s) = variant (local.method_of s) s states.LocalPivotal
+    (elim [ states.LocalPivotal state ↦ Some state | other ↦ None ]) (λ _. refl)
+
+-- the method, and the design's first state, among those of all methods
+abbrev pub method_among : Variant → Method AnyState
+method_among (variant method design into out back) = embedded_method into out back method
+
+abbrev pub state_among : Variant → AnyState
+state_among (variant method design into out back) = into design
 
 -- the state before the first step
 abbrev pub first_state : AnyDesign → AnyState
-first_state (designs.Pivotal design) = states.Pivotal design
-first_state (designs.Systematic design) = states.Systematic design
-first_state (designs.MinimumSupport design) = states.MinimumSupport design
-first_state (designs.Brewer design) = states.Brewer design
-first_state (designs.LocalPivotal design) = states.LocalPivotal design
-
--- the state as one of each method
-abbrev pub pivotal_state : AnyState → Option (Ordered Shares)
-pivotal_state (states.Pivotal state) = Some state
-pivotal_state other = None
-
-abbrev pub systematic_state : AnyState → Option (Ordered Shares)
-systematic_state (states.Systematic state) = Some state
-systematic_state other = None
-
-abbrev pub support_state : AnyState → Option Shares
-support_state (states.MinimumSupport state) = Some state
-support_state other = None
-
-abbrev pub brewer_state : AnyState → Option Brewing
-brewer_state (states.Brewer state) = Some state
-brewer_state other = None
-
-abbrev pub local_state : AnyState → Option Local
-local_state (states.LocalPivotal state) = Some state
-local_state other = None
+first_state design = state_among (variant_of design)
 
 -- what the design's method owes: its draw tree, which states are its own, and the law of its splits
 abbrev pub method_of : AnyDesign → Method AnyState
-method_of (designs.Pivotal design) = embedded_method states.Pivotal pivotal_state (λ s. refl) (of_pivotal.method_of design)
-method_of (designs.Systematic design) = embedded_method states.Systematic systematic_state (λ s. refl) (of_systematic.method_of design)
-method_of (designs.MinimumSupport design) = embedded_method states.MinimumSupport support_state (λ s. refl) (of_support.method_of design)
-method_of (designs.Brewer design) = embedded_method states.Brewer brewer_state (λ s. refl) (of_brewer.method_of design)
-method_of (designs.LocalPivotal design) = embedded_method states.LocalPivotal local_state (λ s. refl) (of_local.method_of design)
+method_of design = method_among (variant_of design)

@@ -1,3 +1,4 @@
 pub mod Procedures
 pub mod Designs
 pub mod Starts
+pub mod Kept

@@ -9,16 +9,18 @@ use Rattle.smp_values.specs.Starts.{IsWhole}
 use Rattle.smp_methods.specs.declared.procedure.Procedure.{Procedure}
 use Rattle.smp_methods.specs.declared.procedure.Procedure.TheVariants as procedure
 
--- the procedure of a method, where so many columns of values are read; none where the method isn't built, or can't be used with so many
+-- The procedure of a method, where so many columns of values are read. There is none where the method
+-- isn't built, or can't be used with so many.
 abbrev pub procedure_of : Method → Order → ℕ → Option Procedure
 procedure_of method.Pivotal order columns = Some (procedure.Pivotal order)
 procedure_of method.Systematic order columns = Some (procedure.Systematic order)
 procedure_of method.MinimumSupport order columns = Some procedure.MinimumSupport
 procedure_of method.Brewer order columns = Some procedure.Brewer
-procedure_of method.LocalPivotal order columns = option_map procedure.LocalPivotal (dimensions_of columns)
+procedure_of method.LocalPivotal order columns =
+    option_map procedure.LocalPivotal (dimensions_of columns)
 procedure_of other order columns = None
 
--- what a procedure needs of the number of units drawn: minimum support and Brewer's method that it is whole, the others nothing
+-- what a procedure needs of the number of units drawn: that it is whole, or nothing
 abbrev pub NeedsWhole : Procedure → Request → Type 0
 NeedsWhole procedure.MinimumSupport request = IsWhole request
 NeedsWhole procedure.Brewer request = IsWhole request

@@ -1,56 +1,120 @@
 //! The design of a request by any of the methods, and its states.
 
-ghost use Rattle.smp_methods.specs.Designs.{method_of};
+ghost use Rattle.std.specs.Prelude.{◌≡◌, ◌<◌, false, length, IfOk, OnOk};
+ghost use Rattle.smp_prob.specs.Requests.{IsRequest};
+ghost use Rattle.smp_split.specs.Trees.{weight_sum};
+ghost use Rattle.smp_methods.specs.Designs.{design_of, first_state, method_of, variant_of};
+ghost use Rattle.smp_methods.specs.Kept.Alone.{RequestedAlone, StartsAlone, StepsAlone};
+ghost use Rattle.smp_methods.specs.Procedures.{NeedsWhole};
 
-use smp_brewer::{Brewer, BrewerState};
-use smp_localpiv::{AnyLocalPivotal, AnyLocalState};
-use smp_minsup::{MinimumSupport, SupportState};
-use smp_pivotal::{Pivotal, PivotalState};
+use crate::Procedure;
+use smp_frac::NoMemory;
+use smp_frame::Numbers;
+use smp_prob::Request;
 use smp_split::{Kind, Splitting};
-use smp_systematic::{Systematic, SystematicState};
+use std::alloc::Global;
 
-/// The design of a request by a procedure. Its units are the request's free units.
+/// The design of a request by a procedure, in the variant of its method. Its units are the
+/// request's free units.
 #[derive(Drop)]
 pub enum AnyDesign {
-    /// By pivotal steps.
-    Pivotal(Pivotal),
-    /// Systematic.
-    Systematic(Systematic),
-    /// With minimum support.
-    MinimumSupport(MinimumSupport),
-    /// By Brewer's method.
-    Brewer(Brewer),
-    /// By local pivotal steps.
-    LocalPivotal(AnyLocalPivotal),
+    Pivotal(smp_pivotal::Pivotal),
+    Systematic(smp_systematic::Systematic),
+    MinimumSupport(smp_minsup::MinimumSupport),
+    Brewer(smp_brewer::Brewer),
+    LocalPivotal(smp_localpiv::AnyLocalPivotal),
 }
 
-/// A state of a design: that of its method.
+/// A state of a design, in the variant of its method.
 #[derive(Drop)]
 pub enum AnyState {
-    /// By pivotal steps.
-    Pivotal(PivotalState),
-    /// Systematic.
-    Systematic(SystematicState),
-    /// With minimum support.
-    MinimumSupport(SupportState),
-    /// By Brewer's method.
-    Brewer(BrewerState),
-    /// By local pivotal steps.
-    LocalPivotal(AnyLocalState),
+    Pivotal(smp_pivotal::PivotalState),
+    Systematic(smp_systematic::SystematicState),
+    MinimumSupport(smp_minsup::SupportState),
+    Brewer(smp_brewer::BrewerState),
+    LocalPivotal(smp_localpiv::AnyLocalState),
 }
 
-// What the design of a method says of its state, whichever method it is; the last word is for a state of another method.
+// What the design of a method says, whichever method it is: of itself; a state that it makes; or of
+// a state, with the last word for a state of another method.
 macro_rules! by_method {
-    ($any:expr, $state:expr, ($design:ident, $inner:ident) => $answer:expr, $other:expr) => {
+    (of [$($method:ident),*] $any:expr, $design:ident => $answer:expr) => {
+        match $any {
+            $(AnyDesign::$method($design) => $answer,)*
+        }
+    };
+    (of [$($method:ident),*] $any:expr, $design:ident => state $answer:expr) => {
+        match $any {
+            $(AnyDesign::$method($design) => Ok(AnyState::$method($answer)),)*
+        }
+    };
+    (
+        of [$($method:ident),*]
+        $any:expr, $state:expr, ($design:ident, $inner:ident) => $answer:expr, $other:expr
+    ) => {
         match ($any, $state) {
-            (AnyDesign::Pivotal($design), AnyState::Pivotal($inner)) => $answer,
-            (AnyDesign::Systematic($design), AnyState::Systematic($inner)) => $answer,
-            (AnyDesign::MinimumSupport($design), AnyState::MinimumSupport($inner)) => $answer,
-            (AnyDesign::Brewer($design), AnyState::Brewer($inner)) => $answer,
-            (AnyDesign::LocalPivotal($design), AnyState::LocalPivotal($inner)) => $answer,
+            $((AnyDesign::$method($design), AnyState::$method($inner)) => $answer,)*
             _ => $other,
         }
     };
+    ($($said:tt)*) => {
+        by_method!(of [Pivotal, Systematic, MinimumSupport, Brewer, LocalPivotal] $($said)*)
+    };
+}
+
+impl AnyDesign {
+    /// The design of a request by a procedure. Each free unit has the value that is requested.
+    pub(crate) fn new(
+        alloc: Global,
+        procedure: Procedure,
+        request: &Request,
+        values: &[Numbers],
+    ) -> Result<AnyDesign, NoMemory>
+        requires request { IsRequest request.now }
+        requires whole { NeedsWhole procedure request.now }
+        requires paired { length values.now ≡ length request.now.free }
+        ensures design { IfOk result (λ design.
+            design ≡ design_of procedure request.now values.now) }
+        ensures requested { IfOk result (λ design.
+            RequestedAlone request.now (variant_of design)) }
+    {
+        match procedure {
+            Procedure::Pivotal(order) => Ok(AnyDesign::Pivotal(smp_pivotal::Pivotal::new(
+                alloc, request, order,
+            )?)),
+            Procedure::Systematic(order) => Ok(AnyDesign::Systematic(
+                smp_systematic::Systematic::new(alloc, request, order)?,
+            )),
+            Procedure::MinimumSupport => Ok(AnyDesign::MinimumSupport(
+                smp_minsup::MinimumSupport::new(alloc, request)?,
+            )),
+            Procedure::Brewer => Ok(AnyDesign::Brewer(smp_brewer::Brewer::new(alloc, request)?)),
+            Procedure::LocalPivotal(dimensions) => Ok(AnyDesign::LocalPivotal(
+                smp_localpiv::AnyLocalPivotal::new(alloc, request, dimensions, 0, values)?,
+            )),
+        }
+    }
+
+    /// The state before the first step.
+    pub(crate) fn start(&self, alloc: Global) -> Result<AnyState, NoMemory>
+        ensures state { IfOk result (λ state. state ≡ first_state self.now) }
+        ensures starts { OnOk result (StartsAlone (variant_of self.now)) }
+    {
+        by_method!(self, design => state design.start(alloc)?)
+    }
+
+    // Makes the step that a draw leads to, by the method itself.
+    #[tactic(auto, using(crate::proofs::Moved::bound_moved))]
+    fn step(&self, state: &mut AnyState, draw: u128)
+        requires state { (method_of self.now).belongs state.old }
+        requires going { (method_of self.now).tree.done state.old ≡ false }
+        requires within { draw < weight_sum ((method_of self.now).tree.parts state.old) }
+        ensures { StepsAlone (variant_of self.now) state.old state.new draw }
+    {
+        by_method!(
+            self, state, (design, inner) => return design.advance(inner, draw), unreachable!()
+        )
+    }
 }
 
 impl Splitting for AnyDesign {
@@ -63,13 +127,7 @@ impl Splitting for AnyDesign {
     ghost lawful = { λ design. (method_of design).lawful };
 
     fn units(&self) -> usize {
-        match self {
-            AnyDesign::Pivotal(design) => design.units(),
-            AnyDesign::Systematic(design) => design.units(),
-            AnyDesign::MinimumSupport(design) => design.units(),
-            AnyDesign::Brewer(design) => design.units(),
-            AnyDesign::LocalPivotal(design) => design.units(),
-        }
+        by_method!(self, design => design.units())
     }
 
     fn done(&self, state: &AnyState) -> bool {
@@ -85,9 +143,9 @@ impl Splitting for AnyDesign {
         by_method!(self, state, (design, inner) => design.bound(inner), 1)
     }
 
-    #[tactic(auto, using(crate::proofs::Moved::bound_moved, crate::proofs::Moved::picked_moved))]
+    #[tactic(auto, using(crate::proofs::Moved::steps_among))]
     fn advance(&self, state: &mut AnyState, draw: u128) {
-        by_method!(self, state, (design, inner) => design.advance(inner, draw), unreachable!())
+        self.step(state, draw);
     }
 
     fn selected(&self, state: &AnyState, unit: usize) -> bool {

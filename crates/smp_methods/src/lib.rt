@@ -1,7 +1,8 @@
 //! The selection methods as one design.
 //!
-//! A [`Procedure`] says how units are drawn. [`AnyDesign`] is the design of a request by a procedure: the free units of the request are its
-//! units, and its draw tree is that of the procedure's method. What a further method adds is a variant here and an arm in each list of methods.
+//! A [`Procedure`] says how units are drawn. [`AnyDesign`] is the design of a request by a procedure:
+//! the free units of the request are its units, and its draw tree is that of the procedure's method.
+//! What a further method adds is a variant here and a row in each list of methods, and no proof.
 #![tactic(auto)]
 
 mod any;

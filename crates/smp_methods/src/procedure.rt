@@ -15,14 +15,16 @@ pub enum Procedure {
     Systematic(Order),
     /// With minimum support (Deville and Tillé 1998).
     MinimumSupport,
-    /// By Brewer's method (Tillé 2006), made by offers that are taken or refused.
+    /// By offers that are taken or refused, in proportion to size (Tillé 2006).
     Brewer,
-    /// By local pivotal steps (Grafström, Lundström and Schelin 2012), with the first values of each unit as its coordinates.
+    /// By local pivotal steps (Grafström, Lundström and Schelin 2012), with the first values of
+    /// each unit as its coordinates.
     LocalPivotal(Dimensions),
 }
 
 impl Procedure {
-    /// The procedure of a design file's method, with the units in this order, over a frame of which so many columns of values are read.
+    /// The procedure of a design file's method, with the units in this order, over a frame of which
+    /// so many columns of values are read.
     /// `None` where the method isn't built, or can't be used with so many columns.
     pub fn of_method(method: Method, order: Order, columns: usize) -> Option<Procedure>
         ensures { result ≡ procedure_of method order columns }
@@ -33,7 +35,7 @@ impl Procedure {
             Method::MinimumSupport => Some(Procedure::MinimumSupport),
             Method::Brewer => Some(Procedure::Brewer),
             Method::LocalPivotal => {
-                Some(Procedure::LocalPivotal(Dimensions::of_coordinates(columns)?))
+                Dimensions::of_coordinates(columns).map(Procedure::LocalPivotal)
             }
             Method::Cube => None,
         }

@@ -6,14 +6,9 @@ ghost use Rattle.smp_methods.specs.Procedures.{NeedsWhole};
 ghost use Rattle.smp_methods.specs.Starts.{IsStarted};
 
 use crate::{AnyDesign, AnyState, Procedure};
-use smp_brewer::Brewer;
 use smp_frac::NoMemory;
 use smp_frame::Numbers;
-use smp_localpiv::AnyLocalPivotal;
-use smp_minsup::MinimumSupport;
-use smp_pivotal::Pivotal;
 use smp_prob::Request;
-use smp_systematic::Systematic;
 use std::alloc::Global;
 
 /// The design of a request, and the state before its first step.
@@ -25,21 +20,11 @@ pub struct Started {
     pub state: AnyState,
 }
 
-// A design of a method, and its first state.
-macro_rules! started {
-    ($alloc:expr, $method:ident, $design:expr) => {{
-        let design = $design?;
-        let state = design.start($alloc)?;
-        Ok(Started {
-            design: AnyDesign::$method(design),
-            state: AnyState::$method(state),
-        })
-    }};
-}
-
 impl Started {
-    /// Starts to draw the free units of a request by a procedure. There is a list of values for each of them, in their order; the local pivotal
-    /// method takes the first of these as coordinates.
+    /// Starts to draw the free units of a request by a procedure. There is a list of values for each
+    /// of them, in their order; a method that spreads the units over points takes the first of these
+    /// as coordinates.
+    #[tactic(auto, using(crate::proofs::Starts::is_started))]
     pub fn new(
         alloc: Global,
         procedure: Procedure,
@@ -51,22 +36,8 @@ impl Started {
         requires paired { length values.now ≡ length request.now.free }
         ensures { IfOk result (IsStarted procedure request.now values.now) }
     {
-        match procedure {
-            Procedure::Pivotal(order) => {
-                started!(alloc, Pivotal, Pivotal::new(alloc, request, order))
-            }
-            Procedure::Systematic(order) => {
-                started!(alloc, Systematic, Systematic::new(alloc, request, order))
-            }
-            Procedure::MinimumSupport => {
-                started!(alloc, MinimumSupport, MinimumSupport::new(alloc, request))
-            }
-            Procedure::Brewer => started!(alloc, Brewer, Brewer::new(alloc, request)),
-            Procedure::LocalPivotal(dimensions) => started!(
-                alloc,
-                LocalPivotal,
-                AnyLocalPivotal::new(alloc, request, dimensions, 0, values)
-            ),
-        }
+        let design = AnyDesign::new(alloc, procedure, request, values)?;
+        let state = design.start(alloc)?;
+        Ok(Started { design, state })
     }
 }

@@ -5,10 +5,12 @@ use Rattle.std.proofs.lemmas.Bool.{cases_Bool, cases_eq, cases_lt}
 use Rattle.std.proofs.lemmas.List.{get_or_past}
 use Rattle.std.proofs.lemmas.List.FromFn.{length-map-range_with_len, get_or-map-range_with_len}
 use Rattle.std.proofs.lemmas.List.Sums.{sum_by-set, count_by-le-length}
-use Rattle.smp_minsup.specs.Support.{is_larger, larger_units, largest, least}
+use Rattle.smp_minsup.specs.Support.{is_larger, larger_units, least}
 use Rattle.smp_split.proofs.NumberSums.{sums, sums_but, weight_true, weight_false}
 use Rattle.smp_minsup.specs.Laws.Ranks.{larger_of, larger_total, fewer_larger}
-use Rattle.smp_minsup.specs.Laws.Bounds.{largest-at, least-at, least_within}
+use Rattle.smp_values.specs.Largest.{largest_of}
+use Rattle.smp_values.proofs.Largest.{largest-at}
+use Rattle.smp_minsup.specs.Laws.Bounds.{least-at, least_within}
 use Rattle.smp_minsup.specs.Kept.Ranked.{RankedUnits, IsMostSmall, IsLeastLarge, IsParted, IsMixed, is_in, large_count, largest_small, least_large, placed}
 use Rattle.smp_minsup.proofs.Queues.{count-cons, none_passes}
 use Rattle.smp_minsup.proofs.Ranking.{placed_here, placed_other}
@@ -169,7 +171,7 @@ module _ (v : RankedUnits) (bound : ℕ) where
   pub for_length : (f : ℕ → ℕ) → length (map f (range_with_len 0 (length v.numer))) ≡ length v.numer
   for_length f = length-map-range_with_len f 0 (length v.numer)
 
-  largest_most : (m : ℕ) (xs : List ℕ) → ((k : ℕ) → k < length xs → get_or xs k 0 ≤ m) → largest xs ≤ m
+  largest_most : (m : ℕ) (xs : List ℕ) → ((k : ℕ) → k < length xs → get_or xs k 0 ≤ m) → largest_of xs ≤ m
   largest_most m [] h = omega arith
   largest_most m (x ∷ xs) h = omega (arith, h 0 (omega arith), largest_most m xs (λ k l. h (suc k) (omega (arith, l))))
 

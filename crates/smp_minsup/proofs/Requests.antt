@@ -7,7 +7,8 @@ use Rattle.smp_prob.specs.Requests.{IsRequest}
 use Rattle.smp_prob.specs.Shares.{numerators, common_denominator}
 use Rattle.smp_prob.proofs.Fractions.{denominator_positive, length-numerators, sum-numerators}
 use Rattle.smp_values.proofs.Requests.{shares_in_range, wider}
-use Rattle.smp_minsup.specs.Support.{IsSupport, draws_of, started}
+use Rattle.smp_minsup.specs.Method.{started}
+use Rattle.smp_minsup.specs.Support.{IsSupport, draws_of}
 use Rattle.smp_minsup.specs.Kept.Starts.{IsStart}
 use Rattle.smp_minsup.specs.Laws.Splits.{whole_sum, draws_are}
 

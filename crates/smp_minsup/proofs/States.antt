@@ -9,7 +9,8 @@ use Rattle.smp_values.specs.Values.{fractional, fractional_count, is_settled}
 use Rattle.smp_split.specs.Trees.{weight_sum, picked}
 use Rattle.smp_values.proofs.Fractional.{fractional_den, fractional_is, not_fractional}
 use Rattle.smp_values.proofs.Units.{none_fractional}
-use Rattle.smp_minsup.specs.Support.{IsSupport, is_larger, larger_units, draws_of, is_large, most_small, least_large as least_of, largest, least, lambda, settled, lowered, support_parts}
+use Rattle.smp_values.specs.Largest.{largest_of}
+use Rattle.smp_minsup.specs.Support.{IsSupport, is_larger, larger_units, draws_of, is_large, most_small, least_large as least_of, least, lambda, settled, lowered, support_parts}
 use Rattle.smp_split.proofs.NumberSums.{counts, sums_most, sums_less, weight_true, weight_false, counts_found, sum_by-list}
 use Rattle.smp_minsup.specs.Laws.Ranks.{larger_trans, not_itself, larger_units_are}
 use Rattle.smp_minsup.specs.Laws.Splits.{draws_are, large_positive, small_below, lambda_large, lambda_less, lowered_sum, lowered_belongs, fractional_count_is}
@@ -56,7 +57,7 @@ module _ (den : ℕ) (v : RankedUnits) (cut : IsCut den v) where
   -- what the state's own numbers are
   pub largest_small_most : largest_small v ≡ most_small s
   largest_small_most =
-      ap largest (for_same (length v.numer) (λ k. cond (is_large s k) 0 (get_or v.numer k 0)) (λ k. cond (is_in v.large k) 0 (get_or v.numer k 0)) 0 (λ k h. rw (cut_is k h) refl))
+      ap largest_of (for_same (length v.numer) (λ k. cond (is_large s k) 0 (get_or v.numer k 0)) (λ k. cond (is_in v.large k) 0 (get_or v.numer k 0)) 0 (λ k h. rw (cut_is k h) refl))
 
   pub least_large_least : least_large den v ≡ least_of s
   least_large_least =

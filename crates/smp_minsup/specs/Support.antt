@@ -1,18 +1,19 @@
 -- The minimum support design (Deville and Tillé 1998). The values of the units are numerators over one denominator, and they
 -- add up to a whole number r. In a step the r largest units are selected and the design ends, or it goes on without what
 -- this took of their values.
-use Rattle.std.specs.Prelude.{ℕ, ◌-◌, ◌/◌, ◌^◌, max, min, Bool, nat_lt, nat_eq, ◌&&◌, ◌||◌, if◌then◌else◌, List, [], ◌∷◌, length, map, slice_index}
+use Rattle.std.specs.Prelude.{ℕ, ◌-◌, ◌/◌, ◌^◌, min, Bool, nat_lt, nat_eq, ◌&&◌, ◌||◌, if◌then◌else◌, List, [], ◌∷◌, length, map, slice_index}
 use Rattle.std.specs.List.{sum, count_by, range_with_len}
-use Rattle.smp_prob.specs.declared.requests.Request.{Request}
-use Rattle.smp_prob.specs.Shares.{Shares, shares_of}
+use Rattle.smp_prob.specs.Shares.{Shares}
 use Rattle.smp_split.specs.Trees.{Part, Tree}
 use Rattle.smp_split.specs.declared.kind.Kind.TheVariants.{Support}
+use Rattle.smp_values.specs.Largest.{largest_of}
 use Rattle.smp_values.specs.Values.{AddTo, IsValues, values_tree}
 
 -- whether unit j counts as larger than unit k: its numerator is larger, or it is as large and comes later in the frame
 abbrev pub is_larger : List ℕ → ℕ → ℕ → Bool
 is_larger numer j k =
-    nat_lt (slice_index numer k) (slice_index numer j) || (nat_eq (slice_index numer k) (slice_index numer j) && nat_lt k j)
+    nat_lt (slice_index numer k) (slice_index numer j)
+    || (nat_eq (slice_index numer k) (slice_index numer j) && nat_lt k j)
 
 -- how many units count as larger than unit k
 abbrev pub larger_units : List ℕ → ℕ → ℕ
@@ -31,21 +32,18 @@ is_large s k = nat_lt (larger_units s.numer k) (draws_of s)
 abbrev pub for_units : Shares → (ℕ → ℕ) → List ℕ
 for_units s f = map f (range_with_len 0 (length s.numer))
 
--- the largest of some numbers, or 0; the least of them and a bound
-abbrev pub largest : List ℕ → ℕ
-largest [] = 0
-largest (a ∷ rest) = max a (largest rest)
-
+-- the least of some numbers and a bound
 abbrev pub least : ℕ → List ℕ → ℕ
 least bound [] = bound
 least bound (a ∷ rest) = min a (least bound rest)
 
 -- the largest numerator of the units that aren't among the r largest, and the least one of those that are
 abbrev pub most_small : Shares → ℕ
-most_small s = largest (for_units s (λ k. if is_large s k then 0 else slice_index s.numer k))
+most_small s = largest_of (for_units s (λ k. if is_large s k then 0 else slice_index s.numer k))
 
 abbrev pub least_large : Shares → ℕ
-least_large s = least s.den (for_units s (λ k. if is_large s k then slice_index s.numer k else s.den))
+least_large s =
+    least s.den (for_units s (λ k. if is_large s k then slice_index s.numer k else s.den))
 
 -- the weight of the part that ends the design
 abbrev pub lambda : Shares → ℕ
@@ -58,12 +56,15 @@ settled s = record { numer = for_units s (λ k. if is_large s k then s.den else 
 -- over the denominator less lambda: the r largest have their numerators less lambda, the others keep theirs
 abbrev pub lowered : Shares → Shares
 lowered s = record {
-  numer = for_units s (λ k. if is_large s k then slice_index s.numer k - lambda s else slice_index s.numer k);
+  numer = for_units s
+      (λ k. if is_large s k then slice_index s.numer k - lambda s else slice_index s.numer k);
   den = s.den - lambda s;
 }
 
 abbrev pub support_parts : Shares → List (Part Shares)
-support_parts s = record { weight = lambda s; state = settled s } ∷ record { weight = s.den - lambda s; state = lowered s } ∷ []
+support_parts s =
+    record { weight = lambda s; state = settled s }
+    ∷ record { weight = s.den - lambda s; state = lowered s } ∷ []
 
 abbrev pub support_tree : ℕ → Tree Shares
 support_tree units = values_tree units (λ _. Support) support_parts (λ fractional. fractional)
@@ -72,7 +73,3 @@ support_tree units = values_tree units (λ _. Support) support_parts (λ fractio
 pub record IsSupport (units : ℕ) (s : Shares) : Type 0 where
   pub values : IsValues units (2 ^ 126 - 1) s
   pub whole : AddTo (draws_of s) s
-
--- the state before the first step, with the requested values
-abbrev pub started : Request → Shares
-started request = shares_of request

@@ -6,8 +6,7 @@ ghost use Rattle.smp_prob.specs.Shares.{Shares};
 ghost use Rattle.smp_split.specs.Leaves.{leaves};
 ghost use Rattle.smp_split.specs.Methods.{Starts};
 ghost use Rattle.smp_values.specs.Starts.{IsRequested};
-ghost use Rattle.smp_minsup.specs.Support.{started};
-ghost use Rattle.smp_minsup.specs.Method.{method_of};
+ghost use Rattle.smp_minsup.specs.Method.{method_of, started};
 ghost use Rattle.smp_minsup.specs.Kept.Starts.{IsStart};
 
 use crate::ranked::Ranked;
@@ -43,7 +42,8 @@ impl MinimumSupport {
         requires request { IsRequest request.now }
         requires whole { sum request.now.shape ≡ request.now.total }
         ensures design { IfOk result (λ design. design ≡ started request.now) }
-        ensures requested { IfOk result (λ design. IsRequested (method_of design).tree request.now design) }
+        ensures requested { IfOk result (λ design.
+            IsRequested (method_of design).tree request.now design) }
     {
         let values = Values::requested(alloc, request)?;
         let draws = if values.len() == 0 {

@@ -31,7 +31,9 @@ impl Model for Ranked {
 
     ghost view = { λ a. ranked_of a.raw.items a.large.items a.offset };
 
-    ghost invariant = { λ a. IsKept a.raw.items a.large.items a.offset (heap_items a.smalls) (heap_items a.larges) (heap_capacity a.smalls) (heap_capacity a.larges) };
+    ghost invariant = { λ a. IsKept a.raw.items a.large.items a.offset
+        (heap_items a.smalls) (heap_items a.larges)
+        (heap_capacity a.smalls) (heap_capacity a.larges) };
 }
 
 impl Ranked {
@@ -83,7 +85,8 @@ impl Ranked {
     /// The unit that counts as the largest of the small ones.
     fn most_small(&self) -> Option<usize>
         ensures most { IfSome result (λ unit. IsMostSmall self.now unit) }
-        ensures none { IfNone result ((unit : ℕ) → unit < length self.now.numer → is_in self.now.large unit ≡ true) }
+        ensures none { IfNone result ((unit : ℕ)
+            → unit < length self.now.numer → is_in self.now.large unit ≡ true) }
     {
         match self.smalls.peek() {
             Some(&(_, unit)) => Some(unit),
@@ -94,7 +97,8 @@ impl Ranked {
     /// The unit that counts as the least of the large ones.
     fn least_large(&self) -> Option<usize>
         ensures least { IfSome result (λ unit. IsLeastLarge self.now unit) }
-        ensures none { IfNone result ((unit : ℕ) → unit < length self.now.numer → is_in self.now.large unit ≡ false) }
+        ensures none { IfNone result ((unit : ℕ)
+            → unit < length self.now.numer → is_in self.now.large unit ≡ false) }
     {
         match self.larges.peek() {
             Some(&Reverse((_, unit))) => Some(unit),
@@ -223,7 +227,8 @@ impl Ranked {
     /// Lowers all large units.
     pub(crate) fn lower(&mut self, by: u128)
         requires low { self.old.lowered + by < 2 ^ 126 }
-        requires above { (unit : ℕ) → unit < length self.old.numer → is_in self.old.large unit ≡ true → by ≤ slice_index self.old.numer unit }
+        requires above { (unit : ℕ) → unit < length self.old.numer
+            → is_in self.old.large unit ≡ true → by ≤ slice_index self.old.numer unit }
         ensures { self.new ≡ lowered_by self.old by }
     {
         self.offset += by;

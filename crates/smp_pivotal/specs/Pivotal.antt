@@ -1,11 +1,8 @@
 -- Sequential pivotal selection (Deville and Tillé 1998), in the order of the frame or in an order that is drawn first.
-use Rattle.std.specs.Prelude.{ℕ, ◌^◌, length}
-use Rattle.smp_prob.specs.declared.orders.Order.{Order}
-use Rattle.smp_prob.specs.declared.requests.Request.{Request}
-use Rattle.smp_prob.specs.Shares.{Shares, shares_of}
+use Rattle.std.specs.Prelude.{ℕ, ◌^◌}
+use Rattle.smp_prob.specs.Shares.{Shares}
 use Rattle.smp_split.specs.Trees.{Tree}
 use Rattle.smp_split.specs.Orders.{Ordered, IsInOrder, ordered_tree}
-use Rattle.smp_values.specs.Starts.{ordered_values}
 use Rattle.smp_values.specs.Steps.{steps_tree}
 use Rattle.smp_values.specs.Values.{IsValues, exchanged_values}
 
@@ -16,7 +13,3 @@ pivotal_tree units = ordered_tree (steps_tree units) exchanged_values
 -- a state of a selection of so many units
 abbrev pub IsPivotal : ℕ → Ordered Shares → Type 0
 IsPivotal units s = IsInOrder units (IsValues units (2 ^ 80)) s
-
--- the state before the first step, with the requested values
-abbrev pub started : Request → Order → Ordered Shares
-started request order = ordered_values order (shares_of request)

@@ -17,6 +17,15 @@ pub sums_same : (n : ℕ) (f g : ℕ → ℕ) → ((k : ℕ) → k < n → f k �
 sums_same zero f g h = refl
 sums_same (suc n) f g h = omega (arith, sums_same n f g (λ k l. h k (omega arith)), h n (omega arith))
 
+pub sums_plus : (n : ℕ) (f g h : ℕ → ℕ) → ((k : ℕ) → k < n → f k ≡ g k + h k) → sums n f ≡ sums n g + sums n h
+sums_plus zero f g h e = refl
+sums_plus (suc n) f g h e = omega (arith, sums_plus n f g h (λ k l. e k (omega arith)), e n (omega arith))
+
+-- the first one apart
+pub sums_front : (n : ℕ) (f : ℕ → ℕ) → sums (suc n) f ≡ f 0 + sums n (λ k. f (suc k))
+sums_front zero f = omega arith
+sums_front (suc n) f = omega (arith, sums_front n f)
+
 pub sums_most : (n : ℕ) (f g : ℕ → ℕ) → ((k : ℕ) → k < n → f k ≤ g k) → sums n f ≤ sums n g
 sums_most zero f g h = omega arith
 sums_most (suc n) f g h = omega (arith, sums_most n f g (λ k l. h k (omega arith)), h n (omega arith))

@@ -10,7 +10,7 @@ use Rattle.std.proofs.lemmas.List.FromFn.{length-range_with_len, get_or-range_wi
 use Rattle.std.proofs.lemmas.List.Sorted.{IsPermutation-refl, IsPermutation-swap, IsPermutation-map, IsPermutation-trans, IsPermutation-keeps, length_permutation}
 use Rattle.smp_fractions.specs.Fractions.{Same, whole, times}
 use Rattle.smp_split.specs.Trees.{Tree, IsPart, LawfulSplit, Lawful, weight_sum, picked, weighted}
-use Rattle.smp_split.specs.Orders.{exchange, Placing, Ordered, IsPlacing, IsInOrder, IsExchange, exchanged_at, next_place, frame_order, undrawn_order, order_parts, in_order, ordered_tree}
+use Rattle.smp_split.specs.Orders.{exchange, Placing, Ordered, IsPlacing, IsInOrder, IsExchange, exchanged_at, exchanged_order, next_place, frame_order, undrawn_order, order_parts, in_order, ordered_tree}
 use Rattle.smp_split.specs.Lenses.{as_unit, Lens}
 use Rattle.smp_fractions.proofs.Fractions.{same_refl}
 use Rattle.smp_split.proofs.Lenses.{split_through}
@@ -140,6 +140,17 @@ module _ {State : Type 0} (tree : Tree State) (exchanged : ℕ → ℕ → State
 
     pub places_within : IsPlacing tree.units s.order → (next_place s.order < tree.units) × (next_place s.order + draw < tree.units)
     places_within is = (next_in tree.units s.order is order_goes, other_in tree.units s.order is order_goes draw order_within)
+
+    -- the same of two places that are told to be these, and the state that their exchange makes
+    module _ (told : ℕ × ℕ) (told_is : told ≡ (next_place s.order, next_place s.order + draw)) where
+      pub told_within : IsPlacing tree.units s.order → (told.0 < tree.units) × (told.1 < tree.units)
+      told_within is = subst (λ (p : ℕ × ℕ). (p.0 < tree.units) × (p.1 < tree.units)) (sym told_is) (places_within is)
+
+      pub order_made : (order : Placing) (state : State) → order ≡ exchanged_order s.order (next_place s.order) (next_place s.order + draw) → state ≡ exchanged told.0 told.1 s.state → in_order order state ≡ picked s ((ordered_tree tree exchanged).parts s) draw
+      order_made order state order_is state_is =
+          ap (λ (o : Placing). in_order o state) order_is
+          ∙ ap (in_order (exchanged_order s.order (next_place s.order) (next_place s.order + draw))) (state_is ∙ ap (λ (p : ℕ × ℕ). exchanged p.0 p.1 s.state) told_is)
+          ∙ sym (order_picked draw left order_within)
 
 -- each unit has a place, and something stands there
 pub unit_within : {State : Type 0} (size : State → ℕ) (s now : Ordered State) → s ≡ now → IsPlacing (size now.state) now.order → (unit : ℕ) → unit < size now.state → (unit < length s.order.places) × (get_or s.order.places unit 0 < size s.state)

@@ -18,12 +18,16 @@ beside a b = record {
   units = a.units + b.units;
   done = λ s. a.done s.first && b.done s.second;
   kind = λ s. cond (a.done s.first) (b.kind s.second) (a.kind s.first);
-  parts = λ s. cond (a.done s.first) (moved (with_second s.first) (b.parts s.second)) (moved (with_first s.second) (a.parts s.first));
+  parts = λ s.
+      cond (a.done s.first) (moved (with_second s.first) (b.parts s.second))
+      (moved (with_first s.second) (a.parts s.first));
   rank = λ s. a.rank s.first + b.rank s.second;
   value = λ s k. cond (nat_lt k a.units) (a.value s.first k) (b.value s.second (k - a.units));
-  selected = λ s k. cond (nat_lt k a.units) (a.selected s.first k) (b.selected s.second (k - a.units));
+  selected = λ s k.
+      cond (nat_lt k a.units) (a.selected s.first k) (b.selected s.second (k - a.units));
 }
 
-pub record BothBelong {A B : Type 0} (in_first : A → Type 0) (in_second : B → Type 0) (s : Both A B) : Type 0 where
+pub record BothBelong {A B : Type 0} (in_first : A → Type 0) (in_second : B → Type 0)
+    (s : Both A B) : Type 0 where
   pub first : in_first s.first
   pub second : in_second s.second

@@ -23,8 +23,14 @@ AddsUp tree n state = Same (value_sum tree (λ _. whole 1) state) (whole n)
 
 -- how many draws of a state's step lead to a state that passes a test
 abbrev pub draws_to : {State : Type 0} → Tree State → State → (State → Bool) → ℕ
-draws_to tree state test = count_by (λ draw. test (picked state (tree.parts state) draw)) (range_with_len 0 (weight_sum (tree.parts state)))
+draws_to tree state test =
+    count_by (λ draw. test (picked state (tree.parts state) draw))
+    (range_with_len 0 (weight_sum (tree.parts state)))
 
 -- how many of them lead to a state in which the unit is selected
 abbrev pub draws_selecting : {State : Type 0} → Tree State → State → ℕ → ℕ
 draws_selecting tree state unit = draws_to tree state (λ next. tree.selected next unit)
+
+-- whether a draw leads to a state in which the unit is selected
+abbrev pub selected_after : {State : Type 0} → Tree State → State → ℕ → ℕ → Bool
+selected_after tree state draw unit = tree.selected (picked state (tree.parts state) draw) unit

@@ -7,7 +7,8 @@ use Rattle.smp_split.specs.declared.kind.Kind.{Kind}
 use Rattle.smp_split.specs.declared.kind.Kind.TheVariants.{Pivot}
 
 -- `into` makes a state of the larger type, and `out` gives it back; of a state that isn't such nothing is told, and it is done
-module _ {Inner Outer : Type 0} (into : Inner → Outer) (out : Outer → Option Inner) (inner : Tree Inner) where
+module _ {Inner Outer : Type 0} (into : Inner → Outer) (out : Outer → Option Inner)
+    (inner : Tree Inner) where
   abbrev ended_at : Option Inner → Bool
   ended_at None = true
   ended_at (Some state) = inner.done state

@@ -26,27 +26,33 @@ Within units (as_share a k) = k < units
 
 -- While the inner design goes on, so does the outer one, by the same kind of step, and its parts are the inner ones put in place; the
 -- outer rank falls with the inner one; and each outer unit has the value that its view gives it.
-pub record Lens {Inner Outer : Type 0} (inner : Tree Inner) (belongs : Inner → Type 0) (outer : Tree Outer) (put : Inner → Outer) (view : ℕ → View) : Type 0 where
+pub record Lens {Inner Outer : Type 0} (inner : Tree Inner) (belongs : Inner → Type 0)
+    (outer : Tree Outer) (put : Inner → Outer) (view : ℕ → View) : Type 0 where
   pub within : (k : ℕ) → k < outer.units → Within inner.units (view k)
   pub going : (i : Inner) → inner.done i ≡ false → outer.done (put i) ≡ false
   pub kind : (i : Inner) → inner.done i ≡ false → outer.kind (put i) ≡ inner.kind i
   pub parts : (i : Inner) → inner.done i ≡ false → outer.parts (put i) ≡ moved put (inner.parts i)
   pub falls : (i j : Inner) → inner.rank j < inner.rank i → outer.rank (put j) < outer.rank (put i)
-  pub value : (i : Inner) → belongs i → (k : ℕ) → k < outer.units → Same (outer.value (put i) k) (seen (view k) (inner.value i))
+  pub value : (i : Inner) → belongs i → (k : ℕ) → k < outer.units
+      → Same (outer.value (put i) k) (seen (view k) (inner.value i))
 
 -- whether the outer unit is selected, where these inner units are
 abbrev pub Shows : View → (ℕ → Bool) → Bool → Type 0
 Shows (fixed c) selected b = Same c (whole (cond b 1 0))
 Shows (as_unit k) selected b = b ≡ selected k
-Shows (as_share a k) selected b = Same (times a (whole (cond (selected k) 1 0))) (whole (cond b 1 0))
+Shows (as_share a k) selected b =
+    Same (times a (whole (cond (selected k) 1 0))) (whole (cond b 1 0))
 
 -- The outer design is done where the inner one is, and then selects what the views of its units show.
-pub record Closes {Inner Outer : Type 0} (inner : Tree Inner) (outer : Tree Outer) (put : Inner → Outer) (view : ℕ → View) : Type 0 where
+pub record Closes {Inner Outer : Type 0} (inner : Tree Inner) (outer : Tree Outer)
+    (put : Inner → Outer) (view : ℕ → View) : Type 0 where
   pub done : (i : Inner) → inner.done i ≡ true → outer.done (put i) ≡ true
-  pub selected : (i : Inner) → inner.done i ≡ true → (k : ℕ) → k < outer.units → Shows (view k) (inner.selected i) (outer.selected (put i) k)
+  pub selected : (i : Inner) → inner.done i ≡ true → (k : ℕ) → k < outer.units
+      → Shows (view k) (inner.selected i) (outer.selected (put i) k)
 
 -- an outer state that is an inner one put in place
-pub record Inside {Inner Outer : Type 0} (put : Inner → Outer) (belongs : Inner → Type 0) (state : Outer) : Type 0 where
+pub record Inside {Inner Outer : Type 0} (put : Inner → Outer) (belongs : Inner → Type 0)
+    (state : Outer) : Type 0 where
   pub inside : Inner
   pub is : state ≡ put inside
   pub member : belongs inside

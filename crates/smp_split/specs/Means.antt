@@ -10,11 +10,13 @@ selected_sum tree c state = sum_below tree.units (λ k. cond (tree.selected stat
 
 -- The mean of a function of the done states. At a done state it is its value there. At any other it is the sum of weight times the
 -- part's mean, divided by the sum of the weights. `steps` is at least the rank, so that no path is longer.
-abbrev pub mean_of_within : {State : Type 0} → ℕ → Tree State → (State → Fraction) → State → Fraction
+abbrev pub mean_of_within : {State : Type 0} → ℕ → Tree State → (State → Fraction) → State
+    → Fraction
 mean_of_within zero tree f state = f state
 mean_of_within (suc steps) tree f state =
     cond (tree.done state) (f state)
-    (divided (weighted (mean_of_within steps tree f) (tree.parts state)) (weight_sum (tree.parts state)))
+    (divided (weighted (mean_of_within steps tree f) (tree.parts state))
+    (weight_sum (tree.parts state)))
 
 abbrev pub mean_of : {State : Type 0} → Tree State → (State → Fraction) → State → Fraction
 mean_of tree f state = mean_of_within (tree.rank state) tree f state
@@ -25,7 +27,8 @@ mean tree c state = mean_of tree (selected_sum tree c) state
 
 -- the second-order inclusion probability: that both units are selected
 abbrev pub joint_probability : {State : Type 0} → Tree State → State → ℕ → ℕ → Fraction
-joint_probability tree state j k = mean_of tree (λ leaf. whole (cond (tree.selected leaf j && tree.selected leaf k) 1 0)) state
+joint_probability tree state j k =
+    mean_of tree (λ leaf. whole (cond (tree.selected leaf j && tree.selected leaf k) 1 0)) state
 
 -- 1 at this unit and 0 elsewhere
 abbrev pub only : ℕ → ℕ → Fraction

@@ -17,5 +17,6 @@ pub record Method (State : Type 0) : Type 1 where
 pub record Starts {State : Type 0} (method : Method State) (state : State) : Type 0 where
   pub member : method.belongs state
   pub mean : (c : ℕ → Fraction) → Same (mean method.tree c state) (value_sum method.tree c state)
-  pub probability : (unit : ℕ) → unit < method.tree.units → Same (inclusion_probability method.tree state unit) (method.tree.value state unit)
+  pub probability : (unit : ℕ) → unit < method.tree.units
+      → Same (inclusion_probability method.tree state unit) (method.tree.value state unit)
   pub count : (n : ℕ) → AddsUp method.tree n state → LeavesSelect method.tree n state

@@ -13,4 +13,5 @@ moved f parts = map (λ part. record { weight = part.weight; state = f part.stat
 
 -- a part that is there where its weight isn't 0
 abbrev pub part_of_weight : {State : Type 0} → ℕ → State → List (Part State)
-part_of_weight weight state = if nat_eq weight 0 then [] else record { weight = weight; state = state } ∷ []
+part_of_weight weight state =
+    if nat_eq weight 0 then [] else record { weight = weight; state = state } ∷ []

@@ -12,7 +12,8 @@ abbrev pub entry_at : {State : Type 0} → Tree State → State → ℕ → Entr
 entry_at tree state value = (tree.kind state, weight_sum (tree.parts state), value)
 
 -- the entry is of the step of a state that is not done
-pub record IsStep {State : Type 0} (tree : Tree State) (state : State) (entry : Entry) : Type 0 where
+pub record IsStep {State : Type 0} (tree : Tree State)
+    (state : State) (entry : Entry) : Type 0 where
   pub going : tree.done state ≡ false
   pub kind : entry.0 ≡ tree.kind state
   pub bound : entry.1 ≡ weight_sum (tree.parts state)
@@ -21,14 +22,17 @@ pub record IsStep {State : Type 0} (tree : Tree State) (state : State) (entry : 
 -- the path leads from a state to another
 abbrev pub Leads : {State : Type 0} → Tree State → State → List Entry → State → Type 0
 Leads tree from [] to = to ≡ from
-Leads tree from (entry ∷ path) to = IsStep tree from entry × Leads tree (picked from (tree.parts from) entry.2) path to
+Leads tree from (entry ∷ path) to =
+    IsStep tree from entry × Leads tree (picked from (tree.parts from) entry.2) path to
 
 -- ---- leaves: the done states below a state
 
 -- P holds of each leaf below a state, and of the path to it
-abbrev pub AtEachLeaf : {State : Type 0} → Tree State → State → (List Entry → State → Type 0) → Type 0
+abbrev pub AtEachLeaf : {State : Type 0} → Tree State → State → (List Entry → State → Type 0)
+    → Type 0
 AtEachLeaf {State} tree state P =
-    (path : List Entry) (leaf : State) → Leads tree state path leaf → tree.done leaf ≡ true → P path leaf
+    (path : List Entry) (leaf : State) → Leads tree state path leaf → tree.done leaf ≡ true
+    → P path leaf
 
 -- a leaf below a state, and the path to it
 pub record LeafBelow {State : Type 0} (tree : Tree State) (state : State) : Type 0 where
@@ -45,7 +49,8 @@ values_of [] = []
 values_of (entry ∷ path) = if nat_lt 1 entry.1 then entry.2 ∷ values_of path else values_of path
 
 -- A full tape: its values are those of a path from the state to a leaf.
-pub record IsFull {State : Type 0} (tree : Tree State) (state : State) (values : List ℕ) (path : List Entry) (leaf : State) : Type 0 where
+pub record IsFull {State : Type 0} (tree : Tree State) (state : State) (values : List ℕ)
+    (path : List Entry) (leaf : State) : Type 0 where
   pub leads : Leads tree state path leaf
   pub done : tree.done leaf ≡ true
   pub all : values ≡ values_of path

@@ -26,7 +26,8 @@ weight_sum (p ∷ ps) = p.weight + weight_sum ps
 -- the state of the first part at which the cumulated weights pass the draw
 abbrev pub picked : {State : Type 0} → State → List (Part State) → ℕ → State
 picked default [] draw = default
-picked default (p ∷ ps) draw = cond (nat_lt draw p.weight) p.state (picked default ps (draw - p.weight))
+picked default (p ∷ ps) draw =
+    cond (nat_lt draw p.weight) p.state (picked default ps (draw - p.weight))
 
 -- the sum of weight times f over the parts
 abbrev pub weighted : {State : Type 0} → (State → Fraction) → List (Part State) → Fraction
@@ -39,18 +40,22 @@ EachPart P [] = Unit {0}
 EachPart P (p ∷ ps) = P p × EachPart P ps
 
 -- what a part of a state is held to
-pub record IsPart {State : Type 0} (tree : Tree State) (belongs : State → Type 0) (state : State) (part : Part State) : Type 0 where
+pub record IsPart {State : Type 0} (tree : Tree State) (belongs : State → Type 0) (state : State)
+    (part : Part State) : Type 0 where
   pub heavy : 1 ≤ part.weight
   pub falls : tree.rank part.state < tree.rank state
   pub member : belongs part.state
 
 -- A state is split lawfully into these parts: for each unit, the sum of weight times value over the parts is the sum of the
 -- weights times its value in the state. The sum of the weights is the bound of the draw.
-pub record LawfulParts {State : Type 0} (tree : Tree State) (belongs : State → Type 0) (state : State) (parts : List (Part State)) : Type 0 where
+pub record LawfulParts {State : Type 0} (tree : Tree State) (belongs : State → Type 0)
+    (state : State) (parts : List (Part State)) : Type 0 where
   pub some : 1 ≤ weight_sum parts
   pub narrow : weight_sum parts < 2 ^ 126
   pub each : EachPart (IsPart tree belongs state) parts
-  pub even : (unit : ℕ) → unit < tree.units → Same (weighted (λ s. tree.value s unit) parts) (times (whole (weight_sum parts)) (tree.value state unit))
+  pub even : (unit : ℕ) → unit < tree.units
+      → Same (weighted (λ s. tree.value s unit) parts)
+      (times (whole (weight_sum parts)) (tree.value state unit))
 
 -- the split of a state into its own parts
 abbrev pub LawfulSplit : {State : Type 0} → Tree State → (State → Type 0) → State → Type 0
@@ -58,10 +63,12 @@ LawfulSplit tree belongs state = LawfulParts tree belongs state (tree.parts stat
 
 -- in a done state each value is 1 or 0, and the units of value 1 are selected
 abbrev pub LawfulEnd : {State : Type 0} → Tree State → State → Type 0
-LawfulEnd tree state = (unit : ℕ) → unit < tree.units → Same (tree.value state unit) (whole (cond (tree.selected state unit) 1 0))
+LawfulEnd tree state =
+    (unit : ℕ) → unit < tree.units → Same (tree.value state unit) (whole (cond (tree.selected state unit) 1 0))
 
 pub record Lawful {State : Type 0} (tree : Tree State) (belongs : State → Type 0) : Type 0 where
-  pub split : (state : State) → belongs state → tree.done state ≡ false → LawfulSplit tree belongs state
+  pub split : (state : State) → belongs state → tree.done state ≡ false
+      → LawfulSplit tree belongs state
   pub end : (state : State) → belongs state → tree.done state ≡ true → LawfulEnd tree state
 
 -- the sum of weight times a number of the part's state

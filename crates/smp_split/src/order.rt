@@ -82,7 +82,8 @@ impl UnitOrder {
     pub fn exchange(&mut self, draw: u128) -> (usize, usize)
         requires going { 1 ≤ self.old.left }
         requires within { draw < self.old.left + 1 }
-        ensures order { self.new ≡ exchanged_order self.old (next_place self.old) (next_place self.old + draw) }
+        ensures order { self.new ≡
+            exchanged_order self.old (next_place self.old) (next_place self.old + draw) }
         ensures places { result ≡ (next_place self.old, next_place self.old + draw) }
     {
         let place = self.places.len() - 1 - self.left;

@@ -60,8 +60,11 @@ pub trait Splitting {
 /// From a state of a lawful design, the mean over all draws is the value. It runs nothing: its contract is the theorem.
 pub fn mean_is_value<S: Splitting>(design: &S, state: &S::State)
     requires { S.belongs design.now state.now }
-    ensures mean { (c : ℕ → Fraction) → Same (mean (S.tree design.now) c state.now) (value_sum (S.tree design.now) c state.now) }
-    ensures probability { (unit : ℕ) → unit < (S.tree design.now).units → Same (inclusion_probability (S.tree design.now) state.now unit) ((S.tree design.now).value state.now unit) }
+    ensures mean { (c : ℕ → Fraction)
+        → Same (mean (S.tree design.now) c state.now) (value_sum (S.tree design.now) c state.now) }
+    ensures probability { (unit : ℕ) → unit < (S.tree design.now).units
+        → Same (inclusion_probability (S.tree design.now) state.now unit)
+        ((S.tree design.now).value state.now unit) }
 {}
 
 /// The units that a done state selects, in order.

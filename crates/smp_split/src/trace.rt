@@ -32,7 +32,8 @@ pub trait Trace {
 
     /// Takes note of a step: its kind, its bound and the value that was drawn.
     fn line(&mut self, kind: Kind, bound: u128, value: u128) -> Result<(), NoMemory>
-        ensures ok { OnOk result (lines self.new ≡ and_then (lines self.old) ((kind, bound, value) ∷ [])) }
+        ensures ok { OnOk result
+            (lines self.new ≡ and_then (lines self.old) ((kind, bound, value) ∷ [])) }
         ensures err { OnErr result (lines self.new ≡ lines self.old) }
         ensures refused { OnErr result (may_refuse ≡ true) };
 }

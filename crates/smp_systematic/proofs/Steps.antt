@@ -5,7 +5,7 @@ use Rattle.std.proofs.lemmas.Bool.Decides.{Decides-at}
 use Rattle.std.specs.Bool.{Decides}
 use Rattle.std.proofs.lemmas.List.FromFn.{get_or-range_with_len}
 use Rattle.std.specs.List.{count_by, range_with_len}
-use Rattle.smp_split.specs.Counts.{draws_selecting}
+use Rattle.smp_split.specs.Counts.{draws_selecting, selected_after}
 use Rattle.smp_split.specs.Methods.{Starts}
 use Rattle.smp_split.specs.Trees.{weight_sum, picked}
 use Rattle.smp_split.specs.Orders.{Placing, Ordered, in_order, frame_order}
@@ -19,7 +19,7 @@ use Rattle.smp_values.specs.Starts.{ordered_values}
 use Rattle.smp_values.specs.Values.{IsValues, exchanged_values}
 use Rattle.smp_values.proofs.Requests.{starts_in_order}
 use Rattle.smp_systematic.specs.Method.{method_of}
-use Rattle.smp_systematic.specs.Systematic.{IsSystematic, PointsAt, cumulated, takes, sampled, place_of, numerator_of, selected_after, places_tree, systematic_tree}
+use Rattle.smp_systematic.specs.Systematic.{IsSystematic, PointsAt, cumulated, takes, sampled, place_of, numerator_of, places_tree, systematic_tree}
 use Rattle.smp_systematic.specs.Laws.Points.{meets_decides}
 use Rattle.smp_systematic.specs.Laws.Splits.{sampled_at, draws_taking, leaf_count}
 

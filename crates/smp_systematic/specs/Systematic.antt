@@ -3,14 +3,11 @@
 -- whole multiples of the denominator further on; the units whose lengths hold such a point are selected.
 use Rattle.std.specs.Prelude.{ℕ, ◌+◌, ◌-◌, ◌*◌, ◌^◌, ◌≤◌, ◌<◌, Bool, nat_lt, nat_le, nat_eq, ◌&&◌, if◌then◌else◌, List, length, map, take, sum, slice_index}
 use Rattle.std.specs.List.{list_any, range_with_len}
-use Rattle.smp_prob.specs.declared.orders.Order.{Order}
-use Rattle.smp_prob.specs.declared.requests.Request.{Request}
-use Rattle.smp_prob.specs.Shares.{Shares, shares_of}
-use Rattle.smp_split.specs.Trees.{Tree, picked}
+use Rattle.smp_prob.specs.Shares.{Shares}
+use Rattle.smp_split.specs.Trees.{Tree}
 use Rattle.smp_split.specs.Parts.{equal_parts}
 use Rattle.smp_split.specs.Orders.{Ordered, IsInOrder, ordered_tree}
 use Rattle.smp_split.specs.declared.kind.Kind.TheVariants.{System}
-use Rattle.smp_values.specs.Starts.{ordered_values}
 use Rattle.smp_values.specs.Values.{IsValues, exchanged_values, values_tree}
 
 -- the sum of the first k numerators
@@ -20,7 +17,8 @@ cumulated numer k = sum (take k numer)
 -- whether some whole j of 0 or more has before <= draw + j * den < after; such a j is below `after`
 abbrev pub meets : ℕ → ℕ → ℕ → ℕ → Bool
 meets den before after draw =
-    list_any (λ j. nat_le before (draw + j * den) && nat_lt (draw + j * den) after) (range_with_len 0 after)
+    list_any (λ j. nat_le before (draw + j * den) && nat_lt (draw + j * den) after)
+    (range_with_len 0 after)
 
 -- the same, told as a fact
 pub record Meets (den before after draw : ℕ) : Type 0 where
@@ -35,14 +33,16 @@ takes s draw place = meets s.den (cumulated s.numer place) (cumulated s.numer (p
 -- the values after a draw: 1 at the places that it takes, 0 at all others
 abbrev pub sampled : Shares → ℕ → Shares
 sampled s draw = record {
-  numer = map (λ place. if takes s draw place then s.den else 0) (range_with_len 0 (length s.numer));
+  numer =
+      map (λ place. if takes s draw place then s.den else 0) (range_with_len 0 (length s.numer));
   den = s.den;
 }
 
 -- the design over places: one step, in which each draw below the denominator is a part of weight 1
 abbrev pub places_tree : ℕ → Tree Shares
 places_tree units =
-    values_tree units (λ _. System) (λ s. equal_parts s.den (sampled s)) (λ fractional. if nat_eq fractional 0 then 0 else 1)
+    values_tree units (λ _. System) (λ s. equal_parts s.den (sampled s))
+    (λ fractional. if nat_eq fractional 0 then 0 else 1)
 
 -- the design over units, once their order is drawn
 abbrev pub systematic_tree : ℕ → Tree (Ordered Shares)
@@ -51,10 +51,6 @@ systematic_tree units = ordered_tree (places_tree units) exchanged_values
 -- a state of a selection of so many units
 abbrev pub IsSystematic : ℕ → Ordered Shares → Type 0
 IsSystematic units s = IsInOrder units (IsValues units (2 ^ 126 - 1)) s
-
--- the state before the first step, with the requested values
-abbrev pub started : Request → Order → Ordered Shares
-started request order = ordered_values order (shares_of request)
 
 -- ---- a unit and a draw, once the order is drawn
 
@@ -68,8 +64,5 @@ numerator_of s unit = slice_index s.state.numer (place_of s unit)
 -- some whole j of 0 or more puts draw + j * den on the unit's piece
 abbrev pub PointsAt : Ordered Shares → ℕ → ℕ → Type 0
 PointsAt s draw unit =
-    Meets s.state.den (cumulated s.state.numer (place_of s unit)) (cumulated s.state.numer (place_of s unit + 1)) draw
-
--- whether a unit is selected after the draw
-abbrev pub selected_after : {State : Type 0} → Tree State → State → ℕ → ℕ → Bool
-selected_after tree state draw unit = tree.selected (picked state (tree.parts state) draw) unit
+    Meets s.state.den (cumulated s.state.numer (place_of s unit))
+    (cumulated s.state.numer (place_of s unit + 1)) draw

@@ -4,14 +4,14 @@ ghost use Rattle.std.specs.Prelude.{◌≡◌, ℕ, ◌-◌, ◌^◌, ◌<◌, f
 ghost use Rattle.std.specs.Bool.{Decides};
 ghost use Rattle.smp_prob.specs.Requests.{IsRequest};
 ghost use Rattle.smp_prob.specs.Shares.{Shares};
-ghost use Rattle.smp_split.specs.Counts.{draws_selecting};
+ghost use Rattle.smp_split.specs.Counts.{draws_selecting, selected_after};
 ghost use Rattle.smp_split.specs.Methods.{Starts};
 ghost use Rattle.smp_split.specs.Orders.{Ordered, frame_order};
 ghost use Rattle.smp_split.specs.Trees.{weight_sum};
 ghost use Rattle.smp_values.specs.Starts.{IsRequested, ordered_values};
 ghost use Rattle.smp_values.specs.Values.{IsValues};
-ghost use Rattle.smp_systematic.specs.Systematic.{PointsAt, numerator_of, selected_after, started};
-ghost use Rattle.smp_systematic.specs.Method.{method_of};
+ghost use Rattle.smp_systematic.specs.Systematic.{PointsAt, numerator_of};
+ghost use Rattle.smp_systematic.specs.Method.{method_of, started};
 
 use crate::state::SystematicState;
 use smp_frac::NoMemory;
@@ -44,7 +44,8 @@ impl Systematic {
     pub fn new(alloc: Global, request: &Request, order: Order) -> Result<Systematic, NoMemory>
         requires { IsRequest request.now }
         ensures design { IfOk result (λ design. design ≡ started request.now order) }
-        ensures requested { IfOk result (λ design. IsRequested (method_of design).tree request.now design) }
+        ensures requested { IfOk result (λ design.
+            IsRequested (method_of design).tree request.now design) }
     {
         Ok(Systematic {
             order,

@@ -1,22 +1,10 @@
 //! One systematic draw.
 
 ghost use Rattle.std.specs.Prelude.{◌≡◌, ◌-◌, ◌^◌, ◌<◌, length};
-ghost use Rattle.smp_values.specs.Values.{IsValues, is_settled};
+ghost use Rattle.smp_values.specs.Values.{IsValues};
 ghost use Rattle.smp_systematic.specs.Systematic.{sampled};
 
 use smp_values::Values;
-
-/// Whether each value is 0 or 1.
-pub(crate) fn are_settled(values: &Values) -> bool
-    ensures { result ≡ is_settled values.now }
-{
-    for unit in 0..values.len() {
-        if values.is_fractional(unit) {
-            return false;
-        }
-    }
-    true
-}
 
 /// Sets the values to those after a draw: 1 for what it takes, and 0 for the rest.
 ///

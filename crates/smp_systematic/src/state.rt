@@ -4,9 +4,9 @@ ghost use Rattle.std.specs.Prelude.{◌≡◌, ℕ, ◌<◌, length};
 ghost use Rattle.smp_split.specs.Trees.{weight_sum, picked};
 ghost use Rattle.smp_split.specs.Orders.{Ordered};
 ghost use Rattle.smp_prob.specs.Shares.{Shares};
-ghost use Rattle.smp_systematic.specs.Systematic.{IsSystematic, systematic_tree};
+ghost use Rattle.smp_systematic.specs.Method.{method_of};
 
-use crate::sample::{are_settled, take_sample};
+use crate::sample::take_sample;
 use smp_split::{Kind, UnitOrder};
 use smp_values::Values;
 use std::marker::Model;
@@ -34,14 +34,14 @@ impl SystematicState {
 
     /// Whether no step is left: the order is drawn, and each value is 0 or 1.
     pub(crate) fn is_done(&self) -> bool
-        ensures { result ≡ (systematic_tree (length self.now.state.numer)).done self.now }
+        ensures { result ≡ (method_of self.now).tree.done self.now }
     {
-        self.order.is_drawn() && are_settled(&self.values)
+        self.order.is_drawn() && self.values.is_settled()
     }
 
     /// The kind of the next step: of the order, or the systematic draw.
     pub(crate) fn kind(&self) -> Kind
-        ensures { result ≡ (systematic_tree (length self.now.state.numer)).kind self.now }
+        ensures { result ≡ (method_of self.now).tree.kind self.now }
     {
         if self.order.is_drawn() {
             Kind::System
@@ -52,7 +52,7 @@ impl SystematicState {
 
     /// The bound of the next step's draw.
     pub(crate) fn bound(&self) -> u128
-        ensures { result ≡ weight_sum ((systematic_tree (length self.now.state.numer)).parts self.now) }
+        ensures { result ≡ weight_sum ((method_of self.now).tree.parts self.now) }
     {
         if self.order.is_drawn() {
             self.values.denominator()
@@ -63,9 +63,9 @@ impl SystematicState {
 
     /// Makes the step that this draw leads to.
     pub(crate) fn advance(&mut self, draw: u128)
-        requires state { IsSystematic (length self.old.state.numer) self.old }
-        requires within { draw < weight_sum ((systematic_tree (length self.old.state.numer)).parts self.old) }
-        ensures { self.new ≡ picked self.old ((systematic_tree (length self.old.state.numer)).parts self.old) draw }
+        requires state { (method_of self.old).belongs self.old }
+        requires within { draw < weight_sum ((method_of self.old).tree.parts self.old) }
+        ensures { self.new ≡ picked self.old ((method_of self.old).tree.parts self.old) draw }
     {
         if self.order.is_drawn() {
             take_sample(&mut self.values, draw);
@@ -77,9 +77,9 @@ impl SystematicState {
 
     /// Whether a unit is selected: the value at its place is 1.
     pub(crate) fn is_selected(&self, unit: usize) -> bool
-        requires state { IsSystematic (length self.now.state.numer) self.now }
+        requires state { (method_of self.now).belongs self.now }
         requires unit { unit < length self.now.state.numer }
-        ensures { result ≡ (systematic_tree (length self.now.state.numer)).selected self.now unit }
+        ensures { result ≡ (method_of self.now).tree.selected self.now unit }
     {
         self.values.is_one(self.order.place(unit))
     }

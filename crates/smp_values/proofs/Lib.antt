@@ -8,3 +8,4 @@ pub mod Sums
 pub mod Designs
 pub mod Requests
 pub mod Pivotal
+pub mod Largest

@@ -57,6 +57,16 @@ module _ {X : Type 0} (p : X → Bool) (d : X) where
 
 -- ---- how many units are fractional
 
+-- numerators that are all fractional are as many as there are
+pub all_counted : (den : ℕ) (xs : List ℕ) → ((k : ℕ) → k < length xs → fractional den (get_or xs k 0) ≡ true) → count_by (fractional den) xs ≡ length xs
+all_counted den [] all = refl
+all_counted den (x ∷ xs) all =
+    let f : ℕ → ℕ = λ a. cond (fractional den a) 1 0 in
+    let one : f x ≡ 1 = rw (all 0 (omega arith)) refl in
+    let more : count_by (fractional den) (x ∷ xs) ≡ f x + count_by (fractional den) xs = sum_by-cons f x xs in
+    let rest : count_by (fractional den) xs ≡ length xs = all_counted den xs (λ k h. all (suc k) (omega arith)) in
+    omega arith
+
 module _ (s : Shares) where
   pub fractional_within : (unit : ℕ) → fractional s.den (get_or s.numer unit 0) ≡ true → unit < length s.numer
   fractional_within unit h =

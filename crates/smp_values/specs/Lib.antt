@@ -2,4 +2,5 @@ pub mod Values
 pub mod Pairs
 pub mod Steps
 pub mod Starts
+pub mod Largest
 pub mod Kept

@@ -21,10 +21,13 @@ ordered_values order s = in_order (first_order order (length s.numer)) s
 
 -- The units of the state are the request's free units, and each has the value that is requested of it. Where the shapes add up to the total,
 -- the values add up to the number of draws.
-pub record IsRequested {State : Type 0} (tree : Tree State) (request : Request) (state : State) : Type 0 where
+pub record IsRequested {State : Type 0} (tree : Tree State) (request : Request)
+    (state : State) : Type 0 where
   pub units : tree.units ≡ length request.free
-  pub values : (unit : ℕ) → unit < length request.free → Same (tree.value state unit) (free_fraction request unit)
-  pub whole : 1 ≤ length request.free → sum request.shape ≡ request.total → AddsUp tree request.r state
+  pub values : (unit : ℕ) → unit < length request.free
+      → Same (tree.value state unit) (free_fraction request unit)
+  pub whole : 1 ≤ length request.free → sum request.shape ≡ request.total
+      → AddsUp tree request.r state
 
 -- The units drawn are whole in number: the shapes add up to the total, and none is drawn where no unit is free.
 pub record IsWhole (request : Request) : Type 0 where

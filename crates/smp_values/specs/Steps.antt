@@ -13,14 +13,16 @@ abbrev pub pair_parts : Shares → ℕ → ℕ → List (Part Shares)
 pair_parts s i j =
     let a = slice_index s.numer i in
     let b = slice_index s.numer j in
-    record { weight = (pair_weights a b s.den).first; state = with_pair s i j (pair_first a b s.den) }
-    ∷ record { weight = (pair_weights a b s.den).second; state = with_pair s i j (pair_second a b s.den) } ∷ []
+    let weights = pair_weights a b s.den in
+    record { weight = weights.first; state = with_pair s i j (pair_first a b s.den) }
+    ∷ record { weight = weights.second; state = with_pair s i j (pair_second a b s.den) } ∷ []
 
 -- the parts of a step on unit i alone: with weight a it gets the value 1, else 0
 abbrev pub lone_parts : Shares → ℕ → List (Part Shares)
 lone_parts s i =
     let a = slice_index s.numer i in
-    record { weight = a; state = with_one s i s.den } ∷ record { weight = s.den - a; state = with_one s i 0 } ∷ []
+    record { weight = a; state = with_one s i s.den }
+    ∷ record { weight = s.den - a; state = with_one s i 0 } ∷ []
 
 -- a step on the first two of these units, or on the only one
 abbrev pub parts_on : Shares → List ℕ → List (Part Shares)

@@ -64,3 +64,16 @@ fn values_and_steps(rt: HostRuntime) -> Result<(), Fail> {
     assert_eq!(rt; order.bound(), 3);
     Ok(())
 }
+
+#[test]
+fn fractional_units(rt: HostRuntime) -> Result<(), Fail> {
+    let alloc = rt.alloc();
+    let request = requested(alloc, &[1, 2], 1)?;
+    let mut values = Values::requested(alloc, &request)?;
+    assert!(rt; values.len() == 2);
+    values.set(0, 3);
+    assert!(rt; !values.is_settled());
+    assert_eq!(rt; values.fractional_at(0), 1);
+    assert!(rt; Values::with_room(alloc, 2)?.is_settled());
+    Ok(())
+}

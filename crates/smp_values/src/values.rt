@@ -1,10 +1,10 @@
 //! Values from 0 to 1, as numerators over one denominator.
 
-ghost use Rattle.std.specs.Prelude.{◌≡◌, ℕ, ◌+◌, ◌^◌, ◌<◌, ◌≤◌, IfOk, length, replicate, slice_index};
+ghost use Rattle.std.specs.Prelude.{◌≡◌, ℕ, ◌+◌, ◌^◌, ◌<◌, ◌≤◌, true, IfOk, length, replicate, slice_index};
 ghost use Rattle.smp_prob.specs.Requests.{IsRequest};
 ghost use Rattle.smp_prob.specs.Shares.{Shares, shares_of};
 ghost use Rattle.smp_split.specs.Trees.{weight_sum, picked};
-ghost use Rattle.smp_values.specs.Values.{exchanged_values, is_fractional, is_one, with_one};
+ghost use Rattle.smp_values.specs.Values.{exchanged_values, fractional_at, fractional_count, is_fractional, is_one, is_settled, with_one};
 ghost use Rattle.smp_values.specs.Kept.Places.{IsGoing, OnlyBefore, fractional_from, first_of, second_of, parts_at};
 
 use crate::pairs::{pair_apply, pair_bound};
@@ -102,6 +102,36 @@ impl Values {
         ensures { result ≡ is_one self.now unit }
     {
         self.numer[unit] == self.den
+    }
+
+    /// Whether no value is strictly between 0 and 1. It goes over the values once.
+    pub fn is_settled(&self) -> bool
+        ensures { result ≡ is_settled self.now }
+    {
+        for unit in 0..self.len() {
+            if self.is_fractional(unit) {
+                return false;
+            }
+        }
+        true
+    }
+
+    /// The fractional unit at a place among them, in order. It goes over the values up to that unit.
+    pub fn fractional_at(&self, place: usize) -> usize
+        requires { place < fractional_count self.now }
+        ensures unit { result ≡ fractional_at self.now place }
+        ensures open_at { is_fractional self.now result ≡ true }
+    {
+        let mut before = 0;
+        for unit in 0..self.len() {
+            if self.is_fractional(unit) {
+                if before == place {
+                    return unit;
+                }
+                before += 1;
+            }
+        }
+        unreachable!()
     }
 
     /// Gives a unit another numerator.

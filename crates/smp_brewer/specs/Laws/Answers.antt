@@ -4,22 +4,19 @@ use Rattle.std.proofs.Common.{◌≡◌, ℕ, ◌+◌, ◌-◌, ◌*◌, ◌^◌
 use Rattle.std.proofs.Math.Nat.{mul-le-mul_left, one-le-mul}
 use Rattle.std.proofs.lemmas.Bool.{cases_Bool, cases_eq, eq-eqb, ne_eqb}
 use Rattle.std.proofs.lemmas.List.{get_or-set_same, get_or-set_other}
-use Rattle.smp_fractions.specs.Fractions.{Fraction, Same, whole, plus, times, over, divided}
-use Rattle.smp_fractions.proofs.Fractions.{same_refl, same_sym, same_trans, plus_same, times-one, divided_same, divided-times, times-divided}
+use Rattle.smp_fractions.specs.Fractions.{Fraction, Same, whole, plus, times, over}
+use Rattle.smp_fractions.proofs.Fractions.{same_refl, same_sym, same_trans, plus_same, times-one, divided_same, divided-times, times-back}
 use Rattle.smp_split.specs.Parts.{moved}
 use Rattle.smp_split.specs.Trees.{EachPart, IsPart, LawfulSplit, weight_sum, weighted}
 use Rattle.smp_split.proofs.Over.{cancel_weight}
 use Rattle.smp_split.proofs.Parts.{plus-whole, weighted-part, weight_sum-part, each_part, weight_sum-moved, weighted-moved, each_moved}
 use Rattle.smp_brewer.specs.declared.offers.Offers.{Offers}
 use Rattle.smp_brewer.specs.Brewer.{offering, offered, total, largest, size_of, is_taken, allowed, offering_value, offered_value, take_bound, take_weight, after_taken, after_refused, take_parts, brewing_value, brewing_tree, IsOffers, IsBrewing}
-use Rattle.smp_brewer.specs.Laws.Sums.{sum-taken, largest-at, largest-within}
+use Rattle.smp_values.proofs.Largest.{largest-at, largest-within}
+use Rattle.smp_brewer.specs.Laws.Sums.{sum-taken}
 use Rattle.smp_brewer.specs.Laws.Identities.{InParts, in_parts, rest_is, other_keeps, same_keeps}
 
 -- ---- numbers
-
--- a mean, times the sum of the weights
-mean_back : (n : ℕ) (a : Fraction) → 1 ≤ n → Same (times (whole n) (divided a n)) a
-mean_back n a p = same_trans (same_sym (times-divided n (whole n) a)) (divided-times n a p)
 
 -- a unit of size y taken, another of size z at most m
 lighter_number : (all draws y m z : ℕ) → 1 ≤ draws → y ≤ m → z ≤ m → draws * m < all → (draws - 1) * z < all - y
@@ -147,7 +144,7 @@ module _ (units : ℕ) (o : Offers) (ok : IsOffers units o) (going : 1 ≤ o.dra
     take_even : (k : ℕ) → Same (weighted (λ s. brewing_value units s k) (moved offering (take_parts o j))) (times (whole (weight_sum (moved offering (take_parts o j)))) (offered_value o j k))
     take_even k =
         rw (weighted-moved offering (λ s. brewing_value units s k) (take_parts o j), bound_is)
-        (same_sym (mean_back (take_bound o j) (weighted (λ after. offering_value after k) (take_parts o j)) some_bound))
+        (same_sym (times-back (take_bound o j) (weighted (λ after. offering_value after k) (take_parts o j)) some_bound))
 
     take_each : o.refused < allowed units → EachPart (λ p. IsPart (brewing_tree units) (IsBrewing units) (offered o j) (record { weight = p.weight; state = offering p.state })) (take_parts o j)
     take_each left = (

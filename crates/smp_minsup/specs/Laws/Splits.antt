@@ -20,7 +20,8 @@ use Rattle.smp_values.proofs.Designs.{values_lawful, values_count}
 use Rattle.smp_values.proofs.Fractional.{fractional_is, is_fractional-between, fractional_den, not_fractional}
 use Rattle.smp_minsup.specs.Support.{is_larger, larger_units, draws_of, is_large, for_units, most_small, least_large, lambda, settled, lowered, support_parts, support_tree, IsSupport}
 use Rattle.smp_minsup.specs.Laws.Ranks.{larger_of, larger_means, not_itself, larger_units_are, ranked}
-use Rattle.smp_minsup.specs.Laws.Bounds.{largest-at, largest_found, least-at, least_within, least_found}
+use Rattle.smp_values.proofs.Largest.{largest-at, largest_found}
+use Rattle.smp_minsup.specs.Laws.Bounds.{least-at, least_within, least_found}
 
 -- ---- fractions
 

@@ -6,18 +6,8 @@ use Rattle.std.proofs.Math.Nat.{add-mul-div_right, div-eq_of_lt, mul-le-mul_righ
 use Rattle.std.proofs.lemmas.Bool.{cases_Bool, cases_lt, ltb-true, ltb-false, leb-true, lt-ltb, le-ltb, le-leb, lt-leb, and_parts, and_right}
 use Rattle.std.proofs.lemmas.List.Folds.{list_any_at}
 use Rattle.std.proofs.lemmas.List.FromFn.{length-range_with_len, get_or-range_with_len}
-use Rattle.smp_split.proofs.NumberSums.{sums, counts, sums_same, sums-none}
+use Rattle.smp_split.proofs.NumberSums.{sums, counts, sums_front, sums_plus, sums_same, sums-none}
 use Rattle.smp_systematic.specs.Systematic.{meets, Meets}
-
--- ---- sums
-
-sums_plus : (n : ℕ) (f g h : ℕ → ℕ) → ((k : ℕ) → k < n → f k ≡ g k + h k) → sums n f ≡ sums n g + sums n h
-sums_plus zero f g h e = refl
-sums_plus (suc n) f g h e = omega (arith, sums_plus n f g h (λ k l. e k (omega arith)), e n (omega arith))
-
-sums_front : (n : ℕ) (f : ℕ → ℕ) → sums (suc n) f ≡ f 0 + sums n (λ k. f (suc k))
-sums_front zero f = omega arith
-sums_front (suc n) f = omega (arith, sums_front n f)
 
 -- ---- points and pieces
 

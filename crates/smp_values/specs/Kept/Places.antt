@@ -10,7 +10,8 @@ use Rattle.smp_values.specs.Values.{IsValues, fractional, is_fractional}
 
 -- the first fractional unit from a place on, or the number of units
 abbrev pub fractional_from : Shares → ℕ → ℕ
-fractional_from s place = min (length s.numer) (place + position_or_len (fractional s.den) (drop place s.numer))
+fractional_from s place =
+    min (length s.numer) (place + position_or_len (fractional s.den) (drop place s.numer))
 
 abbrev pub first_of : Shares → ℕ
 first_of s = fractional_from s 0
@@ -20,7 +21,8 @@ second_of s = fractional_from s (first_of s + 1)
 
 -- a step on these two, or on the first alone where the second is no unit
 abbrev pub parts_at : Shares → ℕ → ℕ → List (Part Shares)
-parts_at s first second = if nat_lt second (length s.numer) then pair_parts s first second else lone_parts s first
+parts_at s first second =
+    if nat_lt second (length s.numer) then pair_parts s first second else lone_parts s first
 
 abbrev pub kind_at : Shares → ℕ → Kind
 kind_at s second = if nat_lt second (length s.numer) then Pivot else Lone
@@ -39,7 +41,8 @@ pub record IsGoing (s : Shares) (first second : ℕ) : Type 0 where
   pub ordered : first < second
   pub second_in : second ≤ length s.numer
   pub first_passes : (0 < slice_index s.numer first) × (slice_index s.numer first < s.den)
-  pub second_passes : second < length s.numer → (0 < slice_index s.numer second) × (slice_index s.numer second < s.den)
+  pub second_passes : second < length s.numer → (0 < slice_index s.numer second)
+      × (slice_index s.numer second < s.den)
 
 -- of the units before `second`, only `first` may be fractional
 abbrev pub OnlyBefore : Shares → ℕ → ℕ → Type 0

@@ -1,7 +1,7 @@
 use Rattle.std.proofs.Common.{◌≡◌, drop, max}
-use Rattle.smp_brewer.specs.Sizes.{largest_size}
+use Rattle.smp_values.specs.Largest.{largest_of}
 use Rattle.smp_brewer.proofs.sizes.largest_of.Given as goal
 
 -- the largest so far, and of the sizes that are left
 abbrev pub invariant-loop-size : goal.invariant-loop-size
-invariant-loop-size l = max l.largest (largest_size (drop l.size-index l.sizes)) ≡ largest_size l.sizes
+invariant-loop-size l = max l.largest (largest_of (drop l.size-index l.sizes)) ≡ largest_of l.sizes

@@ -1,5 +1,5 @@
 use Rattle.std.proofs.Common.{arith}
-use Rattle.smp_brewer.specs.Laws.Sums.{largest-le-sum}
+use Rattle.smp_values.proofs.Largest.{largest-le-sum}
 use Rattle.smp_brewer.proofs.offers.Offers.bound.Goals as goal
 
 pub overflow_sub-rest : goal.overflow_sub-rest

@@ -1,6 +1,6 @@
-use Rattle.std.proofs.Common.{◌≡◌, ℕ, ◌+◌, ◌<◌, ◌∙◌, sym, ap, subst, true, false, nat_eq, length, arith}
-use Rattle.smp_split.specs.Orders.{Placing, Ordered, in_order, next_place, exchanged_order}
-use Rattle.smp_split.proofs.Orders.{order_picked, order_within, places_within}
+use Rattle.std.proofs.Common.{◌≡◌, ◌<◌, ◌∙◌, sym, ap, subst, true, false, nat_eq, length, arith}
+use Rattle.smp_split.specs.Orders.{Ordered, in_order}
+use Rattle.smp_split.proofs.Orders.{order_made, order_within, told_within}
 use Rattle.smp_prob.specs.Shares.{Shares}
 use Rattle.smp_values.specs.Values.{exchanged_values}
 use Rattle.smp_systematic.specs.Systematic.{IsSystematic, places_tree}
@@ -30,8 +30,7 @@ both_within c =
     let s : Ordered Shares = in_order c.self.inside.order c.self.inside.values in
     let left : nat_eq c.self.inside.order.left 0 ≡ false = sym c.is_drawn.ensures ∙ c.if-is_drawn.false in
     let ok : IsSystematic (length s.state.numer) s = subst (λ (t : Ordered Shares). IsSystematic (length t.state.numer) t) (sym c.self.view_is) c.requires.state in
-    let both = places_within (places_tree (length s.state.numer)) exchanged_values s left c.args.draw (rw (← c.self.view_is) at c.requires.within) ok.order in
-    subst (λ (p : ℕ × ℕ). (p.0 < length c.self.inside.values.numer) × (p.1 < length c.self.inside.values.numer)) (sym c.exchange-place.ensures.places) both
+    told_within (places_tree (length s.state.numer)) exchanged_values s left c.args.draw (rw (← c.self.view_is) at c.requires.within) c.exchange-place.result c.exchange-place.ensures.places ok.order
 
 pub exchange-requires-clause-unit : goal.exchange-requires-clause-unit
 exchange-requires-clause-unit c = let both = both_within c in omega (arith, both.0)
@@ -50,11 +49,5 @@ pub returns-else-is_drawn : goal.returns-else-is_drawn
 returns-else-is_drawn c =
     let s : Ordered Shares = in_order c.self.inside.order c.self.inside.values in
     let left : nat_eq c.self.inside.order.left 0 ≡ false = sym c.is_drawn.ensures ∙ c.if-is_drawn.false in
-    let within = order_within (places_tree (length s.state.numer)) exchanged_values s left c.args.draw (rw (← c.self.view_is) at c.requires.within) in
-    let place : ℕ = next_place c.self.inside.order in
-    let values_are : c.exchange.new.self ≡ exchanged_values (next_place c.self.inside.order) (next_place c.self.inside.order + c.args.draw) c.self.inside.values =
-    c.exchange.ensures ∙ ap (λ (p : ℕ × ℕ). exchanged_values p.0 p.1 c.self.inside.values) c.exchange-place.ensures.places in
     rw (← c.self.view_is)
-    (ap (λ (o : Placing). in_order o c.exchange.new.self) c.exchange-place.ensures.order
-    ∙ ap (in_order (exchanged_order c.self.inside.order place (place + c.args.draw))) values_are
-    ∙ sym (order_picked (places_tree (length s.state.numer)) exchanged_values s c.args.draw left within))
+    (order_made (places_tree (length s.state.numer)) exchanged_values s left c.args.draw (rw (← c.self.view_is) at c.requires.within) c.exchange-place.result c.exchange-place.ensures.places _ _ c.exchange-place.ensures.order c.exchange.ensures)

@@ -1,0 +1,2 @@
+-- What the code keeps on the way. No public clause cites it.
+pub mod Alone

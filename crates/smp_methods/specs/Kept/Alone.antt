@@ -1,0 +1,28 @@
+-- What a method itself says of its design and of a step, before it is told among all methods.
+use Rattle.std.specs.Prelude.{◌≡◌, ℕ, Option, Some, None}
+use Rattle.smp_prob.specs.declared.requests.Request.{Request}
+use Rattle.smp_split.specs.Methods.{Method, Starts}
+use Rattle.smp_split.specs.Trees.{picked}
+use Rattle.smp_values.specs.Starts.{IsRequested}
+use Rattle.smp_methods.specs.declared.any.AnyState.{AnyState}
+use Rattle.smp_methods.specs.Designs.{Variant, variant}
+
+-- a selection starts with the design
+abbrev pub StartsAlone : Variant → Type 0
+StartsAlone (variant method design into out back) = Starts method design
+
+-- and its values are those that are requested
+abbrev pub RequestedAlone : Request → Variant → Type 0
+RequestedAlone request (variant method design into out back) =
+    IsRequested method.tree request design
+
+-- the draw leads from the method's own state to that of its part
+abbrev pub IsStep : {State : Type 0} → (State → AnyState) → Method State → Option State
+    → AnyState → AnyState → ℕ → Type 0
+IsStep into method None from to draw = ⊥
+IsStep into method (Some state) from to draw =
+    (from ≡ into state) × (to ≡ into (picked state (method.tree.parts state) draw))
+
+abbrev pub StepsAlone : Variant → AnyState → AnyState → ℕ → Type 0
+StepsAlone (variant method design into out back) from to draw =
+    IsStep into method (out from) from to draw
