@@ -12,3 +12,6 @@ pub mod Places
 pub mod Reducing
 pub mod Searched
 pub mod Making
+pub mod Untouched
+pub mod Advancing
+pub mod Ahead

@@ -47,16 +47,16 @@ lowest_is a b p =
 
 -- ---- what a number and a list have in common
 
-divides_first : (d : ℕ) (xs : List ℕ) → common_factor d xs ∣ d
+pub divides_first : (d : ℕ) (xs : List ℕ) → common_factor d xs ∣ d
 divides_first d [] = dvd_refl d
 divides_first d (x ∷ xs) = dvd_trans _ (divides_first (greatest_common_divisor d x) xs) (IsGcd-greatest_common_divisor d x).0
 
-divides_each : (d : ℕ) (xs : List ℕ) (i : ℕ) → i < length xs → common_factor d xs ∣ get_or xs i 0
+pub divides_each : (d : ℕ) (xs : List ℕ) (i : ℕ) → i < length xs → common_factor d xs ∣ get_or xs i 0
 divides_each d [] i h = absurd (omega (arith, h))
 divides_each d (x ∷ xs) zero h = dvd_trans _ (divides_first (greatest_common_divisor d x) xs) (IsGcd-greatest_common_divisor d x).1
 divides_each d (x ∷ xs) (suc i) h = divides_each (greatest_common_divisor d x) xs i (omega (arith, h))
 
-divides_common : (k d : ℕ) (xs : List ℕ) → k ∣ d → ((i : ℕ) → i < length xs → k ∣ get_or xs i 0) → k ∣ common_factor d xs
+pub divides_common : (k d : ℕ) (xs : List ℕ) → k ∣ d → ((i : ℕ) → i < length xs → k ∣ get_or xs i 0) → k ∣ common_factor d xs
 divides_common k d [] h each = h
 divides_common k d (x ∷ xs) h each =
     divides_common k (greatest_common_divisor d x) xs ((IsGcd-greatest_common_divisor d x).2 k h (each 0 (omega arith))) (λ i l. each (suc i) (omega (arith, l)))

@@ -78,7 +78,7 @@ module _ (first : ℕ) (s : Shares) (is_over : IsOver first s) (line : Line) (ok
       over_cross (get_or last.numer k 0) last.den (get_or s.numer k 0) s.den last_moved.positive is_over.values.positive (same_trans (last_moved.values k) stays)
 
   -- what is fractional after the move was so before
-  keeps_fractional : (k : ℕ) → is_fractional last k ≡ true → is_fractional s k ≡ true
+  pub keeps_fractional : (k : ℕ) → is_fractional last k ≡ true → is_fractional s k ≡ true
   keeps_fractional k b =
       elim (place_or line.units k) [
         | inl h ↦ subst (λ (x : ℕ). is_fractional s x ≡ true) h.2 (order_going s line.units ok.order h.0 h.1)
@@ -102,8 +102,9 @@ module _ (first : ℕ) (s : Shares) (is_over : IsOver first s) (line : Line) (ok
 pub record IsChosen (units : Units) (s : Flight) (line : Line) (r : Ratio) : Type 0 where
   pub line_ok : IsLine s.shares line
   pub moved : IsMoved units.requested.den s.shares line r (end_of units.requested.den s.shares line)
-  pub flight : IsFlight units (record { shares = end_of units.requested.den s.shares line; rows = s.rows })
+  pub flight : IsFlight units (record { first = s.first; shares = end_of units.requested.den s.shares line; rows = s.rows })
   pub settles : fractional_count (end_of units.requested.den s.shares line) < fractional_count s.shares
+  pub fewer : (k : ℕ) → is_fractional (end_of units.requested.den s.shares line) k ≡ true → is_fractional s.shares k ≡ true
 
 module _ (units : Units) (s : Flight) (is_flight : IsFlight units s) where
   chosen_on : (line : Line) (r : Ratio) → IsLine s.shares line → IsMoved units.requested.den s.shares line r (end_of units.requested.den s.shares line) → (end_of units.requested.den s.shares line).den ≤ 2 ^ 80 → IsChosen units s line r
@@ -112,8 +113,9 @@ module _ (units : Units) (s : Flight) (is_flight : IsFlight units s) where
       record {
         line_ok = ok;
         moved = m;
-        flight = record { are = is_flight.are; values = end_values units.requested.den s.shares is_over line ok (length units.sizes) is_flight.values.count narrow; multiple = end_multiple units.requested.den s.shares is_over line ok; rows_in = is_flight.rows_in };
+        flight = record { are = is_flight.are; values = end_values units.requested.den s.shares is_over line ok (length units.sizes) is_flight.values.count narrow; first_is = is_flight.first_is; multiple = end_multiple units.requested.den s.shares is_over line ok; rows_in = is_flight.rows_in };
         settles = end_settles units.requested.den s.shares is_over line ok;
+        fewer = keeps_fractional units.requested.den s.shares is_over line ok;
       }
 
   pub chosen_is : (order : List ℕ) (m : Move) (plus : Bool) → IsKnown units s order m → IsChosen units s (chosen_line m plus) (chosen_extent m plus)

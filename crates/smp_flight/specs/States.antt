@@ -26,14 +26,16 @@ columns_of units order = map (column units) order
 abbrev pub row_count : Units → ℕ
 row_count units = max 1 (length (column units 0))
 
--- a state of the flight: the values of the units, and how many rows are in force, which are the first ones
+-- A state of the flight: the denominator of the requested probabilities, the values of the units, and how many rows are in force, which are the
+-- first ones.
 pub record Flight : Type 0 where
+  pub first : ℕ
   pub shares : Shares
   pub rows : ℕ
 
 -- the state before the first step: the requested probabilities, with all rows in force
 abbrev pub started : Units → Flight
-started units = record { shares = units.requested; rows = row_count units }
+started units = record { first = units.requested.den; shares = units.requested; rows = row_count units }
 
 -- ---- what holds of the units, and of each state
 
@@ -55,5 +57,6 @@ pub record IsUnits (units : Units) : Type 0 where
 pub record IsFlight (units : Units) (s : Flight) : Type 0 where
   pub are : IsUnits units
   pub values : IsValues (length units.sizes) (2 ^ 80) s.shares
+  pub first_is : s.first ≡ units.requested.den
   pub multiple : units.requested.den ∣ s.shares.den
   pub rows_in : s.rows ≤ row_count units

@@ -123,4 +123,8 @@ abbrev pub chosen_extent : Move → Bool → Ratio
 chosen_extent m plus = cond plus m.up m.down
 
 abbrev pub chosen : Units → Flight → Move → Bool → Flight
-chosen units s m plus = record { shares = end_of units.requested.den s.shares (chosen_line m plus); rows = s.rows }
+chosen units s m plus = record {
+  first = s.first;
+  shares = end_of units.requested.den s.shares (chosen_line m plus);
+  rows = s.rows;
+}

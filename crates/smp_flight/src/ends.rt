@@ -1,16 +1,18 @@
 //! The values at the end of a line.
 
-ghost use Rattle.std.specs.Prelude.{◌≡◌, ◌/◌, ◌≤◌, map};
+ghost use Rattle.std.specs.Prelude.{◌≡◌, ◌*◌, ◌<◌, ◌≤◌, length, slice_index};
+ghost use Rattle.smp_frac.specs.Divisors.{greatest_common_divisor};
 ghost use Rattle.smp_flight.specs.Moves.{IsLine, entry_of};
 ghost use Rattle.smp_flight.specs.Steps.{advanced, advanced_numbers, common_factor, end_of};
 ghost use Rattle.smp_flight.specs.Answers.{IsPadded, line_of};
 ghost use Rattle.smp_flight.specs.Kept.Lines.{HasSmallEntries};
 ghost use Rattle.smp_flight.specs.Kept.Ends.{CanAdvance, CanMove, IsEndOf, IsOver};
+ghost use Rattle.smp_flight.specs.Kept.Windows.{shares_in};
 
 use crate::lines::Line;
 use crate::reaches::{Reach, advanced, reach_along};
+use crate::values::FlightValues;
 use smp_frac::gcd;
-use smp_values::Values;
 
 /// What is known of the end of a line.
 #[derive(Clone, Copy)]
@@ -23,7 +25,7 @@ pub(crate) struct End {
 }
 
 /// The numerator there of a unit whose numerator was `a`, over the denominator times the size of the reach.
-fn number_at(a: u128, line: &Line, reach: Reach, unit: usize) -> u128
+pub(crate) fn number_at(a: u128, line: &Line, reach: Reach, unit: usize) -> u128
     requires padded { IsPadded line.now }
     requires can { CanMove a reach (entry_of (line_of line.now) unit) }
     ensures { result ≡ advanced a reach (entry_of (line_of line.now) unit) }
@@ -31,63 +33,65 @@ fn number_at(a: u128, line: &Line, reach: Reach, unit: usize) -> u128
     advanced(a, reach, line.entry(unit))
 }
 
-/// The greatest common divisor of a number and all numerators there.
-fn common_factor(values: &Values, line: &Line, reach: Reach, times: u128) -> u128
+/// What a number has in common with the numerator there of a unit.
+fn common_with(common: u128, values: &FlightValues, line: &Line, reach: Reach, unit: usize) -> u128
+    requires unit { unit < length (shares_in values.now).numer }
     requires padded { IsPadded line.now }
-    requires can { CanAdvance values.now.numer (line_of line.now) reach }
+    requires can { CanAdvance (shares_in values.now).numer (line_of line.now) reach }
+    ensures { let numbers = advanced_numbers (shares_in values.now).numer (line_of line.now) reach in
+        result ≡ greatest_common_divisor common (slice_index numbers unit) }
+{
+    gcd(common, number_at(values.numerator(unit), line, reach, unit))
+}
+
+/// The greatest common divisor of a number and all numerators there. It divides those of the units that are neither in the window nor on the line.
+fn common_factor(values: &FlightValues, line: &Line, reach: Reach, times: u128) -> u128
+    requires line { IsLine (shares_in values.now) (line_of line.now) }
+    requires padded { IsPadded line.now }
+    requires can { CanAdvance (shares_in values.now).numer (line_of line.now) reach }
+    requires times { times ≡ values.now.times * reach.size }
     ensures { result
-        ≡ common_factor times (advanced_numbers values.now.numer (line_of line.now) reach) }
+        ≡ common_factor times (advanced_numbers (shares_in values.now).numer (line_of line.now) reach) }
 {
     let mut common = times;
-    for unit in 0..values.len() {
-        let numer = number_at(values.numerator(unit), line, reach, unit);
-        common = gcd(common, numer);
+    for place in 0..values.window.len() {
+        common = common_with(common, values, line, reach, values.window[place]);
+    }
+    for place in 0..line.number {
+        common = common_with(common, values, line, reach, line.units[place]);
     }
     common
 }
 
-/// The end of a line, where the first denominator is this.
-pub(crate) fn end_of(first: u128, values: &Values, line: &Line) -> End
-    requires over { IsOver first values.now }
-    requires line { IsLine values.now (line_of line.now) }
+/// The end of a line.
+pub(crate) fn end_of(values: &FlightValues, line: &Line) -> End
+    requires over { IsOver values.now.first (shares_in values.now) }
+    requires line { IsLine (shares_in values.now) (line_of line.now) }
     requires padded { IsPadded line.now }
     requires small { HasSmallEntries line.now }
-    ensures { IsEndOf first values.now (line_of line.now) result }
+    ensures { IsEndOf values.now.first (shares_in values.now) (line_of line.now) result }
 {
     let reach = reach_along(values, line);
     let full = values.denominator() * reach.size;
+    let times = full / values.first_denominator();
     End {
         reach,
         full,
-        common: common_factor(values, line, reach, full / first),
+        common: common_factor(values, line, reach, times),
     }
-}
-
-/// Moves all values along a line.
-fn advance_all(values: &mut Values, line: &Line, end: End)
-    requires padded { IsPadded line.now }
-    requires can { CanAdvance values.old.numer (line_of line.now) end.reach }
-    requires some { 1 ≤ end.common }
-    ensures { values.new ≡ record {
-      numer = map (λ n. n / end.common) (advanced_numbers values.old.numer (line_of line.now) end.reach);
-      den = end.full / end.common;
-    } }
-{
-    for unit in 0..values.len() {
-        let numer = number_at(values.numerator(unit), line, end.reach, unit);
-        values.set(unit, numer / end.common);
-    }
-    values.set_denominator(end.full / end.common);
 }
 
 /// Goes to the end of a line.
-pub(crate) fn go_to_end(first: u128, values: &mut Values, line: &Line)
-    requires over { IsOver first values.old }
-    requires line { IsLine values.old (line_of line.now) }
+pub(crate) fn go_to_end(values: &mut FlightValues, line: &Line)
+    requires over { IsOver values.old.first (shares_in values.old) }
+    requires line { IsLine (shares_in values.old) (line_of line.now) }
     requires padded { IsPadded line.now }
     requires small { HasSmallEntries line.now }
-    ensures { values.new ≡ end_of first values.old (line_of line.now) }
+    ensures values { shares_in values.new ≡ end_of values.old.first (shares_in values.old) (line_of line.now) }
+    ensures first { values.new.first ≡ values.old.first }
 {
-    let end = end_of(first, values, line);
-    advance_all(values, line, end);
+    values.take_in_line(line);
+    let end = end_of(values, line);
+    values.advance(line, end);
+    values.let_settled_go();
 }

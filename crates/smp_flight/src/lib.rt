@@ -21,6 +21,8 @@ mod states;
 mod steps;
 #[cfg(test)]
 mod tests;
+mod values;
+mod windows;
 
 pub use laws::step_law;
 pub use lines::{Line, Ratio};

@@ -5,9 +5,10 @@ ghost use Rattle.smp_flight.specs.Steps.{room, nearer, reach, advanced};
 ghost use Rattle.smp_flight.specs.Answers.{IsPadded, line_of};
 ghost use Rattle.smp_flight.specs.Kept.Lines.{HasSmallEntries};
 ghost use Rattle.smp_flight.specs.Kept.Ends.{CanMove};
+ghost use Rattle.smp_flight.specs.Kept.Windows.{shares_in};
 
 use crate::lines::Line;
-use smp_values::Values;
+use crate::values::FlightValues;
 
 /// What is left of a unit's value in the direction of an entry, as a numerator, and the size of the entry.
 #[derive(Clone, Copy)]
@@ -54,14 +55,15 @@ fn nearer(a: Reach, b: Reach) -> Reach
 }
 
 /// The reach of the unit of a line that meets its end first.
-pub(crate) fn reach_along(values: &Values, line: &Line) -> Reach
+pub(crate) fn reach_along(values: &FlightValues, line: &Line) -> Reach
     requires padded { IsPadded line.now }
     requires small { HasSmallEntries line.now }
-    requires den { values.now.den ≤ 2 ^ 80 }
-    requires values { (k : ℕ) → slice_index values.now.numer k ≤ values.now.den }
+    requires den { (shares_in values.now).den ≤ 2 ^ 80 }
+    requires values { (k : ℕ) →
+        slice_index (shares_in values.now).numer k ≤ (shares_in values.now).den }
     requires units { (j : ℕ) →
-        j < line.now.number → slice_index line.now.units j < length values.now.numer }
-    ensures is { result ≡ reach values.now (line_of line.now) }
+        j < line.now.number → slice_index line.now.units j < length (shares_in values.now).numer }
+    ensures is { result ≡ reach (shares_in values.now) (line_of line.now) }
     ensures bounds { (result.left ≤ 2 ^ 80) × (result.size ≤ 2 ^ 44) }
 {
     let mut least = Reach { left: 1, size: 0 };

@@ -1,29 +1,36 @@
 //! The states of a flight.
 
-ghost use Rattle.std.specs.Prelude.{◌≡◌, ◌-◌, ◌<◌, ◌≤◌, IfOk, length, slice_index};
+ghost use Rattle.std.specs.Prelude.{◌≡◌, ◌+◌, ◌-◌, ◌<◌, ◌≤◌, IfOk, length, min, slice_index, take};
 ghost use Rattle.smp_kernel.specs.Elimination.{AreIndependent, cut};
 ghost use Rattle.smp_values.specs.Values.{fractional_count, fractional_units};
 ghost use Rattle.smp_flight.specs.States.{IsFlight, columns_of, started};
+ghost use Rattle.smp_flight.specs.Kept.Lines.{IsAhead};
 
+use crate::fronts::{EMPTY, Front, first_fractional};
 use crate::shapes::Shape;
+use crate::values::FlightValues;
 use smp_frac::NoMemory;
-use smp_values::Values;
 use std::alloc::Global;
 use std::marker::Model;
 
 /// The values of the units of a [`Shape`], and how many rows are in force.
 #[derive(Drop)]
 pub struct FlightState {
-    pub(crate) values: Values,
+    pub(crate) values: FlightValues,
+    pub(crate) front: Front,
     pub(crate) rows: usize,
 }
 
 impl Model for FlightState {
     ghost use Rattle.smp_flight.specs.States.{Flight};
+    ghost use Rattle.smp_flight.specs.Kept.Lines.{IsAhead};
+    ghost use Rattle.smp_flight.specs.Kept.Windows.{flight_of, shares_in};
 
     ghost Value = { Flight };
 
-    ghost view = { λ a. record { shares = a.values; rows = a.rows } };
+    ghost view = { λ a. flight_of a.values a.rows };
+
+    ghost invariant = { λ a. IsAhead (shares_in a.values) a.front };
 }
 
 /// The state before the first step: the requested probabilities, with all rows in force.
@@ -31,9 +38,11 @@ pub fn start(alloc: Global, shape: &Shape) -> Result<FlightState, NoMemory>
     ensures is { IfOk result (λ state. state ≡ started shape.now) }
     ensures flight { IfOk result (IsFlight shape.now) }
 {
+    let rows = shape.rows();
     Ok(FlightState {
-        values: shape.requested().copy(alloc)?,
-        rows: shape.rows(),
+        values: FlightValues::requested(alloc, shape.requested())?,
+        front: EMPTY,
+        rows,
     })
 }
 
@@ -64,9 +73,19 @@ impl FlightState {
     pub fn fractional(&self) -> usize
         ensures { result ≡ fractional_count self.now.shares }
     {
-        let den = self.values.denominator();
-        let numer = self.values.numerators();
-        numer.iter().filter(|a| 0 < **a && **a < den).count()
+        self.values.count_fractional()
+    }
+
+    /// The first fractional units: one more than there are rows in force, or more, or all.
+    pub(crate) fn next_front(&self) -> Front
+        requires { self.now.rows ≤ 16 }
+        ensures first { let enough = self.now.rows + 1 in
+            take (min result.number enough) result.units
+            ≡ take enough (fractional_units self.now.shares) }
+        ensures ahead { IsAhead self.now.shares result }
+    {
+        let most = self.front.number.max(self.rows + 1);
+        first_fractional(&self.values, &self.front, most)
     }
 
     /// Takes the last row in force away, where no direction is left.
@@ -75,7 +94,11 @@ impl FlightState {
         requires independent { AreIndependent
             self.old.rows
             (cut self.old.rows (columns_of _shape.now (fractional_units self.old.shares))) }
-        ensures is { self.new ≡ record { shares = self.old.shares; rows = self.old.rows - 1 } }
+        ensures is { self.new ≡ record {
+          first = self.old.first;
+          shares = self.old.shares;
+          rows = self.old.rows - 1;
+        } }
         ensures flight { IsFlight _shape.now self.old → IsFlight _shape.now self.new }
     {
         self.rows -= 1;

@@ -9,16 +9,16 @@ ghost use Rattle.smp_flight.specs.Statements.{IsNext};
 ghost use Rattle.smp_flight.specs.Answers.{Allows, IsMoveOf, IsPadded, answer_of, line_of, move_of};
 ghost use Rattle.smp_flight.specs.Kept.Lines.{HasSmallEntries, IsPaddedIn};
 ghost use Rattle.smp_flight.specs.Kept.Ends.{IsOver};
+ghost use Rattle.smp_flight.specs.Kept.Windows.{flight_of, shares_in};
 
 use crate::directions::{direction, search_units};
 use crate::ends::{end_of, go_to_end};
-use crate::fronts::first_fractional;
 use crate::lines::{Line, Ratio};
 use crate::shapes::Shape;
 use crate::states::FlightState;
+use crate::values::FlightValues;
 use smp_frac::gcd;
 use smp_kernel::Searched;
-use smp_values::Values;
 
 /// The greatest common denominator of the values.
 const GATE: u128 = 1 << 80;
@@ -59,17 +59,18 @@ fn lowest(a: u128, b: u128) -> Ratio
     }
 }
 
-/// The step along a direction, where the first denominator is this.
-fn step_along(first: u128, values: &Values, line: Line) -> Next
-    requires over { IsOver first values.now }
-    requires line { IsLine values.now (line_of line) }
+/// The step along a direction.
+fn step_along(values: &FlightValues, line: Line) -> Next
+    requires over { IsOver values.now.first (shares_in values.now) }
+    requires line { IsLine (shares_in values.now) (line_of line) }
     requires padded { IsPadded line }
     requires small { HasSmallEntries line }
-    ensures is { answer_of result ≡ next_along first values.now (line_of line) }
+    ensures is { answer_of result
+        ≡ next_along values.now.first (shares_in values.now) (line_of line) }
     ensures padded { IsPaddedIn result }
 {
-    let up = end_of(first, values, &line);
-    let down = end_of(first, values, &line.turned());
+    let up = end_of(values, &line);
+    let down = end_of(values, &line.turned());
     let up_den = up.full / up.common;
     let down_den = down.full / down.common;
     if up_den > GATE || down_den > GATE {
@@ -91,16 +92,16 @@ fn step_along(first: u128, values: &Values, line: Line) -> Next
 /// The step of these values, with so many rows in force, whose search goes through these units.
 fn step_through(
     shape: &Shape,
-    values: &Values,
+    values: &FlightValues,
     rows: usize,
     units: &[usize; 17],
     number: usize,
 ) -> Next
-    requires flight { IsFlight shape.now (record { shares = values.now; rows = rows }) }
+    requires flight { IsFlight shape.now (flight_of values.now rows) }
     requires short { number ≤ 17 }
-    requires order { IsOrder values.now (take number units.now) }
+    requires order { IsOrder (shares_in values.now) (take number units.now) }
     ensures is { answer_of result
-        ≡ next_on shape.now (take number units.now) (record { shares = values.now; rows = rows }) }
+        ≡ next_on shape.now (take number units.now) (flight_of values.now rows) }
     ensures padded { IsPaddedIn result }
 {
     match search_units(shape, rows, units, number) {
@@ -108,7 +109,7 @@ fn step_through(
         Searched::TooWide => Next::Wide,
         Searched::Found(factors) => match direction(shape, units, number, &factors) {
             None => Next::Wide,
-            Some(line) => step_along(shape.first_denominator(), values, line),
+            Some(line) => step_along(values, line),
         },
     }
 }
@@ -124,8 +125,9 @@ pub fn step(shape: &Shape, state: &FlightState) -> Next
         (answer_of result) }
     ensures allows { Allows shape.now state.now result }
 {
-    let front = first_fractional(&state.values, state.rows + 1);
-    step_through(shape, &state.values, state.rows, &front.units, front.number)
+    let front = state.next_front();
+    let number = front.number.min(state.rows + 1);
+    step_through(shape, &state.values, state.rows, &front.units, number)
 }
 
 /// The direction of a move, or its opposite.
@@ -158,5 +160,6 @@ pub fn apply(shape: &Shape, state: &mut FlightState, mv: &Move, plus: bool)
     ensures settles { fractional_count state.new.shares < fractional_count state.old.shares }
 {
     let line = chosen_line(mv, plus);
-    go_to_end(shape.first_denominator(), &mut state.values, &line);
+    state.front = state.next_front();
+    go_to_end(&mut state.values, &line);
 }

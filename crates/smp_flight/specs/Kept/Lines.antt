@@ -1,10 +1,14 @@
 -- What the code keeps of a search and of a line.
-use Rattle.std.specs.Prelude.{◌≡◌, ℕ, ◌≤◌, ◌^◌, List, ℤ, take, ⊤}
+use Rattle.std.specs.Prelude.{◌≡◌, ℕ, ◌++◌, ◌<◌, ◌≤◌, ◌^◌, List, ℤ, length, slice_index, take, ⊤}
+use Rattle.std.specs.List.{filter}
 use Rattle.std.specs.Int.RustNames.{unsigned_abs}
 use Rattle.smp_kernel.specs.Vectors.{entry}
 use Rattle.smp_kernel.specs.Searched.{answer, ArePadded}
 use Rattle.smp_kernel.specs.declared.searches.Searched.{Searched}
 use Rattle.smp_kernel.proofs.SearchLaw.{search}
+use Rattle.smp_prob.specs.Shares.{Shares}
+use Rattle.smp_values.specs.Values.{fractional_units, is_fractional}
+use Rattle.smp_values.proofs.Units.{units_from}
 use Rattle.smp_flight.specs.States.{Units}
 use Rattle.smp_flight.specs.Steps.{direction}
 use Rattle.smp_flight.specs.Answers.{line_of, IsPadded}
@@ -13,10 +17,26 @@ use Rattle.smp_flight.specs.declared.fronts.Front.{Front}
 use Rattle.smp_flight.specs.declared.steps.Next.{Next as Answer}
 use Rattle.smp_flight.specs.declared.steps.Next.TheVariants as answers
 
--- the first units of an order, at most so many, in the first places of an array
-pub record IsFront (order : List ℕ) (most : ℕ) (front : Front) : Type 0 where
+-- the units in the first places of an array
+abbrev pub units_of : Front → List ℕ
+units_of front = take front.number front.units
+
+-- the first fractional units, at most so many
+pub record IsFront (s : Shares) (most : ℕ) (front : Front) : Type 0 where
   pub short : front.number ≤ most
-  pub is : take front.number front.units ≡ take most order
+  pub is : units_of front ≡ take most (fractional_units s)
+
+-- those of the units that are fractional, and all from the place on, are all fractional units
+pub record IsAhead (s : Shares) (front : Front) : Type 0 where
+  pub short : front.number ≤ 17
+  pub within : (j : ℕ) → j < front.number → slice_index front.units j < length s.numer
+  pub all : filter (is_fractional s) (units_of front) ++ units_from s front.place ≡ fractional_units s
+
+-- the units of another front that are still fractional
+pub record IsStanding (s : Shares) (front still : Front) : Type 0 where
+  pub fewer : still.number ≤ front.number
+  pub place : still.place ≡ front.place
+  pub is : units_of still ≡ filter (is_fractional s) (units_of front)
 
 -- a search as its function has it, with factors that are 0 in the places past them
 pub record IsSearched (q : ℕ) (columns : List (List ℤ)) (result : Searched) : Type 0 where

@@ -4,19 +4,20 @@ use mir.Syntax.{w64}
 use Rattle.smp_prob.specs.Shares.{Shares}
 use Rattle.smp_kernel.specs.Vectors.{entry}
 use Rattle.smp_flight.specs.Steps.{reach_from, reach_at, nearer}
+use Rattle.smp_flight.specs.Kept.Windows.{shares_in}
 use Rattle.smp_flight.proofs.Places.{rest_of, rest_all, rest_none, reach_step}
 use Rattle.smp_flight.proofs.reaches.reach_along.Goals as goal
 
 pub loop-place-init : goal.loop-place-init
 loop-place-init c = record {
-  is = ap₂ (reach_from (c.args.values.now) (record { left = 1; size = 0 })) (rest_all c.args.line.now.number c.args.line.now.units) (rest_all c.args.line.now.number c.args.line.now.entries);
+  is = ap₂ (reach_from (shares_in c.args.values.now) (record { left = 1; size = 0 })) (rest_all c.args.line.now.number c.args.line.now.units) (rest_all c.args.line.now.number c.args.line.now.entries);
   left = omega arith;
   size = omega arith;
 }
 
 pub loop-place-preserved : goal.loop-place-preserved
 loop-place-preserved c =
-    let s : Shares = c.args.values.now in
+    let s : Shares = shares_in c.args.values.now in
     let step = reach_step s c.loop-place.least c.args.line.now.number c.args.line.now.units c.args.line.now.entries c.loop-place.place (omega arith) (omega arith) (omega arith) in
     let narrow : SFits w64 (entry c.args.line.now.entries c.loop-place.place) = search rules in
     let here : c.reach_of-here.result ≡ reach_at s (get_or c.args.line.now.units c.loop-place.place 0) (entry c.args.line.now.entries c.loop-place.place) = rw (c.numerator.ensures, c.denominator.ensures) at (simp to_z-of_z at c.reach_of-here.ensures.is) in

@@ -1,0 +1,49 @@
+-- How the code keeps the values of a flight, so that a move writes those alone that it changes.
+use Rattle.std.specs.Prelude.{◌≡◌, ◌≢◌, ℕ, ◌*◌, ◌^◌, ◌<◌, ◌≤◌, Bool, true, false, cond, nat_eq, List, [], pos, length, map, slice_index}
+use Rattle.std.specs.List.{AllPairs, list_any, range_with_len}
+use Rattle.smp_prob.specs.Shares.{Shares}
+use Rattle.smp_flight.specs.States.{Flight}
+use Rattle.smp_flight.specs.Moves.{Line, entry_of}
+
+-- The numerators of the units, the first denominator, how many times it the common denominator is, and the units of the window. The numerators of
+-- these are over the common denominator, and those of all others over the first.
+pub record Windowed : Type 0 where
+  pub numer : List ℕ
+  pub first : ℕ
+  pub times : ℕ
+  pub window : List ℕ
+
+-- whether a unit is in the window
+abbrev pub is_in : List ℕ → ℕ → Bool
+is_in window k = list_any (λ unit. nat_eq unit k) window
+
+-- the numerator of a unit over the common denominator
+abbrev pub numerator_over : List ℕ → ℕ → List ℕ → ℕ → ℕ
+numerator_over numer times window k = cond (is_in window k) (slice_index numer k) (slice_index numer k * times)
+
+abbrev pub numerators_over : List ℕ → ℕ → List ℕ → List ℕ
+numerators_over numer times window = map (numerator_over numer times window) (range_with_len 0 (length numer))
+
+-- the values that are kept so
+abbrev pub shares_in : Windowed → Shares
+shares_in v = record { numer = numerators_over v.numer v.times v.window; den = v.first * v.times }
+
+abbrev pub flight_of : Windowed → ℕ → Flight
+flight_of v rows = record { first = v.first; shares = shares_in v; rows = rows }
+
+-- values of which no unit is in the window
+abbrev pub unchanged : Shares → Windowed
+unchanged s = record { numer = s.numer; first = s.den; times = 1; window = [] }
+
+-- each unit of the window is in it once, all numbers fit, and there is room for all units
+pub record IsWindowed (v : Windowed) (room : ℕ) : Type 0 where
+  pub some_first : 1 ≤ v.first
+  pub narrow : v.first * v.times < 2 ^ 128
+  pub small : (k : ℕ) → is_in v.window k ≡ false → slice_index v.numer k ≤ v.first
+  pub within : (k : ℕ) → is_in v.window k ≡ true → k < length v.numer
+  pub distinct : AllPairs (λ k l. k ≢ l) v.window
+  pub fits : length v.numer ≤ room
+
+-- a line changes no unit but those of the window
+abbrev pub Covers : List ℕ → Line → Type 0
+Covers window line = (k : ℕ) → is_in window k ≡ false → entry_of line k ≡ pos 0
