@@ -8,7 +8,7 @@ ghost use Rattle.smp_flight.specs.States.{IsFlight};
 ghost use Rattle.smp_flight.specs.Requests.{AreValues};
 
 use super::*;
-use smp_frac::NoMemory;
+use smp_frac::{NoMemory, gcd};
 use smp_frame::Numbers;
 use smp_prob::{Places, Request, Shapes};
 use std::alloc::Global;
@@ -65,7 +65,7 @@ fn request<const N: usize>(
     r: u32,
     total: u64,
 ) -> Result<Request, NoMemory>
-    requires units { N ≤ 17 }
+    requires units { N ≤ 200000 }
     requires shapes { IsTrue (list_all
         (λ z. nat_lt 0 z && nat_lt z (2 ^ 31) && nat_lt (z * r) total)
         shape.now) }
@@ -304,5 +304,180 @@ fn entries_and_denominators_at_their_gates(rt: HostRuntime) -> Result<(), Fail> 
         => to(Next::Wide, true, [1, 11264, 1], 44479210368001, 3));
     starts!(rt; [1, 11264, 1], 44479210368001, [[2412960], [11263], [1]]
         => to(Next::Wide, true, [1, 11264, 1], 44479210368001, 3));
+    Ok(())
+}
+
+/// The values by the plain program: numerators of all units over one denominator, and each of them moved with each move.
+#[derive(Drop)]
+struct Plain {
+    numer: Vec<u128>,
+    den: u128,
+}
+
+/// The entry of a unit on a line, with 0 off it: whether it is negative, and its size.
+fn plain_entry(line: &Line, unit: usize) -> (bool, u128) {
+    for place in 0..17 {
+        if place < line.number && line.units[place] == unit {
+            let entry = line.entries[place];
+            return (entry < 0, entry.unsigned_abs() as u128);
+        }
+    }
+    (false, 0)
+}
+
+impl Plain {
+    /// The requested values.
+    fn requested(alloc: Global, shape: &Shape) -> Result<Plain, NoMemory> {
+        let requested = shape.requested();
+        Ok(Plain {
+            numer: Vec::from_slice(alloc, requested.numerators())?,
+            den: requested.denominator(),
+        })
+    }
+
+    /// Whether a unit is fractional.
+    fn is_fractional(&self, unit: usize) -> bool {
+        unit < self.numer.len() && 0 < self.numer[unit] && self.numer[unit] < self.den
+    }
+
+    /// Whether a line goes through the first fractional units.
+    fn starts_with(&self, line: &Line) -> bool {
+        let mut place = 0;
+        for unit in 0..self.numer.len() {
+            if place < 17 && place < line.number && self.is_fractional(unit) {
+                if line.units[place] != unit {
+                    return false;
+                }
+                place += 1;
+            }
+        }
+        place == line.number
+    }
+
+    /// Goes as far along a line or its opposite, and divides all numerators by what they have in common with the multiple of the first denominator.
+    fn advance(&mut self, first: u128, line: &Line, plus: bool, extent: Ratio) {
+        let full = self.den.wrapping_mul(extent.den);
+        let mut common = full.checked_div(first).unwrap_or(0);
+        for unit in 0..self.numer.len() {
+            let (negative, size) = plain_entry(line, unit);
+            let change = self.den.wrapping_mul(extent.num).wrapping_mul(size);
+            let number = self.numer[unit].wrapping_mul(extent.den);
+            self.numer[unit] = if negative == plus {
+                number.wrapping_sub(change)
+            } else {
+                number.wrapping_add(change)
+            };
+            common = gcd(common, self.numer[unit]);
+        }
+        for unit in 0..self.numer.len() {
+            self.numer[unit] = self.numer[unit].checked_div(common).unwrap_or(0);
+        }
+        self.den = full.checked_div(common).unwrap_or(0);
+    }
+
+    /// Whether a state has the same values.
+    fn is_at(&self, state: &FlightState) -> bool {
+        let mut fractional: usize = 0;
+        for unit in 0..self.numer.len() {
+            if state.values.len() <= unit || state.numer(unit) != self.numer[unit] {
+                return false;
+            }
+            if self.is_fractional(unit) {
+                fractional = fractional.wrapping_add(1);
+            }
+        }
+        state.denom() == self.den && state.fractional() == fractional
+    }
+}
+
+/// Makes the next step, in the plain program too, and says whether it is none that the plain program couldn't make.
+fn goes_on(shape: &Shape, state: &mut FlightState, plain: &mut Plain, plus: bool) -> bool
+    requires { IsFlight shape.now state.old }
+    ensures { IsFlight shape.now state.new }
+{
+    match step(shape, state) {
+        Next::Move(mv) => {
+            let first = shape.requested().denominator();
+            let extent = if plus { mv.up } else { mv.down };
+            let begins = plain.starts_with(&mv.direction);
+            plain.advance(first, &mv.direction, plus, extent);
+            apply(shape, state, &mv, plus);
+            begins
+        }
+        Next::Independent => {
+            if state.rows() == 0 {
+                return false;
+            }
+            state.drop_row(shape);
+            true
+        }
+        Next::Wide => false,
+    }
+}
+
+/// Whether a flight keeps pace with the plain program until all values are settled.
+fn lands(shape: &Shape, state: &mut FlightState, plain: &mut Plain) -> bool
+    requires { IsFlight shape.now state.old }
+{
+    for number in 0..1000 {
+        if state.fractional() == 0 {
+            return true;
+        }
+        if !goes_on(shape, state, plain, number % 3 == 0) || !plain.is_at(state) {
+            return false;
+        }
+    }
+    false
+}
+
+/// Whether the flight of these sizes and balancing values keeps pace with the plain program to its end.
+fn flies_plainly<const N: usize, const P: usize>(
+    alloc: Global,
+    request: &Request,
+    lists: &[[i32; P]; N],
+) -> Result<bool, NoMemory>
+    requires request { IsRequest request.now }
+    requires few { P ≤ 15 }
+    requires one_each { length request.now.free ≡ N }
+{
+    let xs = balancing(alloc, lists)?;
+    let shape = Shape::new(alloc, request, xs.as_slice())?;
+    let mut state = start(alloc, &shape)?;
+    let mut plain = Plain::requested(alloc, &shape)?;
+    Ok(lands(&shape, &mut state, &mut plain))
+}
+
+/// Small numbers in no order, `P` for each unit.
+fn scattered<const N: usize, const P: usize>() -> [[i32; P]; N] {
+    let mut lists = [[0; P]; N];
+    let mut next: i32 = 7;
+    for unit in 0..N {
+        for column in 0..P {
+            next = next.wrapping_mul(37).wrapping_add(11) & 1023;
+            lists[unit][column] = next & 7;
+        }
+    }
+    lists
+}
+
+#[test]
+fn a_whole_flight_beside_the_plain_program(rt: HostRuntime) -> Result<(), Fail> {
+    let alloc = rt.alloc();
+    let mut free = [0; 60];
+    for unit in 0..60 {
+        free[unit] = unit;
+    }
+    let equal = request(alloc, &free, &[1; 60], 20, 60)?;
+    assert!(rt; flies_plainly(alloc, &equal, &scattered::<60, 1>())?);
+    assert!(rt; flies_plainly(alloc, &equal, &scattered::<60, 3>())?);
+
+    let mut few = [0; 20];
+    for unit in 0..20 {
+        few[unit] = unit;
+    }
+    let sizes = [3, 1, 4, 1, 5, 9, 2, 6, 5, 3, 5, 8, 9, 7, 9, 3, 2, 3, 8, 4];
+    let unequal = request(alloc, &few, &sizes, 7, 97)?;
+    assert!(rt; flies_plainly(alloc, &unequal, &scattered::<20, 1>())?);
+    assert!(rt; flies_plainly(alloc, &unequal, &scattered::<20, 2>())?);
     Ok(())
 }
