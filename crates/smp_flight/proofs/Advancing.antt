@@ -3,21 +3,15 @@
 use Rattle.std.proofs.Common.{◌≡◌, ℕ, ◌+◌, ◌*◌, ◌/◌, ◌<◌, ◌≤◌, ◌^◌, true, false, List, pos, map, set, length, get_or, arith, refl, sym, ap, ap₂, ◌∙◌, subst, inl, inr, length-set}
 use Rattle.std.proofs.lemmas.Bool.{cases_Bool, cases_eq, both_ways}
 use Rattle.std.proofs.lemmas.List.{get_or_read, get_or-set_same, get_or-set_other}
-use Rattle.std.proofs.lemmas.Nat.Gcd.{dvd_refl, dvd_trans, dvd_antisymm}
-use Rattle.std.proofs.Math.Nat.{dvd-mul_left, mul-div_cancel', mul-div_cancel_left, div-le_self}
+use Rattle.std.proofs.Math.Nat.{mul-div_cancel', mul-div_cancel_left, div-le_self}
 use Prim.Native.Nat.{◌∣◌}
-use Rattle.smp_frac.specs.Divisors.{greatest_common_divisor}
-use Rattle.smp_frac.proofs.Gcds.{IsGcd-greatest_common_divisor}
 use Rattle.smp_flight.specs.declared.reaches.Reach.{Reach}
-use Rattle.smp_flight.specs.Moves.{Line, IsLine, entry_of}
-use Rattle.smp_flight.specs.declared.ends.End.{End}
-use Rattle.smp_flight.specs.Steps.{advanced, advanced_numbers, common_factor, reach}
+use Rattle.smp_flight.specs.Moves.{Line, entry_of}
+use Rattle.smp_flight.specs.Steps.{advanced, advanced_numbers}
 use Rattle.smp_flight.specs.Kept.Windows.{Covers, IsWindowed, Windowed, is_in, numerators_over, shares_in}
-use Rattle.smp_flight.specs.Kept.Ends.{CanAdvance, CanMove, IsEndOf}
-use Rattle.smp_flight.proofs.Entries.{off_line, place_or}
-use Rattle.smp_flight.proofs.LineEnds.{divides_first, divides_each, divides_common}
-use Rattle.smp_flight.proofs.Places.{advanced_at, divided_is, length_advanced}
-use Rattle.smp_flight.proofs.Untouched.{in_at, in_or, get_or-numerators_over, length-numerators_over, over_in, over_out}
+use Rattle.smp_flight.specs.Kept.Ends.{CanAdvance, CanMove}
+use Rattle.smp_flight.proofs.Places.{divided_is}
+use Rattle.smp_flight.proofs.Windowed.{in_at, in_or, get_or-numerators_over, length-numerators_over, over_in, over_out}
 
 -- the numerators of the units before a place of the window are moved, and all others stay
 pub record IsMovedTo (v : Windowed) (line : Line) (r : Reach) (common place : ℕ) (numer : List ℕ) : Type 0 where
@@ -49,7 +43,7 @@ module _ (v : Windowed) (room : ℕ) (ok : IsWindowed v room) (line : Line) (r :
 
 -- ---- all of them
 
-advanced_none : (a : ℕ) (r : Reach) → advanced a r (pos 0) ≡ a * r.size
+pub advanced_none : (a : ℕ) (r : Reach) → advanced a r (pos 0) ≡ a * r.size
 advanced_none a r = (let e : a * r.size + r.left * 0 ≡ a * r.size = omega arith in e)
 
 module _ (v : Windowed) (room : ℕ) (ok : IsWindowed v room) (line : Line) (r : Reach) (full common : ℕ) (some : 1 ≤ common) (full_is : full ≡ v.first * v.times * r.size) (divides : common ∣ v.times * r.size) where
@@ -121,40 +115,6 @@ module _ (v : Windowed) (room : ℕ) (ok : IsWindowed v room) (line : Line) (r :
           (λ k l. elim (cases_Bool (is_in v.window k)) [ inl t ↦ moved_in k t | inr f ↦ stays_out k f ]))
           new_den
 
--- ---- what the numbers at the end of a line have in common
-
--- a number that divides those so far, and which each common divisor of all of them divides
-pub record IsCommon (times : ℕ) (numbers : List ℕ) (common : ℕ) : Type 0 where
-  pub divides : common ∣ times
-  pub greatest : (d : ℕ) → d ∣ times → ((k : ℕ) → k < length numbers → d ∣ get_or numbers k 0) → d ∣ common
-
-module _ (times : ℕ) (numbers : List ℕ) where
-  pub common_first : IsCommon times numbers times
-  common_first = record { divides = dvd_refl times; greatest = λ d h each. h }
-
-  pub common_more : (common k : ℕ) → k < length numbers → IsCommon times numbers common → IsCommon times numbers (greatest_common_divisor common (get_or numbers k 0))
-  common_more common k l c = record {
-    divides = dvd_trans _ (IsGcd-greatest_common_divisor common (get_or numbers k 0)).0 c.divides;
-    greatest = λ d h each. (IsGcd-greatest_common_divisor common (get_or numbers k 0)).2 d (c.greatest d h each) (each k l);
-  }
-
-  -- where it divides all of them, it is what they have in common
-  pub common_is : (common : ℕ) → IsCommon times numbers common → ((k : ℕ) → k < length numbers → common ∣ get_or numbers k 0) → common ≡ common_factor times numbers
-  common_is common c each =
-      dvd_antisymm (divides_common common times numbers c.divides each)
-      (c.greatest (common_factor times numbers) (divides_first times numbers) (divides_each times numbers))
-
--- the first number divides those of the units that are neither in the window nor on the line
-pub untouched : (v : Windowed) (line : Line) (r : Reach) → IsLine (shares_in v) line → (k : ℕ) → k < length v.numer → is_in v.window k ≡ false → entry_of line k ≡ pos 0 →
-    v.times * r.size ∣ get_or (advanced_numbers (shares_in v).numer line r) k 0
-untouched v line r ok k l out none =
-    let here : get_or (advanced_numbers (shares_in v).numer line r) k 0 ≡ get_or v.numer k 0 * (v.times * r.size) =
-    advanced_at (shares_in v).numer line r k (omega (arith, l, length-numerators_over v.numer v.times v.window))
-    ∙ ap₂ (λ a e. advanced a r e) (get_or-numerators_over v.numer v.times v.window k ∙ over_out v.numer v.times v.window k out) none
-    ∙ advanced_none (get_or v.numer k 0 * v.times) r ∙ (let e : get_or v.numer k 0 * v.times * r.size ≡ get_or v.numer k 0 * (v.times * r.size) = omega arith in e) in
-    let P : ℕ → Type 0 = λ x. v.times * r.size ∣ x in
-    subst P (sym here) (dvd-mul_left (v.times * r.size) (get_or v.numer k 0))
-
 -- ---- the unit at a place of the window
 
 module _ (v : Windowed) (room : ℕ) (ok : IsWindowed v room) (line : Line) (r : Reach) (common place : ℕ) (numer window : List ℕ) (m : IsMovedTo v line r common place numer) (window_is : window ≡ v.window) (unit : ℕ) (here : place < length window) (at : unit ≡ get_or window place unit) where
@@ -184,55 +144,3 @@ module _ (v : Windowed) (room : ℕ) (ok : IsWindowed v room) (line : Line) (r :
       let h = one_more_moved v room ok line r common place numer (x / common) here_in m
       (ap (λ y. y / common) (is ∙ ap (λ b. advanced b r (entry_of line unit)) (numer_is a e)) ∙ ap (λ (k : ℕ). advanced (get_or v.numer k 0) r (entry_of line k) / common) unit_is) in
       subst (λ (k : ℕ). IsMovedTo v line r common (place + 1) (set numer k (x / common))) (sym unit_is) h
-
--- ---- over the units of the window, and of the line
-
--- a number divides those of the first of these units
-abbrev pub DividesFirst : List ℕ → ℕ → ℕ → List ℕ → Type 0
-DividesFirst numbers common place units = (j : ℕ) → j < place → j < length units → common ∣ get_or numbers (get_or units j 0) 0
-
-pub divides_still : (numbers : List ℕ) (common n place : ℕ) (units : List ℕ) → DividesFirst numbers common place units → DividesFirst numbers (greatest_common_divisor common n) place units
-divides_still numbers common n place units before j l m = dvd_trans _ (IsGcd-greatest_common_divisor common n).0 (before j l m)
-
-module _ (v : Windowed) (line : Line) (r : Reach) (line_ok : IsLine (shares_in v) line) where
-  abbrev numbers : List ℕ
-  numbers = advanced_numbers (shares_in v).numer line r
-
-  count : length (advanced_numbers (shares_in v).numer line r) ≡ length v.numer
-  count = length_advanced (shares_in v).numer line r ∙ length-numerators_over v.numer v.times v.window
-
-  pub divides_more : (times common place unit : ℕ) (units : List ℕ) → unit < length v.numer → unit ≡ get_or units place 0 → IsCommon times (advanced_numbers (shares_in v).numer line r) common → DividesFirst (advanced_numbers (shares_in v).numer line r) common place units →
-      (IsCommon times (advanced_numbers (shares_in v).numer line r) (greatest_common_divisor common (get_or (advanced_numbers (shares_in v).numer line r) unit 0)))
-      × DividesFirst (advanced_numbers (shares_in v).numer line r) (greatest_common_divisor common (get_or (advanced_numbers (shares_in v).numer line r) unit 0)) (place + 1) units
-  divides_more times common place unit units within at c before =
-      let both = IsGcd-greatest_common_divisor common (get_or (advanced_numbers (shares_in v).numer line r) unit 0) in (
-        common_more times (advanced_numbers (shares_in v).numer line r) common unit (omega (arith, within, count)) c,
-        (λ j l m. elim (cases_eq j place) [
-          | inl e ↦ rw e (subst (λ (k : ℕ). greatest_common_divisor common (get_or (advanced_numbers (shares_in v).numer line r) unit 0) ∣ get_or (advanced_numbers (shares_in v).numer line r) k 0) at both.1)
-          | inr ne ↦ dvd_trans _ both.0 (before j (omega (arith, l, ne)) m)
-        ]),
-      )
-
-  -- then it is what all of them have in common
-  pub common_found : (times common : ℕ) → times ≡ v.times * r.size → IsCommon times (advanced_numbers (shares_in v).numer line r) common → DividesFirst (advanced_numbers (shares_in v).numer line r) common (length v.window) v.window → DividesFirst (advanced_numbers (shares_in v).numer line r) common (length line.units) line.units →
-      common ≡ common_factor times (advanced_numbers (shares_in v).numer line r)
-  common_found times common e c window units =
-      common_is times (advanced_numbers (shares_in v).numer line r) common c
-      (λ k l. elim (cases_Bool (is_in v.window k)) [
-        | inl t ↦ (let at = in_or v.window k t in subst (λ (x : ℕ). common ∣ get_or (advanced_numbers (shares_in v).numer line r) x 0) at.is (window at.place at.here at.here))
-        | inr f ↦ elim (place_or line.units k) [
-          | inl on ↦ subst (λ (x : ℕ). common ∣ get_or (advanced_numbers (shares_in v).numer line r) x 0) on.2 (units on.0 on.1 on.1)
-          | inr out ↦ dvd_trans _ c.divides (let P : ℕ → Type 0 = λ x. x ∣ get_or (advanced_numbers (shares_in v).numer line r) k 0 in
-              subst P (sym e) (untouched v line r line_ok k (omega (arith, l, count)) f (off_line (shares_in v) line line_ok k out)))
-        ]
-      ])
-
--- what the numbers at the end of a line have in common
-pub divides_times : (v : Windowed) (line : Line) (end : End) → 1 ≤ v.first → IsEndOf v.first (shares_in v) line end → end.common ∣ v.times * end.reach.size
-divides_times v line end some e =
-    let size : end.reach.size ≡ (reach (shares_in v) line).size = ap (λ (r : Reach). r.size) e.reach_is in
-    let whole : v.first * v.times * (reach (shares_in v) line).size ≡ v.first * (v.times * (reach (shares_in v) line).size) = omega arith in
-    let times : v.first * v.times * (reach (shares_in v) line).size / v.first ≡ v.times * (reach (shares_in v) line).size = ap (λ x. x / v.first) whole ∙ mul-div_cancel_left (v.times * (reach (shares_in v) line).size) some in
-    rw (e.common_is, size)
-    (let P : ℕ → Type 0 = λ x. common_factor (v.first * v.times * (reach (shares_in v) line).size / v.first) (advanced_numbers (shares_in v).numer line (reach (shares_in v) line)) ∣ x in
-    subst P times (divides_first (v.first * v.times * (reach (shares_in v) line).size / v.first) (advanced_numbers (shares_in v).numer line (reach (shares_in v) line))))

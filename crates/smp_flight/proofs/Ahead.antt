@@ -8,7 +8,7 @@ use Rattle.smp_prob.specs.Shares.{Shares}
 use Rattle.smp_values.specs.Values.{fractional_units, is_fractional}
 use Rattle.smp_values.proofs.Units.{units_from}
 use Rattle.smp_flight.specs.declared.fronts.Front.{Front}
-use Rattle.smp_flight.specs.Kept.Lines.{IsAhead, IsStanding, units_of}
+use Rattle.smp_flight.specs.Kept.Lines.{IsAhead, IsStanding, front_units}
 use Rattle.smp_flight.proofs.Places.{rest_at, rest_of}
 use Rattle.smp_flight.proofs.Entries.{frame_order, order_going, order_within}
 
@@ -40,11 +40,11 @@ rest_out p n us j l m f = ap (filter p) (rest_at n us j 0 l m) ∙ (let e : filt
 -- ---- the front
 
 -- a front where no unit has been settled since
-module _ (s : Shares) (front : Front) (short : front.number ≤ 17) (all : units_of front ++ units_from s front.place ≡ fractional_units s) where
-  each : (i : ℕ) → i < length (units_of front) → (get_or (units_of front) i 0 ≡ get_or (fractional_units s) i 0) × (i < length (fractional_units s))
+module _ (s : Shares) (front : Front) (short : front.number ≤ 17) (all : front_units front ++ units_from s front.place ≡ fractional_units s) where
+  each : (i : ℕ) → i < length (front_units front) → (get_or (front_units front) i 0 ≡ get_or (fractional_units s) i 0) × (i < length (fractional_units s))
   each i l = (
-    sym (get_or_append_left (units_of front) (units_from s front.place) 0 i l) ∙ ap (λ us. get_or us i 0) all,
-    subst (λ us. i < length us) all (omega (arith, l, length-append (units_of front) (units_from s front.place))),
+    sym (get_or_append_left (front_units front) (units_from s front.place) 0 i l) ∙ ap (λ us. get_or us i 0) all,
+    subst (λ us. i < length us) all (omega (arith, l, length-append (front_units front) (units_from s front.place))),
   )
 
   pub all_ahead : front.number ≤ length front.units → IsAhead s front
@@ -53,7 +53,7 @@ module _ (s : Shares) (front : Front) (short : front.number ≤ 17) (all : units
     within = λ j l. (let e = each j (omega (arith, l, long, length-take front.number front.units)) in
         let h = order_within s (fractional_units s) (frame_order s) j e.1 in
         omega (arith, h, e.0, get_or-take front.number front.units j 0 l));
-    all = ap (λ us. us ++ units_from s front.place) (filter_all (is_fractional s) (units_of front) (λ i l. (let e = each i l in subst (λ (k : ℕ). is_fractional s k ≡ true) (sym e.0) (order_going s (fractional_units s) (frame_order s) i e.1)))) ∙ all;
+    all = ap (λ us. us ++ units_from s front.place) (filter_all (is_fractional s) (front_units front) (λ i l. (let e = each i l in subst (λ (k : ℕ). is_fractional s k ≡ true) (sym e.0) (order_going s (fractional_units s) (frame_order s) i e.1)))) ∙ all;
   }
 
 -- the front stays one where no other unit is fractional than before
@@ -66,13 +66,13 @@ ahead_stays s t front count fewer a =
     record {
       short = a.short;
       within = λ j l. (let h = a.within j l in omega (arith, h, count));
-      all = sym (ap₂ (λ us vs. us ++ vs) (filter_twice (is_fractional s) (is_fractional t) fewer (units_of front)) (from front.place))
-          ∙ sym (filter-append (is_fractional t) (filter (is_fractional s) (units_of front)) (units_from s front.place))
+      all = sym (ap₂ (λ us vs. us ++ vs) (filter_twice (is_fractional s) (is_fractional t) fewer (front_units front)) (from front.place))
+          ∙ sym (filter-append (is_fractional t) (filter (is_fractional s) (front_units front)) (units_from s front.place))
           ∙ ap (filter (is_fractional t)) a.all ∙ units;
     }
 
 -- where the standing units come first, they are followed by those from the place on
-pub standing_first : (s : Shares) (front still : Front) → IsAhead s front → IsStanding s front still → units_of still ++ units_from s still.place ≡ fractional_units s
+pub standing_first : (s : Shares) (front still : Front) → IsAhead s front → IsStanding s front still → front_units still ++ units_from s still.place ≡ fractional_units s
 standing_first s front still a h = ap₂ (λ us k. us ++ units_from s k) h.is h.place ∙ a.all
 
 pub none_past : (s : Shares) (unit : ℕ) → length s.numer ≤ unit → units_from s unit ≡ []

@@ -12,6 +12,7 @@ pub mod Places
 pub mod Reducing
 pub mod Searched
 pub mod Making
-pub mod Untouched
+pub mod Windowed
 pub mod Advancing
+pub mod Untouched
 pub mod Ahead

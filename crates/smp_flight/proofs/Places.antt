@@ -1,14 +1,12 @@
 -- The first places of two arrays, one after the other.
-use Rattle.std.proofs.Common.{set, inl, inr, drop-cons, map, ◌/◌, ◌≡◌, ℕ, zero, suc, ◌+◌, ◌<◌, ◌≤◌, cond, nat_eq, List, [], ◌∷◌, ℤ, pos, take, drop, length, get_or, arith, refl, sym, ap, ap₂, ◌∙◌, le_of_suc-le-suc}
-use Rattle.std.proofs.lemmas.Bool.{cases_eq}
-use Rattle.std.proofs.lemmas.List.{get_or-set_same, get_or-set_other, ext_get_or, length-map, get_or-map}
+use Rattle.std.proofs.Common.{map, ◌/◌, ◌≡◌, ℕ, zero, suc, ◌+◌, ◌<◌, cond, nat_eq, List, [], ◌∷◌, ℤ, pos, take, drop, length, get_or, arith, refl, sym, ap, ap₂, ◌∙◌, le_of_suc-le-suc}
+use Rattle.std.proofs.lemmas.List.{ext_get_or, length-map, get_or-map}
 use Rattle.std.proofs.lemmas.List.FromFn.{get_or-map-range_with_len, length-map-range_with_len}
-use Rattle.smp_frac.specs.Divisors.{greatest_common_divisor}
 use Rattle.smp_prob.specs.Shares.{Shares}
 use Rattle.smp_kernel.specs.Vectors.{entry}
 use Rattle.smp_flight.specs.declared.reaches.Reach.{Reach}
 use Rattle.smp_flight.specs.Moves.{Line, entry_at, entry_of}
-use Rattle.smp_flight.specs.Steps.{advanced, advanced_numbers, common_factor, nearer, reach_at, reach_from}
+use Rattle.smp_flight.specs.Steps.{advanced, advanced_numbers, nearer, reach_at, reach_from}
 
 -- what is left of the first n elements from place j on
 pub rest_of : {A : Type 0} → ℕ → List A → ℕ → List A
@@ -49,34 +47,7 @@ module _ (xs : List ℕ) (line : Line) (r : Reach) where
   pub advanced_at : (k : ℕ) → k < length xs → get_or (advanced_numbers xs line r) k 0 ≡ advanced (get_or xs k 0) r (entry_of line k)
   advanced_at k l = get_or-map-range_with_len (λ i. advanced (get_or xs i 0) r (entry_of line i)) 0 (length xs) k k 0 l (omega arith)
 
-  pub divisor_step : (d k : ℕ) → k < length xs →
-      common_factor d (drop k (advanced_numbers xs line r)) ≡ common_factor (greatest_common_divisor d (advanced (get_or xs k 0) r (entry_of line k))) (drop (k + 1) (advanced_numbers xs line r))
-  divisor_step d k l =
-      let e : suc k ≡ k + 1 = omega arith in
-      ap (common_factor d) (drop-cons (advanced_numbers xs line r) k 0 (omega (arith, l, length_advanced)))
-      ∙ ap₂ (λ x n. common_factor (greatest_common_divisor d x) (drop n (advanced_numbers xs line r))) (advanced_at k l) e
-
-  pub divisor_done : (d k : ℕ) → length xs ≤ k → common_factor d (drop k (advanced_numbers xs line r)) ≡ d
-  divisor_done d k l = ap (common_factor d) (drop_past k (advanced_numbers xs line r) (omega (arith, l, length_advanced)))
-    where
-      drop_past : (k : ℕ) (ys : List ℕ) → length ys ≤ k → drop k ys ≡ []
-      drop_past zero [] h = refl
-      drop_past zero (y ∷ ys) h = absurd (omega arith)
-      drop_past (suc k) [] h = refl
-      drop_past (suc k) (y ∷ ys) h = drop_past k ys (le_of_suc-le-suc h)
-
   pub divided_is : (d : ℕ) (ys : List ℕ) → length ys ≡ length xs → ((k : ℕ) → k < length xs → get_or ys k 0 ≡ advanced (get_or xs k 0) r (entry_of line k) / d) → ys ≡ map (λ n. n / d) (advanced_numbers xs line r)
   divided_is d ys l h =
       ext_get_or 0 ys (map (λ n. n / d) (advanced_numbers xs line r)) (l ∙ sym length_advanced ∙ sym (length-map (advanced_numbers xs line r) (λ n. n / d)))
       (λ k m. (let i : k < length xs = omega (arith, l, m) in h k i ∙ ap (λ n. n / d) (sym (advanced_at k i)) ∙ sym (get_or-map (λ n. n / d) (advanced_numbers xs line r) k 0 0 (omega (arith, i, length_advanced)))))
-
--- one more place written
-pub set_more : (f g : ℕ → ℕ) (xs : List ℕ) (i x : ℕ) → i < length xs → x ≡ f i → ((k : ℕ) → k < i → get_or xs k 0 ≡ f k) → ((k : ℕ) → i ≤ k → get_or xs k 0 ≡ g k) →
-    ((k : ℕ) → k < i + 1 → get_or (set xs i x) k 0 ≡ f k) × ((k : ℕ) → i + 1 ≤ k → get_or (set xs i x) k 0 ≡ g k)
-set_more f g xs i x l is before after = (
-  (λ k h. elim (cases_eq k i) [
-    | inl e ↦ rw e (get_or-set_same xs i x 0 l ∙ is)
-    | inr ne ↦ get_or-set_other xs i k x 0 ne ∙ before k (omega arith)
-  ]),
-  (λ k h. get_or-set_other xs i k x 0 (omega arith) ∙ after k (omega arith)),
-)

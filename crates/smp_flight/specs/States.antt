@@ -26,8 +26,8 @@ columns_of units order = map (column units) order
 abbrev pub row_count : Units → ℕ
 row_count units = max 1 (length (column units 0))
 
--- A state of the flight: the denominator of the requested probabilities, the values of the units, and how many rows are in force, which are the
--- first ones.
+-- a state of the flight: the denominator of the requested probabilities, the values of the units,
+-- and how many rows are in force, which are the first ones
 pub record Flight : Type 0 where
   pub first : ℕ
   pub shares : Shares
@@ -35,7 +35,11 @@ pub record Flight : Type 0 where
 
 -- the state before the first step: the requested probabilities, with all rows in force
 abbrev pub started : Units → Flight
-started units = record { first = units.requested.den; shares = units.requested; rows = row_count units }
+started units = record {
+  first = units.requested.den;
+  shares = units.requested;
+  rows = row_count units;
+}
 
 -- ---- what holds of the units, and of each state
 

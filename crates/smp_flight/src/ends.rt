@@ -38,8 +38,10 @@ fn common_with(common: u128, values: &FlightValues, line: &Line, reach: Reach, u
     requires unit { unit < length (shares_in values.now).numer }
     requires padded { IsPadded line.now }
     requires can { CanAdvance (shares_in values.now).numer (line_of line.now) reach }
-    ensures { let numbers = advanced_numbers (shares_in values.now).numer (line_of line.now) reach in
-        result ≡ greatest_common_divisor common (slice_index numbers unit) }
+    ensures { let numer = (shares_in values.now).numer in
+        result ≡ greatest_common_divisor
+        common
+        (slice_index (advanced_numbers numer (line_of line.now) reach) unit) }
 {
     gcd(common, number_at(values.numerator(unit), line, reach, unit))
 }
@@ -50,8 +52,8 @@ fn common_factor(values: &FlightValues, line: &Line, reach: Reach, times: u128) 
     requires padded { IsPadded line.now }
     requires can { CanAdvance (shares_in values.now).numer (line_of line.now) reach }
     requires times { times ≡ values.now.times * reach.size }
-    ensures { result
-        ≡ common_factor times (advanced_numbers (shares_in values.now).numer (line_of line.now) reach) }
+    ensures { let numer = (shares_in values.now).numer in
+        result ≡ common_factor times (advanced_numbers numer (line_of line.now) reach) }
 {
     let mut common = times;
     for place in 0..values.window.len() {
@@ -87,7 +89,8 @@ pub(crate) fn go_to_end(values: &mut FlightValues, line: &Line)
     requires line { IsLine (shares_in values.old) (line_of line.now) }
     requires padded { IsPadded line.now }
     requires small { HasSmallEntries line.now }
-    ensures values { shares_in values.new ≡ end_of values.old.first (shares_in values.old) (line_of line.now) }
+    ensures values { shares_in values.new
+        ≡ end_of values.old.first (shares_in values.old) (line_of line.now) }
     ensures first { values.new.first ≡ values.old.first }
 {
     values.take_in_line(line);

@@ -18,25 +18,27 @@ use Rattle.smp_flight.specs.declared.steps.Next.{Next as Answer}
 use Rattle.smp_flight.specs.declared.steps.Next.TheVariants as answers
 
 -- the units in the first places of an array
-abbrev pub units_of : Front → List ℕ
-units_of front = take front.number front.units
+abbrev pub front_units : Front → List ℕ
+front_units front = take front.number front.units
 
 -- the first fractional units, at most so many
 pub record IsFront (s : Shares) (most : ℕ) (front : Front) : Type 0 where
   pub short : front.number ≤ most
-  pub is : units_of front ≡ take most (fractional_units s)
+  pub is : front_units front ≡ take most (fractional_units s)
 
 -- those of the units that are fractional, and all from the place on, are all fractional units
 pub record IsAhead (s : Shares) (front : Front) : Type 0 where
   pub short : front.number ≤ 17
   pub within : (j : ℕ) → j < front.number → slice_index front.units j < length s.numer
-  pub all : filter (is_fractional s) (units_of front) ++ units_from s front.place ≡ fractional_units s
+  pub all :
+      filter (is_fractional s) (front_units front) ++ units_from s front.place
+      ≡ fractional_units s
 
 -- the units of another front that are still fractional
 pub record IsStanding (s : Shares) (front still : Front) : Type 0 where
   pub fewer : still.number ≤ front.number
   pub place : still.place ≡ front.place
-  pub is : units_of still ≡ filter (is_fractional s) (units_of front)
+  pub is : front_units still ≡ filter (is_fractional s) (front_units front)
 
 -- a search as its function has it, with factors that are 0 in the places past them
 pub record IsSearched (q : ℕ) (columns : List (List ℤ)) (result : Searched) : Type 0 where

@@ -5,8 +5,9 @@ use Rattle.smp_prob.specs.Shares.{Shares}
 use Rattle.smp_flight.specs.States.{Flight}
 use Rattle.smp_flight.specs.Moves.{Line, entry_of}
 
--- The numerators of the units, the first denominator, how many times it the common denominator is, and the units of the window. The numerators of
--- these are over the common denominator, and those of all others over the first.
+-- The numerators of the units, the first denominator, how many times it the common denominator is,
+-- and the units of the window. The numerators of these are over the common denominator, and those of
+-- all others over the first.
 pub record Windowed : Type 0 where
   pub numer : List ℕ
   pub first : ℕ
@@ -19,14 +20,19 @@ is_in window k = list_any (λ unit. nat_eq unit k) window
 
 -- the numerator of a unit over the common denominator
 abbrev pub numerator_over : List ℕ → ℕ → List ℕ → ℕ → ℕ
-numerator_over numer times window k = cond (is_in window k) (slice_index numer k) (slice_index numer k * times)
+numerator_over numer times window k =
+    cond (is_in window k) (slice_index numer k) (slice_index numer k * times)
 
 abbrev pub numerators_over : List ℕ → ℕ → List ℕ → List ℕ
-numerators_over numer times window = map (numerator_over numer times window) (range_with_len 0 (length numer))
+numerators_over numer times window =
+    map (numerator_over numer times window) (range_with_len 0 (length numer))
 
 -- the values that are kept so
 abbrev pub shares_in : Windowed → Shares
-shares_in v = record { numer = numerators_over v.numer v.times v.window; den = v.first * v.times }
+shares_in v = record {
+  numer = numerators_over v.numer v.times v.window;
+  den = v.first * v.times;
+}
 
 abbrev pub flight_of : Windowed → ℕ → Flight
 flight_of v rows = record { first = v.first; shares = shares_in v; rows = rows }

@@ -3,8 +3,8 @@ use Rattle.std.proofs.lemmas.List.{get_or_read}
 use Rattle.smp_flight.specs.Answers.{line_of}
 use Rattle.smp_flight.specs.Steps.{advanced_numbers}
 use Rattle.smp_flight.specs.Kept.Windows.{Windowed, shares_in}
-use Rattle.smp_flight.proofs.Advancing.{common_first, common_found, divides_more, divides_still}
-use Rattle.smp_flight.proofs.Untouched.{length-numerators_over, unit_within, units_within}
+use Rattle.smp_flight.proofs.Untouched.{common_first, common_found, divides_more, divides_still}
+use Rattle.smp_flight.proofs.Windowed.{length-numerators_over, unit_within, units_within}
 use Rattle.smp_flight.proofs.ends.common_factor.Goals as goal
 
 pub loop-place-init : goal.loop-place-init

@@ -2,7 +2,7 @@ use Rattle.std.proofs.Common.{take, length}
 use Rattle.smp_flight.specs.Steps.{advanced_numbers}
 use Rattle.smp_flight.specs.Answers.{line_of}
 use Rattle.smp_flight.specs.Kept.Windows.{shares_in}
-use Rattle.smp_flight.proofs.Advancing.{DividesFirst, IsCommon}
+use Rattle.smp_flight.proofs.Untouched.{DividesFirst, IsCommon}
 use Rattle.smp_flight.proofs.ends.common_factor.Given as goal
 
 -- what the numbers of the units of the window so far have in common

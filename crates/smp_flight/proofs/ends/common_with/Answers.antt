@@ -5,7 +5,7 @@ use Rattle.smp_flight.specs.Moves.{entry_of}
 use Rattle.smp_flight.specs.Steps.{advanced}
 use Rattle.smp_flight.specs.Kept.Windows.{shares_in}
 use Rattle.smp_flight.proofs.Places.{advanced_at}
-use Rattle.smp_flight.proofs.Untouched.{length-numerators_over}
+use Rattle.smp_flight.proofs.Windowed.{length-numerators_over}
 use Rattle.smp_flight.proofs.ends.common_with.Goals as goal
 
 pub returns : goal.returns

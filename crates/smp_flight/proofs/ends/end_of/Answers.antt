@@ -4,7 +4,7 @@ use Rattle.smp_flight.specs.Answers.{line_of}
 use Rattle.smp_flight.specs.Steps.{common_factor, advanced_numbers}
 use Rattle.smp_flight.specs.Kept.Windows.{shares_in}
 use Rattle.smp_flight.proofs.Sizes.{small_places, can_advance, end_found}
-use Rattle.smp_flight.proofs.Untouched.{units_within}
+use Rattle.smp_flight.proofs.Windowed.{units_within}
 use Rattle.smp_flight.proofs.ends.end_of.Goals as goal
 
 pub reach_along-reach-requires-clause-units : goal.reach_along-reach-requires-clause-units

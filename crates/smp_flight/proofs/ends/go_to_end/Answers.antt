@@ -3,7 +3,7 @@ use Rattle.smp_prob.specs.Shares.{Shares}
 use Rattle.smp_flight.specs.Answers.{line_of}
 use Rattle.smp_flight.specs.Steps.{end_of}
 use Rattle.smp_flight.specs.Kept.Windows.{shares_in}
-use Rattle.smp_flight.proofs.Advancing.{divides_times}
+use Rattle.smp_flight.proofs.Untouched.{divides_times}
 use Rattle.smp_flight.proofs.FoundEnds.{end_is}
 use Rattle.smp_flight.proofs.ends.go_to_end.Goals as goal
 

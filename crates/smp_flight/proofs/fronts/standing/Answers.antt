@@ -2,7 +2,7 @@ use Rattle.std.proofs.Common.{◌≡◌, ◌+◌, ◌++◌, ◌∷◌, [], take,
 use Rattle.std.specs.List.{filter}
 use Rattle.std.proofs.lemmas.List.{append-nil, take_more_set}
 use Rattle.smp_values.specs.Values.{is_fractional}
-use Rattle.smp_flight.specs.Kept.Lines.{units_of}
+use Rattle.smp_flight.specs.Kept.Lines.{front_units}
 use Rattle.smp_flight.specs.Kept.Windows.{shares_in}
 use Rattle.smp_flight.proofs.Ahead.{rest_in, rest_out}
 use Rattle.smp_flight.proofs.Places.{rest_all, rest_none, rest_of}
@@ -51,5 +51,5 @@ returns c =
     record {
       fewer = omega (arith, i.few, done);
       place = i.place;
-      is = sym (append-nil (units_of c.loop-place.still)) ∙ ap (λ vs. units_of c.loop-place.still ++ vs) (sym none) ∙ i.all;
+      is = sym (append-nil (front_units c.loop-place.still)) ∙ ap (λ vs. front_units c.loop-place.still ++ vs) (sym none) ∙ i.all;
     }

@@ -1,7 +1,7 @@
 use Rattle.std.proofs.Common.{◌≡◌, ◌≤◌, ◌++◌, length}
 use Rattle.std.specs.List.{filter}
 use Rattle.smp_values.specs.Values.{is_fractional}
-use Rattle.smp_flight.specs.Kept.Lines.{units_of}
+use Rattle.smp_flight.specs.Kept.Lines.{front_units}
 use Rattle.smp_flight.specs.Kept.Windows.{shares_in}
 use Rattle.smp_flight.proofs.Places.{rest_of}
 use Rattle.smp_flight.proofs.fronts.standing.Given as goal
@@ -12,5 +12,5 @@ invariant-loop-place l = record {
   size : length l.still.units ≡ 17;
   few : l.still.number ≤ l.place;
   place : l.still.place ≡ l.front.place;
-  all : units_of l.still ++ filter (is_fractional (shares_in l.values)) (rest_of l.front.number l.front.units l.place) ≡ filter (is_fractional (shares_in l.values)) (units_of l.front);
+  all : front_units l.still ++ filter (is_fractional (shares_in l.values)) (rest_of l.front.number l.front.units l.place) ≡ filter (is_fractional (shares_in l.values)) (front_units l.front);
 }

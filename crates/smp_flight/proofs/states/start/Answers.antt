@@ -3,7 +3,7 @@ use Rattle.smp_prob.specs.Shares.{Shares}
 use Rattle.smp_flight.specs.States.{IsFlight, row_count, started}
 use Rattle.smp_flight.specs.Kept.Windows.{flight_of, unchanged}
 use Rattle.smp_flight.proofs.Nexts.{started_flight}
-use Rattle.smp_flight.proofs.Untouched.{unchanged_shares}
+use Rattle.smp_flight.proofs.Windowed.{unchanged_shares}
 use Rattle.smp_flight.proofs.states.start.Goals as goal
 
 pub returns : goal.returns

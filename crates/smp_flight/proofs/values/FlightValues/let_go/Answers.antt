@@ -1,6 +1,6 @@
 use Rattle.std.proofs.Common.{◌≡◌, ℕ, List, ◌*◌, arith, set, sym, ap, ◌∙◌}
 use Rattle.smp_flight.specs.Kept.Windows.{Windowed, shares_in}
-use Rattle.smp_flight.proofs.Untouched.{unit_within, still_without, still_without_none, let_go, let_none_go}
+use Rattle.smp_flight.proofs.Windowed.{unit_within, still_without, still_without_none, let_go, let_none_go}
 use Rattle.smp_flight.proofs.values.FlightValues.let_go.Goals as goal
 
 pub index-numer-requires : goal.index-numer-requires

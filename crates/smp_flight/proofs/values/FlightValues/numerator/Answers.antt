@@ -1,6 +1,6 @@
 use Rattle.std.proofs.Common.{◌≡◌, ◌<◌, length, sym, ap, ◌∙◌, arith, true, false}
 use Rattle.smp_flight.specs.Kept.Windows.{Windowed, is_in}
-use Rattle.smp_flight.proofs.Untouched.{length-numerators_over, read_fits, read_in, read_out}
+use Rattle.smp_flight.proofs.Windowed.{length-numerators_over, read_fits, read_in, read_out}
 use Rattle.smp_flight.proofs.values.FlightValues.numerator.Goals as goal
 
 pub index-requires : goal.index-requires

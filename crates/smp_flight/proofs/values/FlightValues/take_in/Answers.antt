@@ -1,6 +1,6 @@
 use Rattle.std.proofs.Common.{◌≡◌, ℕ, List, ◌*◌, false, arith, set, sym, ap, ◌∙◌}
 use Rattle.smp_flight.specs.Kept.Windows.{Windowed, is_in, shares_in}
-use Rattle.smp_flight.proofs.Untouched.{has_room, still_with, taken_in}
+use Rattle.smp_flight.proofs.Windowed.{has_room, still_with, taken_in}
 use Rattle.smp_flight.proofs.values.FlightValues.take_in.Goals as goal
 
 pub push_reserved-requires : goal.push_reserved-requires

@@ -1,7 +1,7 @@
 use Rattle.std.proofs.Common.{◌≡◌, arith, pos, sym, ◌∙◌, length-take, get_or-take, subst, true, ℕ}
 use Rattle.smp_flight.specs.Answers.{line_of}
 use Rattle.smp_flight.specs.Kept.Windows.{is_in, shares_in}
-use Rattle.smp_flight.proofs.Untouched.{covers_line, length-numerators_over, units_within}
+use Rattle.smp_flight.proofs.Windowed.{covers_line, length-numerators_over, units_within}
 use Rattle.smp_flight.proofs.values.FlightValues.take_in_line.Goals as goal
 
 pub take_in-requires : goal.take_in-requires
