@@ -15,4 +15,5 @@ pub mod Making
 pub mod Windowed
 pub mod Advancing
 pub mod Untouched
+pub mod Counting
 pub mod Ahead

@@ -1,18 +1,20 @@
 -- The values of which the units of a window are kept over the common denominator.
-use Rattle.std.proofs.Common.{◌≡◌, ◌≢◌, ℕ, zero, suc, ◌*◌, ◌<◌, ◌≤◌, ◌^◌, true, false, nat_eq, ◌||◌, List, [], ◌∷◌, ◌++◌, pos, take, set, length, get_or, arith, refl, sym, ap, ap₂, ◌∙◌, subst, inl, inr, le_of_suc-le-suc, suc-le-suc, length-set, length-take, get_or-take}
+use Rattle.std.proofs.Common.{◌≡◌, ◌≢◌, ℕ, zero, suc, ◌+◌, ◌*◌, ◌<◌, ◌≤◌, ◌^◌, true, false, nat_eq, ◌||◌, List, [], ◌∷◌, ◌++◌, pos, take, set, length, get_or, arith, refl, sym, ap, ap₂, ◌∙◌, subst, inl, inr, le_of_suc-le-suc, suc-le-suc, length-set, length-take, get_or-take}
 use Rattle.std.specs.List.{AllPairs, remove}
 use Rattle.std.proofs.lemmas.Bool.{cases_Bool, cases_eq, cases_lt, eq-eqb, ne_eqb, or_left, or_right, both_ways, false_from_ne_true, true≢false}
 use Rattle.std.proofs.lemmas.List.{ext_get_or, get_or_default, get_or_past, get_or_read, get_or-set_same, get_or-set_other, length_push, set-get_or}
 use Rattle.std.proofs.Math.Nat.{mul-le-mul_right}
 use Rattle.std.proofs.lemmas.List.Quantifiers.{all_pairs_push, all_pairs_remove}
-use Rattle.std.proofs.lemmas.List.Edits.{length-remove}
+use Rattle.std.proofs.lemmas.List.Edits.{get_or-remove_above, length-remove}
 use Rattle.std.proofs.lemmas.List.FromFn.{get_or-map-range_with_len, length-map-range_with_len}
 use Rattle.smp_prob.specs.Shares.{Shares}
+use Rattle.smp_values.specs.Values.{is_fractional}
+use Rattle.smp_values.proofs.Fractional.{fractional_den, is_fractional-between}
 use Rattle.smp_kernel.specs.Vectors.{entry}
 use Rattle.smp_kernel.proofs.Ring.{zero_or}
 use Rattle.smp_flight.specs.Moves.{Line, IsLine, IsOrder, entry_of}
 use Rattle.smp_flight.proofs.Entries.{off_line, on_line, order_within, place_or}
-use Rattle.smp_flight.specs.Kept.Windows.{Covers, IsWindowed, Windowed, is_in, numerator_over, numerators_over, shares_in, unchanged}
+use Rattle.smp_flight.specs.Kept.Windows.{Covers, FractionalFrom, IsLeft, IsWindowed, Windowed, is_in, numerator_over, numerators_over, shares_in, unchanged}
 
 -- ---- the units of a window
 
@@ -278,3 +280,54 @@ pub units_within : (s : Shares) (number : ℕ) (units : List ℕ) → IsOrder s 
 units_within s number units ok j l m =
     let h = order_within s (take number units) ok j (omega (arith, l, m, length-take number units)) in
     omega (arith, h, get_or-take number units j 0 l)
+
+-- ---- the units that leave the window
+
+module _ (v : Windowed) (room : ℕ) (ok : IsWindowed v room) (place unit : ℕ) (here : place < length v.window) (at : unit ≡ get_or v.window place unit) where
+  -- what is read of a unit of the window
+  pub window_numer : (a : ℕ) → a ≡ get_or v.numer unit a → get_or (shares_in v).numer unit 0 ≡ a
+  window_numer a is = sym (read_in v.numer v.times v.window unit a (unit_within v room ok place unit here at) (unit_in v room ok place unit here at) is)
+
+  pub one_left : is_fractional (shares_in v) unit ≡ false → IsLeft (shares_in v) v.window (remove v.window place)
+  one_left settled = record {
+    fewer = λ k t. (removed_is_in v.window place k here ok.distinct t).1;
+    settled = λ k b f. elim (cases_eq k unit) [
+      | inl e ↦ rw e settled
+      | inr ne ↦ absurd (both_ways (is_in (remove v.window place) k) f (others_stay v room ok place unit here at k ne ∙ b))
+    ];
+  }
+
+  pub from_left : (s : Shares) → FractionalFrom s v.window (place + 1) → FractionalFrom s (remove v.window place) place
+  from_left s from j l m =
+      let h = from (j + 1) (omega (arith, l)) (omega (arith, m, length-remove v.window place here)) in
+      rw (get_or-remove_above v.window place 0 j l here) h
+
+  pub from_stays : (s : Shares) → is_fractional s unit ≡ true → FractionalFrom s v.window (place + 1) → FractionalFrom s v.window place
+  from_stays s still from j l m =
+      elim (cases_eq j place) [
+        | inl e ↦ rw e (subst (λ (k : ℕ). is_fractional s k ≡ true) (unit_is v room ok place unit here at) still)
+        | inr ne ↦ from j (omega (arith, l, ne)) m
+      ]
+
+pub none_left : (s : Shares) (window : List ℕ) → IsLeft s window window
+none_left s window = record { fewer = λ k t. t; settled = λ k t f. absurd (both_ways (is_in window k) f t) }
+
+pub left_on : (s : Shares) (a b c : List ℕ) → IsLeft s a b → IsLeft s b c → IsLeft s a c
+left_on s a b c ab bc = record {
+  fewer = λ k t. ab.fewer k (bc.fewer k t);
+  settled = λ k t f. elim (cases_Bool (is_in b k)) [ inl in_b ↦ bc.settled k in_b f | inr out_b ↦ ab.settled k t out_b ];
+}
+
+pub only_fractional : (s : Shares) (window : List ℕ) → FractionalFrom s window 0 → (k : ℕ) → is_in window k ≡ true → is_fractional s k ≡ true
+only_fractional s window from k t = (let at = in_or window k t in subst (λ (x : ℕ). is_fractional s x ≡ true) at.is (from at.place (omega arith) at.here))
+
+-- a unit of the window is settled at 0 and at the denominator, and else it is fractional
+module _ (v : Windowed) (room : ℕ) (ok : IsWindowed v room) (place unit : ℕ) (here : place < length v.window) (at : unit ≡ get_or v.window place unit) (a : ℕ) (is : a ≡ get_or v.numer unit a) where
+  pub settled_at_none : a ≡ 0 → is_fractional (shares_in v) unit ≡ false
+  settled_at_none e = rw (window_numer v room ok place unit here at a is, e) refl
+
+  pub settled_at_all : a ≡ v.first * v.times → is_fractional (shares_in v) unit ≡ false
+  settled_at_all e = rw (window_numer v room ok place unit here at a is, e) (fractional_den (v.first * v.times))
+
+  pub fractional_between : 0 < a → a < v.first * v.times → is_fractional (shares_in v) unit ≡ true
+  fractional_between some less = rw (window_numer v room ok place unit here at a is) (is_fractional-between (v.first * v.times) a some less)

@@ -1,13 +1,14 @@
 //! The values at the end of a line.
 
-ghost use Rattle.std.specs.Prelude.{◌≡◌, ◌*◌, ◌<◌, ◌≤◌, length, slice_index};
+ghost use Rattle.std.specs.Prelude.{◌≡◌, ◌+◌, ◌*◌, ◌<◌, ◌≤◌, length, slice_index};
 ghost use Rattle.smp_frac.specs.Divisors.{greatest_common_divisor};
+ghost use Rattle.smp_values.specs.Values.{fractional_count};
 ghost use Rattle.smp_flight.specs.Moves.{IsLine, entry_of};
 ghost use Rattle.smp_flight.specs.Steps.{advanced, advanced_numbers, common_factor, end_of};
 ghost use Rattle.smp_flight.specs.Answers.{IsPadded, line_of};
 ghost use Rattle.smp_flight.specs.Kept.Lines.{HasSmallEntries};
 ghost use Rattle.smp_flight.specs.Kept.Ends.{CanAdvance, CanMove, IsEndOf, IsOver};
-ghost use Rattle.smp_flight.specs.Kept.Windows.{shares_in};
+ghost use Rattle.smp_flight.specs.Kept.Windows.{HasOnlyFractional, shares_in};
 
 use crate::lines::Line;
 use crate::reaches::{Reach, advanced, reach_along};
@@ -83,18 +84,24 @@ pub(crate) fn end_of(values: &FlightValues, line: &Line) -> End
     }
 }
 
-/// Goes to the end of a line.
-pub(crate) fn go_to_end(values: &mut FlightValues, line: &Line)
+/// Goes to the end of a line, and says how many units are settled there.
+pub(crate) fn go_to_end(values: &mut FlightValues, line: &Line) -> usize
     requires over { IsOver values.old.first (shares_in values.old) }
     requires line { IsLine (shares_in values.old) (line_of line.now) }
     requires padded { IsPadded line.now }
     requires small { HasSmallEntries line.now }
+    requires window { HasOnlyFractional values.old }
     ensures values { shares_in values.new
         ≡ end_of values.old.first (shares_in values.old) (line_of line.now) }
     ensures first { values.new.first ≡ values.old.first }
+    ensures window { HasOnlyFractional values.new }
+    ensures settled { fractional_count (shares_in values.new) + result
+        ≡ fractional_count (shares_in values.old) }
 {
     values.take_in_line(line);
     let end = end_of(values, line);
     values.advance(line, end);
+    let moved = values.window.len();
     values.let_settled_go();
+    moved - values.window.len()
 }

@@ -18,19 +18,21 @@ use std::marker::Model;
 pub struct FlightState {
     pub(crate) values: FlightValues,
     pub(crate) front: Front,
+    /// How many units are fractional.
+    pub(crate) fractional: usize,
     pub(crate) rows: usize,
 }
 
 impl Model for FlightState {
     ghost use Rattle.smp_flight.specs.States.{Flight};
-    ghost use Rattle.smp_flight.specs.Kept.Lines.{IsAhead};
-    ghost use Rattle.smp_flight.specs.Kept.Windows.{flight_of, shares_in};
+    ghost use Rattle.smp_flight.specs.Kept.States.{IsState};
+    ghost use Rattle.smp_flight.specs.Kept.Windows.{flight_of};
 
     ghost Value = { Flight };
 
     ghost view = { λ a. flight_of a.values a.rows };
 
-    ghost invariant = { λ a. IsAhead (shares_in a.values) a.front };
+    ghost invariant = { λ a. IsState a.values a.front a.fractional };
 }
 
 /// The state before the first step: the requested probabilities, with all rows in force.
@@ -39,9 +41,12 @@ pub fn start(alloc: Global, shape: &Shape) -> Result<FlightState, NoMemory>
     ensures flight { IfOk result (IsFlight shape.now) }
 {
     let rows = shape.rows();
+    let values = FlightValues::requested(alloc, shape.requested())?;
+    let fractional = values.count_fractional();
     Ok(FlightState {
-        values: FlightValues::requested(alloc, shape.requested())?,
+        values,
         front: EMPTY,
+        fractional,
         rows,
     })
 }
@@ -73,7 +78,7 @@ impl FlightState {
     pub fn fractional(&self) -> usize
         ensures { result ≡ fractional_count self.now.shares }
     {
-        self.values.count_fractional()
+        self.fractional
     }
 
     /// The first fractional units: one more than there are rows in force, or more, or all.

@@ -161,5 +161,5 @@ pub fn apply(shape: &Shape, state: &mut FlightState, mv: &Move, plus: bool)
 {
     let line = chosen_line(mv, plus);
     state.front = state.next_front();
-    go_to_end(&mut state.values, &line);
+    state.fractional -= go_to_end(&mut state.values, &line);
 }

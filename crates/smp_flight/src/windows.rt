@@ -1,12 +1,12 @@
 //! The window of the units that a flight has changed.
 
-ghost use Rattle.std.specs.Prelude.{◌≡◌, ℕ, ◌+◌, ◌*◌, ◌/◌, ◌<◌, ◌≤◌, true, length, map};
+ghost use Rattle.std.specs.Prelude.{◌≡◌, ◌≢◌, ℕ, ◌+◌, ◌*◌, ◌/◌, ◌<◌, ◌≤◌, false, true, length, map, slice_index};
 ghost use Prim.Native.Nat.{◌∣◌};
 ghost use Rattle.smp_flight.specs.Moves.{IsLine};
 ghost use Rattle.smp_flight.specs.Steps.{advanced_numbers};
 ghost use Rattle.smp_flight.specs.Answers.{IsPadded, line_of};
 ghost use Rattle.smp_flight.specs.Kept.Ends.{CanAdvance};
-ghost use Rattle.smp_flight.specs.Kept.Windows.{Covers, is_in, shares_in};
+ghost use Rattle.smp_flight.specs.Kept.Windows.{Covers, FractionalFrom, HasOnlyFractional, IsLeft, is_in, shares_in};
 
 use crate::ends::{End, number_at};
 use crate::lines::Line;
@@ -22,6 +22,8 @@ impl FlightValues {
         ensures in_window { is_in self.new.window unit ≡ true }
         ensures others { (k : ℕ) →
             is_in self.old.window k ≡ true → is_in self.new.window k ≡ true }
+        ensures alone { (k : ℕ) →
+            k ≢ unit → is_in self.new.window k ≡ true → is_in self.old.window k ≡ true }
     {
         if !self.is_in_window(unit) {
             self.numer[unit] *= self.times;
@@ -33,8 +35,10 @@ impl FlightValues {
     pub(crate) fn take_in_line(&mut self, line: &Line)
         requires line { IsLine (shares_in self.old) (line_of line.now) }
         requires padded { IsPadded line.now }
+        requires window { HasOnlyFractional self.old }
         ensures values { shares_in self.new ≡ shares_in self.old }
         ensures first { self.new.first ≡ self.old.first }
+        ensures window { HasOnlyFractional self.new }
         ensures covers { Covers self.new.window (line_of line.now) }
     {
         for place in 0..line.number {
@@ -59,6 +63,9 @@ impl FlightValues {
           den = end.full / end.common;
         } }
         ensures first { self.new.first ≡ self.old.first }
+        ensures window { self.new.window ≡ self.old.window }
+        ensures others { (k : ℕ) → is_in self.old.window k ≡ false →
+            slice_index self.new.numer k ≡ slice_index self.old.numer k }
     {
         for place in 0..self.window.len() {
             let unit = self.window[place];
@@ -70,10 +77,16 @@ impl FlightValues {
 
     /// Lets the unit at a place of the window go if it is settled. Its value stays, over the first denominator.
     fn let_go(&mut self, place: usize)
-        requires { place < length self.old.window }
+        requires place { place < length self.old.window }
+        requires each { (k : ℕ) →
+            slice_index (shares_in self.old).numer k ≤ (shares_in self.old).den }
         ensures values { shares_in self.new ≡ shares_in self.old }
         ensures first { self.new.first ≡ self.old.first }
+        ensures most { length self.new.window ≤ length self.old.window }
         ensures one { length self.old.window ≤ length self.new.window + 1 }
+        ensures left { IsLeft (shares_in self.old) self.old.window self.new.window }
+        ensures from { FractionalFrom (shares_in self.old) self.old.window (place + 1)
+            → FractionalFrom (shares_in self.old) self.new.window place }
     {
         let unit = self.window[place];
         let numer = self.numer[unit];
@@ -87,8 +100,13 @@ impl FlightValues {
 
     /// Lets the settled units of the window go. All values stay.
     pub(crate) fn let_settled_go(&mut self)
+        requires { (k : ℕ) →
+            slice_index (shares_in self.old).numer k ≤ (shares_in self.old).den }
         ensures values { shares_in self.new ≡ shares_in self.old }
         ensures first { self.new.first ≡ self.old.first }
+        ensures most { length self.new.window ≤ length self.old.window }
+        ensures left { IsLeft (shares_in self.old) self.old.window self.new.window }
+        ensures window { HasOnlyFractional self.new }
     {
         let mut place = self.window.len();
         while place > 0 {

@@ -2,6 +2,7 @@
 use Rattle.std.specs.Prelude.{◌≡◌, ◌≢◌, ℕ, ◌*◌, ◌^◌, ◌<◌, ◌≤◌, Bool, true, false, cond, nat_eq, List, [], pos, length, map, slice_index}
 use Rattle.std.specs.List.{AllPairs, list_any, range_with_len}
 use Rattle.smp_prob.specs.Shares.{Shares}
+use Rattle.smp_values.specs.Values.{is_fractional}
 use Rattle.smp_flight.specs.States.{Flight}
 use Rattle.smp_flight.specs.Moves.{Line, entry_of}
 
@@ -53,3 +54,18 @@ pub record IsWindowed (v : Windowed) (room : ℕ) : Type 0 where
 -- a line changes no unit but those of the window
 abbrev pub Covers : List ℕ → Line → Type 0
 Covers window line = (k : ℕ) → is_in window k ≡ false → entry_of line k ≡ pos 0
+
+-- each unit of the window is fractional
+abbrev pub HasOnlyFractional : Windowed → Type 0
+HasOnlyFractional v = (k : ℕ) → is_in v.window k ≡ true → is_fractional (shares_in v) k ≡ true
+
+-- the units that left the window are settled
+pub record IsLeft (s : Shares) (before after : List ℕ) : Type 0 where
+  pub fewer : (k : ℕ) → is_in after k ≡ true → is_in before k ≡ true
+  pub settled :
+      (k : ℕ) → is_in before k ≡ true → is_in after k ≡ false → is_fractional s k ≡ false
+
+-- those from a place on are fractional
+abbrev pub FractionalFrom : Shares → List ℕ → ℕ → Type 0
+FractionalFrom s window place =
+    (j : ℕ) → place ≤ j → j < length window → is_fractional s (slice_index window j) ≡ true

@@ -1,4 +1,4 @@
-use Rattle.std.proofs.Common.{ℕ, ◌≡◌, ◌<◌, sym, ap, ap₂, ◌∙◌, refl, subst}
+use Rattle.std.proofs.Common.{ℕ, ◌≡◌, ◌<◌, sym, ap, ap₂, ◌∙◌, arith, refl, subst}
 use Rattle.smp_prob.specs.Shares.{Shares}
 use Rattle.smp_values.specs.Values.{fractional_count}
 use Rattle.smp_flight.specs.States.{Flight, IsFlight}
@@ -33,8 +33,12 @@ invariant_of-state c =
     let chosen = chosen_is c.args.shape.now c.args.state.now c.requires.flight c.requires.mv.order (move_of c.args.mv.now) c.args.plus k in
     let values : shares_in c.go_to_end.new.values ≡ end_of c.args.shape.now.requested.den c.args.state.now.shares (chosen_line (move_of c.args.mv.now) c.args.plus) =
     c.go_to_end.ensures.values ∙ same_end _ _ _ _ _ _ (ap (λ (f : Flight). f.first) c.state.view_is ∙ c.requires.flight.first_is) (ap (λ (f : Flight). f.shares) c.state.view_is) c.chosen_line-line.ensures.line in
-    subst (λ (s : Shares). IsAhead s c.next_front-state-inside.result) (sym values)
-    (ahead_stays c.args.state.now.shares (end_of c.args.shape.now.requested.den c.args.state.now.shares (chosen_line (move_of c.args.mv.now) c.args.plus)) c.next_front-state-inside.result chosen.moved.same_length chosen.fewer c.next_front-state-inside.ensures.ahead)
+    record {
+      ahead = subst (λ (s : Shares). IsAhead s c.next_front-state-inside.result) (sym values)
+          (ahead_stays c.args.state.now.shares (end_of c.args.shape.now.requested.den c.args.state.now.shares (chosen_line (move_of c.args.mv.now) c.args.plus)) c.next_front-state-inside.result chosen.moved.same_length chosen.fewer c.next_front-state-inside.ensures.ahead);
+      window = c.go_to_end.ensures.window;
+      count = omega (arith, c.state.invariant.count, c.go_to_end.ensures.settled);
+    }
 
 pub returns : goal.returns
 returns c =

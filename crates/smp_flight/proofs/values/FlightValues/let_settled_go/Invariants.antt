@@ -1,13 +1,16 @@
 use Rattle.std.proofs.Common.{◌≡◌, ◌≤◌, length}
-use Rattle.smp_flight.specs.Kept.Windows.{shares_in}
+use Rattle.smp_flight.specs.Kept.Windows.{FractionalFrom, IsLeft, shares_in}
 use Rattle.smp_flight.proofs.values.FlightValues.let_settled_go.Given as goal
 
--- the values stay, and the places that are left stand in the window
+-- the values stay, and the units behind the places that are left are fractional
 abbrev pub invariant-loop-place : goal.invariant-loop-place
 invariant-loop-place l = record {
   values : shares_in l.self ≡ shares_in l.fn.self;
   first : l.self.first ≡ l.fn.self.first;
-  left : l.place ≤ length l.self.window;
+  most : length l.self.window ≤ length l.fn.self.window;
+  places : l.place ≤ length l.self.window;
+  left : IsLeft (shares_in l.fn.self) l.fn.self.window l.self.window;
+  from : FractionalFrom (shares_in l.fn.self) l.self.window l.place;
 }
 
 abbrev pub decreases-loop-place : goal.decreases-loop-place
