@@ -104,3 +104,6 @@ divides_times v line end some e =
     rw (e.common_is, size)
     (let P : ℕ → Type 0 = λ x. common_factor (v.first * v.times * (reach (shares_in v) line).size / v.first) (advanced_numbers (shares_in v).numer line (reach (shares_in v) line)) ∣ x in
     subst P times (divides_first (v.first * v.times * (reach (shares_in v) line).size / v.first) (advanced_numbers (shares_in v).numer line (reach (shares_in v) line))))
+
+pub full_is : (v : Windowed) (line : Line) (end : End) → IsEndOf v.first (shares_in v) line end → end.full ≡ v.first * v.times * end.reach.size
+full_is v line end e = e.full_is ∙ sym (ap (λ (r : Reach). v.first * v.times * r.size) e.reach_is)

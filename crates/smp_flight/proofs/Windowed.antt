@@ -290,6 +290,7 @@ module _ (v : Windowed) (room : ℕ) (ok : IsWindowed v room) (place unit : ℕ)
 
   pub one_left : is_fractional (shares_in v) unit ≡ false → IsLeft (shares_in v) v.window (remove v.window place)
   one_left settled = record {
+    shorter = omega (arith, length-remove v.window place here);
     fewer = λ k t. (removed_is_in v.window place k here ok.distinct t).1;
     settled = λ k b f. elim (cases_eq k unit) [
       | inl e ↦ rw e settled
@@ -310,10 +311,11 @@ module _ (v : Windowed) (room : ℕ) (ok : IsWindowed v room) (place unit : ℕ)
       ]
 
 pub none_left : (s : Shares) (window : List ℕ) → IsLeft s window window
-none_left s window = record { fewer = λ k t. t; settled = λ k t f. absurd (both_ways (is_in window k) f t) }
+none_left s window = record { shorter = omega arith; fewer = λ k t. t; settled = λ k t f. absurd (both_ways (is_in window k) f t) }
 
 pub left_on : (s : Shares) (a b c : List ℕ) → IsLeft s a b → IsLeft s b c → IsLeft s a c
 left_on s a b c ab bc = record {
+  shorter = omega (arith, ab.shorter, bc.shorter);
   fewer = λ k t. ab.fewer k (bc.fewer k t);
   settled = λ k t f. elim (cases_Bool (is_in b k)) [ inl in_b ↦ bc.settled k in_b f | inr out_b ↦ ab.settled k t out_b ];
 }

@@ -55,12 +55,31 @@ pub record IsWindowed (v : Windowed) (room : ℕ) : Type 0 where
 abbrev pub Covers : List ℕ → Line → Type 0
 Covers window line = (k : ℕ) → is_in window k ≡ false → entry_of line k ≡ pos 0
 
+-- the same values
+pub record KeepsValues (before after : Windowed) : Type 0 where
+  pub values : shares_in after ≡ shares_in before
+  pub first : after.first ≡ before.first
+
+-- a unit came into the window, or was in it
+pub record IsTakenIn (before : List ℕ) (unit : ℕ) (after : List ℕ) : Type 0 where
+  pub here : is_in after unit ≡ true
+  pub others : (k : ℕ) → is_in before k ≡ true → is_in after k ≡ true
+  pub alone : (k : ℕ) → k ≢ unit → is_in after k ≡ true → is_in before k ≡ true
+
+-- the window stays, and so does each numerator outside it
+pub record ChangesWindow (before after : Windowed) : Type 0 where
+  pub first : after.first ≡ before.first
+  pub window : after.window ≡ before.window
+  pub others :
+      (k : ℕ) → is_in before.window k ≡ false → slice_index after.numer k ≡ slice_index before.numer k
+
 -- each unit of the window is fractional
 abbrev pub HasOnlyFractional : Windowed → Type 0
 HasOnlyFractional v = (k : ℕ) → is_in v.window k ≡ true → is_fractional (shares_in v) k ≡ true
 
 -- the units that left the window are settled
 pub record IsLeft (s : Shares) (before after : List ℕ) : Type 0 where
+  pub shorter : length after ≤ length before
   pub fewer : (k : ℕ) → is_in after k ≡ true → is_in before k ≡ true
   pub settled :
       (k : ℕ) → is_in before k ≡ true → is_in after k ≡ false → is_fractional s k ≡ false

@@ -2,6 +2,8 @@ use Rattle.std.proofs.Common.{◌≡◌, ℕ, List, ◌/◌, ◌<◌, arith, len
 use Rattle.smp_flight.specs.Answers.{line_of}
 use Rattle.smp_flight.specs.Kept.Windows.{Windowed, shares_in}
 use Rattle.smp_flight.proofs.Advancing.{IsMovedTo, all_moved, can_move, moved_to, still_windowed, unit_here}
+use Rattle.smp_flight.proofs.FoundEnds.{end_is}
+use Rattle.smp_flight.proofs.Untouched.{divides_times, full_is}
 use Rattle.smp_flight.proofs.values.FlightValues.advance.Goals as goal
 
 pub index-requires : goal.index-requires
@@ -16,7 +18,7 @@ number_at-numer-requires-clause-can c =
     let i = c.loop-place.invariant in
     let here : c.loop-place.place < length c.loop-place.self-inside.window.items = omega (arith, ap length i.window, ap (λ (v : Windowed). length v.window) c.self.view_is) in
     can_move c.args.self.now _ i.windowed (line_of c.args.line.now) c.args.end.reach c.args.end.common c.loop-place.place c.loop-place.self-inside.numer.items c.loop-place.self-inside.window.items i.numer i.window
-    c.index-unit.result.now here c.index-unit.ensures c.index.result.now c.index.ensures c.requires.can
+    c.index-unit.result.now here c.index-unit.ensures c.index.result.now c.index.ensures c.requires.end.can
 
 pub loop-place-preserved : goal.loop-place-preserved
 loop-place-preserved c =
@@ -38,11 +40,12 @@ returns-clause-values c =
     let all = subst (λ (p : ℕ). IsMovedTo c.args.self.now (line_of c.args.line.now) c.args.end.reach c.args.end.common p c.loop-place.self-inside.numer.items) done i.numer in
     ap (λ (f : ℕ). shares_in (record { numer = c.loop-place.self-inside.numer.items; first = f; times = c.args.end.full / c.args.end.common / f; window = c.loop-place.self-inside.window.items })) i.first
     ∙ ap (λ (w : List ℕ). shares_in (record { numer = c.loop-place.self-inside.numer.items; first = c.args.self.now.first; times = c.args.end.full / c.args.end.common / c.args.self.now.first; window = w })) i.window
-    ∙ all_moved c.args.self.now _ i.windowed (line_of c.args.line.now) c.args.end.reach c.args.end.full c.args.end.common c.requires.some c.requires.full c.requires.common c.loop-place.self-inside.numer.items all c.requires.covers
+    ∙ all_moved c.args.self.now _ i.windowed (line_of c.args.line.now) c.args.end.reach c.args.end.full c.args.end.common c.requires.end.some_common (full_is c.args.self.now (line_of c.args.line.now) c.args.end c.requires.end) (divides_times c.args.self.now (line_of c.args.line.now) c.args.end i.windowed.some_first c.requires.end) c.loop-place.self-inside.numer.items all c.requires.covers
+    ∙ end_is c.args.self.now.first (shares_in c.args.self.now) (line_of c.args.line.now) c.args.end c.requires.end
 
 pub invariant_of-self : goal.invariant_of-self
 invariant_of-self c =
     let i = c.loop-place.invariant in
     let done : c.loop-place.place ≡ length c.args.self.now.window = omega (arith, ap (λ (v : Windowed). length v.window) c.self.view_is) in
     let all = subst (λ (p : ℕ). IsMovedTo c.args.self.now (line_of c.args.line.now) c.args.end.reach c.args.end.common p c.loop-place.self-inside.numer.items) done i.numer in
-    rw (i.first, i.window) (still_windowed c.args.self.now _ i.windowed (line_of c.args.line.now) c.args.end.reach c.args.end.full c.args.end.common c.requires.some c.requires.full c.requires.common c.loop-place.self-inside.numer.items all (omega arith))
+    rw (i.first, i.window) (still_windowed c.args.self.now _ i.windowed (line_of c.args.line.now) c.args.end.reach c.args.end.full c.args.end.common c.requires.end.some_common (full_is c.args.self.now (line_of c.args.line.now) c.args.end c.requires.end) (divides_times c.args.self.now (line_of c.args.line.now) c.args.end i.windowed.some_first c.requires.end) c.loop-place.self-inside.numer.items all (omega arith))

@@ -23,20 +23,26 @@ invariant_of-self-then-numer-denominator c =
     rw (c.remove-then-numer-denominator.ensures.items, c.remove-then-numer-denominator.ensures.capacity)
     (still_without _ _ c.self.invariant c.args.place c.index-unit.result.now (rw (← c.self.view_is) at c.requires.place) c.index-unit.ensures c.self.inside.first (omega arith))
 
-pub returns-then-numer-eq0-clause-values : goal.returns-then-numer-eq0-clause-values
-returns-then-numer-eq0-clause-values c =
-    ap (λ (w : List ℕ). shares_in (record { numer = c.self.inside.numer.items; first = c.self.inside.first; times = c.self.inside.times; window = w })) c.remove.ensures.items
-    ∙ ap (λ (n : List ℕ). record { numer = n; den = c.self.inside.first * c.self.inside.times })
-    (let_none_go _ _ c.self.invariant c.args.place c.index-unit.result.now (rw (← c.self.view_is) at c.requires.place) c.index-unit.ensures c.index-numer.result.now c.index-numer.ensures c.if-numer-eq0.true)
-    ∙ ap shares_in c.self.view_is
+pub returns-then-numer-eq0-clause-keeps : goal.returns-then-numer-eq0-clause-keeps
+returns-then-numer-eq0-clause-keeps c =
+    record {
+      values = ap (λ (w : List ℕ). shares_in (record { numer = c.self.inside.numer.items; first = c.self.inside.first; times = c.self.inside.times; window = w })) c.remove.ensures.items
+          ∙ ap (λ (n : List ℕ). record { numer = n; den = c.self.inside.first * c.self.inside.times })
+          (let_none_go _ _ c.self.invariant c.args.place c.index-unit.result.now (rw (← c.self.view_is) at c.requires.place) c.index-unit.ensures c.index-numer.result.now c.index-numer.ensures c.if-numer-eq0.true)
+          ∙ ap shares_in c.self.view_is;
+      first = ap (λ (v : Windowed). v.first) c.self.view_is;
+    }
 
-pub returns-then-numer-denominator-clause-values : goal.returns-then-numer-denominator-clause-values
-returns-then-numer-denominator-clause-values c =
+pub returns-then-numer-denominator-clause-keeps : goal.returns-then-numer-denominator-clause-keeps
+returns-then-numer-denominator-clause-keeps c =
     let all : c.self.inside.first * c.self.inside.times ≡ c.index-numer.result.now = ap (λ (v : Windowed). v.first * v.times) c.self.view_is ∙ sym c.denominator.ensures ∙ sym c.if-numer-denominator.true in
-    ap (λ (w : List ℕ). shares_in (record { numer = set c.self.inside.numer.items c.index-unit.result.now c.self.inside.first; first = c.self.inside.first; times = c.self.inside.times; window = w })) c.remove-then-numer-denominator.ensures.items
-    ∙ ap (λ (n : List ℕ). record { numer = n; den = c.self.inside.first * c.self.inside.times })
-    (let_go _ _ c.self.invariant c.args.place c.index-unit.result.now (rw (← c.self.view_is) at c.requires.place) c.index-unit.ensures c.self.inside.first c.index-numer.result.now c.index-numer.ensures all)
-    ∙ ap shares_in c.self.view_is
+    record {
+      values = ap (λ (w : List ℕ). shares_in (record { numer = set c.self.inside.numer.items c.index-unit.result.now c.self.inside.first; first = c.self.inside.first; times = c.self.inside.times; window = w })) c.remove-then-numer-denominator.ensures.items
+          ∙ ap (λ (n : List ℕ). record { numer = n; den = c.self.inside.first * c.self.inside.times })
+          (let_go _ _ c.self.invariant c.args.place c.index-unit.result.now (rw (← c.self.view_is) at c.requires.place) c.index-unit.ensures c.self.inside.first c.index-numer.result.now c.index-numer.ensures all)
+          ∙ ap shares_in c.self.view_is;
+      first = ap (λ (v : Windowed). v.first) c.self.view_is;
+    }
 
 pub returns-then-numer-eq0-clause-left : goal.returns-then-numer-eq0-clause-left
 returns-then-numer-eq0-clause-left c =

@@ -10,4 +10,4 @@ returns-clause-window c k t =
     let i = c.loop-place.invariant in
     let done : c.loop-place.place ≡ 0 = omega arith in
     let from = subst (FractionalFrom (shares_in c.args.self.now) c.loop-place.self.window) done i.from in
-    subst (λ (s : Shares). is_fractional s k ≡ true) (sym i.values) (only_fractional (shares_in c.args.self.now) c.loop-place.self.window from k t)
+    subst (λ (s : Shares). is_fractional s k ≡ true) (sym i.keeps.values) (only_fractional (shares_in c.args.self.now) c.loop-place.self.window from k t)
