@@ -1,0 +1,124 @@
+//! What comes of a case.
+
+use crate::case::{Case, Wanted};
+use crate::differences::Differences;
+use crate::watched::WatchedStore;
+use smp_app::{Status, sampler};
+use smp_frac::{Bytes, NoMemory, Text};
+use smp_io::{MemSink, MemStore, Store, StoreFault};
+use std::alloc::Global;
+
+/// Calls `sampler` as a case says, and tells what differs from what the case wants. A call that ends for want of memory
+/// has no verdict.
+pub fn differences(alloc: Global, case: Case) -> Result<Differences, NoMemory> {
+    let Case {
+        words,
+        files,
+        failing_calls,
+        failing_puts,
+        wanted,
+    } = case;
+    let before = copies(alloc, files.as_slice())?;
+    let tries = failing_calls.len() as u64 + 1;
+    let mut store = WatchedStore::new(alloc, MemStore::new(files, failing_calls));
+    let mut sink = MemSink::new(alloc, failing_puts);
+    let status = sampler(alloc, words.as_slice(), &mut store, &mut sink);
+    if let Status::NoMemory = status {
+        return Err(NoMemory);
+    }
+
+    let (store, names) = store.into_parts();
+    let mut after = After {
+        alloc,
+        store,
+        tries,
+    };
+    let mut found = Differences::new(alloc);
+    found.compare_codes(wanted.code, status.code())?;
+    compare_named(&mut found, &wanted, &mut after)?;
+    compare_others(
+        &mut found,
+        &wanted,
+        before.as_slice(),
+        names?.as_slice(),
+        &mut after,
+    )?;
+    found.compare_bytes("put", wanted.put.as_slice(), sink.as_slice())?;
+    Ok(found)
+}
+
+// The store after the call.
+#[derive(Drop)]
+struct After {
+    alloc: Global,
+    store: MemStore,
+    tries: u64,
+}
+
+impl After {
+    // The content under a name, or none where there is no file. A read that is due to fail is tried again.
+    fn content(&mut self, name: &str) -> Result<Option<Bytes>, NoMemory> {
+        for _ in 0..self.tries {
+            match self.store.read(self.alloc, name) {
+                Ok(bytes) => return Ok(Some(bytes)),
+                Err(StoreFault::NoMemory) => return Err(NoMemory),
+                Err(StoreFault::Failed) => {}
+            }
+        }
+        Ok(None)
+    }
+}
+
+// The files that the case speaks of.
+fn compare_named(
+    found: &mut Differences,
+    wanted: &Wanted,
+    after: &mut After,
+) -> Result<(), NoMemory> {
+    for (name, content) in wanted.files.as_slice() {
+        let name = name.as_str();
+        let got = after.content(name)?;
+        let wanted = content.as_ref().map(|bytes| bytes.as_slice());
+        found.compare_files(name, wanted, got.as_ref().map(|bytes| bytes.as_slice()))?;
+    }
+    Ok(())
+}
+
+// The others: those that were there before are as they were, and nothing else is written.
+fn compare_others(
+    found: &mut Differences,
+    wanted: &Wanted,
+    before: &[(Text, Bytes)],
+    names: &[String],
+    after: &mut After,
+) -> Result<(), NoMemory> {
+    for (name, content) in before {
+        let name = name.as_str();
+        if !wanted.speaks_of(name) {
+            let got = after.content(name)?;
+            found.compare_files(
+                name,
+                Some(content.as_slice()),
+                got.as_ref().map(|bytes| bytes.as_slice()),
+            )?;
+        }
+    }
+    for name in names {
+        let name = name.as_str();
+        if !wanted.speaks_of(name) && !before.iter().any(|file| file.0.as_str() == name) {
+            let got = after.content(name)?;
+            found.compare_files(name, None, got.as_ref().map(|bytes| bytes.as_slice()))?;
+        }
+    }
+    Ok(())
+}
+
+fn copies(alloc: Global, files: &[(Text, Bytes)]) -> Result<Vec<(Text, Bytes)>, NoMemory> {
+    let mut list = Vec::new(alloc);
+    for (name, content) in files {
+        let mut copy = Bytes::new(alloc);
+        copy.push_all(content.as_slice())?;
+        list.push((name.copy(alloc)?, copy))?;
+    }
+    Ok(list)
+}

@@ -1,0 +1,87 @@
+//! What is said of cases.
+
+use crate::differences::Differences;
+use crate::reader::CaseFault;
+use std::fmt;
+
+/// What is said of a case.
+#[derive(Drop)]
+pub enum Verdict {
+    /// All is as it is wanted.
+    Ok,
+    /// These parts aren't as they are wanted.
+    Differs(Differences),
+    /// The text is no case.
+    NotRead(CaseFault),
+}
+
+impl From<Differences> for Verdict {
+    ghost use Rattle.std.specs.Prelude.{◌≡◌, ◌↔◌};
+    ghost use Rattle.cases.specs.declared.verdict.Verdict.TheVariants as verdicts;
+
+    ghost from_gives = { λ found verdict. (verdict ≡ verdicts.Ok) ↔ (found ≡ 0) };
+
+    fn from(found: Differences) -> Verdict {
+        if found.is_empty() {
+            Verdict::Ok
+        } else {
+            Verdict::Differs(found)
+        }
+    }
+}
+
+impl fmt::Display for Verdict {
+    fn fmt<W: fmt::Write>(&self, f: &mut fmt::Formatter<W>) -> fmt::Result {
+        match self {
+            Verdict::Ok => write!(f, "ok"),
+            Verdict::NotRead(fault) => write!(f, "not read: {fault}"),
+            Verdict::Differs(found) => {
+                write!(f, "differs")?;
+                let mut mark = ": ";
+                for text in found.as_slice() {
+                    write!(f, "{mark}{text}")?;
+                    mark = "; ";
+                }
+                Ok(())
+            }
+        }
+    }
+}
+
+/// How many cases were ok, differ, and weren't read.
+#[derive(Clone, Copy)]
+pub struct Tally {
+    ok: u64,
+    differ: u64,
+    not_read: u64,
+}
+
+impl Tally {
+    /// No case yet.
+    pub fn new() -> Tally {
+        Tally {
+            ok: 0,
+            differ: 0,
+            not_read: 0,
+        }
+    }
+
+    /// Counts one more case.
+    pub fn count(&mut self, verdict: &Verdict) {
+        let count = match verdict {
+            Verdict::Ok => &mut self.ok,
+            Verdict::Differs(_) => &mut self.differ,
+            Verdict::NotRead(_) => &mut self.not_read,
+        };
+        *count = count.saturating_add(1);
+    }
+}
+
+impl fmt::Display for Tally {
+    fn fmt<W: fmt::Write>(&self, f: &mut fmt::Formatter<W>) -> fmt::Result {
+        let ok = self.ok;
+        let differ = self.differ;
+        let not_read = self.not_read;
+        write!(f, "{ok} ok, {differ} differ, {not_read} not read")
+    }
+}

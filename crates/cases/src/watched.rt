@@ -1,0 +1,63 @@
+//! A store that is watched.
+
+use smp_frac::{Bytes, NoMemory};
+use smp_io::{Store, StoreFault};
+use std::alloc::{AllocError, Global};
+
+/// A store that keeps the names under which it was asked to write.
+#[derive(Drop)]
+pub struct WatchedStore<K: Store + Drop> {
+    store: K,
+    names: Vec<String>,
+    is_whole: bool,
+}
+
+impl<K: Store + Drop> WatchedStore<K> {
+    /// A store under which nothing was written yet.
+    pub fn new(alloc: Global, store: K) -> WatchedStore<K> {
+        WatchedStore {
+            store,
+            names: Vec::new(alloc),
+            is_whole: true,
+        }
+    }
+
+    /// The store itself, and the names under which it was asked to write, in order, where there was memory for them all.
+    pub fn into_parts(self) -> (K, Result<Vec<String>, NoMemory>) {
+        let WatchedStore {
+            store,
+            names,
+            is_whole,
+        } = self;
+        if is_whole {
+            (store, Ok(names))
+        } else {
+            (store, Err(NoMemory))
+        }
+    }
+}
+
+fn keep(names: &mut Vec<String>, name: &str) -> Result<(), AllocError> {
+    let name = String::from_str(*names.allocator(), name)?;
+    names.push(name)?;
+    Ok(())
+}
+
+impl<K: Store + Drop> Store for WatchedStore<K> {
+    ghost files = { λ s. K.files s.store };
+
+    ghost read_faults = { λ s. K.read_faults s.store };
+
+    ghost write_faults = { λ s. K.write_faults s.store };
+
+    fn read(&mut self, alloc: Global, name: &str) -> Result<Bytes, StoreFault> {
+        self.store.read(alloc, name)
+    }
+
+    fn write(&mut self, name: &str, bytes: &[u8]) -> Result<(), StoreFault> {
+        if keep(&mut self.names, name).is_err() {
+            self.is_whole = false;
+        }
+        self.store.write(name, bytes)
+    }
+}
