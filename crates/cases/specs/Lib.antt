@@ -1,2 +1,3 @@
 pub mod Compared
 pub mod Escapes
+pub mod Lines

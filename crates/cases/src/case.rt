@@ -1,5 +1,9 @@
 //! What a case says.
 
+ghost use Rattle.std.specs.Prelude.{◌≡◌};
+ghost use Rattle.std.specs.List.{list_any};
+ghost use Rattle.std.specs.Str.{bytes_eq};
+
 use smp_frac::{Bytes, Text};
 
 /// What `sampler` is given, and what has to come of it.
@@ -29,9 +33,9 @@ pub struct Wanted {
     pub put: Bytes,
 }
 
-impl Wanted {
-    /// Whether the file of this name, or that there is none, is wanted.
-    pub fn speaks_of(&self, name: &str) -> bool {
-        self.files.iter().any(|file| file.0.as_str() == name)
-    }
+/// Whether one of these files has this name.
+pub fn has_name<T>(files: &[(Text, T)], name: &str) -> bool
+    ensures { result ≡ list_any (λ file. bytes_eq file.0 name.now) files.now }
+{
+    files.iter().any(|file| file.0.as_str() == name)
 }

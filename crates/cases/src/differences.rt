@@ -1,6 +1,6 @@
 //! What differs from what is wanted.
 
-ghost use Rattle.std.specs.Prelude.{◌≡◌, ◌≤◌, ◌↔◌, IsTrue, OnOk, length, option_map};
+ghost use Rattle.std.specs.Prelude.{◌≡◌, ◌+◌, ◌≤◌, ◌↔◌, IsTrue, OnOk, length, option_map};
 ghost use Rattle.cases.specs.Compared.{Compares};
 
 use crate::escapes::Shown;
@@ -49,12 +49,10 @@ impl Differences {
     pub fn compare_codes(&mut self, wanted: u8, got: u8) -> Result<(), AllocError>
         ensures { OnOk result (Compares (wanted ≡ got) self.old self.new) }
     {
-        if wanted != got {
-            let alloc = *self.texts.allocator();
-            self.texts
-                .push(format!(in alloc; "code: wanted {wanted}, got {got}")?)?;
+        if wanted == got {
+            return Ok(());
         }
-        Ok(())
+        self.add(format!(in self.alloc(); "code: wanted {wanted}, got {got}")?)
     }
 
     /// Adds that the content of a file differs, or that there is a file or none, where it is so.
@@ -68,24 +66,20 @@ impl Differences {
             (option_map (λ b. b.now) wanted.entry ≡ option_map (λ b. b.now) got.entry)
             self.old self.new) }
     {
-        let alloc = *self.texts.allocator();
-        let part = format!(in alloc; "file {name}")?;
+        let alloc = self.alloc();
         match (wanted, got) {
             (None, None) => Ok(()),
-            (Some(wanted), Some(got)) => self.compare_bytes(part.as_str(), wanted, got),
+            (Some(wanted), Some(got)) => {
+                let part = format!(in alloc; "file {name}")?;
+                self.compare_bytes(part.as_str(), wanted, got)
+            }
             (Some(wanted), None) => {
                 let wanted = Shown(wanted);
-                Ok(
-                    self.texts
-                        .push(format!(in alloc; "{part}: wanted {wanted}, got no file")?)?,
-                )
+                self.add(format!(in alloc; "file {name}: wanted {wanted}, got no file")?)
             }
             (None, Some(got)) => {
                 let got = Shown(got);
-                Ok(
-                    self.texts
-                        .push(format!(in alloc; "{part}: wanted no file, got {got}")?)?,
-                )
+                self.add(format!(in alloc; "file {name}: wanted no file, got {got}")?)
             }
         }
     }
@@ -97,14 +91,24 @@ impl Differences {
         if wanted == got {
             return Ok(());
         }
-        let alloc = *self.texts.allocator();
         let at = common_length(wanted, got);
         let place = at as u64 + 1;
         let wanted = Shown(&wanted[at..]);
         let got = Shown(&got[at..]);
-        let text = format!(in alloc; "{part}: from byte {place} on wanted {wanted}, got {got}")?;
+        self.add(format!(in self.alloc();
+            "{part}: from byte {place} on wanted {wanted}, got {got}"
+        )?)
+    }
+
+    fn add(&mut self, text: String) -> Result<(), AllocError>
+        ensures { OnOk result (self.new ≡ self.old + 1) }
+    {
         self.texts.push(text)?;
         Ok(())
+    }
+
+    fn alloc(&self) -> Global {
+        *self.texts.allocator()
     }
 }
 

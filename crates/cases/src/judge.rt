@@ -1,6 +1,6 @@
 //! What comes of a case.
 
-use crate::case::{Case, Wanted};
+use crate::case::{Case, Wanted, has_name};
 use crate::differences::Differences;
 use crate::watched::WatchedStore;
 use smp_app::{Status, sampler};
@@ -94,7 +94,7 @@ fn compare_others(
 ) -> Result<(), NoMemory> {
     for (name, content) in before {
         let name = name.as_str();
-        if !wanted.speaks_of(name) {
+        if !has_name(wanted.files.as_slice(), name) {
             let got = after.content(name)?;
             found.compare_files(
                 name,
@@ -105,7 +105,7 @@ fn compare_others(
     }
     for name in names {
         let name = name.as_str();
-        if !wanted.speaks_of(name) && !before.iter().any(|file| file.0.as_str() == name) {
+        if !has_name(wanted.files.as_slice(), name) && !has_name(before, name) {
             let got = after.content(name)?;
             found.compare_files(name, None, got.as_ref().map(|bytes| bytes.as_slice()))?;
         }

@@ -1,5 +1,8 @@
 //! The lines of a case.
 
+ghost use Rattle.std.specs.Prelude.{◌≡◌, ◌++◌, IfSome, IsNone, codes};
+ghost use Rattle.cases.specs.Lines.{IsWritten, IsNoLine};
+
 /// A line of a case, with the text in which it goes on, still in escapes.
 #[derive(Clone, Copy)]
 pub enum Line<'a> {
@@ -27,10 +30,13 @@ pub enum Line<'a> {
 
 impl<'a> Line<'a> {
     /// The line that a text is, or `None` where it begins as no line of a case does.
-    pub fn of_text(text: &'a str) -> Option<Line<'a>> {
+    pub fn of_text(text: &'a str) -> Option<Line<'a>>
+        ensures some { IfSome result (λ line. IsWritten line text.now) }
+        ensures none { IsNone result → IsNoLine text.now }
+    {
         if text.is_empty() || text.starts_with('#') {
             Some(Line::Remark)
-        } else if let Some(content) = text.strip_prefix('|') {
+        } else if let Some(content) = text.strip_prefix("|") {
             Some(Line::Content(content))
         } else if let Some(wanted) = text.strip_prefix("wanted ") {
             Line::of_wanted(wanted)
@@ -48,7 +54,10 @@ impl<'a> Line<'a> {
     }
 
     // What follows the word `wanted`.
-    fn of_wanted(text: &'a str) -> Option<Line<'a>> {
+    fn of_wanted(text: &'a str) -> Option<Line<'a>>
+        ensures some { IfSome result (λ line. IsWritten line (codes "wanted " ++ text.now)) }
+        ensures none { IsNone result → IsNoLine (codes "wanted " ++ text.now) }
+    {
         if text == "put" {
             Some(Line::WantedPut)
         } else if let Some(number) = text.strip_prefix("code ") {

@@ -1,6 +1,10 @@
 //! The text of a case.
 
-use crate::case::{Case, Wanted};
+ghost use Rattle.std.specs.Prelude.{◌≡◌, ◌^◌};
+ghost use Rattle.std.specs.Result.{result_ok};
+ghost use Rattle.smp_lines.specs.Decimals.{number_below};
+
+use crate::case::{Case, Wanted, has_name};
 use crate::escapes::{printable, unescaped};
 use crate::lines::Line;
 use smp_frac::{Bytes, NoMemory, Text};
@@ -200,28 +204,16 @@ impl CaseReader {
         let mut list = Vec::new(self.alloc);
         if let Some(words) = words {
             for word in words.split(' ') {
-                let bytes = unescaped(self.alloc, word)?.ok_or(Wrong::Escape)?;
-                let word = str::from_utf8(bytes.as_slice()).map_err(|_| Wrong::NotText)?;
-                list.push(String::from_str(self.alloc, word)?)?;
+                list.push(text_of(self.alloc, word)?)?;
             }
         }
         self.words = Some(list);
         Ok(())
     }
 
-    fn name(&self, text: &str) -> Result<Text, Wrong> {
-        let bytes = unescaped(self.alloc, text)?.ok_or(Wrong::Escape)?;
-        let name = str::from_utf8(bytes.as_slice()).map_err(|_| Wrong::NotText)?;
-        Ok(Text::from_str(self.alloc, name)?)
-    }
-
     fn add_file(&mut self, name: &str) -> Result<(), Wrong> {
-        let name = self.name(name)?;
-        if self
-            .files
-            .iter()
-            .any(|file| file.0.as_str() == name.as_str())
-        {
+        let name = Text::from_str(self.alloc, text_of(self.alloc, name)?.as_str())?;
+        if has_name(self.files.as_slice(), name.as_str()) {
             return Err(Wrong::Repeated);
         }
         self.files.push((name, Bytes::new(self.alloc)))?;
@@ -230,12 +222,8 @@ impl CaseReader {
     }
 
     fn add_wanted_file(&mut self, name: &str, content: Option<Bytes>) -> Result<(), Wrong> {
-        let name = self.name(name)?;
-        if self
-            .wanted_files
-            .iter()
-            .any(|file| file.0.as_str() == name.as_str())
-        {
+        let name = Text::from_str(self.alloc, text_of(self.alloc, name)?.as_str())?;
+        if has_name(self.wanted_files.as_slice(), name.as_str()) {
             return Err(Wrong::Repeated);
         }
         self.wanted_files.push((name, content))?;
@@ -297,8 +285,17 @@ impl CaseReader {
     }
 }
 
+// The word or name that a text stands for.
+fn text_of(alloc: Global, text: &str) -> Result<String, Wrong> {
+    let bytes = unescaped(alloc, text)?.ok_or(Wrong::Escape)?;
+    let text = str::from_utf8(bytes.as_slice()).map_err(|_| Wrong::NotText)?;
+    Ok(String::from_str(alloc, text)?)
+}
+
 // A decimal number below 2^64.
-fn count(text: &str) -> Result<u64, Wrong> {
+fn count(text: &str) -> Result<u64, Wrong>
+    ensures { result_ok result ≡ number_below (2 ^ 64) text.now }
+{
     let number = number(text.as_bytes()).ok_or(Wrong::NoNumber)?;
     u64::try_from(number).map_err(|_| Wrong::NoNumber)
 }
