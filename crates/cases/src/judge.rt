@@ -1,9 +1,7 @@
 //! What comes of a case.
 
-use crate::case::{Case, Wanted, has_name};
-use crate::differences::Differences;
-use crate::watched::WatchedStore;
 use smp_app::{Status, sampler};
+use smp_caseread::{Case, Differences, Wanted, WatchedStore, has_name};
 use smp_frac::{Bytes, NoMemory, Text};
 use smp_io::{MemSink, MemStore, Store, StoreFault};
 use std::alloc::Global;

@@ -5,20 +5,12 @@
 //! `README.md` of the folder `data` says how a case is written.
 #![tactic(auto)]
 
-mod case;
-mod differences;
-mod escapes;
 mod judge;
-mod lines;
 mod listing;
-mod reader;
-mod verdict;
-mod watched;
 
 use crate::judge::differences;
 use crate::listing::case_files;
-use crate::reader::{CaseFault, read_case};
-use crate::verdict::{Tally, Verdict};
+use smp_caseread::{CaseFault, Tally, Verdict, read_case};
 use smp_frac::NoMemory;
 use std::alloc::Global;
 use std::rt::Files;

@@ -1,7 +1,7 @@
 -- What a text stands for, as far as it was read.
 use Rattle.std.proofs.Common.{◌≡◌, ℕ, List, [], ◌∷◌, ◌++◌, Some, None, sym, subst, ◌∙◌, ap, append_assoc, append-nil}
 use Rattle.std.proofs.lemmas.Option.{none-some, same_Some}
-use Rattle.cases.specs.Escapes.{first_byte, StandsFor, StandsForNothing}
+use Rattle.smp_caseread.specs.Escapes.{first_byte, StandsFor, StandsForNothing}
 
 -- The text stands for these bytes and then for what the rest stands for, and it stands for nothing where the rest does.
 pub record GoesOn (text done rest : List ℕ) : Type 0 where

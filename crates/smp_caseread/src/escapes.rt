@@ -2,8 +2,8 @@
 
 ghost use Rattle.std.specs.Prelude.{◌≡◌, ◌<◌, ◌↔◌, length, IsTrue, IfOk, IfSome, IsNone, option_map};
 ghost use Rattle.std.specs.List.{All};
-ghost use Rattle.cases.specs.Escapes;
-ghost use Rattle.cases.specs.Escapes.{IsPrintable, StandsFor, StandsForNothing};
+ghost use Rattle.smp_caseread.specs.Escapes;
+ghost use Rattle.smp_caseread.specs.Escapes.{IsPrintable, StandsFor, StandsForNothing};
 
 use std::alloc::{AllocError, Global};
 use std::fmt;

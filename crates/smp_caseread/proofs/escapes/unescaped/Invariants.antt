@@ -1,6 +1,6 @@
 use Rattle.std.proofs.Common.{length}
-use Rattle.cases.proofs.Standing.{GoesOn}
-use Rattle.cases.proofs.escapes.unescaped.Given as goal
+use Rattle.smp_caseread.proofs.Standing.{GoesOn}
+use Rattle.smp_caseread.proofs.escapes.unescaped.Given as goal
 
 abbrev pub invariant-loop-byte : goal.invariant-loop-byte
 invariant-loop-byte l = GoesOn l.text l.bytes.items l.rest

@@ -1,7 +1,7 @@
 //! The lines of a case.
 
 ghost use Rattle.std.specs.Prelude.{◌≡◌, ◌++◌, IfSome, IsNone, codes};
-ghost use Rattle.cases.specs.Lines.{IsWritten, IsNoLine};
+ghost use Rattle.smp_caseread.specs.Lines.{IsWritten, IsNoLine};
 
 /// A line of a case, with the text in which it goes on, still in escapes.
 #[derive(Clone, Copy)]

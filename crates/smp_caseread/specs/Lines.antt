@@ -1,7 +1,7 @@
 -- The lines of a case.
 use Rattle.std.specs.Prelude.{◌≡◌, ℕ, List, [], ◌++◌, ◌⊎◌, Some, None, codes}
-use Rattle.cases.specs.declared.lines.Line.{Line}
-use Rattle.cases.specs.declared.lines.Line.TheVariants as lines
+use Rattle.smp_caseread.specs.declared.lines.Line.{Line}
+use Rattle.smp_caseread.specs.declared.lines.Line.TheVariants as lines
 
 -- how a line is written
 abbrev pub IsWritten : Line → List ℕ → Type 0

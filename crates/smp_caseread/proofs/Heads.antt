@@ -1,8 +1,8 @@
 -- A text that begins as no line does.
 use Rattle.std.proofs.Common.{◌≡◌, ℕ, List, [], ◌++◌, Some, None, codes, inl, inr}
-use Rattle.cases.specs.Lines.{IsWritten, IsNoLine}
-use Rattle.cases.specs.declared.lines.Line.{Line}
-use Rattle.cases.specs.declared.lines.Line.TheVariants as lines
+use Rattle.smp_caseread.specs.Lines.{IsWritten, IsNoLine}
+use Rattle.smp_caseread.specs.declared.lines.Line.{Line}
+use Rattle.smp_caseread.specs.declared.lines.Line.TheVariants as lines
 
 -- The text doesn't begin with these bytes.
 abbrev pub Lacks : List ℕ → List ℕ → Type 0

@@ -1,7 +1,7 @@
 //! What differs from what is wanted.
 
 ghost use Rattle.std.specs.Prelude.{◌≡◌, ◌+◌, ◌≤◌, ◌↔◌, IsTrue, OnOk, length, option_map};
-ghost use Rattle.cases.specs.Compared.{Compares};
+ghost use Rattle.smp_caseread.specs.Compared.{Compares};
 
 use crate::escapes::Shown;
 use std::alloc::{AllocError, Global};

@@ -4,7 +4,7 @@ use Rattle.std.specs.List.{All}
 use Rattle.std.specs.Str.{IsUtf8, IsAscii}
 use Rattle.std.proofs.lemmas.Str.{IsUtf8-from_ascii}
 use Rattle.std.proofs.lemmas.List.Elements.{All-get_or}
-use Rattle.cases.specs.Escapes.{IsPrintable}
+use Rattle.smp_caseread.specs.Escapes.{IsPrintable}
 
 IsAscii-from_bytes : (bs : List ℕ) → ((k : ℕ) → k < length bs → get_or bs k 0 < 128) → IsAscii bs
 IsAscii-from_bytes [] below i = omega arith

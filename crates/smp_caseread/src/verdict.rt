@@ -17,7 +17,7 @@ pub enum Verdict {
 
 impl From<Differences> for Verdict {
     ghost use Rattle.std.specs.Prelude.{◌≡◌, ◌↔◌};
-    ghost use Rattle.cases.specs.declared.verdict.Verdict.TheVariants as verdicts;
+    ghost use Rattle.smp_caseread.specs.declared.verdict.Verdict.TheVariants as verdicts;
 
     ghost from_gives = { λ found verdict. (verdict ≡ verdicts.Ok) ↔ (found ≡ 0) };
 

@@ -1,7 +1,7 @@
 use Rattle.std.proofs.Common.{rules, ◌≡◌, ◌++◌, IfSome, IsNone, codes, ℕ, List, [], ◌∷◌}
-use Rattle.cases.specs.Lines.{IsWritten, IsNoLine}
-use Rattle.cases.proofs.Heads.{no_line}
-use Rattle.cases.proofs.lines.Line.of_text.Goals as goal
+use Rattle.smp_caseread.specs.Lines.{IsWritten, IsNoLine}
+use Rattle.smp_caseread.proofs.Heads.{no_line}
+use Rattle.smp_caseread.proofs.lines.Line.of_text.Goals as goal
 
 pub returns-in_default-strip_prefix-4-clause-none :
     goal.returns-in_default-strip_prefix-4-clause-none
