@@ -1,7 +1,6 @@
 -- A text that begins as no line does.
 use Rattle.std.proofs.Common.{◌≡◌, ℕ, List, [], ◌++◌, Some, None, codes, inl, inr}
-use Rattle.smp_caseread.specs.Lines.{IsWritten, IsNoLine}
-use Rattle.smp_caseread.specs.declared.lines.Line.{Line}
+use Rattle.smp_caseread.specs.Lines.{IsNoLine}
 use Rattle.smp_caseread.specs.declared.lines.Line.TheVariants as lines
 
 -- The text doesn't begin with these bytes.

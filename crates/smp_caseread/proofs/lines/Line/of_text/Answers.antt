@@ -1,5 +1,4 @@
-use Rattle.std.proofs.Common.{rules, ◌≡◌, ◌++◌, IfSome, IsNone, codes, ℕ, List, [], ◌∷◌}
-use Rattle.smp_caseread.specs.Lines.{IsWritten, IsNoLine}
+use Rattle.std.proofs.Common.{rules}
 use Rattle.smp_caseread.proofs.Heads.{no_line}
 use Rattle.smp_caseread.proofs.lines.Line.of_text.Goals as goal
 
