@@ -119,4 +119,5 @@ def main():
                 print(f"{method} {order} {rows} {len(values)} {name} {seconds:.3f} {megabytes:.0f}{note}")
 
 
-main()
+if __name__ == "__main__":
+    main()

@@ -1,99 +1,112 @@
 -- How a call ends, from what its parts did.
-use Rattle.std.proofs.Common.{◌≡◌, ◌⊎◌, ◌≤◌, ℕ, List, Option, Some, None, option_map, Result, Ok, Err, refl, sym, ap, subst, ◌∙◌, inl, inr, true}
-use Rattle.std.specs.Prelude.{is_some}
+use Rattle.std.proofs.Common.{◌≡◌, ◌≤◌, ℕ, List, Option, Some, None, option_map, Ok, Err, refl, sym, ap, subst, ◌∙◌, inl, inr, true}
+use Rattle.std.specs.Prelude.{is_some, is_ok, option_and_then}
 use Rattle.smp_io.specs.Counts.{Rose, NeverFalls}
 use Rattle.smp_io.specs.Sink.{with_bytes, AppendsFront}
 use Rattle.smp_io.specs.Store.{Files}
 use Rattle.smp_app.specs.declared.status.Status.{Status}
 use Rattle.smp_app.specs.declared.status.Status.TheVariants as status
 use Rattle.smp_words.specs.declared.command.Command.{Command}
-use Rattle.smp_words.specs.Words.{command_of, inputs_of, outputs_of}
-use Rattle.smp_app.specs.FaultLines.{fault_line}
-use Rattle.smp_app.specs.Verdict.{Stop, Refused, ◌>>=◌, or_refused, without, outputs_stage, verdict}
-use Rattle.smp_app.specs.Jobs.{Follows, IsOfInputs, ReadCause}
-use Rattle.smp_app.specs.Deliveries.{Outputs, names_of, with_files, StopsAt, FailsAt}
-use Rattle.smp_app.specs.Answers.{Outside, Untouched, Means, IsDone, IsRefused, Refuses, IsRefusal, IsRefusing, Stopped, IsWriteFault, IsNoMemory, AtWork, AtLine, Says, WorkSays, PutsLine, Whole, Cut, OutOfMemory, Reports}
-use Rattle.smp_app.proofs.Deliveries.{rose_since, place_since}
+use Rattle.smp_words.specs.Words.{command_of}
+use Rattle.smp_app.specs.Codes.{Class, IsDone, IsUsage, IsRefusal, IsReadFault, IsWriteFault, IsNoMemory, class_of}
+use Rattle.smp_app.specs.FaultLines.{fault_line, line_by}
+use Rattle.smp_app.specs.Commands.{Job, job_of, job_for, inputs_of, outputs_of}
+use Rattle.smp_app.specs.Verdict.{Refused, ◌>>=◌, or_refused, without, outputs_stage, verdict}
+use Rattle.smp_app.specs.Draws.{IsExact}
+use Rattle.smp_app.specs.Stages.{IsErrorOf, IsOfInputs, IsCaused, ReadCause, Refusing, WorkSays, Put, PutsLine, Whole, Cut, OutOfMemory, Reports}
+use Rattle.smp_app.specs.Deliveries.{Outputs, SomeRose, names_of, with_files, StopsAt, FailsAt}
+use Rattle.smp_app.specs.Answers.{Outside, Untouched, Done, RefusesBy, Refusal, Stopped, WriteFault, NoMemory, Says, Undisturbed, IsVerdict, UsageOnly, IsAnswer}
+use Rattle.smp_app.proofs.Deliveries.{rose_since, place_since, place_rose}
 
--- ---- the verdict of a command
+-- ---- the verdict of a job
 
-verdict_is : (words : List (List ℕ)) (fs : Files) (command : Command) (answer : Result Outputs Stop) → Some command ≡ command_of words → outputs_stage command fs ≡ answer → verdict words fs ≡ answer
+by_command : (told : Option Command) (job : Job) → option_and_then job_of told ≡ Some job → (fs : Files)
+    → (or_refused status.Usage told >>= λ c. or_refused status.NotYet (job_of c) >>= λ j. outputs_stage j fs) ≡ outputs_stage job fs
+by_command None job h fs = absurd (cc)
+by_command (Some command) job h fs = rw h refl
+
+pub verdict_of : (words : List (List ℕ)) (job : Job) → job_for words ≡ Some job → (fs : Files) → verdict words fs ≡ outputs_stage job fs
 unfolding verdict
-verdict_is words fs command answer asked stage = ap (λ o. or_refused status.Usage o >>= λ c. outputs_stage c fs) (sym asked) ∙ stage
+verdict_of words job asked fs = by_command (command_of words) job asked fs
 
-module _ (words : List (List ℕ)) (command : Command) (before now : Outside) (asked : Some command ≡ command_of words) where
-  refused_by :
-      (refusal : Status) → ((fs : Files) → before.files ≡ Some fs → outputs_stage command fs ≡ Err (Refused refusal)) → IsRefused refusal words before.files
-  refused_by refusal stage = record { command = command; asked = sym asked; verdict_is = λ fs told. verdict_is words fs command _ asked (stage fs told) }
+-- a job is that of a command
+record Commanded (told : Option Command) : Type 0 where
+  command : Command
+  is : told ≡ Some command
 
+commanded : (told : Option Command) (job : Job) → option_and_then job_of told ≡ Some job → Commanded told
+commanded None job h = absurd (cc)
+commanded (Some command) job h = record { command = command; is = refl }
+
+-- a command that isn't built
+pub not_yet : (words : List (List ℕ)) (command : Command) → command_of words ≡ Some command → job_of command ≡ None → (fs : Files) → verdict words fs ≡ Err (Refused status.NotYet)
+unfolding verdict
+not_yet words command asked none fs = rw (asked, none) refl
+
+-- ---- the work
+
+module _ (words : List (List ℕ)) (job : Job) (before now : Outside) (asked : job_for words ≡ Some job) where
   -- a status to which the inputs led
-  pub refusal_says :
-      (refusal : Status)
-      → IsOfInputs refusal
-      → ((fs : Files) → before.files ≡ Some fs → Follows {A = Outputs} (Err refusal) (outputs_stage command fs))
-      → (refusal ≡ status.ReadFault → ReadCause (inputs_of command) (outputs_stage command) before.files before.read_faults now.read_faults)
+  pub error_says :
+      (class : Class) (error : Status)
+      → IsOfInputs class error
+      → ((fs : Files) → before.files ≡ Some fs → IsErrorOf class error (outputs_stage job fs))
+      → IsCaused class (ReadCause (inputs_of job) (outputs_stage job) (record { files = before.files; read_faults = before.read_faults; write_faults = before.write_faults }) (record { files = now.files; read_faults = now.read_faults; write_faults = now.write_faults }))
       → Untouched before now
-      → WorkSays refusal words before now
-  refusal_says status.Done kind follows cause same = absurd kind
-  refusal_says status.Usage kind follows cause same = absurd kind
-  refusal_says status.WriteFault kind follows cause same = absurd kind
-  refusal_says (status.Frame fault) kind follows cause same = record { refused = refused_by (status.Frame fault) follows; lined = kind; same = same }
-  refusal_says (status.Misfit misfit) kind follows cause same = record { refused = refused_by (status.Misfit misfit) follows; lined = kind; same = same }
-  refusal_says (status.Design fault) kind follows cause same = record { refused = refused_by (status.Design fault) follows; lined = kind; same = same }
-  refusal_says status.NotYet kind follows cause same = record { refused = refused_by status.NotYet follows; lined = kind; same = same }
-  refusal_says (status.TapeText line) kind follows cause same = record { refused = refused_by (status.TapeText line) follows; lined = kind; same = same }
-  refusal_says (status.TapeShort taken) kind follows cause same = record { refused = refused_by (status.TapeShort taken) follows; lined = kind; same = same }
-  refusal_says (status.TapeValue place value bound) kind follows cause same = record { refused = refused_by (status.TapeValue place value bound) follows; lined = kind; same = same }
-  refusal_says (status.TapeLong left) kind follows cause same = record { refused = refused_by (status.TapeLong left) follows; lined = kind; same = same }
-  refusal_says status.ReadFault kind follows cause same =
-      let failed = cause refl in
-      record {
-        command = command;
-        asked = sym asked;
-        cause = record { name = failed.name; is_one = failed.is_input; rose = failed.rose };
-        first = λ fs told. verdict_is words (without failed.name fs) command _ asked (failed.first fs told);
-        same = same;
-      }
-  refusal_says status.NoMemory kind follows cause same = AtWork same
+      → WorkSays class error words before now
+  error_says IsDone error kind follows cause same = absurd kind
+  error_says IsUsage error kind follows cause same = absurd kind
+  error_says IsWriteFault error kind follows cause same = absurd kind
+  error_says IsNoMemory error kind follows cause same = inl same
+  error_says IsRefusal error kind follows cause same =
+      let by = commanded (command_of words) job asked in
+      record { refused = record { command = by.command; asked = by.is; verdict_is = λ fs told. verdict_of words job asked fs ∙ follows fs told }; lined = kind; same = same }
+  error_says IsReadFault error kind follows cause same = record {
+    job = job;
+    asked = asked;
+    cause = record { name = cause.name; is_one = cause.is_input; rose = cause.rose };
+    first = λ fs told. verdict_of words job asked (without cause.name fs) ∙ cause.first fs told;
+    same = same;
+  }
 
-  -- ---- the outputs, where the files between the work and the writes are those before it
-
-  module _ (mid : Option Files) (same : mid ≡ before.files) (outputs : Outputs) (stage : (fs : Files) → before.files ≡ Some fs → outputs_stage command fs ≡ Ok outputs) where
-    pub all_done : ((fs : Files) → before.files ≡ Some fs → Means command fs outputs) → now.files ≡ option_map (with_files outputs.files) mid → now.written ≡ with_bytes outputs.put before.written → IsDone words before now
-    all_done means wrote put = record {
-      command = command;
-      asked = sym asked;
+  -- the outputs, where the files between the work and the writes are those before it
+  module _ (mid : Option Files) (same : mid ≡ before.files) (outputs : Outputs) (stage : (fs : Files) → before.files ≡ Some fs → outputs_stage job fs ≡ Ok outputs) where
+    pub all_done : ((fs : Files) → before.files ≡ Some fs → IsExact job fs) → now.files ≡ option_map (with_files outputs.files) mid → now.written ≡ with_bytes outputs.put before.written → Done words before now
+    all_done exact wrote put = record {
+      job = job;
+      asked = asked;
       done = λ fs told. record {
         outputs = outputs;
-        accepted = verdict_is words fs command _ asked (stage fs told);
-        means = means fs told;
+        accepted = verdict_of words job asked fs ∙ stage fs told;
+        exact = exact fs told;
         files = wrote ∙ ap (option_map (with_files outputs.files)) (same ∙ told);
         written = put;
       };
     }
 
-    pub stopped : names_of outputs.files ≡ outputs_of command → StopsAt outputs mid now.files before.written now.written → Stopped words command before now
+    pub stopped : names_of outputs.files ≡ outputs_of job → StopsAt outputs mid now.files before.written now.written → Stopped words before now
     stopped named stops = record {
-      asked = sym asked;
+      job = job;
+      asked = asked;
       outputs = outputs;
       named = named;
-      accepted = λ fs told. verdict_is words fs command _ asked (stage fs told);
+      accepted = λ fs told. verdict_of words job asked fs ∙ stage fs told;
       stops = subst (λ (held : Option Files). StopsAt outputs held now.files before.written now.written) same stops;
     }
 
     pub write_fault :
-        (counts : List ℕ → ℕ) → NeverFalls before.write_faults counts → names_of outputs.files ≡ outputs_of command
-        → FailsAt outputs mid now.files before.written now.written (λ name. Rose (counts name) (now.write_faults name)) (Rose before.put_faults now.put_faults) → IsWriteFault words before now
+        (counts : List ℕ → ℕ) → NeverFalls before.write_faults counts → names_of outputs.files ≡ outputs_of job
+        → FailsAt outputs mid now.files before.written now.written (λ name. Rose (counts name) (now.write_faults name)) (Rose before.put_faults now.put_faults) → WriteFault words before now
     write_fault counts rises named fails =
         let Fails : Option Files → Type 0 = λ held. FailsAt outputs held now.files before.written now.written (λ name. Rose (counts name) (now.write_faults name)) (Rose before.put_faults now.put_faults) in
         let here : Fails before.files = subst Fails same fails in
         record {
-          command = command;
           stopped = record {
-            asked = sym asked;
+            job = job;
+            asked = asked;
             outputs = outputs;
             named = named;
-            accepted = λ fs told. verdict_is words fs command _ asked (stage fs told);
+            accepted = λ fs told. verdict_of words job asked fs ∙ stage fs told;
             stops = here.stops;
           };
           cause = place_since outputs before.files now.files before.written now.written (Rose before.put_faults now.put_faults) before.write_faults counts now.write_faults rises here.stops here.cause;
@@ -101,48 +114,96 @@ module _ (words : List (List ℕ)) (command : Command) (before now : Outside) (a
 
 -- ---- the line of a refusal
 
-module _ (refusal answer : Status) (words : List (List ℕ)) (before now : Outside) (written : Option (List ℕ)) (faults : ℕ) (le : before.put_faults ≤ faults) where
+module _ (ended answer : Status) (words : List (List ℕ)) (before now : Outside) (put : Put) (le : before.put_faults ≤ put.faults) where
+  abbrev pub worked : Outside
+  worked = record now { written = put.written; put_faults = put.faults }
+
+  abbrev pub put_now : Put
+  put_now = record { written = now.written; faults = now.put_faults }
+
+  -- what is said of the answer, if it is as the work ended or memory ran out
+  said : (class : Class) → class_of ended ≡ class → (answer ≡ ended) × Says class ended words before now → Says (class_of answer) answer words before now
+  said class is h = subst (λ a. Says (class_of a) a words before now) (sym h.0) (subst (λ k. Says k ended words before now) (sym is) h.1)
+
+  out_of_memory : answer ≡ status.NoMemory → NoMemory words before now → Says (class_of answer) answer words before now
+  out_of_memory is h = subst (λ a. Says (class_of a) a words before now) (sym is) h
+
+  -- a status that has no line
+  silent : (class : Class) → class_of ended ≡ class → WorkSays class ended words before worked → (WorkSays class ended words before now → Says class ended words before now)
+      → Reports None ended answer put put_now → Says (class_of answer) answer words before now
+  silent class is work same_says reports =
+      let ends : ◌≡◌ {A = Outside} worked now = ap (λ (p : Put). record now { written = p.written; put_faults = p.faults }) (sym reports.1) in
+      said class is (reports.0, same_says (subst (λ (o : Outside). WorkSays class ended words before o) ends work))
+
   -- how a refusal ends, whose line was put after its work
-  line_put :
-      Refuses refusal words before.files
-      → Untouched before (record now { written = written; put_faults = faults })
-      → (line : List ℕ) → fault_line refusal ≡ Some line
-      → PutsLine refusal answer line written now.written faults now.put_faults
-      → ((answer ≡ refusal) × IsRefusal refusal words before now) ⊎ ((answer ≡ status.NoMemory) × IsNoMemory words before now)
-  line_put refused same line line_is puts = elim puts [
-    | Whole is whole ↦ inl (is, record { refused = refused; files = same.files; line = line; line_is = line_is; put = inl (whole ∙ ap (with_bytes line) same.written) })
-    | Cut is rose front ↦ inl (is, record { refused = refused; files = same.files; line = line; line_is = line_is; put = inr (rose_since _ _ _ le rose, subst (λ w. AppendsFront line w now.written) same.written front) })
-    | OutOfMemory is some ↦ inr (
-      is,
-      elim some [
-        | inl front ↦ AtLine refusal line refused line_is same.files (subst (λ w. AppendsFront line w now.written) same.written front)
-        | inr none ↦ AtWork (record { files = same.files; written = none ∙ same.written })
-      ],
-    )
+  line_put : (class : Class) → class_of ended ≡ class → (Refusal class ended words before now → Says class ended words before now)
+      → Refusing class ended words before worked → (line : List ℕ) → fault_line ended ≡ Some line → PutsLine ended answer line put put_now → Says (class_of answer) answer words before now
+  line_put class is says work line line_is puts = elim puts [
+    | Whole same whole ↦ said class is (same, says (record { refused = work.refused; files = work.same.files; line = line; line_is = line_is; put = inl (whole ∙ ap (with_bytes line) work.same.written) }))
+    | Cut same rose front ↦ said class is (same, says (record { refused = work.refused; files = work.same.files; line = line; line_is = line_is; put = inr (rose_since _ _ _ le rose, subst (λ w. AppendsFront line w now.written) work.same.written front) }))
+    | OutOfMemory same some ↦ out_of_memory same (elim some [
+      | inl front ↦ inr (inl (record {
+        refusal = ended;
+        refused = subst (λ k. RefusesBy k ended words before.files) (sym is) work.refused;
+        line = line;
+        line_is = line_is;
+        files = work.same.files;
+        put = subst (λ w. AppendsFront line w now.written) work.same.written front;
+      }))
+      | inr none ↦ inl (record { files = work.same.files; written = none ∙ work.same.written })
+    ])
   ]
 
-  some_line : (told : Option (List ℕ)) → is_some told ≡ true → fault_line refusal ≡ told → IsRefusing refusal words before (record now { written = written; put_faults = faults })
-      → Reports told refusal answer written now.written faults now.put_faults
-      → ((answer ≡ refusal) × IsRefusal refusal words before now) ⊎ ((answer ≡ status.NoMemory) × IsNoMemory words before now)
-  some_line (Some line) has is work reports = line_put work.refused work.same line is reports
-  some_line None has is work reports = absurd (cc)
+  reported : (class : Class) → class_of ended ≡ class → (Refusal class ended words before now → Says class ended words before now)
+      → Refusing class ended words before worked → (told : Option (List ℕ)) → fault_line ended ≡ told → is_some told ≡ true → Reports told ended answer put put_now → Says (class_of answer) answer words before now
+  reported class is says work (Some line) line_is has reports = line_put class is says work line line_is reports
+  reported class is says work None line_is has reports = absurd (cc)
 
-  pub refusal_ends :
-      IsRefusing refusal words before (record now { written = written; put_faults = faults })
-      → Reports (fault_line refusal) refusal answer written now.written faults now.put_faults
-      → (IsRefusal refusal words before now → Says refusal words before now)
-      → Says answer words before now
-  refusal_ends work reports says = elim (some_line (fault_line refusal) work.lined refl work reports) [
-    | inl put ↦ subst (λ a. Says a words before now) (sym put.0) (says put.1)
-    | inr memory ↦ subst (λ a. Says a words before now) (sym memory.0) memory.1
-  ]
+  by_class : (class : Class) → class_of ended ≡ class → WorkSays class ended words before worked → Reports (line_by class ended) ended answer put put_now → Says (class_of answer) answer words before now
+  by_class IsDone is work reports = silent IsDone is work (λ w. w) reports
+  by_class IsReadFault is work reports = silent IsReadFault is work (λ w. w) reports
+  by_class IsWriteFault is work reports = silent IsWriteFault is work (λ w. w) reports
+  by_class IsNoMemory is work reports = silent IsNoMemory is work (λ w. w) reports
+  by_class IsUsage is work reports = reported IsUsage is (λ r. r) work (line_by IsUsage ended) (ap (λ k. line_by k ended) is) refl reports
+  by_class IsRefusal is work reports =
+      reported IsRefusal is (λ r. r) work (line_by IsRefusal ended) (ap (λ k. line_by k ended) is) (subst (λ k. is_some (line_by k ended) ≡ true) is work.lined) reports
 
-  -- where a status has no line, nothing changes
-  pub no_line :
-      WorkSays refusal words before (record now { written = written; put_faults = faults })
-      → Reports None refusal answer written now.written faults now.put_faults
-      → (WorkSays refusal words before now → Says refusal words before now)
-      → Says answer words before now
-  no_line work same says =
-      let ends : ◌≡◌ {A = Outside} (record now { written = written; put_faults = faults }) now = λ i. record now { written = sym same.1 i; put_faults = sym same.2 i } in
-      subst (λ a. Says a words before now) (sym same.0) (says (subst (λ o. WorkSays refusal words before o) ends work))
+  -- what a call says, from its work and its line
+  pub says : WorkSays (class_of ended) ended words before worked → Reports (fault_line ended) ended answer put put_now → Says (class_of answer) answer words before now
+  says work reports = by_class (class_of ended) refl work reports
+
+-- ---- words of no command, and a call that nothing disturbs
+
+unasked : (words : List (List ℕ)) (job : Job) → command_of words ≡ None → job_for words ≡ Some job → ⊥
+unasked words job none some = let e : None ≡ Some job = ap (option_and_then job_of) (sym none) ∙ some in cc
+
+module _ (answer : Status) (words : List (List ℕ)) (before now : Outside) where
+  usage : (class : Class) → Says class answer words before now → command_of words ≡ None → UsageOnly class
+  usage IsUsage said none = tt
+  usage IsNoMemory said none = tt
+  usage IsDone said none = absurd (unasked words said.job none said.asked)
+  usage IsReadFault said none = absurd (unasked words said.job none said.asked)
+  usage IsWriteFault said none = absurd (unasked words said.stopped.job none said.stopped.asked)
+  usage IsRefusal said none = absurd (let e : None ≡ Some said.refused.command = sym none ∙ said.refused.asked in cc)
+
+  none_asked : (fs : Files) → command_of words ≡ None → verdict words fs ≡ Err (Refused status.Usage)
+  unfolding verdict
+  none_asked fs none = rw none refl
+
+  complete : (class : Class) → class_of answer ≡ class → Says class answer words before now → (fs : Files) → before.files ≡ Some fs
+      → ((job : Job) → job_for words ≡ Some job → Undisturbed job before now) → IsVerdict class answer (verdict words fs)
+  complete IsDone is said fs told calm = ap is_ok (said.done fs told).accepted
+  complete IsNoMemory is said fs told calm = tt
+  complete IsReadFault is said fs told calm = (calm said.job said.asked).reads said.cause
+  complete IsWriteFault is said fs told calm =
+      let stopped = said.stopped in
+      let quiet = calm stopped.job stopped.asked in
+      elim (place_rose stopped.outputs before.files now.files before.written now.written (Rose before.put_faults now.put_faults) before.write_faults now.write_faults stopped.stops said.cause) [
+        | inl write ↦ quiet.writes (subst (λ names. SomeRose names before.write_faults now.write_faults) stopped.named write)
+        | inr put ↦ quiet.put put
+      ]
+  complete IsRefusal is said fs told calm = said.refused.verdict_is fs told
+  complete IsUsage is said fs told calm = none_asked fs said.refused
+
+  pub is_answer : Says (class_of answer) answer words before now → IsAnswer answer words before now
+  is_answer said = record { says = said; usage = usage (class_of answer) said; complete = complete (class_of answer) refl said }

@@ -1,6 +1,6 @@
 pub mod Deliveries
-pub mod Written
-pub mod Stages
-pub mod Selections
 pub mod Ends
-pub mod Complete
+pub mod Headline
+pub mod Selections
+pub mod Stages
+pub mod Written

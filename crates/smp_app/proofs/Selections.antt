@@ -1,14 +1,12 @@
 -- What is selected by a tape is what the verdict draws, with the requested probabilities.
-use Rattle.std.proofs.Common.{◌≡◌, ℕ, ◌+◌, ◌<◌, Bool, cond, List, [], ◌∷◌, length, Option, Some, Ok, Err, true, refl, sym, ap, subst, ◌∙◌, arith, inl, inr}
-use Rattle.std.specs.List.{count_by, range_with_len}
-use Rattle.std.proofs.lemmas.Bool.{cases_Bool}
+use Rattle.std.proofs.Common.{◌≡◌, ℕ, ◌<◌, List, [], ◌∷◌, length, Option, Some, Ok, Err, true, refl, sym, ap, subst, ◌∙◌, arith}
+use Rattle.std.specs.List.{range_with_len}
 use Rattle.std.proofs.lemmas.List.{length-map}
-use Rattle.std.proofs.lemmas.List.Sums.{sum_by-cons}
-use Rattle.smp_frame.specs.declared.frame.Unit as unit
+use Rattle.std.proofs.lemmas.List.Sums.{length-filter}
 use Rattle.smp_frame.specs.Bounds.{sizes_of}
 use Rattle.smp_prob.specs.declared.requests.Request.{Request}
 use Rattle.smp_prob.specs.Standings.{asked_fraction}
-use Rattle.smp_split.specs.Counts.{AddsUp, selected_count}
+use Rattle.smp_split.specs.Counts.{AddsUp, selected_units, selected_count}
 use Rattle.smp_split.specs.Counts as counts
 use Rattle.smp_fractions.specs.Fractions.{Same}
 use Rattle.smp_split.specs.Means.{inclusion_probability}
@@ -32,20 +30,14 @@ use Rattle.smp_methods.specs.declared.any.AnyDesign.{AnyDesign}
 use Rattle.smp_methods.specs.declared.any.AnyState.{AnyState}
 use Rattle.smp_app.specs.declared.plan.FramePlan.{FramePlan}
 use Rattle.smp_app.specs.declared.status.Status.TheVariants.{TapeLong}
-use Rattle.smp_app.specs.Jobs.{IsPlanned, IsDrawnBy, plan_view}
-use Rattle.smp_app.specs.Plans.{Plan, free_values, tree_of, start_of, row_probability, chosen_from}
-use Rattle.smp_app.specs.Verdict.{Drawn, Refused, draw_status, drawn_at, drawn_of}
+use Rattle.smp_app.specs.Stages.{IsPlanned, plan_view}
+use Rattle.smp_app.specs.Draws.{IsDrawnBy}
+use Rattle.smp_app.specs.Plans.{Plan, free_values, tree_of, start_of, row_probability, Drawn}
+use Rattle.smp_app.specs.Verdict.{Refused, draw_status, drawn_at, drawn_of}
 
--- the units are as many as the rows that are chosen
-length-chosen : (chosen : ℕ → Bool) (place : ℕ) (units : List unit.Unit) → length (chosen_from place chosen units) ≡ count_by chosen (range_with_len place (length units))
-length-chosen chosen place [] = refl
-length-chosen chosen place (u ∷ units) =
-    let rest = length-chosen chosen (place + 1) units in
-    let more = sum_by-cons (λ (p : ℕ). cond (chosen p) 1 0) place (range_with_len (place + 1) (length units)) in
-    elim (cases_Bool (chosen place)) [
-      | inl e ↦ rw (e, more, e) (omega (arith, rest))
-      | inr e ↦ rw (e, more, e) (omega (arith, rest))
-    ]
+-- the selected units are as many as are counted
+length_selected : {State : Type 0} (tree : Tree State) (state : State) → length (selected_units tree state) ≡ selected_count tree state
+length_selected tree state = length-filter (tree.selected state) (range_with_len 0 tree.units)
 
 -- ---- the run of the tape
 
@@ -63,7 +55,7 @@ module _ (plan : Plan) (tree : Tree AnyState) (tree_is : tree ≡ tree_of plan) 
       let asked : weight_sum ((tree_of plan).parts state) ≡ bound = ap (λ (t : Tree AnyState). weight_sum (t.parts state)) (sym tree_is) ∙ sym bound_is in
       ap (drawn_of plan) (ran_so _ ran) ∙ ap (λ b. Err (Refused (draw_status fault b (length end.taken)))) asked
 
-  none_left : (state : AnyState) (path : List Entry) (left : List ℕ) → length left ≡ 0 → drawn_at plan state path left ≡ Ok (record { plan = plan; state = state; path = path })
+  none_left : (state : AnyState) (path : List Entry) (left : List ℕ) → length left ≡ 0 → drawn_at plan state path left ≡ Ok (record { plan = plan; leaf = state; path = path })
   none_left state path [] h = refl
   none_left state path (v ∷ left) h = absurd (omega arith)
 
@@ -73,11 +65,11 @@ module _ (plan : Plan) (tree : Tree AnyState) (tree_is : tree ≡ tree_of plan) 
 
   -- the walk came to a leaf
   module _ (state : AnyState) (lines path : List Entry) (end : Values) (ran : run tape_source tree start tape ≡ leaf state path end) where
-    pub drawn_leaf : Some lines ≡ Some path → length end.left ≡ 0 → drawn_of plan (run tape_source (tree_of plan) (start_of plan) tape) ≡ Ok (record { plan = plan; state = state; path = lines })
+    pub drawn_leaf : Some lines ≡ Some path → length end.left ≡ 0 → drawn_of plan (run tape_source (tree_of plan) (start_of plan) tape) ≡ Ok (record { plan = plan; leaf = state; path = lines })
     drawn_leaf told all_taken =
         let same : ◌≡◌ {A = Option (List Entry)} (Some lines) (Some path) = told in
         let path_is : path ≡ lines = cc in
-        ap (drawn_of plan) (ran_so _ ran) ∙ none_left state path end.left all_taken ∙ ap (λ (p : List Entry). Ok (record { plan = plan; state = state; path = p })) path_is
+        ap (drawn_of plan) (ran_so _ ran) ∙ none_left state path end.left all_taken ∙ ap (λ (p : List Entry). Ok (record { plan = plan; leaf = state; path = p })) path_is
 
     pub drawn_long : (count : ℕ) → count ≡ length end.left → 0 < length end.left → drawn_of plan (run tape_source (tree_of plan) (start_of plan) tape) ≡ Err (Refused (TapeLong count))
     drawn_long count counted left = ap (drawn_of plan) (ran_so _ ran) ∙ some_left state path end.left left ∙ ap (λ n. Err (Refused (TapeLong n))) (sym counted)
@@ -148,14 +140,14 @@ module _ (plan : FramePlan) (planned : IsPlanned plan) where
       → ((row : ℕ) → row < length plan.frame → Same (inclusion_probability tree state row) (asked_fraction plan.request row))
       → counts.LeavesSelect tree plan.n state
       → (path : List Entry) (to : AnyState) → Leads tree state path to → tree.done to ≡ true
-      → (drawn : Drawn) → drawn.state ≡ to
+      → (drawn : Drawn) → drawn.plan ≡ plan_view plan → drawn.leaf ≡ to
       → IsDrawnBy (plan_view plan) drawn
-  drawn_by tree tree_same state starts asked counted path to leads done drawn ends = record {
-    size =
+  drawn_by tree tree_same state starts asked counted path to leads done drawn by ends = record {
+    number =
         let selected : selected_count tree to ≡ plan.n = counted path to leads done in
-        let in_tree : selected_count (tree_of (plan_view plan)) drawn.state ≡ plan.n =
-        subst (λ (t : Tree AnyState). selected_count t drawn.state ≡ plan.n) tree_same (subst (λ (s : AnyState). selected_count tree s ≡ plan.n) (sym ends) selected) in
-        length-chosen ((tree_of (plan_view plan)).selected drawn.state) 0 plan.frame ∙ in_tree;
+        let in_tree : selected_count (tree_of (plan_view plan)) drawn.leaf ≡ plan.n =
+        subst (λ (t : Tree AnyState). selected_count t drawn.leaf ≡ plan.n) tree_same (subst (λ (s : AnyState). selected_count tree s ≡ plan.n) (sym ends) selected) in
+        ap (λ (p : Plan). length (selected_units (tree_of p) drawn.leaf)) by ∙ length_selected (tree_of (plan_view plan)) drawn.leaf ∙ in_tree;
     probability = λ row here.
         let in_sizes : row < length (sizes_of plan.frame) = omega (arith, length-map plan.frame (λ u. u.size), here) in
         subst (λ (t : Tree AnyState). Same (inclusion_probability t (start_of (plan_view plan)) row) (row_probability (plan_view plan) row)) tree_same

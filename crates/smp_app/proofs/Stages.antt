@@ -1,39 +1,36 @@
--- The stages of a command's work, one after another.
-use Rattle.std.proofs.Common.{◌≡◌, ℕ, suc, zero, subst, ◌<◌, Bool, true, false, nat_lt, not, ◌||◌, List, [], ◌∷◌, get_or, Option, Some, None, Result, Ok, Err, refl, sym, ap, ◌∙◌, inl, inr, arith, true≢false}
-use Rattle.std.specs.Prelude.{if◌then◌else◌, option_map, Contains}
+-- One stage of a job's work after another.
+use Rattle.std.proofs.Common.{◌≡◌, ℕ, suc, zero, Bool, true, false, not, ◌||◌, List, [], ◌∷◌, ◌++◌, map, Result, Ok, Err, IfErr, refl, sym, ap, subst, ◌∙◌, inl, inr, arith, true≢false}
+use Rattle.std.specs.Prelude.{Contains}
 use Rattle.std.specs.List.{list_any}
 use Rattle.std.specs.Str.{bytes_eq}
 use Rattle.std.proofs.lemmas.Bool.{cases_Bool, and_parts}
 use Rattle.std.proofs.lemmas.Slice.Eq.{bytes_eq-Decides}
 use Rattle.smp_io.specs.Store.{Files}
-use Rattle.smp_tape.specs.TapeText.{tape_of}
-use Rattle.smp_tape.specs.Tapes.{Values, tape_of_values}
-use Rattle.smp_tape.specs.Laws.Tapes.{tape_source}
-use Rattle.smp_split.specs.Paths.{Entry}
-use Rattle.smp_split.specs.Runs.{Outcome, run, leaf, stopped}
-use Rattle.smp_frame.specs.Bounds.{sizes_of}
-use Rattle.smp_frame.specs.Frames.{frame_of}
-use Rattle.smp_prob.specs.Requested.{positive_units}
-use Rattle.smp_design.specs.Designs.{design_of}
-use Rattle.smp_methods.specs.declared.any.AnyState.{AnyState}
-use Rattle.smp_words.specs.declared.command.QuickArguments.{QuickArguments}
-use Rattle.smp_words.specs.declared.command.DrawArguments.{DrawArguments}
-use Rattle.smp_words.specs.declared.command.DesignArguments.{DesignArguments}
-use Rattle.smp_words.specs.declared.command.Command.TheVariants as commands
-use Rattle.smp_words.specs.Words.{IsAsked, all_distinct, inputs_of}
-use Rattle.smp_app.specs.declared.asked.Asked.{Asked}
+use Rattle.smp_design.specs.declared.design.Design.{Design}
+use Rattle.smp_words.specs.Words.{all_distinct}
 use Rattle.smp_app.specs.declared.status.Status.{Status}
-use Rattle.smp_app.specs.declared.status.Status.TheVariants as status
-use Rattle.smp_app.specs.Codes.{design_status, frame_status, tape_status}
-use Rattle.smp_app.specs.Plans.{Plan, quick_asked, asked_of, tree_of, start_of}
-use Rattle.smp_app.specs.Verdict.{Stop, Missing, ◌>>=◌, content, or_fault, or_refused, without, Drawn, drawn_at, drawn_of, asked_stage, plan_stage, drawn_stage, designed_stage, outputs_stage}
-use Rattle.smp_app.specs.Jobs.{ReadCause, Follows, result_view}
-use Rattle.smp_app.specs.Answers.{HoldsAsked, IsPlan, IsDraw}
+use Rattle.smp_app.specs.Plans.{Drawn}
+use Rattle.smp_app.specs.Commands.{DesignSource, Held, Given, DrawnFile, Job, design_names, plan_inputs, written_by}
+use Rattle.smp_app.specs.Deliveries.{names_of}
+use Rattle.smp_app.specs.Verdict.{Stop, ◌>>=◌, without, design_stage, frame_stage, plan_stage}
+use Rattle.smp_app.specs.Codes.{Class, IsDone, IsUsage, IsRefusal, IsReadFault, IsWriteFault, IsNoMemory, class_of}
+use Rattle.smp_app.specs.Stages.{Told, IsErrorOf, IsCaused, ReadCause, Reads}
+use Rattle.smp_app.proofs.Deliveries.{rose_since}
 
--- ---- names that differ
+-- ---- names in a list
 
-same_bytes : (name : List ℕ) → bytes_eq name name ≡ true
-same_bytes name = (bytes_eq-Decides name name).1 refl
+pub contains_left : (xs ys : List (List ℕ)) (name : List ℕ) → Contains xs name → Contains (xs ++ ys) name
+contains_left [] ys name here = absurd (omega (arith, here.1))
+contains_left (x ∷ xs) ys name (zero, within, is) = (0, omega arith, is)
+contains_left (x ∷ xs) ys name (suc i, within, is) = let rest = contains_left xs ys name (i, omega (arith, within), is) in (suc rest.0, omega (arith, rest.1), rest.2)
+
+pub contains_right : (xs ys : List (List ℕ)) (name : List ℕ) → Contains ys name → Contains (xs ++ ys) name
+contains_right [] ys name here = here
+contains_right (x ∷ xs) ys name here = let rest = contains_right xs ys name here in (suc rest.0, omega (arith, rest.1), rest.2)
+
+-- a name that differs from each name of a list
+abbrev pub Apart : List ℕ → List (List ℕ) → Type 0
+Apart name names = (other : List ℕ) → Contains names other → bytes_eq name other ≡ false
 
 apart_sym : (a b : List ℕ) → bytes_eq a b ≡ false → bytes_eq b a ≡ false
 apart_sym a b apart =
@@ -42,202 +39,118 @@ apart_sym a b apart =
       | inr e ↦ e
     ]
 
-abbrev Differs : List ℕ → List (List ℕ) → Type 0
-Differs name [] = Unit {0}
-Differs name (other ∷ others) = (bytes_eq name other ≡ false) × Differs name others
-
 or_false : (a b : Bool) → not (a || b) ≡ true → (a ≡ false) × (not b ≡ true)
 or_false false b h = (refl, h)
 or_false true b h = absurd (true≢false (sym h))
 
-differs : (name : List ℕ) (others : List (List ℕ)) → not (list_any (bytes_eq name) others) ≡ true → Differs name others
-differs name [] h = tt
-differs name (other ∷ others) h =
-    let parts = or_false (bytes_eq name other) (list_any (bytes_eq name) others) h in (parts.0, differs name others parts.1)
+differs : (name : List ℕ) (others : List (List ℕ)) → not (list_any (bytes_eq name) others) ≡ true → Apart name others
+differs name [] h other here = absurd (omega (arith, here.1))
+differs name (first ∷ others) h other (zero, within, is) = subst (λ n. bytes_eq name n ≡ false) is (or_false (bytes_eq name first) (list_any (bytes_eq name) others) h).0
+differs name (first ∷ others) h other (suc i, within, is) =
+    differs name others (or_false (bytes_eq name first) (list_any (bytes_eq name) others) h).1 other (i, omega (arith, within), is)
 
-first_differs : (name : List ℕ) (others : List (List ℕ)) → all_distinct (name ∷ others) ≡ true → Differs name others
-first_differs name others distinct = differs name others (and_parts _ _ distinct).0
+-- in a list of different names, the later ones differ from the first ones
+pub apart : (xs ys : List (List ℕ)) → all_distinct (xs ++ ys) ≡ true → (name : List ℕ) → Contains ys name → Apart name xs
+apart [] ys distinct name here other none = absurd (omega (arith, none.1))
+apart (x ∷ xs) ys distinct name here other (zero, within, is) =
+    subst (λ n. bytes_eq name n ≡ false) is (apart_sym x name (differs x (xs ++ ys) (and_parts _ _ distinct).0 name (contains_right xs ys name here)))
+apart (x ∷ xs) ys distinct name here other (suc i, within, is) = apart xs ys (and_parts _ _ distinct).1 name here other (i, omega (arith, within), is)
 
-pub tape_apart : (a : QuickArguments) → IsAsked (commands.Quick a) → bytes_eq a.tape a.frame ≡ false
-tape_apart a asked = apart_sym a.frame a.tape (first_differs a.frame (a.tape ∷ a.out ∷ []) asked.distinct).0
+none_first : (p : List ℕ → Bool) (xs ys : List (List ℕ)) → not (list_any p (xs ++ ys)) ≡ true → not (list_any p xs) ≡ true
+none_first p [] ys h = refl
+none_first p (x ∷ xs) ys h = let parts = or_false (p x) (list_any p (xs ++ ys)) h in rw parts.0 (none_first p xs ys parts.1)
 
-pub frame_apart : (design frame : List ℕ) (others : List (List ℕ)) → all_distinct (design ∷ frame ∷ others) ≡ true → bytes_eq design frame ≡ false
-frame_apart design frame others distinct = (first_differs design (frame ∷ others) distinct).0
+-- the first names of different ones
+pub first_distinct : (xs ys : List (List ℕ)) → all_distinct (xs ++ ys) ≡ true → all_distinct xs ≡ true
+first_distinct [] ys distinct = refl
+first_distinct (x ∷ xs) ys distinct =
+    rw (none_first (bytes_eq x) xs ys (and_parts _ _ distinct).0) (first_distinct xs ys (and_parts _ _ distinct).1)
 
--- ---- where a file isn't there
-
-asked_missing : (design : List ℕ) (fs : Files) → asked_stage design (without design fs) ≡ Err (Missing design)
-unfolding asked_stage
-asked_missing design fs = rw (same_bytes design) refl
-
-plan_missing : (asked : Asked) (frame : List ℕ) (fs : Files) → plan_stage asked frame (without frame fs) ≡ Err (Missing frame)
-unfolding plan_stage
-plan_missing asked frame fs = rw (same_bytes frame) refl
-
-drawn_missing : (plan : Plan) (tape : List ℕ) (fs : Files) → drawn_stage plan tape (without tape fs) ≡ Err (Missing tape)
-unfolding drawn_stage
-drawn_missing plan tape fs = rw (same_bytes tape) refl
-
-asked_without : (name design : List ℕ) (fs : Files) → bytes_eq name design ≡ false → asked_stage design (without name fs) ≡ asked_stage design fs
-unfolding asked_stage
-asked_without name design fs apart = rw apart refl
-
-plan_without : (asked : Asked) (name frame : List ℕ) (fs : Files) → bytes_eq name frame ≡ false → plan_stage asked frame (without name fs) ≡ plan_stage asked frame fs
-unfolding plan_stage
-plan_without asked name frame fs apart = rw apart refl
+-- ---- a stage reads its inputs and no other file
 
 bind_same : {A B E : Type 0} (first : Result A E) (f g : A → Result B E) → ((x : A) → f x ≡ g x) → first >>= f ≡ first >>= g
 bind_same (Ok x) f g h = h x
 bind_same (Err e) f g h = refl
 
-designed_without : (name design frame : List ℕ) (fs : Files) → bytes_eq name design ≡ false → bytes_eq name frame ≡ false → designed_stage design frame (without name fs) ≡ designed_stage design frame fs
-designed_without name design frame fs from_design from_frame =
-    ap (λ (r : Result Asked Stop). r >>= λ asked. plan_stage asked frame (without name fs)) (asked_without name design fs from_design)
-    ∙ bind_same (asked_stage design fs) _ _ (λ asked. plan_without asked name frame fs from_frame)
+abbrev pub Ignores : {A : Type 0} → (Files → Result A Stop) → List (List ℕ) → Type 0
+Ignores stage inputs = (name : List ℕ) → Apart name inputs → (fs : Files) → stage (without name fs) ≡ stage fs
 
--- ---- which reading fails
+pub design_ignores : (source : DesignSource) → Ignores (design_stage source) (design_names source)
+unfolding design_stage
+design_ignores (Held design) name differs fs = rw (differs design (0, omega arith, refl)) refl
+design_ignores (Given design) name differs fs = refl
 
-pub designed_design_missing : (design frame : List ℕ) (fs : Files) → designed_stage design frame (without design fs) ≡ Err (Missing design)
-designed_design_missing design frame fs = rw (asked_missing design fs) refl
+frame_ignores : (design : Design) (frame : List ℕ) → Ignores (frame_stage design frame) (frame ∷ [])
+unfolding frame_stage
+frame_ignores design frame name differs fs = rw (differs frame (0, omega arith, refl)) refl
 
-pub designed_frame_missing : (design frame : List ℕ) (fs : Files) (asked : Asked) → bytes_eq design frame ≡ false → asked_stage design fs ≡ Ok asked → designed_stage design frame (without frame fs) ≡ Err (Missing frame)
-designed_frame_missing design frame fs asked apart is = rw (asked_without frame design fs (apart_sym design frame apart), is) (plan_missing asked frame fs)
+pub plan_ignores : (job : Job) → Ignores (plan_stage job) (plan_inputs job)
+plan_ignores job name differs fs =
+    let inputs = design_names job.design in
+    let from_design = design_ignores job.design name (λ other here. differs other (contains_left inputs (job.frame ∷ []) other here)) fs in
+    let from_frame : Apart name (job.frame ∷ []) = λ other here. differs other (contains_right inputs (job.frame ∷ []) other here) in
+    ap (λ (r : Result Design Stop). r >>= λ design. frame_stage design job.frame (without name fs)) from_design
+    ∙ bind_same (design_stage job.design fs) _ _ (λ design. frame_ignores design job.frame name from_frame fs)
 
-pub quick_frame_missing : (a : QuickArguments) (fs : Files) → outputs_stage (commands.Quick a) (without a.frame fs) ≡ Err (Missing a.frame)
-unfolding outputs_stage
-quick_frame_missing a fs = rw (plan_missing (quick_asked a.n) a.frame fs) refl
+-- ---- a stage that goes on, and one that stops
 
-pub quick_tape_missing : (a : QuickArguments) (fs : Files) (plan : Plan) → IsAsked (commands.Quick a) → plan_stage (quick_asked a.n) a.frame fs ≡ Ok plan → outputs_stage (commands.Quick a) (without a.tape fs) ≡ Err (Missing a.tape)
-unfolding outputs_stage
-quick_tape_missing a fs plan asked planned =
-    rw (plan_without (quick_asked a.n) a.tape a.frame fs (tape_apart a asked), planned, drawn_missing plan a.tape fs) refl
+caused : {P Q : Type 0} (class : Class) → (P → Q) → IsCaused class P → IsCaused class Q
+caused IsReadFault f p = f p
+caused IsDone f p = tt
+caused IsUsage f p = tt
+caused IsRefusal f p = tt
+caused IsWriteFault f p = tt
+caused IsNoMemory f p = tt
 
-pub draw_tape_missing : (a : DrawArguments) (fs : Files) (plan : Plan) → IsAsked (commands.Draw a) → designed_stage a.design a.frame fs ≡ Ok plan → outputs_stage (commands.Draw a) (without a.tape fs) ≡ Err (Missing a.tape)
-unfolding outputs_stage
-draw_tape_missing a fs plan asked planned =
-    let from_design = first_differs a.design (a.frame ∷ a.tape ∷ a.log ∷ a.sample ∷ []) asked.distinct in
-    let from_frame = first_differs a.frame (a.tape ∷ a.log ∷ a.sample ∷ []) (and_parts _ _ asked.distinct).1 in
-    rw (designed_without a.tape a.design a.frame fs (apart_sym a.design a.tape from_design.1.0) (apart_sym a.frame a.tape from_frame.0), planned, drawn_missing plan a.tape fs) refl
+if_caused : {A : Type 0} {P Q : Type 0} (answer : Result A Status) → (P → Q) → IfErr answer (λ error. IsCaused (class_of error) P) → IfErr answer (λ error. IsCaused (class_of error) Q)
+if_caused (Ok x) f p = tt
+if_caused (Err error) f p = caused (class_of error) f p
 
-module _ (told : Option Files) (before now : List ℕ → ℕ) where
-  among_three : (first second third name : List ℕ) (i : ℕ) → i < 2 → get_or (first ∷ second ∷ []) i name ≡ name → Contains (first ∷ second ∷ third ∷ []) name
-  among_three first second third name zero within is = (0, omega arith, is)
-  among_three first second third name (suc zero) within is = (1, omega arith, is)
-  among_three first second third name (suc (suc i)) within is = absurd (omega (arith, within))
+error_of : {A B : Type 0} (class : Class) (error : Status) (stage : Result A Stop) (next : A → Result B Stop) → IsErrorOf class error stage → IsErrorOf class error (stage >>= next)
+error_of IsReadFault error stage next h = tt
+error_of IsNoMemory error stage next h = tt
+error_of IsDone error stage next h = ap (λ s. s >>= next) h
+error_of IsUsage error stage next h = ap (λ s. s >>= next) h
+error_of IsRefusal error stage next h = ap (λ s. s >>= next) h
+error_of IsWriteFault error stage next h = ap (λ s. s >>= next) h
 
-  pub draw_reads : (a : DrawArguments) → ReadCause (a.design ∷ a.frame ∷ []) (designed_stage a.design a.frame) told before now → ReadCause (inputs_of (commands.Draw a)) (outputs_stage (commands.Draw a)) told before now
-  unfolding outputs_stage
-  draw_reads a cause = record {
-    name = cause.name;
-    is_input = among_three a.design a.frame a.tape cause.name cause.is_input.0 cause.is_input.1 cause.is_input.2;
-    rose = cause.rose;
-    first = λ fs is. rw (cause.first fs is) refl;
+module _ {A B : Type 0} (inputs others : List (List ℕ)) (stage : Files → Result A Stop) (next : A → Files → Result B Stop) (before mid : Told) where
+  abbrev pub and_next : Files → Result B Stop
+  and_next fs = stage fs >>= λ y. next y fs
+
+  pub stops : (error : Status) → Reads inputs stage (Err error) before mid → Reads (inputs ++ others) and_next (Err error) before mid
+  stops error reads = record {
+    follows = λ fs told. error_of (class_of error) error (stage fs) (λ y. next y fs) (reads.follows fs told);
+    kinds = reads.kinds;
+    cause = caused (class_of error) (λ cause. record {
+      name = cause.name;
+      is_input = contains_left inputs others cause.name cause.is_input;
+      rose = cause.rose;
+      first = λ fs told. rw (cause.first fs told) refl;
+    }) reads.cause;
+    same = reads.same;
+    reads = reads.reads;
+    writes = reads.writes;
   }
 
-  pub probs_reads : (a : DesignArguments) → ReadCause (a.design ∷ a.frame ∷ []) (designed_stage a.design a.frame) told before now → ReadCause (inputs_of (commands.Probs a)) (outputs_stage (commands.Probs a)) told before now
-  unfolding outputs_stage
-  probs_reads a cause = record { name = cause.name; is_input = cause.is_input; rose = cause.rose; first = λ fs is. rw (cause.first fs is) refl }
+  pub goes_on : (now : Told) (x : A) (answer : Result B Status) → Reads inputs stage (Ok x) before mid → Reads others (next x) answer mid now → all_distinct (inputs ++ others) ≡ true → Ignores stage inputs
+      → Reads (inputs ++ others) and_next answer before now
+  goes_on now x answer first second distinct ignores = record {
+    follows = λ fs told. rw (first.follows fs told) (second.follows fs (first.same ∙ told));
+    kinds = second.kinds;
+    cause = if_caused answer (λ (cause : ReadCause others (next x) mid now). record {
+      name = cause.name;
+      is_input = contains_right inputs others cause.name cause.is_input;
+      rose = rose_since _ _ _ (first.reads cause.name) cause.rose;
+      first = λ fs told. rw (ignores cause.name (apart inputs others distinct cause.name cause.is_input) fs, first.follows fs told) (cause.first fs (first.same ∙ told));
+    }) second.cause;
+    same = second.same ∙ first.same;
+    reads = λ name. omega (arith, first.reads name, second.reads name);
+    writes = λ name. omega (arith, first.writes name, second.writes name);
+  }
 
-  pub check_reads : (a : DesignArguments) → ReadCause (a.design ∷ a.frame ∷ []) (designed_stage a.design a.frame) told before now → ReadCause (inputs_of (commands.Check a)) (outputs_stage (commands.Check a)) told before now
-  unfolding outputs_stage
-  check_reads a cause = record { name = cause.name; is_input = cause.is_input; rose = cause.rose; first = λ fs is. rw (cause.first fs is) refl }
+-- ---- what is written of what is drawn has its name
 
--- ---- what a stage that goes on has read
-
--- what stands before the last stage, and then it
-record Step {A B : Type 0} (first : Result A Stop) (then_ : A → Result B Stop) (last : B) : Type 0 where
-  value : A
-  first_is : first ≡ Ok value
-  then_is : then_ value ≡ Ok last
-
-step : {A B : Type 0} (first : Result A Stop) (then_ : A → Result B Stop) (last : B) → first >>= then_ ≡ Ok last → Step first then_ last
-step (Ok x) then_ last h = record { value = x; first_is = refl; then_is = h }
-step (Err e) then_ last h = absurd (cc)
-
-content_is : (held : Option (List ℕ)) (name bytes : List ℕ) → content held name ≡ Ok bytes → held ≡ Some bytes
-content_is (Some b) name bytes h = let same : ◌≡◌ {A = Result (List ℕ) Stop} (Ok b) (Ok bytes) = h in cc
-content_is None name bytes h = absurd (cc)
-
-read_is : {A Fault : Type 0} (refusal : Fault → Status) (read : Result A Fault) (x : A) → or_fault refusal read ≡ Ok x → read ≡ Ok x
-read_is {A} refusal (Ok y) x h = let same : ◌≡◌ {A = Result A Stop} (Ok y) (Ok x) = h in cc
-read_is refusal (Err fault) x h = absurd (cc)
-
-there_is : {A : Type 0} (refusal : Status) (held : Option A) (x : A) → or_refused refusal held ≡ Ok x → held ≡ Some x
-there_is {A} refusal (Some y) x h = let same : ◌≡◌ {A = Result A Stop} (Ok y) (Ok x) = h in cc
-there_is refusal None x h = absurd (cc)
-
-plan_is : (test : Bool) (refusal : Stop) (made plan : Plan) → ◌≡◌ {A = Result Plan Stop} (if test then Err refusal else Ok made) (Ok plan) → made ≡ plan
-plan_is true refusal made plan h = absurd (cc)
-plan_is false refusal made plan h = let same : ◌≡◌ {A = Result Plan Stop} (Ok made) (Ok plan) = h in cc
-
-pub of_asked : (design : List ℕ) (fs : Files) (asked : Asked) → asked_stage design fs ≡ Ok asked → HoldsAsked fs design asked
-unfolding asked_stage
-of_asked design fs asked h =
-    let bytes = step (content (fs design) design) _ asked h in
-    let read = step (or_fault design_status (design_of bytes.value)) _ asked bytes.then_is in
-    record {
-      design = read.value;
-      held = ap (option_map design_of) (content_is (fs design) design bytes.value bytes.first_is) ∙ ap Some (read_is design_status (design_of bytes.value) read.value read.first_is);
-      asks = there_is status.NotYet (asked_of read.value) asked read.then_is;
-    }
-
-pub of_plan : (asked : Asked) (frame : List ℕ) (fs : Files) (plan : Plan) → plan_stage asked frame fs ≡ Ok plan → IsPlan asked frame fs plan
-unfolding plan_stage
-of_plan asked frame fs plan h =
-    let bytes = step (content (fs frame) frame) _ plan h in
-    let units = step (or_fault frame_status (frame_of asked.columns bytes.value)) _ plan bytes.then_is in
-    let made : Plan = record { procedure = asked.procedure; units = units.value; n = asked.n } in
-    let is : made ≡ plan = plan_is (nat_lt (positive_units (sizes_of units.value)) asked.n) _ made plan units.then_is in
-    let read : option_map (frame_of asked.columns) (fs frame) ≡ Some (Ok units.value) =
-    ap (option_map (frame_of asked.columns)) (content_is (fs frame) frame bytes.value bytes.first_is) ∙ ap Some (read_is frame_status (frame_of asked.columns bytes.value) units.value units.first_is) in
-    record {
-      units = read ∙ ap (λ (p : Plan). Some (Ok p.units)) is;
-      procedure = ap (λ (p : Plan). p.procedure) (sym is);
-      count = ap (λ (p : Plan). p.n) (sym is);
-    }
-
--- the design that was read before the plan
-pub record OfDesigned (design frame : List ℕ) (fs : Files) (plan : Plan) : Type 0 where
-  pub asked : Asked
-  pub held : HoldsAsked fs design asked
-  pub is_plan : IsPlan asked frame fs plan
-
-pub of_designed : (design frame : List ℕ) (fs : Files) (plan : Plan) → designed_stage design frame fs ≡ Ok plan → OfDesigned design frame fs plan
-of_designed design frame fs plan h =
-    let asked = step (asked_stage design fs) (λ asked. plan_stage asked frame fs) plan h in
-    record { asked = asked.value; held = of_asked design fs asked.value asked.first_is; is_plan = of_plan asked.value frame fs plan asked.then_is }
-
--- the leaf at which a run ended, with no value left
-record AtLeaf (outcome : Outcome AnyState Values) (drawn : Drawn) : Type 0 where
-  pub end : Values
-  pub is : outcome ≡ leaf drawn.state drawn.path end
-  pub all : end.left ≡ []
-
-with_none_left : (plan : Plan) (state : AnyState) (path : List Entry) (end : Values) (drawn : Drawn) (left : List ℕ) → end.left ≡ left → drawn_at plan state path left ≡ Ok drawn → AtLeaf (leaf state path end) drawn
-with_none_left plan state path end drawn [] none h =
-    let same : ◌≡◌ {A = Result Drawn Stop} (Ok (record { plan = plan; state = state; path = path })) (Ok drawn) = h in
-    let is : record { plan = plan; state = state; path = path } ≡ drawn = cc in
-    record { end = end; is = ap (λ (d : Drawn). leaf d.state d.path end) is; all = none }
-with_none_left plan state path end drawn (value ∷ left) some h = absurd (cc)
-
-at_leaf : (plan : Plan) (outcome : Outcome AnyState Values) (drawn : Drawn) → drawn_of plan outcome ≡ Ok drawn → AtLeaf outcome drawn
-at_leaf plan (leaf state path end) drawn h = with_none_left plan state path end drawn end.left refl h
-at_leaf plan (stopped state path fault end) drawn h = absurd (cc)
-
-pub of_drawn : (tape : List ℕ) (fs : Files) (drawn : Drawn) → drawn_stage drawn.plan tape fs ≡ Ok drawn → IsDraw tape fs drawn
-unfolding drawn_stage
-of_drawn tape fs drawn h =
-    let bytes = step (content (fs tape) tape) _ drawn h in
-    let values = step (or_fault tape_status (tape_of bytes.value)) _ drawn bytes.then_is in
-    let end = at_leaf drawn.plan (run tape_source (tree_of drawn.plan) (start_of drawn.plan) (tape_of_values [] values.value)) drawn values.then_is in
-    record {
-      values = values.value;
-      held = ap (option_map tape_of) (content_is (fs tape) tape bytes.value bytes.first_is) ∙ ap Some (read_is tape_status (tape_of bytes.value) values.value values.first_is);
-      end = end.end;
-      ran = end.is;
-      all = end.all;
-    }
-
--- want of memory answers no stage
-pub no_memory : {A B : Type 0} (view : A → B) (result : Result A Status) (stage : Result B Stop) → result ≡ Err status.NoMemory → Follows (result_view view result) stage
-no_memory view result stage is = subst (λ r. Follows (result_view view r) stage) (sym is) tt
+pub names_written : (drawn : Drawn) (files : List DrawnFile) → names_of (map (written_by drawn) files) ≡ map (λ file. file.name) files
+names_written drawn [] = refl
+names_written drawn (file ∷ files) = ap (λ names. file.name ∷ names) (names_written drawn files)

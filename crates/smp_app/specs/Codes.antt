@@ -1,4 +1,4 @@
--- The exit codes, and the statuses of faults.
+-- The exit codes, the classes of statuses, and the statuses of faults.
 use Rattle.std.specs.Prelude.{ℕ}
 use Rattle.smp_design.specs.declared.fault.DesignFault.{DesignFault}
 use Rattle.smp_design.specs.declared.fault.DesignFault.TheVariants as design_fault
@@ -25,6 +25,23 @@ code_of status.ReadFault = 12
 code_of status.WriteFault = 13
 code_of status.NoMemory = 14
 code_of status.NotYet = 15
+
+-- how a call may end: all was done; the words are those of no command; it was refused; a read or a write failed; memory ran out
+pub data Class : Type 0 where
+  IsDone : Class
+  IsUsage : Class
+  IsRefusal : Class
+  IsReadFault : Class
+  IsWriteFault : Class
+  IsNoMemory : Class
+
+abbrev pub class_of : Status → Class
+class_of status.Done = IsDone
+class_of status.Usage = IsUsage
+class_of status.ReadFault = IsReadFault
+class_of status.WriteFault = IsWriteFault
+class_of status.NoMemory = IsNoMemory
+class_of refusal = IsRefusal
 
 abbrev pub design_status : DesignFault → Status
 design_status design_fault.NoMemory = status.NoMemory

@@ -9,6 +9,7 @@ use Rattle.smp_app.specs.declared.misfit.Misfit.{Misfit}
 use Rattle.smp_app.specs.declared.misfit.Misfit.TheVariants as misfits
 use Rattle.smp_app.specs.declared.status.Status.{Status}
 use Rattle.smp_app.specs.declared.status.Status.TheVariants as status
+use Rattle.smp_app.specs.Codes.{Class, IsUsage, IsRefusal, class_of}
 
 abbrev pub design_line : DesignFault → Option (List ℕ)
 design_line design_fault.Syntax = Some (codes "error 3.1 design isn't TOML\n")
@@ -39,14 +40,23 @@ misfit_line misfits.NoMemory = None
 abbrev pub usage_line : List ℕ
 usage_line = codes "error 2 usage: sampler COMMAND [OPTIONS], COMMAND is quick, draw, replay, probs, check or demo\n"
 
+abbrev pub refusal_line : Status → Option (List ℕ)
+refusal_line (status.Design fault) = design_line fault
+refusal_line (status.Frame fault) = frame_line fault
+refusal_line (status.Misfit misfit) = misfit_line misfit
+refusal_line (status.TapeText line) = Some (codes "error 6 tape line " ++ (decimal line ++ codes " isn't a number\n"))
+refusal_line (status.TapeShort taken) = Some (codes "error 7 tape ends after " ++ (decimal taken ++ codes "\n"))
+refusal_line (status.TapeValue place value bound) =
+    Some (codes "error 8 tape value " ++ (decimal place ++ (codes " is " ++ (decimal value ++ (codes ", bound " ++ (decimal bound ++ codes "\n"))))))
+refusal_line (status.TapeLong left) = Some (codes "error 9 tape has " ++ (decimal left ++ codes " more\n"))
+refusal_line status.NotYet = Some (codes "error 15 not yet\n")
+refusal_line other = None
+
+-- refusals have a line, and other ends none
+abbrev pub line_by : Class → Status → Option (List ℕ)
+line_by IsUsage status = Some usage_line
+line_by IsRefusal status = refusal_line status
+line_by other status = None
+
 abbrev pub fault_line : Status → Option (List ℕ)
-fault_line status.Usage = Some usage_line
-fault_line (status.Design fault) = design_line fault
-fault_line (status.Frame fault) = frame_line fault
-fault_line (status.Misfit misfit) = misfit_line misfit
-fault_line (status.TapeText line) = Some (codes "error 6 tape line " ++ (decimal line ++ codes " isn't a number\n"))
-fault_line (status.TapeShort taken) = Some (codes "error 7 tape ends after " ++ (decimal taken ++ codes "\n"))
-fault_line (status.TapeValue place value bound) = Some (codes "error 8 tape value " ++ (decimal place ++ (codes " is " ++ (decimal value ++ (codes ", bound " ++ (decimal bound ++ codes "\n"))))))
-fault_line (status.TapeLong left) = Some (codes "error 9 tape has " ++ (decimal left ++ codes " more\n"))
-fault_line status.NotYet = Some (codes "error 15 not yet\n")
-fault_line other = None
+fault_line status = line_by (class_of status) status

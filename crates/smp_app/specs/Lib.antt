@@ -1,8 +1,11 @@
 pub mod Answers
 pub mod Codes
+pub mod Commands
 pub mod Deliveries
+pub mod Draws
 pub mod FaultLines
-pub mod Jobs
+pub mod Headline
 pub mod Plans
+pub mod Stages
 pub mod Texts
 pub mod Verdict

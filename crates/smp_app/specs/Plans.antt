@@ -1,17 +1,18 @@
--- What is asked of a frame, and the draw that follows from it.
-use Rattle.std.specs.Prelude.{ℕ, ℤ, List, [], ◌∷◌, Bool, ◌&&◌, is_none, length, map, slice_index, slice_index_or, ◌+◌, Option, Some, None, if◌then◌else◌, codes}
+-- What a design asks of a frame, and the draw that follows from it.
+use Rattle.std.specs.Prelude.{ℕ, ℤ, List, [], ◌&&◌, is_none, length, map, slice_index, slice_index_or, Option, Some, None, if◌then◌else◌, codes}
 use Rattle.smp_fractions.specs.Fractions.{Fraction}
 use Rattle.smp_split.specs.Trees.{Tree}
+use Rattle.smp_split.specs.Paths.{Entry}
+use Rattle.smp_split.specs.Counts.{selected_units}
 use Rattle.smp_frame.specs.declared.columns.Columns.{Columns}
 use Rattle.smp_frame.specs.declared.frame.Unit as unit
 use Rattle.smp_frame.specs.Bounds.{sizes_of}
-use Rattle.smp_prob.specs.declared.orders.Order.{Order}
 use Rattle.smp_prob.specs.declared.orders.Order.TheVariants.{Frame}
 use Rattle.smp_prob.specs.declared.requests.Request.{Request}
 use Rattle.smp_prob.specs.Requested.{requested_of, requested_fraction}
 use Rattle.smp_design.specs.declared.design.Design.{Design}
+use Rattle.smp_design.specs.declared.method.Method.TheVariants.{Pivotal}
 use Rattle.smp_methods.specs.declared.procedure.Procedure.{Procedure}
-use Rattle.smp_methods.specs.declared.procedure.Procedure.TheVariants as procedure
 use Rattle.smp_methods.specs.declared.any.AnyDesign.{AnyDesign}
 use Rattle.smp_methods.specs.declared.any.AnyState.{AnyState}
 use Rattle.smp_methods.specs.Procedures.{procedure_of}
@@ -21,25 +22,41 @@ use Rattle.smp_app.specs.declared.asked.Asked.{Asked}
 
 -- ---- what is asked
 
--- `quick`: pivotal steps in frame order, with the columns `id` and `size`
+-- the design of `quick`: n units by pivotal steps in frame order, with the columns `id` and `size`
 abbrev pub quick_columns : Columns
-quick_columns = record { id = codes "id"; stratum = None; psu = None; size = Some (codes "size"); second_size = None; values = [] }
+quick_columns = record {
+  id = codes "id";
+  stratum = None;
+  psu = None;
+  size = Some (codes "size");
+  second_size = None;
+  values = [];
+}
 
-abbrev pub quick_asked : ℕ → Asked
-quick_asked n = record { procedure = procedure.Pivotal Frame; columns = quick_columns; n = n }
+abbrev pub quick_design : ℕ → Design
+quick_design n = record {
+  method = Pivotal;
+  order = Frame;
+  columns = quick_columns;
+  n = Some n;
+  sizes = [];
+  second = None;
+}
 
-abbrev pub asked_by : Option Procedure → Columns → Option ℕ → Option Asked
-asked_by (Some way) columns (Some n) = Some (record { procedure = way; columns = columns; n = n })
-asked_by None columns n = None
-asked_by (Some way) columns None = None
+abbrev pub asked_by : Option Procedure → Option ℕ → Option Asked
+asked_by (Some way) (Some n) = Some (record { procedure = way; n = n })
+asked_by None n = None
+asked_by (Some way) None = None
 
--- What a design asks, where it is served: it has neither strata nor a second stage, and a method that is built. A design without strata has
--- a number of units.
+-- What a design asks, where it is served: it has neither strata nor a second stage, and a method that is built. A design without
+-- strata has a number of units.
 abbrev pub asked_of : Design → Option Asked
 asked_of design =
-    if is_none design.columns.stratum && is_none design.second then asked_by (procedure_of design.method design.order (length design.columns.values)) design.columns design.n else None
+    if is_none design.columns.stratum && is_none design.second
+    then asked_by (procedure_of design.method design.order (length design.columns.values)) design.n
+    else None
 
--- ---- the draw
+-- ---- the plan
 
 -- the units of a frame, how they are drawn, and how many
 pub record Plan : Type 0 where
@@ -51,6 +68,17 @@ pub record Plan : Type 0 where
 abbrev pub request_of : Plan → Request
 request_of plan = requested_of (sizes_of plan.units) plan.n
 
+-- the probability that is requested of the unit in a row (Tillé 2006)
+abbrev pub row_probability : Plan → ℕ → Fraction
+row_probability plan row =
+    let sizes = sizes_of plan.units in requested_fraction plan.n sizes (slice_index sizes row)
+
+-- the id of the unit in a row
+abbrev pub row_id : Plan → ℕ → List ℕ
+row_id plan row = slice_index_or (map (λ u. u.id) plan.units) row []
+
+-- ---- the draw tree
+
 -- the values of the unit in a row, and none past the last row; those of the free units
 abbrev pub values_at : List unit.Unit → ℕ → List ℤ
 values_at units row = slice_index_or (map (λ u. u.values) units) row []
@@ -60,27 +88,23 @@ free_values request units = map (values_at units) request.free
 
 -- the design of the free units
 abbrev pub design_of_plan : Plan → AnyDesign
-design_of_plan plan = design_of plan.procedure (request_of plan) (free_values (request_of plan) plan.units)
+design_of_plan plan =
+    let request = request_of plan in design_of plan.procedure request (free_values request plan.units)
 
 -- the draw tree, whose units are the rows of the frame, and the state from which a draw starts
 abbrev pub tree_of : Plan → Tree AnyState
-tree_of plan = rows_tree (length plan.units) (request_of plan) (method_of (design_of_plan plan)).tree
+tree_of plan =
+    rows_tree (length plan.units) (request_of plan) (method_of (design_of_plan plan)).tree
 
 abbrev pub start_of : Plan → AnyState
 start_of plan = first_state (design_of_plan plan)
 
--- the probability that is requested of a unit of this size, and of a row
-abbrev pub size_probability : Plan → ℕ → Fraction
-size_probability plan size = requested_fraction plan.n (sizes_of plan.units) size
+-- what is drawn by a plan: a leaf of its draw tree, and the path that leads there
+pub record Drawn : Type 0 where
+  pub plan : Plan
+  pub leaf : AnyState
+  pub path : List Entry
 
-abbrev pub row_probability : Plan → ℕ → Fraction
-row_probability plan row = size_probability plan (slice_index (sizes_of plan.units) row)
-
--- the units at whose places `chosen` says so, where the first of them stands at this place
-abbrev pub chosen_from : ℕ → (ℕ → Bool) → List unit.Unit → List unit.Unit
-chosen_from place chosen [] = []
-chosen_from place chosen (u ∷ units) = if chosen place then u ∷ chosen_from (place + 1) chosen units else chosen_from (place + 1) chosen units
-
--- the units that a leaf selects, in frame order
-abbrev pub drawn_units : Plan → AnyState → List unit.Unit
-drawn_units plan leaf = chosen_from 0 ((tree_of plan).selected leaf) plan.units
+-- the rows that are drawn, in frame order
+abbrev pub drawn_rows : Drawn → List ℕ
+drawn_rows drawn = selected_units (tree_of drawn.plan) drawn.leaf

@@ -14,12 +14,9 @@ use Rattle.smp_frame.specs.Frames.{frame_of}
 use Rattle.smp_frame.specs.Bounds.{sizes_of}
 use Rattle.smp_frame.specs.declared.frame.Unit as unit
 use Rattle.smp_design.specs.Designs.{design_of}
+use Rattle.smp_design.specs.declared.design.Design.{Design}
 use Rattle.smp_prob.specs.Requested.{positive_units}
 use Rattle.smp_methods.specs.declared.any.AnyState.{AnyState}
-use Rattle.smp_words.specs.declared.command.QuickArguments.{QuickArguments}
-use Rattle.smp_words.specs.declared.command.DrawArguments.{DrawArguments}
-use Rattle.smp_words.specs.declared.command.Command.{Command}
-use Rattle.smp_words.specs.declared.command.Command.TheVariants as commands
 use Rattle.smp_words.specs.Words.{command_of}
 use Rattle.smp_app.specs.declared.asked.Asked.{Asked}
 use Rattle.smp_app.specs.declared.misfit.Misfit.TheVariants.{TooMany}
@@ -27,8 +24,8 @@ use Rattle.smp_app.specs.declared.status.Status.{Status}
 use Rattle.smp_app.specs.declared.status.Status.TheVariants.{Usage, Misfit, TapeShort, TapeValue, TapeLong, NotYet}
 use Rattle.smp_app.specs.Codes.{design_status, frame_status, tape_status}
 use Rattle.smp_app.specs.Deliveries.{Outputs}
-use Rattle.smp_app.specs.Plans.{Plan, quick_asked, asked_of, tree_of, start_of, drawn_units}
-use Rattle.smp_app.specs.Texts.{ids_text, sample_text, steps_text, report_text, probabilities_text, accepted_text}
+use Rattle.smp_app.specs.Plans.{Plan, Drawn, asked_of, tree_of, start_of}
+use Rattle.smp_app.specs.Commands.{DesignSource, Held, Given, Work, Lists, Draws, Job, job_of, outputs_by}
 
 -- why a call doesn't go on to its writes
 pub data Stop : Type 0 where
@@ -45,35 +42,35 @@ abbrev pub or_refused : {A : Type 0} → Status → Option A → Result A Stop
 or_refused refusal (Some x) = Ok x
 or_refused refusal None = Err (Refused refusal)
 
--- the content under a name
-abbrev pub content : Option (List ℕ) → List ℕ → Result (List ℕ) Stop
-content (Some bytes) name = Ok bytes
-content None name = Err (Missing name)
-
--- the files, but for this one
-abbrev pub without : List ℕ → Files → Files
-without name fs = λ other. if bytes_eq name other then None else fs other
-
 -- what was read, or the refusal of its fault
 abbrev pub or_fault : {A Fault : Type 0} → (Fault → Status) → Result A Fault → Result A Stop
 or_fault status (Ok x) = Ok x
 or_fault status (Err fault) = Err (Refused (status fault))
 
+-- the content under a name
+abbrev pub content : List ℕ → Option (List ℕ) → Result (List ℕ) Stop
+content name (Some bytes) = Ok bytes
+content name None = Err (Missing name)
+
+abbrev pub content_of : List ℕ → Files → Result (List ℕ) Stop
+content_of name fs = content name (fs name)
+
+-- the files, but for this one
+abbrev pub without : List ℕ → Files → Files
+without name fs = λ other. if bytes_eq name other then None else fs other
+
+-- ---- what is made of what was read
+
 -- the units and how to draw them, unless more are asked than have a size; the one stratum has the empty name
 abbrev pub plan_of : Asked → List unit.Unit → Result Plan Stop
 plan_of asked units =
-    if nat_lt (positive_units (sizes_of units)) asked.n then Err (Refused (Misfit (TooMany [] asked.n (positive_units (sizes_of units)))))
+    let positive = positive_units (sizes_of units) in
+    if nat_lt positive asked.n then Err (Refused (Misfit (TooMany [] asked.n positive)))
     else Ok (record { procedure = asked.procedure; units = units; n = asked.n })
-
--- what is drawn: the leaf to which the values of the tape lead, and the path to it
-pub record Drawn : Type 0 where
-  pub plan : Plan
-  pub state : AnyState
-  pub path : List Entry
 
 -- at a leaf, where these values are left: what is drawn, unless there are some
 abbrev pub drawn_at : Plan → AnyState → List Entry → List ℕ → Result Drawn Stop
-drawn_at plan state path [] = Ok (record { plan = plan; state = state; path = path })
+drawn_at plan state path [] = Ok (record { plan = plan; leaf = state; path = path })
 drawn_at plan state path (value ∷ left) = Err (Refused (TapeLong (length (value ∷ left))))
 
 -- the refusal of a draw below a bound, where so many values were taken; no draw of a tape is rejected
@@ -87,65 +84,50 @@ drawn_of plan (leaf state path tape) = drawn_at plan state path tape.left
 drawn_of plan (stopped state path fault tape) =
     Err (Refused (draw_status fault (weight_sum ((tree_of plan).parts state)) (length tape.taken)))
 
+-- what the values of a tape draw by a plan: the leaf to which they lead in its draw tree
+abbrev pub drawn_by : Plan → List ℕ → Result Drawn Stop
+drawn_by plan values =
+    drawn_of plan (run tape_source (tree_of plan) (start_of plan) (tape_of_values [] values))
+
 -- ---- the order of work
 
--- the design, and what it asks
-unfoldable pub asked_stage : List ℕ → Files → Result Asked Stop
-asked_stage design fs = do
-  bytes ← content (fs design) design
-  read ← or_fault design_status (design_of bytes)
-  or_refused NotYet (asked_of read)
+-- the design
+unfoldable pub design_stage : DesignSource → Files → Result Design Stop
+design_stage (Given design) fs = Ok design
+design_stage (Held name) fs = do
+  bytes ← content_of name fs
+  or_fault design_status (design_of bytes)
 
--- the frame, and the plan
-unfoldable pub plan_stage : Asked → List ℕ → Files → Result Plan Stop
-plan_stage asked frame fs = do
-  bytes ← content (fs frame) frame
-  units ← or_fault frame_status (frame_of asked.columns bytes)
+-- what it asks, the frame, and the plan
+unfoldable pub frame_stage : Design → List ℕ → Files → Result Plan Stop
+frame_stage design frame fs = do
+  asked ← or_refused NotYet (asked_of design)
+  bytes ← content_of frame fs
+  units ← or_fault frame_status (frame_of design.columns bytes)
   plan_of asked units
 
--- the tape, and the run on it
+abbrev pub plan_stage : Job → Files → Result Plan Stop
+plan_stage job fs = design_stage job.design fs >>= λ design. frame_stage design job.frame fs
+
+-- the tape, and the draw
 unfoldable pub drawn_stage : Plan → List ℕ → Files → Result Drawn Stop
 drawn_stage plan tape fs = do
-  bytes ← content (fs tape) tape
+  bytes ← content_of tape fs
   values ← or_fault tape_status (tape_of bytes)
-  drawn_of plan (run tape_source (tree_of plan) (start_of plan) (tape_of_values [] values))
+  drawn_by plan values
 
--- ---- what is written and put
+-- what is to be written and put, from the plan on
+abbrev pub work_stage : Work → Plan → Files → Result Outputs Stop
+work_stage (Lists text) plan fs = Ok (record { files = []; put = text plan })
+work_stage (Draws tape files put) plan fs =
+    drawn_stage plan tape fs >>= λ drawn. Ok (outputs_by files put drawn)
 
--- `quick`: the ids that are drawn go into a file, and the step lines are put.
-abbrev pub quick_outputs : QuickArguments → Drawn → Outputs
-quick_outputs arguments drawn = record {
-  files = record { name = arguments.out; bytes = ids_text (drawn_units drawn.plan drawn.state) } ∷ [];
-  put = steps_text drawn.path;
-}
-
--- `draw`: the log and then the sample are written, and the report is put.
-abbrev pub draw_outputs : DrawArguments → Drawn → Outputs
-draw_outputs arguments drawn = record {
-  files = record { name = arguments.log; bytes = steps_text drawn.path } ∷ record { name = arguments.sample; bytes = sample_text drawn.plan (drawn_units drawn.plan drawn.state) } ∷ [];
-  put = report_text (length (drawn_units drawn.plan drawn.state)) (length drawn.plan.units) (length drawn.path);
-}
-
--- `probs` and `check` put a text.
-abbrev pub probs_outputs : Plan → Outputs
-probs_outputs plan = record { files = []; put = probabilities_text plan }
-
-abbrev pub check_outputs : Plan → Outputs
-check_outputs plan = record { files = []; put = accepted_text plan }
-
--- ---- the verdict
-
--- the plan of a design and a frame
-abbrev pub designed_stage : List ℕ → List ℕ → Files → Result Plan Stop
-designed_stage design frame fs = asked_stage design fs >>= λ asked. plan_stage asked frame fs
-
-unfoldable pub outputs_stage : Command → Files → Result Outputs Stop
-outputs_stage (commands.Quick a) fs = plan_stage (quick_asked a.n) a.frame fs >>= λ plan. drawn_stage plan a.tape fs >>= λ drawn. Ok (quick_outputs a drawn)
-outputs_stage (commands.Draw a) fs = designed_stage a.design a.frame fs >>= λ plan. drawn_stage plan a.tape fs >>= λ drawn. Ok (draw_outputs a drawn)
-outputs_stage (commands.Probs a) fs = designed_stage a.design a.frame fs >>= λ plan. Ok (probs_outputs plan)
-outputs_stage (commands.Check a) fs = designed_stage a.design a.frame fs >>= λ plan. Ok (check_outputs plan)
-outputs_stage commands.NotYet fs = Err (Refused NotYet)
+abbrev pub outputs_stage : Job → Files → Result Outputs Stop
+outputs_stage job fs = plan_stage job fs >>= λ plan. work_stage job.work plan fs
 
 -- the first refusal in the order of work, or what is to be written and put
 unfoldable pub verdict : List (List ℕ) → Files → Result Outputs Stop
-verdict words fs = or_refused Usage (command_of words) >>= λ command. outputs_stage command fs
+verdict words fs = do
+  command ← or_refused Usage (command_of words)
+  job ← or_refused NotYet (job_of command)
+  outputs_stage job fs

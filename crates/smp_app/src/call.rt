@@ -1,9 +1,13 @@
 ghost use Rattle.std.specs.Prelude.{◌≡◌, ◌≤◌, map, string_bytes};
-ghost use Rattle.smp_app.specs.Answers.{IsAnswer, WorkSays, outside};
+ghost use Rattle.smp_app.specs.Answers.{IsAnswer, outside};
+ghost use Rattle.smp_app.specs.Headline.{Headline};
+ghost use Rattle.smp_app.specs.Codes.{class_of};
+ghost use Rattle.smp_app.specs.Stages.{WorkSays};
 
 use crate::Status;
-use crate::commands::outputs_for;
+use crate::job::Job;
 use crate::refusals::report;
+use crate::work::outputs_from;
 use smp_io::{Sink, Store, StoreFault};
 use smp_words::command_from;
 use std::alloc::Global;
@@ -24,7 +28,13 @@ pub fn sampler<K: Store, S: Sink>(
     store: &mut K,
     out: &mut S,
 ) -> Status
-    ensures { IsAnswer result (map string_bytes words.now)
+    // The main statement, of a draw that ended well.
+    ensures headline { Headline result (map string_bytes words.now)
+        (outside K.files K.read_faults K.write_faults S.written S.faults store.old out.old)
+        (outside K.files K.read_faults K.write_faults S.written S.faults store.new out.new) }
+
+    // What each answer says, of any words, store and sink.
+    ensures answer { IsAnswer result (map string_bytes words.now)
         (outside K.files K.read_faults K.write_faults S.written S.faults store.old out.old)
         (outside K.files K.read_faults K.write_faults S.written S.faults store.new out.new) }
 {
@@ -34,7 +44,7 @@ pub fn sampler<K: Store, S: Sink>(
 
 // All but the line of a refusal.
 fn work<K: Store, S: Sink>(alloc: Global, words: &[String], store: &mut K, out: &mut S) -> Status
-    ensures says { WorkSays result (map string_bytes words.now)
+    ensures says { WorkSays (class_of result) result (map string_bytes words.now)
         (outside K.files K.read_faults K.write_faults S.written S.faults store.old out.old)
         (outside K.files K.read_faults K.write_faults S.written S.faults store.new out.new) }
     ensures puts { S.faults out.old ≤ S.faults out.new }
@@ -44,7 +54,12 @@ fn work<K: Store, S: Sink>(alloc: Global, words: &[String], store: &mut K, out: 
         Ok(None) => return Status::Usage,
         Err(_) => return Status::NoMemory,
     };
-    let outputs = match outputs_for(alloc, store, &command) {
+    let job = match Job::of(alloc, &command) {
+        Ok(Some(job)) => job,
+        Ok(None) => return Status::NotYet,
+        Err(_) => return Status::NoMemory,
+    };
+    let outputs = match outputs_from(alloc, store, &job) {
         Ok(outputs) => outputs,
         Err(status) => return status,
     };

@@ -30,9 +30,10 @@ impl Outputs {
     pub fn deliver<K: Store, S: Sink>(&self, store: &mut K, out: &mut S) -> Result<(), StoreFault>
         ensures files { OnOk result (K.files store.new
             ≡ option_map (with_files (outputs_view self.now).files) (K.files store.old)) }
-        ensures written { OnOk result (S.written out.new ≡ with_bytes (outputs_view self.now).put (S.written out.old)) }
-        ensures stops { OnErr result (StopsAt (outputs_view self.now) (K.files store.old) (K.files store.new)
-            (S.written out.old) (S.written out.new)) }
+        ensures written { OnOk result (S.written out.new
+            ≡ with_bytes (outputs_view self.now).put (S.written out.old)) }
+        ensures stops { OnErr result (StopsAt (outputs_view self.now)
+            (K.files store.old) (K.files store.new) (S.written out.old) (S.written out.new)) }
         // The place where it stops is the call whose count rose.
         ensures failed { IsErrOf result StoreFault.Failed
             → FailsAt (outputs_view self.now) (K.files store.old) (K.files store.new)
@@ -49,7 +50,8 @@ impl Outputs {
 }
 
 fn write_files<K: Store>(files: &[OutputFile], store: &mut K) -> Result<(), StoreFault>
-    ensures ok { OnOk result (K.files store.new ≡ option_map (with_files files.now) (K.files store.old)) }
+    ensures ok { OnOk result (K.files store.new
+        ≡ option_map (with_files files.now) (K.files store.old)) }
     ensures err { OnErr result (StopsAtFile files.now (K.files store.old) (K.files store.new)) }
     ensures failed { IsErrOf result StoreFault.Failed
         → FailsAtFile files.now (K.files store.old) (K.files store.new)

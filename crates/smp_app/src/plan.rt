@@ -1,13 +1,13 @@
-ghost use Rattle.std.specs.Prelude.{◌≡◌, ◌⊎◌, ◌≤◌, ◌∷◌, [], false, Some, IfOk, IfErr, IsErrOf};
-ghost use Rattle.smp_io.specs.Counts.{Rose, NeverFalls};
-ghost use Rattle.smp_io.specs.Store.{Files};
-ghost use Rattle.std.specs.Str.{bytes_eq};
+ghost use Rattle.std.specs.Prelude.{◌≡◌, ◌≤◌, ◌∷◌, [], IfOk, IfSome};
 ghost use Rattle.smp_frame.specs.Bounds.{IsFrame, sizes_of};
-ghost use Rattle.smp_app.specs.Verdict.{content, plan_of, asked_stage, plan_stage, designed_stage};
-ghost use Rattle.smp_app.specs.Jobs.{Follows, GivesPlan, IsOfInputs, IsPlanned, ReadCause, plan_view, result_view};
+ghost use Rattle.smp_app.specs.Commands.{design_names, plan_inputs};
+ghost use Rattle.smp_app.specs.Verdict.{content_of, plan_of, design_stage, frame_stage, plan_stage};
+ghost use Rattle.smp_app.specs.Stages.{Reads, GivesPlan, IsPlanned, IsJob, HasUnits, told, source_view, job_view, plan_view, result_view};
 
+use crate::asked::quick_design;
+use crate::job::{DesignSource, Job};
 use crate::{Asked, Misfit, Status};
-use smp_design::read_design;
+use smp_design::{Design, read_design};
 use smp_frac::{Bytes, NoMemory, Text};
 use smp_frame::{Frame, Unit, read_frame};
 use smp_io::{Store, StoreFault};
@@ -26,12 +26,9 @@ pub struct FramePlan {
 
 /// Reads an input.
 pub fn read_input<K: Store>(alloc: Global, store: &mut K, name: &str) -> Result<Bytes, Status>
-    ensures follows { (fs : Files) → K.files store.old ≡ Some fs → Follows result (content (fs name.now) name.now) }
-    ensures same { K.files store.new ≡ K.files store.old }
-    ensures reads { NeverFalls (K.read_faults store.old) (K.read_faults store.new) }
-    ensures writes { NeverFalls (K.write_faults store.old) (K.write_faults store.new) }
-    ensures kinds { IfErr result (λ e. (e ≡ Status.ReadFault) ⊎ (e ≡ Status.NoMemory)) }
-    ensures cause { IsErrOf result Status.ReadFault → Rose (K.read_faults store.old name.now) (K.read_faults store.new name.now) }
+    ensures { Reads (name.now ∷ []) (content_of name.now) result
+        (told K.files K.read_faults K.write_faults store.old)
+        (told K.files K.read_faults K.write_faults store.new) }
 {
     match store.read(alloc, name) {
         Ok(bytes) => Ok(bytes),
@@ -40,22 +37,26 @@ pub fn read_input<K: Store>(alloc: Global, store: &mut K, name: &str) -> Result<
     }
 }
 
-/// Reads a design, and what it asks.
-#[tactic(auto, unfolding(crate::specs::Verdict::asked_stage))]
-fn asked_from<K: Store>(alloc: Global, store: &mut K, design: &str) -> Result<Asked, Status>
-    ensures follows { (fs : Files) → K.files store.old ≡ Some fs → Follows result (asked_stage design.now fs) }
-    ensures same { K.files store.new ≡ K.files store.old }
-    ensures reads { NeverFalls (K.read_faults store.old) (K.read_faults store.new) }
-    ensures writes { NeverFalls (K.write_faults store.old) (K.write_faults store.new) }
-    ensures kinds { IfErr result IsOfInputs }
-    ensures cause { IsErrOf result Status.ReadFault → Rose (K.read_faults store.old design.now) (K.read_faults store.new design.now) }
-    ensures some { IfOk result (λ asked. 1 ≤ asked.n) }
+// Reads a design from its file, or makes the one of the command.
+#[tactic(auto, unfolding(crate::specs::Verdict::design_stage))]
+fn design_from<K: Store>(
+    alloc: Global,
+    store: &mut K,
+    source: &DesignSource,
+) -> Result<Design, Status>
+    requires { HasUnits (source_view source.now) }
+    ensures reads { Reads (design_names (source_view source.now))
+        (design_stage (source_view source.now)) result
+        (told K.files K.read_faults K.write_faults store.old)
+        (told K.files K.read_faults K.write_faults store.new) }
+    ensures units { IfOk result (λ design. IfSome design.n (λ n. 1 ≤ n)) }
 {
-    let bytes = read_input(alloc, store, design)?;
-    let design = read_design(alloc, bytes.as_slice())?;
-    match Asked::by_design(design) {
-        Some(asked) => Ok(asked),
-        None => Err(Status::NotYet),
+    match source {
+        DesignSource::Held(name) => {
+            let bytes = read_input(alloc, store, name.as_str())?;
+            Ok(read_design(alloc, bytes.as_slice())?)
+        }
+        DesignSource::Quick(n) => Ok(quick_design(alloc, *n)?),
     }
 }
 
@@ -69,10 +70,10 @@ fn sizes(alloc: Global, units: &[Unit]) -> Result<Vec<u32>, NoMemory>
     Ok(sizes)
 }
 
-fn plan_for(alloc: Global, asked: &Asked, frame: Frame) -> Result<FramePlan, Misfit>
+fn plan_for(alloc: Global, asked: Asked, frame: Frame) -> Result<FramePlan, Misfit>
     requires frame { IsFrame frame }
-    requires some { 1 ≤ asked.now.n }
-    ensures follows { GivesPlan (result_view plan_view result) (plan_of asked.now frame) }
+    requires some { 1 ≤ asked.n }
+    ensures follows { GivesPlan (result_view plan_view result) (plan_of asked frame) }
     ensures planned { IfOk result IsPlanned }
 {
     let sizes = sizes(alloc, frame.units())?;
@@ -92,45 +93,38 @@ fn plan_for(alloc: Global, asked: &Asked, frame: Frame) -> Result<FramePlan, Mis
     }
 }
 
-/// Reads a frame, and plans what is asked of it.
-#[tactic(auto, unfolding(crate::specs::Verdict::plan_stage))]
-pub fn plan_from<K: Store>(
+// Reads a frame, and plans what a design asks of it.
+#[tactic(auto, unfolding(crate::specs::Verdict::frame_stage))]
+fn frame_plan<K: Store>(
     alloc: Global,
     store: &mut K,
-    asked: &Asked,
+    design: &Design,
     frame: &str,
 ) -> Result<FramePlan, Status>
-    requires { 1 ≤ asked.now.n }
-    ensures follows { (fs : Files) → K.files store.old ≡ Some fs → Follows (result_view plan_view result) (plan_stage asked.now frame.now fs) }
-    ensures same { K.files store.new ≡ K.files store.old }
-    ensures reads { NeverFalls (K.read_faults store.old) (K.read_faults store.new) }
-    ensures writes { NeverFalls (K.write_faults store.old) (K.write_faults store.new) }
-    ensures kinds { IfErr result IsOfInputs }
-    ensures cause { IsErrOf result Status.ReadFault → Rose (K.read_faults store.old frame.now) (K.read_faults store.new frame.now) }
+    requires { IfSome design.now.n (λ n. 1 ≤ n) }
+    ensures reads { Reads (frame.now ∷ []) (frame_stage design.now frame.now)
+        (result_view plan_view result)
+        (told K.files K.read_faults K.write_faults store.old)
+        (told K.files K.read_faults K.write_faults store.new) }
     ensures planned { IfOk result IsPlanned }
 {
+    let Some(asked) = Asked::by_design(design) else {
+        return Err(Status::NotYet);
+    };
     let bytes = read_input(alloc, store, frame)?;
-    let frame = read_frame(alloc, bytes.as_slice(), &asked.columns)?;
+    let frame = read_frame(alloc, bytes.as_slice(), &design.columns)?;
     Ok(plan_for(alloc, asked, frame)?)
 }
 
-/// Reads a design and then a frame, and plans what the design asks of it. The two have different names.
-pub fn designed_plan<K: Store>(
-    alloc: Global,
-    store: &mut K,
-    design: &str,
-    frame: &str,
-) -> Result<FramePlan, Status>
-    requires { bytes_eq design.now frame.now ≡ false }
-    ensures follows { (fs : Files) → K.files store.old ≡ Some fs → Follows (result_view plan_view result) (designed_stage design.now frame.now fs) }
-    ensures same { K.files store.new ≡ K.files store.old }
-    ensures reads { NeverFalls (K.read_faults store.old) (K.read_faults store.new) }
-    ensures writes { NeverFalls (K.write_faults store.old) (K.write_faults store.new) }
-    ensures kinds { IfErr result IsOfInputs }
-    ensures cause { IsErrOf result Status.ReadFault →
-        ReadCause (design.now ∷ frame.now ∷ []) (designed_stage design.now frame.now) (K.files store.old) (K.read_faults store.old) (K.read_faults store.new) }
+/// Reads the design and then the frame of a job, and plans what the design asks of the frame.
+pub fn plan_from<K: Store>(alloc: Global, store: &mut K, job: &Job) -> Result<FramePlan, Status>
+    requires { IsJob (job_view job.now) }
+    ensures reads { Reads (plan_inputs (job_view job.now)) (plan_stage (job_view job.now))
+        (result_view plan_view result)
+        (told K.files K.read_faults K.write_faults store.old)
+        (told K.files K.read_faults K.write_faults store.new) }
     ensures planned { IfOk result IsPlanned }
 {
-    let asked = asked_from(alloc, store, design)?;
-    plan_from(alloc, store, &asked, frame)
+    let design = design_from(alloc, store, &job.design)?;
+    frame_plan(alloc, store, &design, job.frame.as_str())
 }

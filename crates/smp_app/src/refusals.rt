@@ -1,7 +1,7 @@
 ghost use Rattle.std.specs.Prelude.{◌≡◌, ◌≤◌, None, Ok, IfOk, option_map, string_bytes};
 ghost use Rattle.smp_app.specs.FaultLines;
 ghost use Rattle.smp_app.specs.FaultLines.{fault_line, design_line, frame_line, misfit_line};
-ghost use Rattle.smp_app.specs.Answers.{Reports};
+ghost use Rattle.smp_app.specs.Stages.{Reports, put_by};
 
 use crate::{Misfit, Status};
 use smp_design::DesignFault;
@@ -11,7 +11,8 @@ use std::alloc::{AllocError, Global};
 
 /// Puts the line of a refusal, and answers how the call ended: as it did before, unless there is no memory for the line.
 pub fn report<S: Sink>(alloc: Global, status: Status, out: &mut S) -> Status
-    ensures line { Reports (fault_line status) status result (S.written out.old) (S.written out.new) (S.faults out.old) (S.faults out.new) }
+    ensures line { Reports (fault_line status) status result
+        (put_by S.written S.faults out.old) (put_by S.written S.faults out.new) }
     ensures puts { S.faults out.old ≤ S.faults out.new }
 {
     match line_for(alloc, &status) {

@@ -1,12 +1,11 @@
-ghost use Rattle.std.specs.Prelude.{◌≡◌, Some, IfOk, IfErr, IsErrOf};
-ghost use Rattle.smp_io.specs.Counts.{Rose, NeverFalls};
-ghost use Rattle.smp_io.specs.Store.{Files};
+ghost use Rattle.std.specs.Prelude.{◌≡◌, ◌∷◌, [], IfOk, IfErr};
 ghost use Rattle.smp_tape.specs.Laws.Tapes.{tape_source};
 ghost use Rattle.smp_split.specs.Runs.{run};
 ghost use Rattle.smp_methods.specs.Starts.{IsStarted};
 ghost use Rattle.smp_app.specs.Plans.{tree_of, start_of, values_at, free_values};
 ghost use Rattle.smp_app.specs.Verdict.{drawn_of, drawn_stage};
-ghost use Rattle.smp_app.specs.Jobs.{Follows, IsOfContent, IsOfInputs, IsPlanned, IsSelection, plan_view, selection_view, result_view};
+ghost use Rattle.smp_app.specs.Codes.{class_of};
+ghost use Rattle.smp_app.specs.Stages.{Follows, IsOfContent, Reads, IsPlanned, IsWalked, IsSelection, told, plan_view, walked_view, selection_view, result_view};
 
 use crate::Status;
 use crate::plan::{FramePlan, read_input};
@@ -16,15 +15,23 @@ use smp_io::Store;
 use smp_methods::{AnyDesign, AnyState, Started};
 use smp_prob::Request;
 use smp_rows::Rows;
-use smp_split::{Lines, Splitting, WalkFault, walk};
+use smp_split::{Lines, Splitting, WalkFault, selected_units, walk};
 use smp_tape::{DrawFault, Tape};
 use std::alloc::Global;
 
 /// A design over the rows of a frame, the done state at which a walk ended, and the lines of its steps.
 #[derive(Drop)]
-pub struct Selection<'a> {
+pub struct Walked<'a> {
     pub design: Rows<'a, AnyDesign>,
     pub state: AnyState,
+    pub lines: Lines,
+}
+
+/// What is drawn: the done state at which a walk ended, the rows that it selects, in frame order, and the lines of its steps.
+#[derive(Drop)]
+pub struct Selection {
+    pub state: AnyState,
+    pub rows: Vec<usize>,
     pub lines: Lines,
 }
 
@@ -59,14 +66,14 @@ fn started(alloc: Global, plan: &FramePlan) -> Result<Started, NoMemory>
     Started::new(alloc, plan.procedure, &plan.request, values.as_slice())
 }
 
-/// Selects by a plan with the values of a tape. All values are taken, or it is refused.
-pub fn select<'a>(alloc: Global, plan: &'a FramePlan, tape: Tape) -> Result<Selection<'a>, Status>
+// Walks by a plan with the values of a tape. All values are taken, or it is refused.
+fn walk_by_tape<'a>(alloc: Global, plan: &'a FramePlan, tape: Tape) -> Result<Walked<'a>, Status>
     requires { IsPlanned plan.now }
-    ensures follows { Follows (result_view (selection_view (plan_view plan.now)) result)
+    ensures follows { Follows (result_view (walked_view (plan_view plan.now)) result)
         (drawn_of (plan_view plan.now)
         (run tape_source (tree_of (plan_view plan.now)) (start_of (plan_view plan.now)) tape)) }
-    ensures kinds { IfErr result IsOfContent }
-    ensures selection { IfOk result (IsSelection (plan_view plan.now)) }
+    ensures kinds { IfErr result (λ error. IsOfContent (class_of error) error) }
+    ensures walked { IfOk result (IsWalked (plan_view plan.now)) }
 {
     let units = plan.frame.units();
     let Started { design, mut state } = started(alloc, plan)?;
@@ -99,28 +106,44 @@ pub fn select<'a>(alloc: Global, plan: &'a FramePlan, tape: Tape) -> Result<Sele
     if left > 0 {
         return Err(Status::TapeLong { left });
     }
-    Ok(Selection {
+    Ok(Walked {
         design,
         state,
         lines,
     })
 }
 
+/// Selects by a plan with the values of a tape. All values are taken, or it is refused.
+pub fn select(alloc: Global, plan: &FramePlan, tape: Tape) -> Result<Selection, Status>
+    requires { IsPlanned plan.now }
+    ensures follows { Follows (result_view (selection_view (plan_view plan.now)) result)
+        (drawn_of (plan_view plan.now)
+        (run tape_source (tree_of (plan_view plan.now)) (start_of (plan_view plan.now)) tape)) }
+    ensures kinds { IfErr result (λ error. IsOfContent (class_of error) error) }
+    ensures selection { IfOk result (IsSelection (plan_view plan.now)) }
+{
+    let Walked {
+        design,
+        state,
+        lines,
+    } = walk_by_tape(alloc, plan, tape)?;
+    let rows = selected_units(alloc, &design, &state)?;
+    Ok(Selection { state, rows, lines })
+}
+
 /// Reads a tape, and selects by a plan with its values.
 #[tactic(auto, unfolding(crate::specs::Verdict::drawn_stage))]
-pub fn selection_from<'a, K: Store>(
+pub fn selection_from<K: Store>(
     alloc: Global,
     store: &mut K,
-    plan: &'a FramePlan,
+    plan: &FramePlan,
     tape: &str,
-) -> Result<Selection<'a>, Status>
+) -> Result<Selection, Status>
     requires { IsPlanned plan.now }
-    ensures follows { (fs : Files) → K.files store.old ≡ Some fs → Follows (result_view (selection_view (plan_view plan.now)) result) (drawn_stage (plan_view plan.now) tape.now fs) }
-    ensures same { K.files store.new ≡ K.files store.old }
-    ensures reads { NeverFalls (K.read_faults store.old) (K.read_faults store.new) }
-    ensures writes { NeverFalls (K.write_faults store.old) (K.write_faults store.new) }
-    ensures kinds { IfErr result IsOfInputs }
-    ensures cause { IsErrOf result Status.ReadFault → Rose (K.read_faults store.old tape.now) (K.read_faults store.new tape.now) }
+    ensures reads { Reads (tape.now ∷ []) (drawn_stage (plan_view plan.now) tape.now)
+        (result_view (selection_view (plan_view plan.now)) result)
+        (told K.files K.read_faults K.write_faults store.old)
+        (told K.files K.read_faults K.write_faults store.new) }
     ensures selection { IfOk result (IsSelection (plan_view plan.now)) }
 {
     let bytes = read_input(alloc, store, tape)?;

@@ -1,14 +1,25 @@
 -- The sample file.
-use Rattle.std.specs.Prelude.{ℕ, Bool, List, [], ◌∷◌, ◌++◌, flat_map, codes}
+use Rattle.std.specs.Prelude.{ℕ, Bool, List, [], ◌∷◌, ◌++◌, map, flat_map, codes}
+use Rattle.smp_fractions.specs.Fractions.{Fraction, inverse}
 use Rattle.smp_weights.specs.Rows.{row}
 use Rattle.smp_frac.specs.declared.fractions.Frac.{Frac}
-use Rattle.smp_frac.specs.Fractions.{fraction_text}
-use Rattle.smp_weights.specs.Chosen.{Chosen, weight, chosen_units}
+use Rattle.smp_frac.specs.Fractions.{fraction, fraction_text}
+use Rattle.smp_weights.specs.Chosen.{Chosen, chosen_units}
 
--- the row of a unit: its id and its design weight
-abbrev pub sample_row : Chosen (List ℕ) → List ℕ
-sample_row u = row (u.value ∷ fraction_text (weight u.asked) ∷ [])
+-- the row of a unit: its id, and its design weight, the inverse of its inclusion probability (Tillé 2006)
+abbrev pub sample_row : List ℕ → Fraction → List ℕ
+sample_row id probability = row (id ∷ fraction_text (inverse probability) ∷ [])
 
--- the header, then the rows of the chosen units in order
+abbrev pub sample_row_of : List ℕ × Fraction → List ℕ
+sample_row_of unit = sample_row unit.0 unit.1
+
+-- the header, then the rows of the units, each given by its id and its probability
+abbrev pub sample_file : List (List ℕ × Fraction) → List ℕ
+sample_file units = row (codes "id" ∷ codes "weight" ∷ []) ++ flat_map sample_row_of units
+
+-- the sample file of the chosen units, in order
+abbrev pub chosen_unit : Chosen (List ℕ) → List ℕ × Fraction
+chosen_unit u = (u.value, fraction u.asked)
+
 abbrev pub sample_text : List (List ℕ) → List Frac → List Bool → List ℕ
-sample_text ids asked chosen = row (codes "id" ∷ codes "weight" ∷ []) ++ flat_map sample_row (chosen_units ids asked chosen)
+sample_text ids asked chosen = sample_file (map chosen_unit (chosen_units ids asked chosen))

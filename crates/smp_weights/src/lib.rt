@@ -8,7 +8,7 @@ mod totals;
 mod weights;
 
 pub use rows::CsvRows;
-pub use sample::sample_bytes;
+pub use sample::{push_sample_row, sample_bytes, sample_rows};
 pub use totals::estimate;
 
 #[cfg(test)]

@@ -1,27 +1,41 @@
-ghost use Rattle.std.specs.Prelude.{◌≡◌, ◌≤◌, length, IfOk, OnOk};
+ghost use Rattle.std.specs.Prelude.{◌≡◌, ◌≤◌, [], Some, length, IfOk, OnOk};
+ghost use Rattle.smp_frac.specs.Fractions.{fraction};
 ghost use Rattle.smp_weights.specs.Chosen.{ChosenArePositive};
 ghost use Rattle.smp_weights.specs.Rows.{AddsRow};
-ghost use Rattle.smp_weights.specs.Sample.{sample_row, sample_text};
+ghost use Rattle.smp_weights.specs.Sample.{sample_row, sample_file, sample_text};
 
 use crate::CsvRows;
 use crate::weights::weight_of;
 use smp_frac::{Bytes, Frac, NoMemory, Text};
 use std::alloc::Global;
 
-// Appends the row of a chosen unit.
-fn push_unit(alloc: Global, rows: &mut CsvRows, id: &Text, asked: Frac) -> Result<(), NoMemory>
+/// The rows of a sample file of no units: its header `id,weight`.
+pub fn sample_rows(alloc: Global) -> Result<CsvRows, NoMemory>
+    ensures { IfOk result (λ rows. rows ≡ Some (sample_file [])) }
+{
+    let mut rows = CsvRows::new(alloc);
+    rows.push(&[b"id", b"weight"])?;
+    Ok(rows)
+}
+
+/// Writes the row of a unit: its id, and its design weight, the inverse of the inclusion probability asked for it
+/// (Tillé 2006), as a fraction in lowest terms.
+pub fn push_sample_row(
+    alloc: Global,
+    rows: &mut CsvRows,
+    id: &Text,
+    asked: Frac,
+) -> Result<(), NoMemory>
     requires { 1 ≤ asked.num }
-    ensures { OnOk result (AddsRow rows.old rows.new
-        (sample_row (record { value = id.now; asked = asked }))) }
+    ensures { OnOk result (AddsRow rows.old rows.new (sample_row id.now (fraction asked))) }
 {
     let mut weight = Bytes::new(alloc);
     weight_of(asked).write(&mut weight)?;
     rows.push(&[id.as_str().as_bytes(), weight.as_slice()])
 }
 
-/// The sample file: CSV with the header `id,weight`, then a row for each chosen unit, in order,
-/// with its id and its design weight, the inverse of the inclusion probability asked for it
-/// (Tillé 2006), as a fraction in lowest terms.
+/// The sample file: CSV with the header `id,weight`, then a row for each chosen unit, in order, with its id and its
+/// design weight.
 pub fn sample_bytes(
     alloc: Global,
     ids: &[Text],
@@ -33,11 +47,10 @@ pub fn sample_bytes(
     requires positive { ChosenArePositive asked.now chosen.now }
     ensures { IfOk result (λ text. text ≡ sample_text ids.now asked.now chosen.now) }
 {
-    let mut rows = CsvRows::new(alloc);
-    rows.push(&[b"id", b"weight"])?;
+    let mut rows = sample_rows(alloc)?;
     for (place, id) in ids.iter().enumerate() {
         if chosen[place] {
-            push_unit(alloc, &mut rows, id, asked[place])?;
+            push_sample_row(alloc, &mut rows, id, asked[place])?;
         }
     }
     rows.into_bytes(alloc)

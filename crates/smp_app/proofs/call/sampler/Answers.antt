@@ -1,7 +1,11 @@
-use Rattle.smp_app.proofs.Complete.{says, is_answer}
+use Rattle.smp_app.proofs.Ends.{says, is_answer}
+use Rattle.smp_app.proofs.Headline.{headline}
 use Rattle.smp_app.proofs.call.sampler.Goals as goal
 
-pub returns : goal.returns
-returns g c =
-    is_answer c.report.result _ _ _
-    (says c.report.result _ _ _ (g.S.Sink.written c.work-status.new.out) (g.S.Sink.faults c.work-status.new.out) c.work-status.ensures.puts c.work-status.result c.work-status.ensures.says c.report.ensures.line)
+pub returns-clause-headline : goal.returns-clause-headline
+returns-clause-headline g c =
+    headline c.report.result _ _ _ (says _ _ _ _ _ _ c.work-status.ensures.puts c.work-status.ensures.says c.report.ensures.line)
+
+pub returns-clause-answer : goal.returns-clause-answer
+returns-clause-answer g c =
+    is_answer c.report.result _ _ _ (says _ _ _ _ _ _ c.work-status.ensures.puts c.work-status.ensures.says c.report.ensures.line)

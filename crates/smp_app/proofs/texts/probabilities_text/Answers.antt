@@ -1,24 +1,40 @@
-use Rattle.std.proofs.Common.{◌<◌, ◌++◌, length, option_map, arith, ap, subst, ◌∙◌}
-use Rattle.std.specs.List.{flat_map}
-use Rattle.std.specs.Prelude.{codes}
-use Rattle.std.proofs.lemmas.List.{length-map}
-use Rattle.smp_frame.specs.Bounds.{sizes_of}
-use Rattle.smp_app.specs.Jobs.{plan_view}
-use Rattle.smp_app.specs.Texts.{pair_row, probability_row}
-use Rattle.smp_app.proofs.Written.{next_row, probability_row-is}
+use Rattle.std.proofs.Common.{◌≡◌, ◌++◌, codes, option_map, ℕ, List, ◌<◌, ◌≤◌, length, get_or, ap, arith, sym, ◌∙◌, ◌∷◌, []}
+use Rattle.std.specs.List.{flat_map, range_with_len}
+use Rattle.std.proofs.lemmas.List.FromFn.{get_or-range_with_len, length-range_with_len}
+use Rattle.smp_frac.specs.Fractions.{fraction, fraction_text}
+use Rattle.smp_frame.specs.declared.frame.Unit as unit
+use Rattle.smp_weights.specs.Rows.{row}
+use Rattle.smp_app.specs.Stages.{plan_view}
+use Rattle.smp_app.specs.Texts.{probability_row}
+use Rattle.smp_app.specs.Plans.{row_id}
+use Rattle.smp_app.proofs.Written.{next_row, rows_written, id_is, probability_text}
 use Rattle.smp_app.proofs.texts.probabilities_text.Goals as goal
 
 pub loop-row-preserved : goal.loop-row-preserved
 loop-row-preserved c =
-    let plan = plan_view c.args.plan.now in
-    let u = c.unit-item.result in
-    let within : c.loop-row.row < length c.args.plan.now.frame = subst (λ n. c.loop-row.row < n) (ap length c.units-unit-items.ensures) c.loop-row-test.true in
-    let here = rw c.units-unit-items.ensures at c.unit-item.is in
-    let in_sizes : c.loop-row.row < length (sizes_of c.args.plan.now.frame) = omega (arith, length-map c.args.plan.now.frame (λ u. u.size), within) in
-    let row_is = probability_row-is plan c.loop-row.row u within here _ c.asked.result (c.requires.asked c.loop-row.row in_sizes) c.asked.ensures in
-    next_row (probability_row plan) c.args.plan.now.frame c.loop-row.row u c.loop-row.rows _ _ _ within here c.in_ok-push_probability.ensures row_is c.loop-row.invariant
+    let plan = c.args.plan.now in
+    let view = plan_view plan in
+    let r = c.loop-row.row in
+    let within : r < length plan.frame = rw c.units-units.ensures at c.loop-row-test.true in
+    let id = id_is view r c.index-units-row.result within (rw c.units-units.ensures at c.index-units-row.is) in
+    let here : get_or (range_with_len 0 (length plan.frame)) r 0 ≡ r = omega (arith, get_or-range_with_len 0 (length plan.frame) r 0 within) in
+    next_row (probability_row view) (range_with_len 0 (length plan.frame)) r 0 c.loop-row.rows _ _ _
+    (omega (arith, within, length-range_with_len 0 (length plan.frame)))
+    c.in_ok-push_probability.ensures
+    (ap (λ (u : unit.Unit). row (u.id ∷ fraction_text (fraction c.asked.result) ∷ [])) (sym c.index-units-row.is)
+    ∙ ap (λ (n : List ℕ). row (n ∷ fraction_text (fraction c.asked.result) ∷ [])) id
+    ∙ ap (λ (t : List ℕ). row (row_id view r ∷ t ∷ [])) (probability_text plan c.requires r within c.asked.result c.asked.ensures)
+    ∙ ap (probability_row view) (sym here))
+    c.loop-row.invariant
 
 pub loop-row-init : goal.loop-row-init
 loop-row-init c =
-    ap (option_map (λ text. text ++ flat_map (probability_row (plan_view c.args.plan.now)) c.args.plan.now.frame))
-    (c.in_ok-push_pair.ensures.added ∙ ap (option_map (λ before. before ++ pair_row (codes "id") (codes "probability"))) c.new-rows.ensures)
+    ap (option_map (λ (text : List ℕ). text ++ flat_map (probability_row (plan_view c.args.plan.now)) (range_with_len 0 (length c.args.plan.now.frame))))
+    (c.in_ok-push.ensures.ok.added ∙ ap (option_map (λ (before : List ℕ). before ++ row (codes "id" ∷ codes "probability" ∷ []))) c.new-rows.ensures)
+
+pub returns : goal.returns
+returns c =
+    let count = length c.args.plan.now.frame in
+    let ended : count ≤ c.loop-row.row = rw c.units-units.ensures at c.loop-row-test.false in
+    rows_written (probability_row (plan_view c.args.plan.now)) (range_with_len 0 count) c.loop-row.row c.loop-row.rows _ c.into_bytes.result
+    (omega (arith, ended, length-range_with_len 0 count)) c.loop-row.invariant c.into_bytes.ensures

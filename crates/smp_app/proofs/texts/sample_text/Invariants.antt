@@ -1,10 +1,11 @@
+use Rattle.std.proofs.Common.{◌≡◌, ◌++◌, drop, map, Some, option_map}
 use Rattle.std.specs.List.{flat_map}
-use Rattle.smp_app.specs.Jobs.{plan_view}
-use Rattle.smp_app.specs.Plans.{tree_of, drawn_units}
-use Rattle.smp_app.specs.Texts.{weight_row}
-use Rattle.smp_app.proofs.Written.{IsSoFar}
+use Rattle.smp_weights.specs.Sample.{sample_row_of}
+use Rattle.smp_app.specs.Stages.{plan_view, selection_view}
+use Rattle.smp_app.specs.Texts.{weighted_row, sample_text}
 use Rattle.smp_app.proofs.texts.sample_text.Given as goal
 
 abbrev pub invariant-loop-row : goal.invariant-loop-row
 invariant-loop-row l =
-    IsSoFar (plan_view l.plan) ((tree_of (plan_view l.plan)).selected l.selection.state) (flat_map (weight_row (plan_view l.plan)) (drawn_units (plan_view l.plan) l.selection.state)) l.row l.ids.items l.asked.items l.chosen.items
+    option_map (λ text. text ++ flat_map sample_row_of (drop l.row-index (map (weighted_row (plan_view l.plan)) l.selection.rows.items))) l.rows
+    ≡ Some (sample_text (selection_view (plan_view l.plan) l.selection))

@@ -1,0 +1,94 @@
+-- The table of the commands: what each reads, how it draws, and what it writes and puts.
+use Rattle.std.specs.Prelude.{ℕ, List, [], ◌∷◌, ◌++◌, map, Option, Some, None, option_and_then}
+use Rattle.smp_design.specs.declared.design.Design.{Design}
+use Rattle.smp_words.specs.declared.command.Command.{Command}
+use Rattle.smp_words.specs.declared.command.Command.TheVariants as commands
+use Rattle.smp_words.specs.Words.{command_of}
+use Rattle.smp_app.specs.declared.outputs.OutputFile.{OutputFile}
+use Rattle.smp_app.specs.Plans.{Plan, Drawn, quick_design}
+use Rattle.smp_app.specs.Texts.{ids_text, log_text, sample_text, report_text, probabilities_text, accepted_text}
+use Rattle.smp_app.specs.Deliveries.{Outputs}
+
+-- where the design of a command stands: in a file of this name, or with the command
+pub data DesignSource : Type 0 where
+  Held : List ℕ → DesignSource
+  Given : Design → DesignSource
+
+-- a file that is written, by its name: a text of what is drawn
+pub record DrawnFile : Type 0 where
+  pub name : List ℕ
+  pub text : Drawn → List ℕ
+
+-- How a command goes on from the plan. It puts a text of it; or it draws by the tape of a name, writes files, and puts a text.
+pub data Work : Type 0 where
+  Lists : (text : Plan → List ℕ) → Work
+  Draws : (tape : List ℕ) → (files : List DrawnFile) → (put : Drawn → List ℕ) → Work
+
+pub record Job : Type 0 where
+  pub design : DesignSource
+  pub frame : List ℕ
+  pub work : Work
+
+-- ---- the table
+
+-- the work of each command that is built
+abbrev pub job_of : Command → Option Job
+job_of (commands.Quick a) = Some (record {
+  design = Given (quick_design a.n);
+  frame = a.frame;
+  work = Draws a.tape (record { name = a.out; text = ids_text } ∷ []) log_text;
+})
+job_of (commands.Draw a) = Some (record {
+  design = Held a.design;
+  frame = a.frame;
+  work = Draws a.tape
+      (record { name = a.log; text = log_text } ∷ record { name = a.sample; text = sample_text } ∷ [])
+      report_text;
+})
+job_of (commands.Probs a) = Some (record {
+  design = Held a.design;
+  frame = a.frame;
+  work = Lists probabilities_text;
+})
+job_of (commands.Check a) = Some (record {
+  design = Held a.design;
+  frame = a.frame;
+  work = Lists accepted_text;
+})
+job_of commands.NotYet = None
+
+-- the work that some words ask for, the program's name first
+abbrev pub job_for : List (List ℕ) → Option Job
+job_for words = option_and_then job_of (command_of words)
+
+-- ---- what a job reads and writes
+
+abbrev pub design_names : DesignSource → List (List ℕ)
+design_names (Held name) = name ∷ []
+design_names (Given design) = []
+
+abbrev pub tape_names : Work → List (List ℕ)
+tape_names (Lists text) = []
+tape_names (Draws tape files put) = tape ∷ []
+
+-- the names of the files that are read, in the order of work
+abbrev pub plan_inputs : Job → List (List ℕ)
+plan_inputs job = design_names job.design ++ job.frame ∷ []
+
+abbrev pub inputs_of : Job → List (List ℕ)
+inputs_of job = plan_inputs job ++ tape_names job.work
+
+-- the names of the files that are written, in their order
+abbrev pub written_names : Work → List (List ℕ)
+written_names (Lists text) = []
+written_names (Draws tape files put) = map (λ file. file.name) files
+
+abbrev pub outputs_of : Job → List (List ℕ)
+outputs_of job = written_names job.work
+
+-- what is written and put of what is drawn
+abbrev pub written_by : Drawn → DrawnFile → OutputFile
+written_by drawn file = record { name = file.name; bytes = file.text drawn }
+
+abbrev pub outputs_by : List DrawnFile → (Drawn → List ℕ) → Drawn → Outputs
+outputs_by files put drawn = record { files = map (written_by drawn) files; put = put drawn }

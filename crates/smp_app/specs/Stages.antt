@@ -1,0 +1,235 @@
+-- What the functions of the crate owe each other: they read, and hand on a result that is a stage of the verdict.
+use Rattle.std.specs.Prelude.{◌≡◌, ◌⊎◌, ℕ, ◌≤◌, List, length, map, EachIndex, Contains, Option, Some, None, IfSome, is_some, true, Result, Ok, Err, IfErr}
+use Rattle.smp_io.specs.Counts.{Rose, NeverFalls}
+use Rattle.smp_io.specs.Sink.{with_bytes, AppendsFront}
+use Rattle.smp_io.specs.Store.{Files}
+use Rattle.smp_fractions.specs.Fractions.{Same}
+use Rattle.smp_frame.specs.Bounds.{IsFrame, sizes_of}
+use Rattle.smp_prob.specs.Requests.{IsRequest}
+use Rattle.smp_prob.specs.Standings.{IsRising, asked_fraction}
+use Rattle.smp_values.specs.Starts.{IsWhole}
+use Rattle.smp_methods.specs.Designs.{method_of}
+use Rattle.smp_rows.specs.Rows.{rows_tree, BelongsToRows, Fills}
+use Rattle.smp_words.specs.Words.{all_distinct}
+use Rattle.smp_app.specs.declared.status.Status.{Status}
+use Rattle.smp_app.specs.declared.status.Status.TheVariants as status
+use Rattle.smp_app.specs.declared.misfit.Misfit.{Misfit}
+use Rattle.smp_app.specs.declared.misfit.Misfit.TheVariants as misfits
+use Rattle.smp_app.specs.declared.plan.FramePlan.{FramePlan}
+use Rattle.smp_app.specs.declared.selection.Walked.{Walked}
+use Rattle.smp_app.specs.declared.selection.Selection.{Selection}
+use Rattle.smp_app.specs.declared.job.DesignSource as code_source
+use Rattle.smp_app.specs.declared.job.DesignSource.TheVariants as sources
+use Rattle.smp_app.specs.declared.job.PlanText.{PlanText}
+use Rattle.smp_app.specs.declared.job.PlanText.TheVariants as plan_texts
+use Rattle.smp_app.specs.declared.job.DrawnText.{DrawnText}
+use Rattle.smp_app.specs.declared.job.DrawnText.TheVariants as drawn_texts
+use Rattle.smp_app.specs.declared.job.DrawnFile as code_file
+use Rattle.smp_app.specs.declared.job.Work as code_work
+use Rattle.smp_app.specs.declared.job.Work.TheVariants as works
+use Rattle.smp_app.specs.declared.job.Job as code_job
+use Rattle.smp_app.specs.Codes.{Class, IsDone, IsUsage, IsRefusal, IsReadFault, IsWriteFault, IsNoMemory, class_of}
+use Rattle.smp_app.specs.FaultLines.{fault_line}
+use Rattle.smp_app.specs.Plans.{Plan, quick_design, request_of, row_probability, tree_of, Drawn, drawn_rows}
+use Rattle.smp_app.specs.Texts.{ids_text, log_text, sample_text, report_text, probabilities_text, accepted_text}
+use Rattle.smp_app.specs.Commands.{DesignSource, Held, Given, DrawnFile, Work, Lists, Draws, Job, inputs_of}
+use Rattle.smp_app.specs.Verdict.{Stop, Refused, Missing, without}
+use Rattle.smp_app.specs.Draws.{IsDrawnBy}
+use Rattle.smp_app.specs.Answers.{Outside, Untouched, RefusesBy, Done, ReadFault, WriteFault, NoMemory}
+
+-- ---- values of the code as the definitions see them
+
+abbrev pub plan_view : FramePlan → Plan
+plan_view plan = record { procedure = plan.procedure; units = plan.frame; n = plan.n }
+
+abbrev pub walked_view : Plan → Walked → Drawn
+walked_view plan walked = record { plan = plan; leaf = walked.state; path = walked.lines }
+
+abbrev pub selection_view : Plan → Selection → Drawn
+selection_view plan selection =
+    record { plan = plan; leaf = selection.state; path = selection.lines }
+
+abbrev pub result_view : {A B E : Type 0} → (A → B) → Result A E → Result B E
+result_view view (Ok x) = Ok (view x)
+result_view view (Err e) = Err e
+
+abbrev pub source_view : code_source.DesignSource → DesignSource
+source_view (sources.Held name) = Held name.now
+source_view (sources.Quick n) = Given (quick_design n)
+
+abbrev pub plan_text : PlanText → Plan → List ℕ
+plan_text plan_texts.Probabilities = probabilities_text
+plan_text plan_texts.Accepted = accepted_text
+
+abbrev pub drawn_text : DrawnText → Drawn → List ℕ
+drawn_text drawn_texts.Ids = ids_text
+drawn_text drawn_texts.Log = log_text
+drawn_text drawn_texts.Sample = sample_text
+drawn_text drawn_texts.Report = report_text
+
+abbrev pub file_view : code_file.DrawnFile → DrawnFile
+file_view file = record { name = file.name.now; text = drawn_text file.text }
+
+abbrev pub work_view : code_work.Work → Work
+work_view (works.Lists text) = Lists (plan_text text)
+work_view (works.Draws tape files put) = Draws tape.now (map file_view files.items) (drawn_text put)
+
+abbrev pub job_view : code_job.Job → Job
+job_view job =
+    record { design = source_view job.design; frame = job.frame.now; work = work_view job.work }
+
+-- ---- what is read
+
+-- what can be told of a store
+pub record Told : Type 0 where
+  pub files : Option Files
+  pub read_faults : List ℕ → ℕ
+  pub write_faults : List ℕ → ℕ
+
+abbrev pub told : {K : Type 0} → (K → Option Files) → (K → List ℕ → ℕ) → (K → List ℕ → ℕ) → K → Told
+told files read_faults write_faults store = record {
+  files = files store;
+  read_faults = read_faults store;
+  write_faults = write_faults store;
+}
+
+-- an error is the stage's refusal, unless a read failed or memory ran out
+abbrev pub IsErrorOf : {A : Type 0} → Class → Status → Result A Stop → Type 0
+IsErrorOf IsReadFault error stage = Unit {0}
+IsErrorOf IsNoMemory error stage = Unit {0}
+IsErrorOf other refusal stage = stage ≡ Err (Refused refusal)
+
+abbrev pub Follows : {A : Type 0} → Result A Status → Result A Stop → Type 0
+Follows (Ok x) stage = stage ≡ Ok x
+Follows (Err error) stage = IsErrorOf (class_of error) error stage
+
+-- a refusal, which has a line
+abbrev pub HasLine : Status → Type 0
+HasLine refusal = is_some (fault_line refusal) ≡ true
+
+-- the statuses to which reading the inputs and their content can lead, by class
+abbrev pub IsOfInputs : Class → Status → Type 0
+IsOfInputs IsRefusal refusal = HasLine refusal
+IsOfInputs IsReadFault status = Unit {0}
+IsOfInputs IsNoMemory status = Unit {0}
+IsOfInputs other status = ⊥
+
+-- those to which their content can lead
+abbrev pub IsOfContent : Class → Status → Type 0
+IsOfContent IsRefusal refusal = HasLine refusal
+IsOfContent IsNoMemory status = Unit {0}
+IsOfContent other status = ⊥
+
+-- A read of one of these inputs failed. Where the files are told, no refusal stands before that reading: were the file not there, it
+-- would be missing.
+pub record ReadCause {A : Type 0} (inputs : List (List ℕ)) (stage : Files → Result A Stop)
+    (before now : Told) : Type 0 where
+  pub name : List ℕ
+  pub is_input : Contains inputs name
+  pub rose : Rose (before.read_faults name) (now.read_faults name)
+  pub first : (fs : Files) → before.files ≡ Some fs → stage (without name fs) ≡ Err (Missing name)
+
+-- the status of a failed read has a cause
+abbrev pub IsCaused : Class → Type 0 → Type 0
+IsCaused IsReadFault cause = cause
+IsCaused other cause = Unit {0}
+
+-- What a function answers that reads these inputs: a stage of the verdict. It changes no file. ReadFault comes where a read of one of
+-- the inputs failed.
+pub record Reads {A : Type 0} (inputs : List (List ℕ)) (stage : Files → Result A Stop)
+    (answer : Result A Status) (before now : Told) : Type 0 where
+  pub follows : (fs : Files) → before.files ≡ Some fs → Follows answer (stage fs)
+  pub kinds : IfErr answer (λ error. IsOfInputs (class_of error) error)
+  pub cause : IfErr answer (λ error. IsCaused (class_of error) (ReadCause inputs stage before now))
+  pub same : now.files ≡ before.files
+  pub reads : NeverFalls before.read_faults now.read_faults
+  pub writes : NeverFalls before.write_faults now.write_faults
+
+-- ---- plans and selections
+
+-- A plan is that of the definition, unless memory ran out.
+abbrev pub GivesPlan : Result Plan Misfit → Result Plan Stop → Type 0
+GivesPlan (Ok plan) stage = stage ≡ Ok plan
+GivesPlan (Err misfits.NoMemory) stage = Unit {0}
+GivesPlan (Err misfit) stage = stage ≡ Err (Refused (status.Misfit misfit))
+
+-- the request of a plan is that of its sizes
+pub record IsPlanned (plan : FramePlan) : Type 0 where
+  pub frame : IsFrame plan.frame
+  pub request_is : plan.request ≡ request_of (plan_view plan)
+  pub is_request : IsRequest plan.request
+  pub whole : IsWhole plan.request
+  pub ordered : IsRising plan.request
+  pub asked : EachIndex (sizes_of plan.frame)
+      (λ row. Same (asked_fraction plan.request row) (row_probability (plan_view plan) row))
+  pub fills : Fills plan.request (length (sizes_of plan.frame)) plan.n
+
+-- a done state of the plan's design over the rows
+pub record IsWalked (plan : Plan) (walked : Walked) : Type 0 where
+  pub tree : rows_tree walked.design.rows walked.design.request.now (method_of walked.design.design).tree
+      ≡ tree_of plan
+  pub belongs : BelongsToRows walked.design.request.now (method_of walked.design.design).tree
+      (method_of walked.design.design).belongs walked.state
+  pub done : (tree_of plan).done walked.state ≡ true
+  pub drawn : IsDrawnBy plan (walked_view plan walked)
+
+-- what is drawn by a plan: the rows of such a state
+pub record IsSelection (plan : Plan) (selection : Selection) : Type 0 where
+  pub rows : selection.rows.items ≡ drawn_rows (selection_view plan selection)
+  pub drawn : IsDrawnBy plan (selection_view plan selection)
+
+-- ---- jobs
+
+-- a design that stands with the command has units to draw
+abbrev pub HasUnits : DesignSource → Type 0
+HasUnits (Held name) = Unit {0}
+HasUnits (Given design) = IfSome design.n (λ n. 1 ≤ n)
+
+-- what the words of a command are sure to have: the inputs have different names
+pub record IsJob (job : Job) : Type 0 where
+  pub distinct : all_distinct (inputs_of job) ≡ true
+  pub units : HasUnits job.design
+
+-- ---- the work before the line of a refusal
+
+-- a refusal, before its line is put: it has one, and nothing was touched
+pub record Refusing (class : Class) (refusal : Status) (words : List (List ℕ))
+    (before now : Outside) : Type 0 where
+  pub refused : RefusesBy class refusal words before.files
+  pub lined : HasLine refusal
+  pub same : Untouched before now
+
+-- what a status of each class says before the line of a refusal is put
+abbrev pub WorkSays : Class → Status → List (List ℕ) → Outside → Outside → Type 0
+WorkSays IsDone answer words before now = Done words before now
+WorkSays IsUsage answer words before now = Refusing IsUsage answer words before now
+WorkSays IsRefusal answer words before now = Refusing IsRefusal answer words before now
+WorkSays IsReadFault answer words before now = ReadFault words before now
+WorkSays IsWriteFault answer words before now = WriteFault words before now
+WorkSays IsNoMemory answer words before now = NoMemory words before now
+
+-- ---- the line of a refusal
+
+-- what can be told of a sink
+pub record Put : Type 0 where
+  pub written : Option (List ℕ)
+  pub faults : ℕ
+
+abbrev pub put_by : {S : Type 0} → (S → Option (List ℕ)) → (S → ℕ) → S → Put
+put_by written faults out = record { written = written out; faults = faults out }
+
+-- How a line was put for a refusal, and what is answered then: the whole line, or a front of it where the sink failed; or memory ran
+-- out, with a front of the line put, or with nothing.
+pub data PutsLine (refusal answer : Status) (line : List ℕ) (before now : Put) : Type 0 where
+  Whole : answer ≡ refusal → now.written ≡ with_bytes line before.written
+      → PutsLine refusal answer line before now
+  Cut : answer ≡ refusal → Rose before.faults now.faults
+      → AppendsFront line before.written now.written → PutsLine refusal answer line before now
+  OutOfMemory : answer ≡ status.NoMemory
+      → AppendsFront line before.written now.written ⊎ (now.written ≡ before.written)
+      → PutsLine refusal answer line before now
+
+-- the line of a refusal, or nothing for a status that has none
+abbrev pub Reports : Option (List ℕ) → Status → Status → Put → Put → Type 0
+Reports (Some line) refusal answer before now = PutsLine refusal answer line before now
+Reports None refusal answer before now = (answer ≡ refusal) × (now ≡ before)

@@ -1,0 +1,138 @@
+//! The table of the commands.
+
+ghost use Rattle.std.specs.Prelude.{◌≡◌, option_map, IfOk, IfSome};
+ghost use Rattle.smp_words.specs.Words.{IsAsked};
+ghost use Rattle.smp_app.specs.Commands.{Held, Lists, job_of};
+ghost use Rattle.smp_app.specs.Stages.{IsJob, job_view, file_view, plan_text, drawn_text};
+
+use smp_frac::{NoMemory, Text};
+use smp_words::{Command, DesignArguments};
+use std::alloc::Global;
+
+/// Where the design of a command stands.
+#[derive(Drop)]
+pub enum DesignSource<'a> {
+    /// In the file of this name.
+    Held(&'a Text),
+    /// With the command: the one of `quick`, for so many units.
+    Quick(u32),
+}
+
+/// A text of a plan.
+#[derive(Clone, Copy, Debug, PartialEq, Eq)]
+pub enum PlanText {
+    /// The requested probability of each unit.
+    Probabilities,
+    /// How many units are accepted.
+    Accepted,
+}
+
+/// A text of what is drawn.
+#[derive(Clone, Copy, Debug, PartialEq, Eq)]
+pub enum DrawnText {
+    /// The ids of the drawn units.
+    Ids,
+    /// The lines of the steps.
+    Log,
+    /// The drawn units with their weights.
+    Sample,
+    /// How many units were drawn, and in how many steps.
+    Report,
+}
+
+/// A file that is written of what is drawn.
+#[derive(Drop)]
+pub struct DrawnFile<'a> {
+    /// Its name.
+    pub name: &'a Text,
+    /// What it holds.
+    pub text: DrawnText,
+}
+
+/// How a command goes on from the plan.
+#[derive(Drop)]
+pub enum Work<'a> {
+    /// It puts a text of the plan.
+    Lists(PlanText),
+    /// It draws by a tape, writes files, and puts a text.
+    Draws {
+        /// The name of the tape.
+        tape: &'a Text,
+        /// The files in the order in which they are written.
+        files: Vec<DrawnFile<'a>>,
+        /// What is put after them.
+        put: DrawnText,
+    },
+}
+
+/// What a command reads, how it draws, and what it writes and puts.
+#[derive(Drop)]
+pub struct Job<'a> {
+    /// Where its design stands.
+    pub design: DesignSource<'a>,
+    /// The name of its frame.
+    pub frame: &'a Text,
+    /// How it goes on from the plan.
+    pub work: Work<'a>,
+}
+
+impl<'a> Job<'a> {
+    /// The job of a command; `None` for one that isn't built yet.
+    pub fn of(alloc: Global, command: &'a Command) -> Result<Option<Job<'a>>, NoMemory>
+        requires { IsAsked command.now }
+        ensures job { IfOk result (λ job. option_map job_view job ≡ job_of command.now) }
+        ensures is_job { IfOk result (λ job. IfSome job (λ j. IsJob (job_view j))) }
+    {
+        match command {
+            Command::Quick(arguments) => {
+                let mut files = Vec::new(alloc);
+                files.push(drawn_file(&arguments.out, DrawnText::Ids))?;
+                Ok(Some(Job {
+                    design: DesignSource::Quick(arguments.n),
+                    frame: &arguments.frame,
+                    work: Work::Draws {
+                        tape: &arguments.tape,
+                        files,
+                        put: DrawnText::Log,
+                    },
+                }))
+            }
+            Command::Draw(arguments) => {
+                let mut files = Vec::new(alloc);
+                files.push(drawn_file(&arguments.log, DrawnText::Log))?;
+                files.push(drawn_file(&arguments.sample, DrawnText::Sample))?;
+                Ok(Some(Job {
+                    design: DesignSource::Held(&arguments.design),
+                    frame: &arguments.frame,
+                    work: Work::Draws {
+                        tape: &arguments.tape,
+                        files,
+                        put: DrawnText::Report,
+                    },
+                }))
+            }
+            Command::Probs(arguments) => Ok(Some(listing(arguments, PlanText::Probabilities))),
+            Command::Check(arguments) => Ok(Some(listing(arguments, PlanText::Accepted))),
+            Command::NotYet => Ok(None),
+        }
+    }
+}
+
+fn drawn_file<'a>(name: &'a Text, text: DrawnText) -> DrawnFile<'a>
+    ensures { file_view result ≡ record { name = name.now; text = drawn_text text } }
+{
+    DrawnFile { name, text }
+}
+
+// A text of the plan of a design and a frame is put.
+fn listing<'a>(arguments: &'a DesignArguments, text: PlanText) -> Job<'a>
+    ensures design { (job_view result).design ≡ Held arguments.now.design }
+    ensures frame { (job_view result).frame ≡ arguments.now.frame }
+    ensures work { (job_view result).work ≡ Lists (plan_text text) }
+{
+    Job {
+        design: DesignSource::Held(&arguments.design),
+        frame: &arguments.frame,
+        work: Work::Lists(text),
+    }
+}

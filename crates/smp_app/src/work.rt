@@ -1,0 +1,82 @@
+ghost use Rattle.std.specs.Prelude.{◌≡◌, map, IfOk, Some, Ok};
+ghost use Rattle.smp_io.specs.Store.{Files};
+ghost use Rattle.smp_app.specs.Commands.{inputs_of, outputs_of, written_by, outputs_by};
+ghost use Rattle.smp_app.specs.Verdict.{outputs_stage};
+ghost use Rattle.smp_app.specs.Draws.{IsExact};
+ghost use Rattle.smp_app.specs.Deliveries.{outputs_view, names_of};
+ghost use Rattle.smp_app.specs.Stages.{Reads, IsJob, IsPlanned, IsSelection, told, job_view, file_view, drawn_text, plan_view, selection_view, result_view};
+
+use crate::job::{DrawnFile, DrawnText, Job, Work};
+use crate::plan::{FramePlan, plan_from};
+use crate::selection::{Selection, selection_from};
+use crate::{OutputFile, Outputs, Status};
+use smp_frac::NoMemory;
+use smp_io::Store;
+use std::alloc::Global;
+
+/// Reads the inputs of a job, and does all of its work but to write and put its outputs.
+pub fn outputs_from<K: Store>(alloc: Global, store: &mut K, job: &Job) -> Result<Outputs, Status>
+    requires { IsJob (job_view job.now) }
+    ensures reads { Reads (inputs_of (job_view job.now)) (outputs_stage (job_view job.now))
+        (result_view outputs_view result)
+        (told K.files K.read_faults K.write_faults store.old)
+        (told K.files K.read_faults K.write_faults store.new) }
+    ensures exact { (fs : Files) → K.files store.old ≡ Some fs
+        → IfOk result (λ _. IsExact (job_view job.now) fs) }
+    ensures named { IfOk result (λ outputs. names_of (outputs_view outputs).files
+        ≡ outputs_of (job_view job.now)) }
+{
+    let plan = plan_from(alloc, store, job)?;
+    match &job.work {
+        Work::Lists(text) => Ok(Outputs {
+            files: Vec::new(alloc),
+            put: text.bytes(alloc, &plan)?,
+        }),
+        Work::Draws { tape, files, put } => {
+            let selection = selection_from(alloc, store, &plan, tape.as_str())?;
+            Ok(drawn_outputs(alloc, files.as_slice(), *put, &plan, &selection)?)
+        }
+    }
+}
+
+// What is written and put of what is drawn.
+fn drawn_outputs(
+    alloc: Global,
+    files: &[DrawnFile],
+    put: DrawnText,
+    plan: &FramePlan,
+    selection: &Selection,
+) -> Result<Outputs, NoMemory>
+    requires planned { IsPlanned plan.now }
+    requires selection { IsSelection (plan_view plan.now) selection.now }
+    ensures { IfOk result (λ outputs. outputs_view outputs
+        ≡ outputs_by (map file_view files.now) (drawn_text put)
+        (selection_view (plan_view plan.now) selection.now)) }
+{
+    let mut written = Vec::new(alloc);
+    for file in files {
+        written.push(output_file(alloc, file, plan, selection)?)?;
+    }
+    let put = put.bytes(alloc, plan, selection)?;
+    Ok(Outputs {
+        files: written,
+        put,
+    })
+}
+
+fn output_file(
+    alloc: Global,
+    file: &DrawnFile,
+    plan: &FramePlan,
+    selection: &Selection,
+) -> Result<OutputFile, NoMemory>
+    requires planned { IsPlanned plan.now }
+    requires selection { IsSelection (plan_view plan.now) selection.now }
+    ensures { IfOk result (λ written. written
+        ≡ written_by (selection_view (plan_view plan.now) selection.now) (file_view file.now)) }
+{
+    Ok(OutputFile {
+        name: file.name.copy(alloc)?,
+        bytes: file.text.bytes(alloc, plan, selection)?,
+    })
+}
