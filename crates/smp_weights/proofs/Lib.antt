@@ -1,5 +1,6 @@
+pub mod Arithmetic
 pub mod Chosen
 pub mod Counted
-pub mod Terms
+pub mod Steps
 pub mod Values
 pub mod Written

@@ -1,4 +1,6 @@
+pub mod Arithmetic
 pub mod Chosen
+pub mod Divided
 pub mod Sample
 pub mod Totals
 pub mod Values

@@ -1,5 +1,5 @@
 -- Rows of CSV as `csv` writes them.
-use Rattle.std.specs.Prelude.{◌≡◌, ℕ, ◌++◌, List, Option, Some, true, option_map, is_some}
+use Rattle.std.specs.Prelude.{◌≡◌, ℕ, ◌++◌, List, Option, true, option_map, is_some}
 use Rattle.csv.specs.Writing.{default_writer, with_flexible, row_text}
 
 -- the text of a row: its fields with a comma in between, in double quotes where they need them, and a line feed

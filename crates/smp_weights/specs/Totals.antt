@@ -1,61 +1,39 @@
--- Weighted totals, by what each step of the exact arithmetic answers.
-use Rattle.std.specs.Prelude.{◌≡◌, ℕ, ◌*◌, ◌/◌, ◌^◌, ◌<◌, ◌≤◌, max, Bool, if◌then◌else◌, List, [], ◌∷◌, filter, ℤ, unsigned_abs, IfOk, OnOk, OnErr}
-use Rattle.std.specs.Prelude.{Result, Ok, Err}
-use Rattle.std.proofs.Common.{refl}
+-- Weighted totals in exact arithmetic.
+use Rattle.std.specs.Prelude.{Bool, if◌then◌else◌, List, [], ◌∷◌, filter, ℤ, Result, Ok, Err}
 use Rattle.std.specs.Int.{is_negative, is_positive}
 use Rattle.smp_frac.specs.declared.fractions.Frac.{Frac}
 use Rattle.smp_frac.specs.declared.fractions.Wide.{Wide}
 use Rattle.smp_frac.specs.declared.signed.Signed.{Signed}
-use Rattle.smp_frac.specs.Divisors.{greatest_common_divisor}
-use Rattle.smp_frac.specs.Fractions.{fraction, signed_fraction, sum_size, difference_size}
-use Rattle.smp_fractions.specs.Fractions.{Fraction, Same, positive_one, whole, plus, minus, times}
+use Rattle.smp_fractions.specs.Fractions.{whole, integer}
+use Rattle.smp_weights.specs.Arithmetic.{lowest_terms, product_of, sum_of, difference_of}
 use Rattle.smp_weights.specs.Chosen.{Chosen, weight}
 
--- a value as described where the greatest number that it needs is below 2^126, and else `Wide`
-pub record IsAnswer {A : Type 0} (IsValue : A → Type 0) (size : ℕ) (answer : Result A Wide) : Type 0 where
-  pub value : IfOk answer IsValue
-  pub fits : OnOk answer (size < 2 ^ 126)
-  pub wide : OnErr answer (2 ^ 126 ≤ size)
+infixl 10 ◌>>=◌
+-- one step and then, unless it is too wide, the next
+abbrev pub ◌>>=◌ : {A B : Type 0} → Result A Wide → (A → Result B Wide) → Result B Wide
+(Ok answer) >>= next = next answer
+(Err wide) >>= next = Err wide
 
--- the greater of the numerator and the denominator of n / d in lowest terms
-abbrev pub ratio_size : ℕ → ℕ → ℕ
-ratio_size n d = let divisor = greatest_common_divisor n d in max (n / divisor) (d / divisor)
+-- the term of a unit: its value, without the sign, times its weight
+abbrev pub term_of : Chosen ℤ → Result Frac Wide
+term_of u = product_of (lowest_terms (integer u.value)) (lowest_terms (weight u.asked))
 
--- the size of a unit's value, times its weight
-abbrev pub sized : Chosen ℤ → Fraction
-sized u = times (whole (unsigned_abs u.value)) (weight u.asked)
+-- a total and the term of one more unit added to it
+abbrev pub with_term : Frac → Chosen ℤ → Result Frac Wide
+with_term total u = term_of u >>= sum_of total
 
--- the term of a unit, whose inclusion probability is above zero
-pub record IsTerm (u : Chosen ℤ) (answer : Result Frac Wide) : Type 0 where
-  pub positive : 1 ≤ u.asked.num
-  pub quotient : IsAnswer (λ f. Same (fraction f) (sized u)) (ratio_size (unsigned_abs u.value * u.asked.den) u.asked.num) answer
+-- a total and the terms of the units added to it in order
+abbrev pub with_terms : Frac → List (Chosen ℤ) → Result Frac Wide
+with_terms total [] = Ok total
+with_terms total (u ∷ us) = with_term total u >>= (λ next. with_terms next us)
 
--- adding q to p answers this
-abbrev pub Adds : Frac → Frac → Result Frac Wide → Type 0
-Adds p q = IsAnswer (λ s. Same (fraction s) (plus (fraction p) (fraction q))) (sum_size p q)
-
--- taking q from p answers this
-abbrev pub Subtracts : Frac → Frac → Result Signed Wide → Type 0
-Subtracts p q = IsAnswer (λ d. Same (signed_fraction d) (minus (fraction p) (fraction q))) (difference_size p q)
-
-pub zero_lowest : greatest_common_divisor 0 1 ≡ 1
-unfolding greatest_common_divisor
-zero_lowest = refl
-
--- the total of no terms
+-- the total of no terms, 0/1
 abbrev pub zero : Frac
-zero = record { num = 0; den = 1; positive = positive_one; lowest = zero_lowest }
+zero = lowest_terms (whole 0)
 
--- adding the term of a unit to a total ends with the answer: `Wide` where the term or the sum is too wide, and else the sum
-pub data AddsTerm : Frac → Chosen ℤ → Result Frac Wide → Type 0 where
-  wide_term : (total : Frac) (u : Chosen ℤ) (w : Wide) → IsTerm u (Err w) → AddsTerm total u (Err w)
-  sum : (total term : Frac) (u : Chosen ℤ) (answer : Result Frac Wide) → IsTerm u (Ok term) → Adds total term answer → AddsTerm total u answer
-
--- adding the terms of the units one after another ends with the answer: `Wide` at the first step that answers it, and else the last sum
-pub data AddsUp : Frac → List (Chosen ℤ) → Result Frac Wide → Type 0 where
-  ends : (total : Frac) → AddsUp total [] (Ok total)
-  stops : (total : Frac) (u : Chosen ℤ) (us : List (Chosen ℤ)) (w : Wide) → AddsTerm total u (Err w) → AddsUp total (u ∷ us) (Err w)
-  goes_on : (total next : Frac) (u : Chosen ℤ) (us : List (Chosen ℤ)) (answer : Result Frac Wide) → AddsTerm total u (Ok next) → AddsUp next us answer → AddsUp total (u ∷ us) answer
+-- the terms of the units, added in order from 0/1 on
+abbrev pub total_of : List (Chosen ℤ) → Result Frac Wide
+total_of us = with_terms zero us
 
 -- whether a value is below zero, or above it
 abbrev pub has_sign : Bool → ℤ → Bool
@@ -68,8 +46,8 @@ gains us = filter (λ u. is_positive u.value) us
 abbrev pub losses : List (Chosen ℤ) → List (Chosen ℤ)
 losses us = filter (λ u. is_negative u.value) us
 
--- the terms above zero are added up, then those below it, and the second sum is taken from the first
-pub data IsEstimate : List (Chosen ℤ) → Result Signed Wide → Type 0 where
-  wide_above : (us : List (Chosen ℤ)) (w : Wide) → AddsUp zero (gains us) (Err w) → IsEstimate us (Err w)
-  wide_below : (us : List (Chosen ℤ)) (w : Wide) → AddsUp zero (losses us) (Err w) → IsEstimate us (Err w)
-  less : (us : List (Chosen ℤ)) (p q : Frac) (answer : Result Signed Wide) → AddsUp zero (gains us) (Ok p) → AddsUp zero (losses us) (Ok q) → Subtracts p q answer → IsEstimate us answer
+-- the terms above zero are added up, then those below it, and the second sum is taken from
+-- the first
+abbrev pub estimate_of : List (Chosen ℤ) → Result Signed Wide
+estimate_of us =
+    total_of (gains us) >>= (λ above. total_of (losses us) >>= (λ below. difference_of above below))

@@ -3,7 +3,7 @@ ghost use Rattle.smp_fractions.specs.Fractions.{Same};
 ghost use Rattle.smp_frac.specs.Fractions.{signed_fraction};
 ghost use Rattle.smp_weights.specs.Chosen.{ChosenArePositive, chosen_units};
 ghost use Rattle.smp_weights.specs.Totals as Totals;
-ghost use Rattle.smp_weights.specs.Totals.{AddsTerm, AddsUp, IsEstimate, IsTerm, zero};
+ghost use Rattle.smp_weights.specs.Totals.{estimate_of, term_of, total_of};
 ghost use Rattle.smp_weights.specs.Values.{weighted_total};
 
 use crate::weights::weight_of;
@@ -12,7 +12,7 @@ use smp_frac::{Frac, Signed, Wide, difference};
 // The size of a value, times the weight of its unit.
 fn term(value: i64, asked: Frac) -> Result<Frac, Wide>
     requires { 1 ≤ asked.num }
-    ensures { IsTerm (record { value = value; asked = asked }) result }
+    ensures { result ≡ term_of (record { value = value; asked = asked }) }
 {
     let size = Frac::new(value.unsigned_abs() as u128, 1).unwrap();
     size.mul(weight_of(asked))
@@ -21,7 +21,7 @@ fn term(value: i64, asked: Frac) -> Result<Frac, Wide>
 // The sum of a total and a term.
 fn with_term(total: Frac, value: i64, asked: Frac) -> Result<Frac, Wide>
     requires { 1 ≤ asked.num }
-    ensures { AddsTerm total (record { value = value; asked = asked }) result }
+    ensures { result ≡ Totals.with_term total (record { value = value; asked = asked }) }
 {
     total.add(term(value, asked)?)
 }
@@ -38,9 +38,8 @@ fn total(minus: bool, values: &[i64], asked: &[Frac], chosen: &[bool]) -> Result
     requires asked { length asked.now ≡ length values.now }
     requires chosen { length chosen.now ≡ length values.now }
     requires positive { ChosenArePositive asked.now chosen.now }
-    ensures { AddsUp zero
-        (filter (λ u. Totals.has_sign minus u.value)
-        (chosen_units values.now asked.now chosen.now)) result }
+    ensures { result ≡ total_of (filter (λ u. Totals.has_sign minus u.value)
+        (chosen_units values.now asked.now chosen.now)) }
 {
     let mut total = Frac::new(0, 1).unwrap();
     for (place, &value) in values.iter().enumerate() {
@@ -62,7 +61,7 @@ pub fn estimate(values: &[i64], asked: &[Frac], chosen: &[bool]) -> Result<Signe
     requires asked { length asked.now ≡ length values.now }
     requires chosen { length chosen.now ≡ length values.now }
     requires positive { ChosenArePositive asked.now chosen.now }
-    ensures answer { IsEstimate (chosen_units values.now asked.now chosen.now) result }
+    ensures answer { result ≡ estimate_of (chosen_units values.now asked.now chosen.now) }
 
     // its value, in exact fractions
     ensures value { IfOk result (λ total. Same (signed_fraction total)
