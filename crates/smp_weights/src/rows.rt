@@ -14,19 +14,21 @@ use std::marker::Model;
 /// It is seen as the text of its rows, or as no text once memory ran out.
 #[derive(Drop)]
 pub struct CsvRows {
-    writer: Option<Writer<Vec<u8>>>,
+    writer: Writer<Vec<u8>>,
+    // Memory ran out, so that nothing is told any more.
+    failed: bool,
 }
 
 impl Model for CsvRows {
-    ghost use Rattle.std.specs.Prelude.{ℕ, List, Option, Some, IfSome, option_and_then};
+    ghost use Rattle.std.specs.Prelude.{◌≡◌, ℕ, List, Option, Some, None, false, if◌then◌else◌};
     ghost use Rattle.csv.specs.Writing.{text_written};
     ghost use Rattle.smp_weights.specs.Kept.{IsBetween};
 
     ghost Value = { Option (List ℕ) };
 
-    ghost view = { λ a. option_and_then (text_written (λ v. Some v.items)) a.writer };
+    ghost view = { λ a. if a.failed then None else text_written (λ v. Some v.items) a.writer };
 
-    ghost invariant = { λ a. IfSome a.writer IsBetween };
+    ghost invariant = { λ a. a.failed ≡ false → IsBetween a.writer };
 }
 
 impl CsvRows {
@@ -35,11 +37,10 @@ impl CsvRows {
         ensures { result ≡ Some [] }
     {
         CsvRows {
-            writer: Some(
-                WriterBuilder::new()
-                    .flexible(true)
-                    .from_writer(Vec::new(alloc)),
-            ),
+            writer: WriterBuilder::new()
+                .flexible(true)
+                .from_writer(Vec::new(alloc)),
+            failed: false,
         }
     }
 
@@ -48,13 +49,13 @@ impl CsvRows {
         ensures ok { OnOk result (AddsRow self.old self.new (row (map (λ f. f.now) fields.now))) }
         ensures err { OnErr result (self.new ≡ None) }
     {
-        let Some(writer) = &mut self.writer else {
+        if self.failed {
             return Err(NoMemory);
-        };
-        match writer.write_fields(fields) {
+        }
+        match self.writer.write_fields(fields) {
             Ok(()) => Ok(()),
             Err(_) => {
-                self.writer = None;
+                self.failed = true;
                 Err(NoMemory)
             }
         }
@@ -64,10 +65,10 @@ impl CsvRows {
     pub fn into_bytes(self, alloc: Global) -> Result<Bytes, NoMemory>
         ensures { IfOk result (λ bytes. self ≡ Some bytes) }
     {
-        let CsvRows { writer } = self;
-        let Some(writer) = writer else {
+        let CsvRows { writer, failed } = self;
+        if failed {
             return Err(NoMemory);
-        };
+        }
         match writer.into_inner() {
             Ok(text) => bytes_of(alloc, text.as_slice()),
             Err(_) => Err(NoMemory),
