@@ -1,4 +1,4 @@
-ghost use Rattle.std.specs.Prelude.{◌≡◌, ◌∷◌, [], length, IfOk, OnOk, Some, string_bytes};
+ghost use Rattle.std.specs.Prelude.{◌≡◌, ◌++◌, ◌∷◌, [], length, IfOk, OnOk, Some, string_bytes};
 ghost use Rattle.smp_app.specs.Texts;
 ghost use Rattle.smp_app.specs.Texts.{step_text};
 ghost use Rattle.smp_app.specs.Stages as Stages;
@@ -89,18 +89,18 @@ fn sample_text(alloc: Global, plan: &FramePlan, selection: &Selection) -> Result
 fn steps_text(alloc: Global, steps: &[(Kind, u128, u128)]) -> Result<Bytes, NoMemory>
     ensures { IfOk result (λ text. text ≡ Texts.steps_text steps.now) }
 {
-    let mut text = Bytes::new(alloc);
+    let mut text = String::new(alloc);
     for step in steps {
-        text.push_all(step_line(alloc, step)?.as_bytes())?;
+        push_step(&mut text, step)?;
     }
-    Ok(text)
+    bytes_of(alloc, &text)
 }
 
-fn step_line(alloc: Global, step: &(Kind, u128, u128)) -> Result<String, AllocError>
-    ensures { IfOk result (λ line. string_bytes line ≡ step_text step.now) }
+fn push_step(text: &mut String, step: &(Kind, u128, u128)) -> Result<(), AllocError>
+    ensures { OnOk result (string_bytes text.new ≡ string_bytes text.old ++ step_text step.now) }
 {
     let (kind, bound, value) = *step;
-    format!(in alloc; "{} {bound} {value}\n", kind.word())
+    write!(text, "{} {bound} {value}\n", kind.word())
 }
 
 // The report of a draw: how many units were drawn of how many, and in how many steps.
