@@ -1,0 +1,10 @@
+mod LineSums
+mod Proportions
+mod MoveTotals
+mod Before
+mod Landed
+mod Runs
+mod Bounds
+mod Errors
+mod Counts
+mod Starts

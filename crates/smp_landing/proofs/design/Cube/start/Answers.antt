@@ -1,0 +1,15 @@
+use Rattle.smp_flight.specs.States as flights
+use Rattle.smp_flight.specs.States.{Flight, IsFlight}
+use Rattle.smp_landing.proofs.Starts.{cube_starts, cube_balances}
+use Rattle.smp_landing.proofs.design.Cube.start.Goals as goal
+
+pub returns-clause-starts : goal.returns-clause-starts
+returns-clause-starts c =
+    let units = c.args.self.now in
+    let ok : IsFlight c.args.self.now (flights.started c.args.self.now) = rw (c.in_ok-start.ensures.is, c.self.view_is) at c.in_ok-start.ensures.flight in
+    rw (c.in_ok-start.ensures.is, c.self.view_is) (cube_starts c.args.self.now ok)
+
+pub returns-clause-balanced : goal.returns-clause-balanced
+returns-clause-balanced c =
+    let ok : IsFlight c.args.self.now (flights.started c.args.self.now) = rw (c.in_ok-start.ensures.is, c.self.view_is) at c.in_ok-start.ensures.flight in
+    rw (c.in_ok-start.ensures.is, c.self.view_is) (cube_balances c.args.self.now ok)

@@ -1,0 +1,12 @@
+use Rattle.std.proofs.Common.{◌≡◌, false, sym}
+use Rattle.smp_values.specs.Values.{is_settled}
+use Rattle.smp_flight.specs.States.{IsFlight}
+use Rattle.smp_landing.specs.Laws.Splits.{some_row}
+use Rattle.smp_landing.proofs.state.CubeState.advance.Goals as goal
+
+pub drop_row-requires-clause-some : goal.drop_row-requires-clause-some
+drop_row-requires-clause-some c =
+    let ok : IsFlight c.args.shape.now c.self.inside.flight = rw (← c.self.view_is, c.in-Flying.is) at c.requires.state in
+    let going : is_settled c.self.inside.flight.shares ≡ false = rw (← c.self.view_is, c.in-Flying.is) at c.requires.going in
+    let e = rw c.in-Independent.is at c.step.ensures.is in
+    some_row c.args.shape.now c.self.inside.flight c.self.inside.left ok (sym e) going
