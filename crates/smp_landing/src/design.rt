@@ -55,7 +55,7 @@ impl Cube {
     }
 
     /// The state before the first step. Over all draws, each unit is selected with the probability that is its value, and where the values
-    /// add up to a whole number, that many units are. The flight keeps each balancing total, and the units that are undecided where the landing
+    /// add up to a whole number, that many units are. The flight keeps each balancing total, and the units that are fractional where the landing
     /// begins bound the error of each estimate.
     pub fn start(&self, alloc: Global) -> Result<CubeState, NoMemory>
         ensures state { IfOk result (λ state. state ≡ started self.now) }

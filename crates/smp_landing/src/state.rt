@@ -125,7 +125,6 @@ impl CubeState {
     {
         match self.phase {
             Phase::Flying => match step(shape, &self.flight) {
-                Next::Move(mv) => apply(shape, &mut self.flight, &mv, draw < mv.plus_weight),
                 Next::Independent => {
                     self.left = landed(&self.flight, self.left);
                     self.flight.drop_row(shape);
@@ -136,6 +135,7 @@ impl CubeState {
                     self.steps.set(&mut self.room);
                     self.phase = Phase::Pairing;
                 }
+                Next::Move(mv) => apply(shape, &mut self.flight, &mv, draw < mv.plus_weight),
             },
             Phase::Pairing => self.steps.advance(draw),
         }
