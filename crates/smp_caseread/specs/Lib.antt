@@ -1,3 +1,4 @@
 pub mod Compared
 pub mod Escapes
 pub mod Lines
+pub mod Tallies

@@ -1,5 +1,8 @@
 //! What is said of cases.
 
+ghost use Rattle.std.specs.Prelude.{◌≡◌};
+ghost use Rattle.smp_caseread.specs.Tallies.{none_counted, counted};
+
 use crate::differences::Differences;
 use crate::reader::CaseFault;
 use std::fmt;
@@ -58,7 +61,9 @@ pub struct Tally {
 
 impl Tally {
     /// No case yet.
-    pub fn new() -> Tally {
+    pub fn new() -> Tally
+        ensures { result ≡ none_counted }
+    {
         Tally {
             ok: 0,
             differ: 0,
@@ -66,14 +71,15 @@ impl Tally {
         }
     }
 
-    /// Counts one more case.
-    pub fn count(&mut self, verdict: &Verdict) {
-        let count = match verdict {
-            Verdict::Ok => &mut self.ok,
-            Verdict::Differs(_) => &mut self.differ,
-            Verdict::NotRead(_) => &mut self.not_read,
-        };
-        *count = count.saturating_add(1);
+    /// Counts one more case. A count stops at its end.
+    pub fn count(&mut self, verdict: &Verdict)
+        ensures { self.new ≡ counted verdict.now self.old }
+    {
+        match verdict {
+            Verdict::Ok => self.ok = self.ok.saturating_add(1),
+            Verdict::Differs(_) => self.differ = self.differ.saturating_add(1),
+            Verdict::NotRead(_) => self.not_read = self.not_read.saturating_add(1),
+        }
     }
 }
 

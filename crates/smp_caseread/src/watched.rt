@@ -1,5 +1,7 @@
 //! A store that is watched.
 
+ghost use Rattle.std.specs.Prelude.{◌≡◌, ◌++◌, ◌∷◌, [], true, map, IfOk, OnOk, string_bytes};
+
 use smp_frac::{Bytes, NoMemory};
 use smp_io::{Store, StoreFault};
 use std::alloc::{AllocError, Global};
@@ -14,7 +16,11 @@ pub struct WatchedStore<K: Store + Drop> {
 
 impl<K: Store + Drop> WatchedStore<K> {
     /// A store under which nothing was written yet.
-    pub fn new(alloc: Global, store: K) -> WatchedStore<K> {
+    pub fn new(alloc: Global, store: K) -> WatchedStore<K>
+        ensures store { result.store ≡ store }
+        ensures names { result.names.items ≡ [] }
+        ensures whole { result.is_whole ≡ true }
+    {
         WatchedStore {
             store,
             names: Vec::new(alloc),
@@ -23,7 +29,11 @@ impl<K: Store + Drop> WatchedStore<K> {
     }
 
     /// The store itself, and the names under which it was asked to write, in order, where there was memory for them all.
-    pub fn into_parts(self) -> (K, Result<Vec<String>, NoMemory>) {
+    pub fn into_parts(self) -> (K, Result<Vec<String>, NoMemory>)
+        ensures store { result.0 ≡ self.store }
+        ensures names { IfOk result.1 (λ names. names ≡ self.names) }
+        ensures whole { OnOk result.1 (self.is_whole ≡ true) }
+    {
         let WatchedStore {
             store,
             names,
@@ -37,7 +47,10 @@ impl<K: Store + Drop> WatchedStore<K> {
     }
 }
 
-fn keep(names: &mut Vec<String>, name: &str) -> Result<(), AllocError> {
+fn keep(names: &mut Vec<String>, name: &str) -> Result<(), AllocError>
+    ensures { OnOk result (map string_bytes names.new.items
+        ≡ map string_bytes names.old.items ++ name.now ∷ []) }
+{
     let name = String::from_str(*names.allocator(), name)?;
     names.push(name)?;
     Ok(())
