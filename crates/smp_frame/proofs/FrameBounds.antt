@@ -1,5 +1,5 @@
--- Every frame that is read has few units, with small sizes and values.
-use Rattle.std.proofs.Common.{◌≡◌, ℕ, zero, suc, ◌+◌, ◌^◌, ◌<◌, ◌≤◌, ℤ, pos, neg_ℤ, nat_abs, Bool, true, false, cond, not, ◌==◌, nat_lt, nat_le, List, [], ◌∷◌, length, Option, Some, None, Result, Ok, Err, IfOk, All, refl, subst, arith}
+-- Every frame that is read has few units, with small sizes and values, and a value for each asked column.
+use Rattle.std.proofs.Common.{◌≡◌, ℕ, zero, suc, ◌+◌, ◌^◌, ◌<◌, ◌≤◌, ℤ, pos, neg_ℤ, nat_abs, Bool, true, false, cond, not, ◌==◌, nat_lt, nat_le, List, [], ◌∷◌, length, Option, Some, None, Result, Ok, Err, IfOk, All, refl, ap, subst, arith}
 use Rattle.std.specs.List.{list_all, list_any}
 use Rattle.std.specs.Str.{bytes_eq, is_utf8}
 use Rattle.std.specs.Str.Parse.{digits_value}
@@ -10,9 +10,9 @@ use Rattle.smp_lines.specs.Decimals.{is_decimal}
 use Rattle.smp_frame.specs.Steps.{◌>>=◌, guard}
 use Rattle.smp_frame.specs.Records.{field, records_of}
 use Rattle.smp_frame.specs.Fields.{size_of, size_in, is_minus, without_minus, field_value, values_in}
-use Rattle.smp_frame.specs.Layouts.{layout_of}
+use Rattle.smp_frame.specs.Layouts.{column_in, asked_in, columns_in, layout_of}
 use Rattle.smp_frame.specs.Frames.{unit_of, units_from, units_of, frame_of}
-use Rattle.smp_frame.specs.Bounds.{AreNear, IsFrame}
+use Rattle.smp_frame.specs.Bounds.{AreNear, HaveValues, IsFrame}
 use Rattle.smp_frame.specs.Reads.{Reads}
 use Rattle.smp_frame.specs.declared.columns.Columns.{Columns}
 use Rattle.smp_frame.specs.declared.layout.Column.{Column}
@@ -73,13 +73,45 @@ values_are_near number row (column ∷ columns) values h =
     let more = goes_on _ (values_in number row columns) values first.gives in
     subst AreNear (ok_is _ _ more.gives) (All-cons (λ (z : ℤ). nat_abs z < 2 ^ 31) first.value more.value (value_is_near number column.name (field row column.place) first.value first.is) (values_are_near number row columns more.value more.is))
 
--- a unit with small sizes and values
-record IsSmall (u : unit.Unit) : Type 0 where
+one_more : (m n : ℕ) → m ≡ n → suc m ≡ suc n
+one_more m n h = ap suc h
+
+values_are_counted : (number : ℕ) (row : List (List ℕ)) (columns : List Column) (values : List ℤ) → values_in number row columns ≡ Ok values → length values ≡ length columns
+values_are_counted number row [] values h = subst (λ (vs : List ℤ). length vs ≡ 0) (ok_is _ _ h) refl
+values_are_counted number row (column ∷ columns) values h =
+    let first = goes_on _ (field_value number column.name (field row column.place)) values h in
+    let more = goes_on _ (values_in number row columns) values first.gives in
+    subst (λ (vs : List ℤ). length vs ≡ suc (length columns)) (ok_is _ _ more.gives)
+    (one_more (length more.value) (length columns) (values_are_counted number row columns more.value more.is))
+
+columns_are_counted : (header names : List (List ℕ)) (columns : List Column) → columns_in header names ≡ Ok columns → length columns ≡ length names
+columns_are_counted header [] columns h = subst (λ (cs : List Column). length cs ≡ 0) (ok_is _ _ h) refl
+columns_are_counted header (name ∷ names) columns h =
+    let first = goes_on _ (column_in header name) columns h in
+    let more = goes_on _ (columns_in header names) columns first.gives in
+    subst (λ (cs : List Column). length cs ≡ suc (length names)) (ok_is _ _ more.gives)
+    (one_more (length more.value) (length names) (columns_are_counted header names more.value more.is))
+
+layout_is_counted : (columns : Columns) (header : List (List ℕ)) (layout : Layout) → layout_of columns header ≡ Ok layout → length layout.values ≡ length columns.values
+unfolding layout_of
+layout_is_counted columns header layout h =
+    let id = goes_on _ (column_in header columns.id) layout h in
+    let stratum = goes_on _ (asked_in header columns.stratum) layout id.gives in
+    let psu = goes_on _ (asked_in header columns.psu) layout stratum.gives in
+    let size = goes_on _ (asked_in header columns.size) layout psu.gives in
+    let second = goes_on _ (asked_in header columns.second_size) layout size.gives in
+    let values = goes_on _ (columns_in header columns.values) layout second.gives in
+    subst (λ (found : Layout). length found.values ≡ length columns.values) (ok_is _ _ values.gives)
+    (columns_are_counted header columns.values values.value values.is)
+
+-- a unit with small sizes, and with so many values, which are small too
+record IsSmall (count : ℕ) (u : unit.Unit) : Type 0 where
   size : u.size < 2 ^ 31
   second : u.second_size < 2 ^ 31
   near : AreNear u.values
+  counted : length u.values ≡ count
 
-unit_is_small : (layout : Layout) (number : ℕ) (ids row : List (List ℕ)) (u : unit.Unit) → unit_of layout number ids row ≡ Ok u → IsSmall u
+unit_is_small : (layout : Layout) (number : ℕ) (ids row : List (List ℕ)) (u : unit.Unit) → unit_of layout number ids row ≡ Ok u → IsSmall (length layout.values) u
 unfolding unit_of
 unit_is_small layout number ids row u h =
     let width = passes (length row == layout.width) (RowLength number) _ u h in
@@ -88,57 +120,72 @@ unit_is_small layout number ids row u h =
     let size = goes_on _ (size_in number row layout.size) u new.gives in
     let second = goes_on _ (size_in number row layout.second_size) u size.gives in
     let values = goes_on _ (values_in number row layout.values) u second.gives in
-    subst IsSmall (ok_is _ _ values.gives) (record {
+    subst (IsSmall (length layout.values)) (ok_is _ _ values.gives) (record {
       size = asked_size_is_small number row layout.size size.value size.is;
       second = asked_size_is_small number row layout.second_size second.value second.is;
       near = values_are_near number row layout.values values.value values.is;
+      counted = values_are_counted number row layout.values values.value values.is;
     })
 
 -- units behind a row with this number
-record AreUnits (number : ℕ) (units : List unit.Unit) : Type 0 where
+record AreUnits (count number : ℕ) (units : List unit.Unit) : Type 0 where
   few : length units + number ≤ 100001
-  small : All IsSmall units
+  small : All (IsSmall count) units
 
-units_are_small : (layout : Layout) (number : ℕ) (ids : List (List ℕ)) (rows : List (List (List ℕ))) (units : List unit.Unit) → number ≤ 100001 → units_from layout number ids rows ≡ Ok units → AreUnits number units
-units_are_small layout number ids [] units within h = subst (AreUnits number) (ok_is _ _ h) (record { few = omega (arith, within); small = λ k d beyond. absurd (omega arith) })
+units_are_small : (layout : Layout) (number : ℕ) (ids : List (List ℕ)) (rows : List (List (List ℕ))) (units : List unit.Unit) → number ≤ 100001 → units_from layout number ids rows ≡ Ok units → AreUnits (length layout.values) number units
+units_are_small layout number ids [] units within h = subst (AreUnits (length layout.values) number) (ok_is _ _ h) (record { few = omega (arith, within); small = λ k d beyond. absurd (omega arith) })
 units_are_small layout number ids (row ∷ rows) units within h =
     let limit = passes (nat_le number 100000) _ _ units h in
     let here : number ≤ 100000 = leb-true number 100000 limit.holds in
     let first = goes_on _ (unit_of layout number ids row) units limit.gives in
     let more = goes_on _ (units_from layout (number + 1) _ rows) units first.gives in
     let rest = units_are_small layout (number + 1) _ rows more.value (omega (arith, here)) more.is in
-    subst (AreUnits number) (ok_is _ _ more.gives) (record {
+    subst (AreUnits (length layout.values) number) (ok_is _ _ more.gives) (record {
       few = omega (arith, rest.few);
-      small = All-cons IsSmall first.value more.value (unit_is_small layout number ids row first.value first.is) rest.small;
+      small = All-cons (IsSmall (length layout.values)) first.value more.value (unit_is_small layout number ids row first.value first.is) rest.small;
     })
 
 no_unit : unit.Unit
 no_unit = record { id = []; stratum = []; psu = []; size = 0; second_size = 0; values = [] }
 
-small_units_are_frame : (units : List unit.Unit) → 0 < length units → AreUnits 1 units → IsFrame units
-small_units_are_frame units some are =
+-- a frame, with so many values for each unit
+record IsCounted (count : ℕ) (units : List unit.Unit) : Type 0 where
+  frame : IsFrame units
+  values : HaveValues count units
+
+small_units_are_frame : (count : ℕ) (units : List unit.Unit) → 0 < length units → AreUnits count 1 units → IsCounted count units
+small_units_are_frame count units some are =
     let few = are.few in
     record {
-      some = omega arith;
-      few = omega arith;
-      small = λ i within. rw (get_or-map (λ (u : unit.Unit). u.size) units i no_unit 0 within) (are.small i no_unit within).size;
-      second_small = λ i within. rw (get_or-map (λ (u : unit.Unit). u.second_size) units i no_unit 0 within) (are.small i no_unit within).second;
-      near = λ k d within. (are.small k d within).near;
+      frame = record {
+        some = omega arith;
+        few = omega arith;
+        small = λ i within. rw (get_or-map (λ (u : unit.Unit). u.size) units i no_unit 0 within) (are.small i no_unit within).size;
+        second_small = λ i within. rw (get_or-map (λ (u : unit.Unit). u.second_size) units i no_unit 0 within) (are.small i no_unit within).second;
+        near = λ k d within. (are.small k d within).near;
+      };
+      values = λ k d within. (are.small k d within).counted;
     }
 
-units_are_frame : (columns : Columns) (rows : List (List (List ℕ))) (units : List unit.Unit) → units_of columns rows ≡ Ok units → IsFrame units
+units_are_frame : (columns : Columns) (rows : List (List (List ℕ))) (units : List unit.Unit) → units_of columns rows ≡ Ok units → IsCounted (length columns.values) units
 units_are_frame columns [] units h = absurd (cc h)
 units_are_frame columns (header ∷ rows) units h =
     let text = passes (list_all is_utf8 header) _ _ units h in
     let layout = goes_on _ (layout_of columns header) units text.gives in
     let found = goes_on _ (units_from layout.value 1 [] rows) units layout.gives in
     let some = passes (nat_lt 0 (length found.value)) _ _ units found.gives in
-    subst IsFrame (ok_is _ _ some.gives) (small_units_are_frame found.value (ltb-true 0 (length found.value) some.holds) (units_are_small layout.value 1 [] rows found.value (omega arith) found.is))
+    let here = small_units_are_frame (length layout.value.values) found.value (ltb-true 0 (length found.value) some.holds) (units_are_small layout.value 1 [] rows found.value (omega arith) found.is) in
+    subst (IsCounted (length columns.values)) (ok_is _ _ some.gives)
+    (subst (λ (count : ℕ). IsCounted count found.value) (layout_is_counted columns header layout.value layout.is) here)
 
-frame_is : (columns : Columns) (bytes : List ℕ) (units : List unit.Unit) → frame_of columns bytes ≡ Ok units → IsFrame units
+frame_is : (columns : Columns) (bytes : List ℕ) (units : List unit.Unit) → frame_of columns bytes ≡ Ok units → IsCounted (length columns.values) units
 unfolding frame_of
 frame_is columns bytes units h = units_are_frame columns (records_of bytes) units h
 
 pub read_bounds : (columns : Columns) (bytes : List ℕ) (result : Result (List unit.Unit) FrameFault) → Reads result (frame_of columns bytes) → IfOk result IsFrame
-read_bounds columns bytes (Ok units) h = frame_is columns bytes units h
+read_bounds columns bytes (Ok units) h = (frame_is columns bytes units h).frame
 read_bounds columns bytes (Err fault) h = tt
+
+pub read_values : (columns : Columns) (bytes : List ℕ) (result : Result (List unit.Unit) FrameFault) → Reads result (frame_of columns bytes) → IfOk result (HaveValues (length columns.values))
+read_values columns bytes (Ok units) h = (frame_is columns bytes units h).values
+read_values columns bytes (Err fault) h = tt

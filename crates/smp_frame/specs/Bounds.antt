@@ -1,5 +1,5 @@
 -- What is true of every frame that was read.
-use Rattle.std.specs.Prelude.{ℕ, ◌^◌, ◌≤◌, ◌<◌, ℤ, nat_abs, List, length, map, slice_index, All}
+use Rattle.std.specs.Prelude.{◌≡◌, ℕ, ◌^◌, ◌≤◌, ◌<◌, ℤ, nat_abs, List, length, map, slice_index, All}
 use Rattle.smp_frame.specs.declared.frame.Unit as unit
 
 abbrev pub sizes_of : List unit.Unit → List ℕ
@@ -19,3 +19,7 @@ pub record IsFrame (units : List unit.Unit) : Type 0 where
   pub small : (i : ℕ) → i < length units → slice_index (sizes_of units) i < 2 ^ 31
   pub second_small : (i : ℕ) → i < length units → slice_index (second_sizes_of units) i < 2 ^ 31
   pub near : All (λ u. AreNear u.values) units
+
+-- so many values for each unit
+abbrev pub HaveValues : ℕ → List unit.Unit → Type 0
+HaveValues count units = All (λ u. length u.values ≡ count) units

@@ -1,6 +1,6 @@
-ghost use Rattle.std.specs.Prelude.{◌≡◌, IfOk};
+ghost use Rattle.std.specs.Prelude.{◌≡◌, length, IfOk};
 ghost use Rattle.smp_frame.specs.Frames.{frame_of};
-ghost use Rattle.smp_frame.specs.Bounds.{IsFrame};
+ghost use Rattle.smp_frame.specs.Bounds.{HaveValues, IsFrame};
 ghost use Rattle.smp_frame.specs.Reads.{Reads};
 
 use crate::layout::layout_of;
@@ -26,6 +26,8 @@ use std::alloc::Global;
 pub fn read_frame(alloc: Global, bytes: &[u8], columns: &Columns) -> Result<Frame, FrameFault>
     ensures reads { Reads result (frame_of columns.now bytes.now) }
     ensures bounds { IfOk result IsFrame }
+    // a value for each column of values that is asked for
+    ensures columns { IfOk result (HaveValues (length columns.now.values)) }
 {
     frame_in(alloc, bytes, columns)
 }
