@@ -7,7 +7,7 @@ use Rattle.smp_fractions.specs.Fractions.{Fraction, Same, AtMost, whole, integer
 use Rattle.smp_fractions.proofs.Integers.{diff, diff-same, diffs, pos-diff}
 use Rattle.smp_flight.specs.declared.reaches.Reach.{Reach}
 use Rattle.smp_flight.specs.Steps.{room, advanced}
-use Rattle.smp_flight.proofs.Differences.{neg-diff, diff-le, le-diff, by_parts}
+use Rattle.smp_fractions.proofs.Differences.{neg-diff, diff-le, le-diff, by_parts}
 
 -- the value a / c, t along an entry
 abbrev pub after : ℕ → ℕ → Fraction → ℤ → Fraction

@@ -1,4 +1,3 @@
-pub mod Differences
 pub mod Along
 pub mod Entries
 pub mod Reaching
@@ -17,3 +16,7 @@ pub mod Advancing
 pub mod Untouched
 pub mod Counting
 pub mod Ahead
+pub mod Evens
+pub mod LineSums
+pub mod Proportions
+pub mod MoveTotals

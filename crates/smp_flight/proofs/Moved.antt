@@ -16,7 +16,7 @@ use Rattle.smp_flight.specs.States.{Units, Flight, IsFlight}
 use Rattle.smp_flight.specs.Moves.{Line, Move, IsLine, IsMoved, along, fraction_of, turned}
 use Rattle.smp_flight.specs.Steps.{extent, end_of, chosen_line, chosen_extent}
 use Rattle.smp_flight.specs.Kept.Ends.{IsOver}
-use Rattle.smp_flight.proofs.Differences.{over_cross, over_at_most_one}
+use Rattle.smp_fractions.proofs.Differences.{over_cross, over_at_most_one}
 use Rattle.smp_flight.proofs.Entries.{order_going, off_line, place_or, turned_line}
 use Rattle.smp_flight.proofs.LineEnds.{moved, greatest, settled_unit, first_unit}
 use Rattle.smp_flight.proofs.Nexts.{IsKnown, flight_over}

@@ -21,7 +21,7 @@ use Rattle.smp_flight.specs.Moves.{Line, Move, IsOrder, IsLine, IsDirection, IsG
 use Rattle.smp_flight.specs.Steps.{Next, move, independent, wide, extent}
 use Rattle.smp_flight.specs.Statements.{Finds, IsFlown, IsWide, IsNext, GoesBothWays}
 use Rattle.smp_flight.specs.Kept.Ends.{IsOver}
-use Rattle.smp_flight.proofs.Differences.{over_cross}
+use Rattle.smp_fractions.proofs.Differences.{over_cross}
 use Rattle.smp_flight.proofs.Entries.{turned_line}
 use Rattle.smp_flight.proofs.LineEnds.{greatest, extent_some}
 use Rattle.smp_flight.proofs.Nexts.{direction_line, flight_over}

@@ -1,11 +1,13 @@
 -- The law of a step: whichever fractional units its search goes through, it has the properties of a search and of a move, and no other has.
-use Rattle.std.specs.Prelude.{◌≡◌, ℕ, ◌+◌, ◌<◌, ◌≤◌, ◌^◌, List, ℤ}
+use Rattle.std.specs.Prelude.{◌≡◌, ℕ, ◌+◌, ◌<◌, ◌≤◌, ◌^◌, Bool, List, ℤ}
+use Rattle.smp_fractions.specs.Fractions.{Same}
 use Rattle.smp_kernel.specs.Elimination.{cut}
 use Rattle.smp_kernel.specs.Searches.{Search, found, none, too_wide, IsSearch}
 use Rattle.smp_prob.specs.Shares.{Shares}
 use Rattle.smp_flight.specs.States.{Units, Flight, IsFlight, columns_of}
 use Rattle.smp_flight.specs.Moves.{Move, IsMove, Fits, IsOrder}
-use Rattle.smp_flight.specs.Steps.{Next, move, independent, wide, next_on}
+use Rattle.smp_flight.specs.Steps.{Next, move, independent, wide, next_on, chosen}
+use Rattle.smp_flight.specs.Totals.{row_total}
 
 -- what a search through the columns of these units, cut to the rows in force, answers
 abbrev pub Finds : Units → Flight → List ℕ → Search → Type 0
@@ -56,3 +58,10 @@ abbrev pub EachGoesBothWays : Type 0
 EachGoesBothWays =
     (units : Units) (s : Flight) (order : List ℕ) → IsFlight units s → IsOrder s.shares order →
     (m : Move) → IsFlown units s order m → GoesBothWays m
+
+-- a move keeps the balancing total of each row in force, at both its ends
+abbrev pub EachKeepsTotals : Type 0
+EachKeepsTotals =
+    (units : Units) (s : Flight) (order : List ℕ) → IsFlight units s → IsOrder s.shares order →
+    (m : Move) → next_on units order s ≡ move m → (plus : Bool) (row : ℕ) → row < s.rows →
+    Same (row_total units (chosen units s m plus).shares row) (row_total units s.shares row)

@@ -1,3 +1,5 @@
 pub mod Integers
 pub mod Fractions
 pub mod Over
+pub mod Differences
+pub mod Bounds

@@ -16,8 +16,9 @@ use Rattle.smp_landing.specs.Cube.{Balancing, flying, pairing, IsBalancing, cube
 use Rattle.smp_landing.specs.Laws.Splits.{cube_lawful, ends_at}
 use Rattle.smp_landing.specs.Landings.{IsBeforeLanding}
 use Rattle.smp_landing.specs.Method.{started}
-use Rattle.smp_landing.specs.Totals.{expanded, total, addend, target}
-use Rattle.smp_landing.proofs.MoveTotals.{both_totals}
+use Rattle.smp_flight.specs.Totals.{expanded, addend, target}
+use Rattle.smp_landing.specs.Totals.{total}
+use Rattle.smp_landing.specs.Laws.Splits.{both_totals}
 
 pub record IsUnlanded (units : Units) (f : Flight) (left : ℕ) : Type 0 where
   pub flight : IsFlight units f

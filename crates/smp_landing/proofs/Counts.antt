@@ -16,7 +16,7 @@ use Rattle.smp_flight.specs.States.{Units, Flight, IsFlight}
 use Rattle.smp_flight.specs.Steps.{Next, move, independent, wide, next}
 use Rattle.smp_landing.specs.Cube.{Balancing, flying, pairing, values_in, IsBalancing, cube_tree, cube_parts, flight_parts}
 use Rattle.smp_landing.specs.Laws.Splits.{cube_lawful, few_fractional, values_ok}
-use Rattle.smp_landing.proofs.MoveTotals.{both_totals}
+use Rattle.smp_landing.specs.Laws.Splits.{both_totals}
 
 -- the numerators add up where the values do
 adds_to : (units : Units) (n : ℕ) (s : Balancing) → IsBalancing units s → AddsUp (cube_tree units) n s → AddTo n (values_in s)

@@ -19,9 +19,11 @@ use Rattle.smp_flight.proofs.Entries.{frame_order, off_line, order_going, place_
 use Rattle.smp_landing.specs.Cube.{Balancing, flying, pairing, values_in, IsBalancing, cube_tree, cube_parts, flight_parts}
 use Rattle.smp_landing.specs.Landings.{ErrorIsBounded, ExactWithoutLanding}
 use Rattle.smp_landing.specs.Laws.Splits.{cube_lawful, ends_at, values_ok}
-use Rattle.smp_landing.specs.Totals.{expanded, total, target, estimate, absolute, error_bound, DifferByAtMost}
+use Rattle.smp_fractions.specs.Bounds.{absolute, DifferByAtMost}
+use Rattle.smp_flight.specs.Totals.{expanded, target, error_bound}
+use Rattle.smp_landing.specs.Totals.{total, estimate}
 use Rattle.smp_landing.proofs.Before.{IsBefore, before_member, before_path}
-use Rattle.smp_landing.proofs.Bounds.{term_above, differ_same, differ_by_same, differ_sum}
+use Rattle.smp_fractions.proofs.Bounds.{term_above, differ_same, differ_by_same, differ_sum}
 
 -- the unit k has the value v for good
 pub record IsSettledAt (k : ℕ) (v : Fraction) (s : Shares) : Type 0 where
@@ -113,7 +115,7 @@ module _ (units : Units) (s leaf : Balancing) (path : List Entry) (ok : IsBalanc
         })
       ]
 
-  total_error : (row : ℕ) → DifferByAtMost (error_bound units s row) (total units leaf row) (total units s row)
+  total_error : (row : ℕ) → DifferByAtMost (error_bound units (values_in s) row) (total units leaf row) (total units s row)
   total_error row =
       differ_sum (length units.sizes) (λ k. times (expanded units row k) (value_at (values_in leaf) k)) (λ k. times (expanded units row k) (value_at (values_in s) k))
       (λ k. cond (is_fractional (values_in s) k) (absolute (expanded units row k)) (whole 0))

@@ -15,8 +15,9 @@ use Rattle.smp_flight.proofs.Nexts.{independent_columns}
 use Rattle.smp_landing.specs.Cube.{Balancing, flying, pairing, values_in, rows_in, left_in, IsBalancing, cube_tree, cube_kind, cube_parts, flight_kind, flight_parts, landed}
 use Rattle.smp_landing.specs.Landings.{FlightsKeepTotals, TotalsStay, FewAreLeft, DropsAreIndependent, LeftIsCounted}
 use Rattle.smp_landing.specs.Laws.Splits.{cube_lawful, few_fractional}
-use Rattle.smp_landing.specs.Totals.{total, target}
-use Rattle.smp_landing.proofs.MoveTotals.{both_totals}
+use Rattle.smp_flight.specs.Totals.{target}
+use Rattle.smp_landing.specs.Totals.{total}
+use Rattle.smp_landing.specs.Laws.Splits.{both_totals}
 use Rattle.smp_landing.proofs.Before.{IsBefore, before_member, before_path}
 
 -- ---- a flight step

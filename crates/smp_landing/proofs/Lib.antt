@@ -1,10 +1,6 @@
-mod LineSums
-mod Proportions
-mod MoveTotals
 mod Before
 mod Landed
 mod Runs
-mod Bounds
 mod Errors
 mod Counts
 mod Starts

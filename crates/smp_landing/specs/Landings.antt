@@ -8,7 +8,9 @@ use Rattle.smp_split.specs.declared.kind.Kind.TheVariants as kind
 use Rattle.smp_values.specs.Values.{fractional_count, fractional_units}
 use Rattle.smp_flight.specs.States.{Units, columns_of, row_count}
 use Rattle.smp_landing.specs.Cube.{Balancing, values_in, rows_in, left_in, cube_tree}
-use Rattle.smp_landing.specs.Totals.{total, target, estimate, error_bound, DifferByAtMost}
+use Rattle.smp_fractions.specs.Bounds.{DifferByAtMost}
+use Rattle.smp_flight.specs.Totals.{target, error_bound}
+use Rattle.smp_landing.specs.Totals.{total, estimate}
 
 -- ---- where the landing begins
 
@@ -89,7 +91,7 @@ ErrorIsBounded units from =
     (before after : List Entry) (s leaf : Balancing) → LandsAt units from before s
     → Leads (cube_tree units) s after leaf → (cube_tree units).done leaf ≡ true
     → (row : ℕ) → row < row_count units
-    → DifferByAtMost (error_bound units s row) (estimate units leaf row) (target units row)
+    → DifferByAtMost (error_bound units (values_in s) row) (estimate units leaf row) (target units row)
 
 -- what is kept as left is 0 before the landing, and after it began the number of units that were fractional there
 pub record LeftIsCounted (units : Units) (from : Balancing) : Type 0 where

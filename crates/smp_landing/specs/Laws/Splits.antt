@@ -1,5 +1,5 @@
 -- The splits of the cube are lawful.
-use Rattle.std.proofs.Common.{◌≡◌, ◌≢◌, ℕ, ◌+◌, ◌<◌, ◌≤◌, ◌^◌, ℤ, Bool, true, false, [], ◌∷◌, length, arith, refl, subst}
+use Rattle.std.proofs.Common.{◌≡◌, ◌≢◌, ℕ, ◌+◌, ◌<◌, ◌≤◌, ◌^◌, ℤ, Bool, true, false, List, [], ◌∷◌, length, arith, refl, subst}
 use Rattle.std.proofs.lemmas.Bool.{eqb-false}
 use Rattle.std.proofs.lemmas.List.{length-map}
 use Rattle.smp_fractions.specs.Fractions.{Same, whole, integer, plus, times}
@@ -7,7 +7,7 @@ use Rattle.smp_fractions.proofs.Fractions.{same_refl, plus-zero}
 use Rattle.smp_kernel.proofs.SearchLaw.{none_is_few}
 use Rattle.smp_prob.specs.Shares.{Shares}
 use Rattle.smp_split.specs.Lenses.{as_unit, Lens}
-use Rattle.smp_split.specs.Trees.{LawfulParts, LawfulSplit, Lawful}
+use Rattle.smp_split.specs.Trees.{EachPart, LawfulParts, LawfulSplit, Lawful}
 use Rattle.smp_split.proofs.Lenses.{split_through}
 use Rattle.smp_values.specs.Values.{IsValues, fractional_count, fractional_units, is_settled, value_at}
 use Rattle.smp_values.specs.Steps.{steps_tree}
@@ -22,8 +22,10 @@ use Rattle.smp_flight.proofs.Entries.{frame_order}
 use Rattle.smp_flight.proofs.Nexts.{IsKnown, known, next_is}
 use Rattle.smp_flight.proofs.Moved.{IsChosen, chosen_is}
 use Rattle.smp_flight.proofs.Sizes.{flown_both_ways}
+use Rattle.smp_flight.proofs.MoveTotals.{end_total}
+use Rattle.smp_landing.specs.Totals.{total}
 use Rattle.smp_landing.specs.Cube.{Balancing, flying, pairing, values_in, IsBalancing, cube_tree, flight_parts, dropped, landed}
-use Rattle.smp_landing.specs.Laws.Evens.{even_ends, entry_of_turned}
+use Rattle.smp_flight.proofs.Evens.{even_ends, entry_of_turned}
 
 -- ---- a move
 
@@ -57,6 +59,12 @@ module _ (units : Units) (f : Flight) (left : ℕ) (ok : IsFlight units f) (m : 
     );
     even = λ k _. flown_even k;
   }
+
+  -- it keeps the total of each row in force, at both ends
+  pub both_totals : (row : ℕ) → row < f.rows → EachPart (λ p. Same (total units p.state row) (total units (flying f left) row)) (flight_parts units f left (move m))
+  both_totals row l =
+      let order : List ℕ = fractional_units f.shares in
+      (end_total units f order ok m knows true row l, (end_total units f order ok m knows false row l, tt))
 
 -- ---- one part with the same values
 

@@ -1,4 +1,4 @@
--- A move keeps the totals of all rows in force.
+-- A move keeps the totals of all rows in force, whichever fractional units its search goes through.
 use Rattle.std.proofs.Common.{◌≡◌, ℕ, zero, suc, ◌*◌, ◌<◌, max, Bool, true, false, ℤ, pos, neg_ℤ, ◌*ℤ◌, List, [], ◌∷◌, map, take, length, get_or, arith, refl, sym, ap, ◌∙◌, subst}
 use Rattle.std.specs.Int.RustNames.{unsigned_abs}
 use Rattle.std.proofs.lemmas.List.{take-map, length-take-le, length-map}
@@ -8,19 +8,18 @@ use Rattle.smp_fractions.proofs.Integers.{diff, by_diff, diff-neg, diff-same, di
 use Rattle.smp_kernel.specs.Vectors.{entry, dot}
 use Rattle.smp_kernel.specs.Searches.{found}
 use Rattle.smp_kernel.proofs.FoundCircuits.{circuit_row, cut_circuit_short, in_row}
-use Rattle.smp_split.specs.Trees.{EachPart}
-use Rattle.smp_values.specs.Values.{fractional_units, value_at}
+use Rattle.smp_values.specs.Values.{value_at}
 use Rattle.smp_flight.specs.States.{Units, Flight, IsFlight, size, column, columns_of}
 use Rattle.smp_flight.specs.Moves.{Line, IsLine, IsDirection, Move, entry_of, fraction_of, turned}
-use Rattle.smp_flight.specs.Steps.{move, next, chosen, chosen_line, chosen_extent}
-use Rattle.smp_flight.specs.Statements.{Finds}
+use Rattle.smp_flight.specs.Steps.{chosen, chosen_line, chosen_extent}
+use Rattle.smp_flight.specs.Statements.{Finds, EachKeepsTotals}
 use Rattle.smp_flight.proofs.Entries.{entry-sized, order_within}
-use Rattle.smp_landing.specs.Cube.{flying, flight_parts}
-use Rattle.smp_landing.specs.Totals.{expanded, total}
-use Rattle.smp_landing.specs.Laws.Evens.{entry_of_turned, times_negative}
-use Rattle.smp_landing.specs.Laws.Splits.{knows, ends_at}
-use Rattle.smp_landing.proofs.LineSums.{sum_line, line_dot}
-use Rattle.smp_landing.proofs.Proportions.{first_row, other_row}
+use Rattle.smp_flight.specs.Totals.{expanded, row_total}
+use Rattle.smp_flight.proofs.Evens.{entry_of_turned, times_negative}
+use Rattle.smp_flight.proofs.Nexts.{IsKnown, known}
+use Rattle.smp_flight.proofs.Moved.{chosen_is}
+use Rattle.smp_flight.proofs.LineSums.{sum_line, line_dot}
+use Rattle.smp_flight.proofs.Proportions.{first_row, other_row}
 
 -- the number of a unit in a row
 abbrev number_in : Units → ℕ → ℕ → ℤ
@@ -108,20 +107,18 @@ back_total n c line none =
 
 -- ---- the ends of a move
 
-module _ (units : Units) (f : Flight) (left : ℕ) (ok : IsFlight units f) (m : Move) (is : next units f ≡ move m) where
+module _ (units : Units) (f : Flight) (order : List ℕ) (ok : IsFlight units f) (m : Move) (k : IsKnown units f order m) where
   direct_total : (row : ℕ) → row < f.rows → Same (sum_below (length units.sizes) (λ k. times (expanded units row k) (integer (entry_of m.direction k)))) (whole 0)
-  direct_total row l =
-      let k = knows units f left ok m is in
-      direction_total units f ok (fractional_units f.shares) k.circuit k.finds m.direction k.line k.is.direction row l
+  direct_total row l = direction_total units f ok order k.circuit k.finds m.direction k.line k.is.direction row l
 
   along_total : (plus : Bool) (row : ℕ) → row < f.rows → Same (sum_below (length units.sizes) (λ k. times (expanded units row k) (integer (entry_of (chosen_line m plus) k)))) (whole 0)
   along_total true row l = direct_total row l
   along_total false row l = back_total (length units.sizes) (expanded units row) m.direction (direct_total row l)
 
-  end_total : (plus : Bool) (row : ℕ) → row < f.rows → Same (total units (flying (chosen units f m plus) left) row) (total units (flying f left) row)
+  pub end_total : (plus : Bool) (row : ℕ) → row < f.rows → Same (row_total units (chosen units f m plus).shares row) (row_total units f.shares row)
   end_total plus row l =
       sum_stays (length units.sizes) (expanded units row) (value_at f.shares) (value_at (chosen units f m plus).shares) (fraction_of (chosen_extent m plus)) (entry_of (chosen_line m plus))
-      ((ends_at units f left ok m is plus).moved.values) (along_total plus row l)
+      ((chosen_is units f ok order m plus k).moved.values) (along_total plus row l)
 
-  pub both_totals : (row : ℕ) → row < f.rows → EachPart (λ p. Same (total units p.state row) (total units (flying f left) row)) (flight_parts units f left (move m))
-  both_totals row l = (end_total true row l, (end_total false row l, tt))
+pub move_keeps : EachKeepsTotals
+move_keeps units f order ok ordered m is = end_total units f order ok m (known units f order ok ordered m is)

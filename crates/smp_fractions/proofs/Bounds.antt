@@ -5,8 +5,8 @@ use Rattle.std.proofs.Math.Nat.{mul-le-mul_left, mul-le-mul_right, le_of_mul-le-
 use Rattle.smp_fractions.specs.Fractions.{Fraction, Same, AtMost, whole, plus, times, over, sum_below}
 use Rattle.smp_fractions.proofs.Fractions.{same_refl, same_sym, plus_same, plus_swap, plus-zero}
 use Rattle.smp_fractions.proofs.Integers.{diff, pos-diff, diffs}
-use Rattle.smp_flight.proofs.Differences.{by_parts, diff-le, le-diff, neg-diff}
-use Rattle.smp_landing.specs.Totals.{absolute, DifferByAtMost}
+use Rattle.smp_fractions.proofs.Differences.{by_parts, diff-le, le-diff, neg-diff}
+use Rattle.smp_fractions.specs.Bounds.{absolute, DifferByAtMost}
 
 abbrev apart : ℕ → ℕ → (d : ℕ) → 1 ≤ d → Fraction
 apart p p' d h = record { num = diff p p'; den = d; positive = h }

@@ -1,0 +1,13 @@
+-- How far apart two fractions are.
+use Rattle.std.specs.Prelude.{pos}
+use Rattle.std.specs.Int.RustNames.{unsigned_abs}
+use Rattle.smp_fractions.specs.Fractions.{Fraction, AtMost, plus}
+
+-- the absolute value
+abbrev pub absolute : Fraction → Fraction
+absolute a = record { num = pos (unsigned_abs a.num); den = a.den; positive = a.positive }
+
+-- a and b differ by at most e
+pub record DifferByAtMost (e a b : Fraction) : Type 0 where
+  pub above : AtMost a (plus b e)
+  pub below : AtMost b (plus a e)
