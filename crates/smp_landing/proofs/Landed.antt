@@ -1,5 +1,5 @@
 -- The landing: how many units are fractional where it begins, and what it says of the columns.
-use Rattle.std.proofs.Common.{◌≡◌, ◌≢◌, ℕ, ◌<◌, ◌≤◌, List, [], ◌∷◌, arith, refl, sym, ◌∙◌, inl, inr, ◌⊎◌}
+use Rattle.std.proofs.Common.{◌≡◌, ◌≢◌, ℕ, ◌<◌, ◌≤◌, List, [], ◌∷◌, arith, refl, sym, ◌∙◌, subst, inl, inr, ◌⊎◌}
 use Rattle.std.proofs.lemmas.Bool.{eqb-false, ne_eqb}
 use Rattle.smp_fractions.specs.Fractions.{Same}
 use Rattle.smp_kernel.specs.Elimination.{cut, AreIndependent}
@@ -11,9 +11,11 @@ use Rattle.smp_values.specs.Steps.{kind_on, pivotal_parts}
 use Rattle.smp_values.specs.Values.{fractional_count, fractional_units}
 use Rattle.smp_flight.specs.States.{Units, Flight, IsFlight, columns_of, row_count}
 use Rattle.smp_flight.specs.Steps.{Next, move, independent, wide, next}
-use Rattle.smp_flight.proofs.Nexts.{independent_columns}
+use Rattle.smp_flight.specs.Statements.{IsNext}
+use Rattle.smp_flight.proofs.Entries.{frame_order}
+use Rattle.smp_flight.proofs.Nexts.{independent_columns, next_is}
 use Rattle.smp_landing.specs.Cube.{Balancing, flying, pairing, values_in, rows_in, left_in, IsBalancing, cube_tree, cube_kind, cube_parts, flight_kind, flight_parts, landed}
-use Rattle.smp_landing.specs.Landings.{FlightsKeepTotals, TotalsStay, FewAreLeft, DropsAreIndependent, LeftIsCounted}
+use Rattle.smp_landing.specs.Landings.{NoDirectionLeft, NextDoesNotFit, FlightsKeepTotals, TotalsStay, FewAreLeft, DropsAreIndependent, LeftIsCounted}
 use Rattle.smp_landing.specs.Laws.Splits.{cube_lawful, few_fractional}
 use Rattle.smp_flight.specs.Totals.{target}
 use Rattle.smp_landing.specs.Totals.{total}
@@ -132,3 +134,23 @@ module _ (units : Units) (from : Balancing) (start : IsBefore units from) where
         leads_keep (cube_tree units) (IsBalancing units) (cube_lawful units) (λ t. left_in t ≡ fractional_count (values_in s)) (λ t _ _ e. left_kept units (fractional_count (values_in s)) (omega (arith, some)) t e)
         after (picked s (cube_parts units s) entry.2) to leads.1 (picked_belongs (cube_tree units) (IsBalancing units) (cube_lawful units) s (picked s (cube_parts units s) entry.2) entry.2 member lands.going within refl) first);
   }
+
+-- ---- where the landing begins
+
+is_wide : (a : Next) → flight_kind a ≡ kind.Wide → a ≡ wide
+is_wide (move m) e = absurd (cc)
+is_wide independent e = absurd (cc)
+is_wide wide e = refl
+
+not_landing : (order : List ℕ) → (kind_on order ≡ kind.Drop) ⊎ (kind_on order ≡ kind.Wide) → ⊥
+not_landing [] e = elim e [ inl d ↦ absurd (cc) | inr w ↦ absurd (cc) ]
+not_landing (i ∷ []) e = elim e [ inl d ↦ absurd (cc) | inr w ↦ absurd (cc) ]
+not_landing (i ∷ j ∷ order) e = elim e [ inl d ↦ absurd (cc) | inr w ↦ absurd (cc) ]
+
+pub lands_there : (units : Units) (s : Balancing) → IsBalancing units s → (cube_kind units s ≡ kind.Drop) ⊎ (cube_kind units s ≡ kind.Wide) →
+    NoDirectionLeft units s ⊎ NextDoesNotFit units s
+lands_there units (flying f left) ok (inl drops) =
+    inl (subst (IsNext units f (fractional_units f.shares)) (is_independent (next units f) drops) (next_is units f (fractional_units f.shares) ok (frame_order f.shares)))
+lands_there units (flying f left) ok (inr wides) =
+    inr (subst (IsNext units f (fractional_units f.shares)) (is_wide (next units f) wides) (next_is units f (fractional_units f.shares) ok (frame_order f.shares)))
+lands_there units (pairing s left) ok begins = absurd (not_landing (fractional_units s) begins)

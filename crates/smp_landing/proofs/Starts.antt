@@ -16,10 +16,10 @@ use Rattle.smp_flight.specs.Requests.{units_of}
 use Rattle.smp_landing.specs.Cube.{cube_tree}
 use Rattle.smp_landing.specs.Landings.{IsBalanced}
 use Rattle.smp_landing.specs.Method.{method_of, started}
-use Rattle.smp_landing.proofs.Before.{started_before}
+use Rattle.smp_landing.proofs.Before.{started_before, before_member, before_path}
 use Rattle.smp_landing.proofs.Counts.{cube_count}
 use Rattle.smp_landing.proofs.Errors.{error_is_bounded, exact_without_landing}
-use Rattle.smp_landing.proofs.Landed.{flights_keep, totals_stay, few_are_left, drops_are_independent, left_is_counted}
+use Rattle.smp_landing.proofs.Landed.{lands_there, flights_keep, totals_stay, few_are_left, drops_are_independent, left_is_counted}
 use Rattle.smp_landing.proofs.Runs.{lands_or_not}
 
 pub starts_requested : (request : Request) (xs : List (List ℤ)) → IsRequest request → IsRequested (cube_tree (units_of request xs)) request (started (units_of request xs))
@@ -37,6 +37,7 @@ module _ (units : Units) (is_flight : IsFlight units (flights.started units)) wh
         flights = flights_keep units (started units) start;
         totals = totals_stay units (started units) start;
         exact = exact_without_landing units (started units) start;
+        landing = λ before s lands. lands_there units s (before_member units s (before_path units before (started units) s lands.leads lands.flight start)) lands.begins;
         lands = λ path to leads. lands_or_not units path (started units) to leads;
         drops = drops_are_independent units (started units) start;
         few = few_are_left units (started units) start;

@@ -6,8 +6,10 @@ use Rattle.smp_split.specs.Trees.{picked}
 use Rattle.smp_split.specs.Paths.{Entry, IsStep, Leads}
 use Rattle.smp_split.specs.declared.kind.Kind.TheVariants as kind
 use Rattle.smp_values.specs.Values.{fractional_count, fractional_units}
+use Rattle.smp_kernel.specs.Searches.{none}
 use Rattle.smp_flight.specs.States.{Units, columns_of, row_count}
-use Rattle.smp_landing.specs.Cube.{Balancing, values_in, rows_in, left_in, cube_tree}
+use Rattle.smp_flight.specs.Statements.{Finds, IsWide}
+use Rattle.smp_landing.specs.Cube.{Balancing, flying, pairing, values_in, rows_in, left_in, cube_tree}
 use Rattle.smp_fractions.specs.Bounds.{DifferByAtMost}
 use Rattle.smp_flight.specs.Totals.{target, error_bound}
 use Rattle.smp_landing.specs.Totals.{total, estimate}
@@ -44,6 +46,22 @@ abbrev pub EachLandsOrNot : Units → Balancing → Type 0
 EachLandsOrNot units from =
     (path : List Entry) (to : Balancing) → Leads (cube_tree units) from path to
     → IsBeforeLanding path ⊎ Lands units from path to
+
+-- no direction is left: the search through the columns of the fractional units found none
+abbrev pub NoDirectionLeft : Units → Balancing → Type 0
+NoDirectionLeft units (flying f left) = Finds units f (fractional_units f.shares) none
+NoDirectionLeft units (pairing s left) = ⊥
+
+-- the next step doesn't fit: a number of the search, or of the move that it found, passes its gate
+abbrev pub NextDoesNotFit : Units → Balancing → Type 0
+NextDoesNotFit units (flying f left) = IsWide units f (fractional_units f.shares)
+NextDoesNotFit units (pairing s left) = ⊥
+
+-- the landing begins only where no direction is left or the next step doesn't fit
+abbrev pub LandsOnlyThere : Units → Balancing → Type 0
+LandsOnlyThere units from =
+    (before : List Entry) (s : Balancing) → LandsAt units from before s
+    → NoDirectionLeft units s ⊎ NextDoesNotFit units s
 
 -- ---- what the flight keeps
 
@@ -108,6 +126,7 @@ pub record IsBalanced (units : Units) (from : Balancing) : Type 0 where
   pub totals : TotalsStay units from
   pub exact : ExactWithoutLanding units from
   pub lands : EachLandsOrNot units from
+  pub landing : LandsOnlyThere units from
   pub drops : DropsAreIndependent units from
   pub few : FewAreLeft units from
   pub error : ErrorIsBounded units from

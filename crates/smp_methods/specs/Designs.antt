@@ -1,6 +1,6 @@
 -- The design of a request by any procedure, and what it owes. Each method has a row in each of two
 -- lists: how it starts, and how its states stand among those of all methods.
-use Rattle.std.specs.Prelude.{◌≡◌, ℤ, List, Option, Some, None, refl}
+use Rattle.std.specs.Prelude.{◌≡◌, ℕ, ℤ, List, Option, Some, None, refl}
 use Rattle.smp_prob.specs.declared.requests.Request.{Request}
 use Rattle.smp_split.specs.Methods.{Method}
 use Rattle.smp_split.proofs.Methods.{embedded_method}
@@ -9,6 +9,9 @@ use Rattle.smp_systematic.specs.Method as systematic
 use Rattle.smp_minsup.specs.Method as support
 use Rattle.smp_brewer.specs.Method as brewer
 use Rattle.smp_localpiv.specs.Method as local
+use Rattle.smp_flight.specs.Requests.{units_of}
+use Rattle.smp_landing.specs.Cube.{left_in}
+use Rattle.smp_landing.specs.Method as cube
 use Rattle.smp_methods.specs.declared.procedure.Procedure.{Procedure}
 use Rattle.smp_methods.specs.declared.procedure.Procedure.TheVariants as procedure
 use Rattle.smp_methods.specs.declared.any.AnyDesign.{AnyDesign}
@@ -17,7 +20,7 @@ use Rattle.smp_methods.specs.declared.any.AnyState.{AnyState}
 use Rattle.smp_methods.specs.declared.any.AnyState.TheVariants as states
 
 -- The design of a request by a procedure, with the requested values. The values of the free units
--- serve as coordinates.
+-- serve as coordinates, or as balancing values.
 abbrev pub design_of : Procedure → Request → List (List ℤ) → AnyDesign
 design_of (procedure.Pivotal order) request values =
     designs.Pivotal (pivotal.started request order)
@@ -28,6 +31,7 @@ design_of procedure.MinimumSupport request values =
 design_of procedure.Brewer request values = designs.Brewer (brewer.started request)
 design_of (procedure.LocalPivotal dimensions) request values =
     designs.LocalPivotal (local.started_from request dimensions 0 values)
+design_of procedure.Cube request values = designs.Cube (units_of request values)
 
 -- One method's design among all: what the method owes; the design, which is seen as its first state;
 -- `into`, which puts the method's states among those of all methods, and `out`, which gives them back.
@@ -48,6 +52,8 @@ variant_of (designs.Brewer s) = variant (brewer.method_of s) s states.Brewer
     (elim [ states.Brewer state ↦ Some state | other ↦ None ]) (λ _. refl)
 variant_of (designs.LocalPivotal s) = variant (local.method_of s) s states.LocalPivotal
     (elim [ states.LocalPivotal state ↦ Some state | other ↦ None ]) (λ _. refl)
+variant_of (designs.Cube units) = variant (cube.method_of units) (cube.started units) states.Cube
+    (elim [ states.Cube state ↦ Some state | other ↦ None ]) (λ _. refl)
 
 -- the method, and the design's first state, among those of all methods
 abbrev pub method_among : Variant → Method AnyState
@@ -63,3 +69,8 @@ first_state design = state_among (variant_of design)
 -- what the design's method owes: its draw tree, which states are its own, and the law of its splits
 abbrev pub method_of : AnyDesign → Method AnyState
 method_of design = method_among (variant_of design)
+
+-- how many units were undecided where the cube's landing began, and 0 by any other method
+abbrev pub left_at : AnyDesign → AnyState → ℕ
+left_at (designs.Cube units) (states.Cube state) = left_in state
+left_at design state = 0

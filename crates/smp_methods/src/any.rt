@@ -3,9 +3,9 @@
 ghost use Rattle.std.specs.Prelude.{◌≡◌, ◌<◌, false, length, IfOk, OnOk};
 ghost use Rattle.smp_prob.specs.Requests.{IsRequest};
 ghost use Rattle.smp_split.specs.Trees.{weight_sum};
-ghost use Rattle.smp_methods.specs.Designs.{design_of, first_state, method_of, variant_of};
+ghost use Rattle.smp_methods.specs.Designs.{design_of, first_state, left_at, method_of, variant_of};
 ghost use Rattle.smp_methods.specs.Kept.Alone.{RequestedAlone, StartsAlone, StepsAlone};
-ghost use Rattle.smp_methods.specs.Procedures.{NeedsWhole};
+ghost use Rattle.smp_methods.specs.Procedures.{NeedsWhole, TakesValues};
 
 use crate::Procedure;
 use smp_frac::NoMemory;
@@ -23,6 +23,7 @@ pub enum AnyDesign {
     MinimumSupport(smp_minsup::MinimumSupport),
     Brewer(smp_brewer::Brewer),
     LocalPivotal(smp_localpiv::AnyLocalPivotal),
+    Cube(smp_landing::Cube),
 }
 
 /// A state of a design, in the variant of its method.
@@ -33,6 +34,7 @@ pub enum AnyState {
     MinimumSupport(smp_minsup::SupportState),
     Brewer(smp_brewer::BrewerState),
     LocalPivotal(smp_localpiv::AnyLocalState),
+    Cube(smp_landing::CubeState),
 }
 
 // What the design of a method says, whichever method it is: of itself; a state that it makes; or of
@@ -58,7 +60,7 @@ macro_rules! by_method {
         }
     };
     ($($said:tt)*) => {
-        by_method!(of [Pivotal, Systematic, MinimumSupport, Brewer, LocalPivotal] $($said)*)
+        by_method!(of [Pivotal, Systematic, MinimumSupport, Brewer, LocalPivotal, Cube] $($said)*)
     };
 }
 
@@ -73,6 +75,7 @@ impl AnyDesign {
         requires request { IsRequest request.now }
         requires whole { NeedsWhole procedure request.now }
         requires paired { length values.now ≡ length request.now.free }
+        requires values { TakesValues procedure values.now }
         ensures design { IfOk result (λ design.
             design ≡ design_of procedure request.now values.now) }
         ensures requested { IfOk result (λ design.
@@ -92,6 +95,9 @@ impl AnyDesign {
             Procedure::LocalPivotal(dimensions) => Ok(AnyDesign::LocalPivotal(
                 smp_localpiv::AnyLocalPivotal::new(alloc, request, dimensions, 0, values)?,
             )),
+            Procedure::Cube => Ok(AnyDesign::Cube(smp_landing::Cube::new(
+                alloc, request, values,
+            )?)),
         }
     }
 
@@ -101,6 +107,17 @@ impl AnyDesign {
         ensures starts { OnOk result (StartsAlone (variant_of self.now)) }
     {
         by_method!(self, design => state design.start(alloc)?)
+    }
+
+    /// How many units were undecided where the cube's landing began: 0 as long as it hasn't begun,
+    /// and by any other method.
+    pub fn left(&self, state: &AnyState) -> u32
+        ensures { result ≡ left_at self.now state.now }
+    {
+        match (self, state) {
+            (AnyDesign::Cube(design), AnyState::Cube(inner)) => design.left(inner),
+            _ => 0,
+        }
     }
 
     // Makes the step that a draw leads to, by the method itself.

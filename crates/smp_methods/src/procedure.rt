@@ -6,6 +6,9 @@ ghost use Rattle.smp_methods.specs.Procedures.{procedure_of};
 use smp_design::{Method, Order};
 use smp_localpiv::Dimensions;
 
+/// The greatest number of balancing columns.
+const MAX_BALANCING: usize = 15;
+
 /// How the units of a request are drawn.
 #[derive(Clone, Copy, Debug, PartialEq, Eq)]
 pub enum Procedure {
@@ -20,12 +23,14 @@ pub enum Procedure {
     /// By local pivotal steps (Grafström, Lundström and Schelin 2012), with the first values of
     /// each unit as its coordinates.
     LocalPivotal(Dimensions),
+    /// By the cube method (Deville and Tillé 2004), balanced on the values of each unit.
+    Cube,
 }
 
 impl Procedure {
     /// The procedure of a design file's method, with the units in this order, over a frame of which
     /// so many columns of values are read.
-    /// `None` where the method isn't built, or can't be used with so many columns.
+    /// `None` where the method can't be used with so many columns.
     pub fn of_method(method: Method, order: Order, columns: usize) -> Option<Procedure>
         ensures { result ≡ procedure_of method order columns }
     {
@@ -37,6 +42,7 @@ impl Procedure {
             Method::LocalPivotal => {
                 Dimensions::of_coordinates(columns).map(Procedure::LocalPivotal)
             }
+            Method::Cube if columns <= MAX_BALANCING => Some(Procedure::Cube),
             Method::Cube => None,
         }
     }

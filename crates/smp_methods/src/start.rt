@@ -2,7 +2,7 @@
 
 ghost use Rattle.std.specs.Prelude.{◌≡◌, length, IfOk};
 ghost use Rattle.smp_prob.specs.Requests.{IsRequest};
-ghost use Rattle.smp_methods.specs.Procedures.{NeedsWhole};
+ghost use Rattle.smp_methods.specs.Procedures.{NeedsWhole, TakesValues};
 ghost use Rattle.smp_methods.specs.Starts.{IsStarted};
 
 use crate::{AnyDesign, AnyState, Procedure};
@@ -22,8 +22,8 @@ pub struct Started {
 
 impl Started {
     /// Starts to draw the free units of a request by a procedure. There is a list of values for each
-    /// of them, in their order; a method that spreads the units over points takes the first of these
-    /// as coordinates.
+    /// of them, in their order: a method that spreads the units over points takes the first of these
+    /// as coordinates, and the cube balances on all of them.
     #[tactic(auto, using(crate::proofs::Starts::is_started))]
     pub fn new(
         alloc: Global,
@@ -34,6 +34,7 @@ impl Started {
         requires request { IsRequest request.now }
         requires whole { NeedsWhole procedure request.now }
         requires paired { length values.now ≡ length request.now.free }
+        requires values { TakesValues procedure values.now }
         ensures { IfOk result (IsStarted procedure request.now values.now) }
     {
         let design = AnyDesign::new(alloc, procedure, request, values)?;
