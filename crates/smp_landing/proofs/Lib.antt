@@ -3,4 +3,4 @@ mod Landed
 mod Runs
 mod Errors
 mod Counts
-mod Starts
+pub mod Starts

@@ -95,9 +95,7 @@ impl AnyDesign {
             Procedure::LocalPivotal(dimensions) => Ok(AnyDesign::LocalPivotal(
                 smp_localpiv::AnyLocalPivotal::new(alloc, request, dimensions, 0, values)?,
             )),
-            Procedure::Cube => Ok(AnyDesign::Cube(smp_landing::Cube::new(
-                alloc, request, values,
-            )?)),
+            Procedure::Cube => Ok(AnyDesign::Cube(smp_landing::Cube::new(alloc, request, values)?)),
         }
     }
 

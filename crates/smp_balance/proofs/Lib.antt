@@ -1,0 +1,5 @@
+pub mod Sums
+pub mod Absolute
+pub mod Terms
+pub mod Balances
+pub mod Told

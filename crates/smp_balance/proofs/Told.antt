@@ -1,0 +1,117 @@
+-- What is told of a stratum, in the numbers of the code.
+use Rattle.std.proofs.Common.{◌≡◌, ℕ, zero, suc, ◌+◌, ◌-◌, ◌*◌, ◌^◌, ◌<◌, ◌≤◌, Bool, true, false, cond, ℤ, pos, ◌+ℤ◌, List, [], ◌∷◌, ◌++◌, map, drop, length, get_or, arith, refl, sym, ap, ◌∙◌, drop-cons, mul-pos, FitsSigned, SFits, w64}
+use Rattle.std.specs.Prelude.{slice_index, replicate}
+use Rattle.std.specs.List.{flat_map}
+use Rattle.std.proofs.lemmas.Int.{fits_signed_from_abs}
+use Rattle.std.proofs.lemmas.List.{append-nil, append_assoc, drop_all}
+use Rattle.std.specs.Int.RustNames.{unsigned_abs}
+use Rattle.smp_fractions.specs.Fractions.{Fraction, Same}
+use Rattle.smp_frac.specs.declared.fractions.Frac.{Frac}
+use Rattle.smp_frac.specs.Fractions.{fraction}
+use Rattle.smp_kernel.specs.Vectors.{entry, Within}
+use Rattle.smp_kernel.proofs.Fits.{abs_sum}
+use Rattle.smp_kernel.proofs.Limits.{entry_within}
+use Rattle.smp_prob.specs.declared.requests.Request.{Request}
+use Rattle.smp_prob.specs.declared.standings.Standing.{Standing}
+use Rattle.smp_prob.specs.declared.standings.Standing.TheVariants.{Certain, Free, Never}
+use Rattle.smp_prob.specs.Requests.{IsRequest}
+use Rattle.smp_prob.specs.Standings.{standing, fraction_at, asked_fraction}
+use Rattle.smp_flight.specs.Requests.{AreValues}
+use Rattle.smp_weights.specs.Arithmetic.{lowest_terms}
+use Rattle.smp_weights.specs.Chosen.{chosen_units}
+use Rattle.smp_frac.proofs.Coprime.{part_positive}
+use Rattle.smp_frac.proofs.Gcds.{IsGcd-greatest_common_divisor}
+use Rattle.smp_rows.specs.Laws.Rows.{free_within}
+use Rattle.smp_weights.proofs.Arithmetic.{unsigned, lowest_terms_is}
+use Rattle.smp_balance.specs.Strata.{Stratum, IsStratum, value_in, values_of}
+use Rattle.smp_balance.specs.Totals.{can_be_selected, known_value}
+use Rattle.smp_balance.specs.Lines.{known_total}
+
+-- a probability has no sign
+no_sign : (request : Request) (f : Frac) (stand : Standing) → Same (fraction f) (fraction_at request stand) → Same (fraction f) (unsigned (fraction_at request stand))
+no_sign request f Certain h = h
+no_sign request f (Free u) h = h
+no_sign request f Never h = h
+
+pub asked_is : (request : Request) (f : Frac) (k : ℕ) → Same (fraction f) (asked_fraction request k) → f ≡ lowest_terms (asked_fraction request k)
+asked_is request f k h = lowest_terms_is f (asked_fraction request k) (no_sign request f (standing request k) h)
+
+-- ---- the sum of a column stays small
+
+value_small : (s : Stratum) → AreValues s.values → (column k : ℕ) → k < length s.values → unsigned_abs (value_in s column k) ≤ 2 ^ 31
+value_small s ok column k l =
+    let small : unsigned_abs (value_in s column k) ≤ 2 ^ 31 - 1 = entry_within (2 ^ 31 - 1) (values_of s k) (ok.within k l) column in
+    omega (arith, small)
+
+term_small : (b : Bool) (z : ℤ) → unsigned_abs z ≤ 2 ^ 31 → unsigned_abs (cond b z (pos 0)) ≤ 2 ^ 31
+term_small true z h = h
+term_small false z h = omega arith
+
+known_small : (s : Stratum) → AreValues s.values → (column k : ℕ) → k < length s.values → unsigned_abs (known_value s column k) ≤ 2 ^ 31
+known_small s ok column k l = term_small (can_be_selected (standing s.request k)) (value_in s column k) (value_small s ok column k l)
+
+pub total_small : (s : Stratum) → AreValues s.values → (column n : ℕ) → n ≤ length s.values → unsigned_abs (known_total s column n) ≤ n * 2 ^ 31
+total_small s ok column zero l = omega arith
+total_small s ok column (suc n) l =
+    let here = known_small s ok column n (omega (arith, l)) in
+    let before = total_small s ok column n (omega (arith, l)) in
+    let both = abs_sum (known_total s column n) (known_value s column n) in
+    omega (arith, here, before, both)
+
+pub total_fits : (s : Stratum) → AreValues s.values → (column n : ℕ) → length s.values ≤ 200000 → n < length s.values → (FitsSigned w64 (known_total s column n +ℤ known_value s column n)) × (SFits w64 (known_value s column n))
+total_fits s ok column n few l =
+    let next = total_small s ok column (suc n) (omega (arith, l)) in
+    let here = known_small s ok column n l in (
+      fits_signed_from_abs w64 (known_total s column n +ℤ known_value s column n) (let h : unsigned_abs (known_total s column n +ℤ known_value s column n) < 2 ^ 63 = omega (arith, next, few, l) in h),
+      fits_signed_from_abs w64 (known_value s column n) (let h : unsigned_abs (known_value s column n) < 2 ^ 63 = omega (arith, here) in h),
+    )
+
+-- ---- the drawn units are chosen, each with a positive probability
+
+pub all_chosen : {A : Type 0} (f : ℕ → A) (g : ℕ → Frac) (us : List ℕ) (n : ℕ) → n ≡ length us → chosen_units (map f us) (map g us) (replicate n true) ≡ map (λ k. record { value = f k; asked = g k }) us
+all_chosen f g [] zero e = refl
+all_chosen f g [] (suc n) e = absurd (omega arith)
+all_chosen f g (k ∷ us) zero e = absurd (omega arith)
+all_chosen f g (k ∷ us) (suc n) e = ap (λ rest. record { value = f k; asked = g k } ∷ rest) (all_chosen f g us n (omega arith))
+
+lowest_positive : (a : Fraction) → 1 ≤ unsigned_abs a.num → 1 ≤ (lowest_terms a).num
+lowest_positive a some = part_positive (unsigned_abs a.num) _ some (IsGcd-greatest_common_divisor (unsigned_abs a.num) a.den).0
+
+fraction_positive : (request : Request) → IsRequest request → (k : ℕ) (stand : Standing) → standing request k ≡ stand → can_be_selected stand ≡ true → 1 ≤ unsigned_abs (fraction_at request stand).num
+fraction_positive request ok k Certain is can = omega arith
+fraction_positive request ok k Never is can = absurd (cc)
+fraction_positive request ok k (Free u) is can =
+    let l = free_within request k u is in
+    let shape : 1 ≤ slice_index request.shape u = ok.positive u (omega (arith, l, ok.paired)) in
+    mul-pos shape (ok.drawn (omega (arith, l)))
+
+pub asked_positive : (request : Request) → IsRequest request → (k : ℕ) → can_be_selected (standing request k) ≡ true → 1 ≤ (lowest_terms (asked_fraction request k)).num
+asked_positive request ok k can = lowest_positive (asked_fraction request k) (fraction_positive request ok k (standing request k) refl can)
+
+-- ---- one after another
+
+pub next_mapped : {A : Type 0} (f : ℕ → A) (us : List ℕ) (i : ℕ) (done : List A) (x : A) (whole : List A) → i < length us → x ≡ f (get_or us i 0)
+    → done ++ map f (drop i us) ≡ whole → (done ++ x ∷ []) ++ map f (drop (i + 1) us) ≡ whole
+next_mapped f us i done x whole l is so_far =
+    let on : i + 1 ≡ suc i = omega arith in
+    append_assoc done (x ∷ []) (map f (drop (i + 1) us))
+    ∙ ap (λ n. done ++ x ∷ map f (drop n us)) on
+    ∙ ap (λ y. done ++ y ∷ map f (drop (suc i) us)) is
+    ∙ ap (λ front. done ++ map f front) (sym (drop-cons us i 0 l)) ∙ so_far
+
+pub next_line : (line : ℕ → List ℕ) (us : List ℕ) (i k : ℕ) (old new whole : List ℕ) → i < length us → get_or us i 0 ≡ k → new ≡ old ++ line k
+    → old ++ flat_map line (drop i us) ≡ whole → new ++ flat_map line (drop (i + 1) us) ≡ whole
+next_line line us i k old new whole l is adds so_far =
+    let on : i + 1 ≡ suc i = omega arith in
+    ap (λ t. t ++ flat_map line (drop (i + 1) us)) adds
+    ∙ append_assoc old (line k) (flat_map line (drop (i + 1) us))
+    ∙ ap (λ n. old ++ (line k ++ flat_map line (drop n us))) on
+    ∙ ap (λ j. old ++ (line j ++ flat_map line (drop (suc i) us))) (sym is)
+    ∙ ap (λ front. old ++ flat_map line front) (sym (drop-cons us i 0 l)) ∙ so_far
+
+pub first_line : (old first rest new : List ℕ) → new ≡ old ++ first → new ++ rest ≡ old ++ (first ++ rest)
+first_line old first rest new adds = ap (λ t. t ++ rest) adds ∙ append_assoc old first rest
+
+pub last_line : (line : ℕ → List ℕ) (us : List ℕ) (i : ℕ) (old whole : List ℕ) → length us ≤ i → old ++ flat_map line (drop i us) ≡ whole → old ≡ whole
+last_line line us i old whole ended so_far =
+    sym (append-nil old) ∙ ap (λ rest. old ++ flat_map line rest) (sym (drop_all i us ended)) ∙ so_far

@@ -1,0 +1,13 @@
+use Rattle.std.proofs.Common.{◌<◌, [], map, length, get_or, ap, arith, sym, ◌∙◌}
+use Rattle.std.proofs.lemmas.List.{get_or-map, length-map}
+use Rattle.smp_balance.specs.Lines.{drawn_view}
+use Rattle.smp_balance.specs.Strata.{column_count}
+use Rattle.smp_balance.proofs.lines.value_at.Goals as goal
+
+pub bounds-drawn-column : goal.bounds-drawn-column
+bounds-drawn-column c =
+    let values = c.args.drawn.now.values.now in
+    let within : c.args.unit < length (map (λ v. v.now) values) = omega (arith, length-map values (λ v. v.now), c.requires.unit) in
+    let same = c.requires.told.stratum.values.same c.args.unit within in
+    let here = get_or-map (λ v. v.now) values c.args.unit (record { ref_ptr = (0, 0); now = [] }) [] c.requires.unit in
+    omega (arith, c.requires.column, c.requires.told.columns, same, ap length here)
