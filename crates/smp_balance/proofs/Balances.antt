@@ -106,7 +106,7 @@ module _ (s : Stratum) (ok : IsStratum s) where
       no_values (x ∷ xs) h = absurd (omega arith)
   few_values (suc n) some = let few = ok.values.few in omega (arith, few, same_length 0 (omega (arith, some)))
 
-  free_are_values : AreValues (free_values s)
+  pub free_are_values : AreValues (free_values s)
   free_are_values = record {
     same = λ u l. let m : u < length s.request.free = omega (arith, l, one_each) in same_length u m ∙ sym (same_length 0 (omega (arith, m)));
     few = few_values (length s.request.free) refl;
