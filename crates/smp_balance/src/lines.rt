@@ -16,6 +16,7 @@ use smp_weights::estimate;
 use std::alloc::{AllocError, Global};
 
 /// What was drawn of a stratum by the cube.
+#[derive(Drop)]
 pub struct DrawnStratum<'a> {
     /// The number of the stratum, from 1.
     pub number: usize,
