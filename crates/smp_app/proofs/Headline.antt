@@ -28,7 +28,7 @@ use Rattle.smp_app.specs.Texts.{log_text, sample_text, report_text}
 use Rattle.smp_app.specs.Commands.{Held, Draws, Job, job_of, job_for, outputs_by}
 use Rattle.smp_app.specs.Verdict.{Stop, ◌>>=◌, content, or_fault, or_refused, drawn_at, drawn_of, drawn_by, design_stage, frame_stage, drawn_stage, outputs_stage}
 use Rattle.smp_app.specs.Deliveries.{Outputs, with_files}
-use Rattle.smp_app.specs.Draws.{IsDraw}
+use Rattle.smp_app.specs.Draws.{IsDraw, KeepsBalance}
 use Rattle.smp_app.specs.Answers.{Outside, Says, IsWork, Done}
 use Rattle.smp_app.specs.Headline.{IsExactDraw, Headline}
 use Rattle.smp_app.proofs.Ends.{verdict_of}
@@ -162,6 +162,7 @@ module _ (a : DrawArguments) (fs : Files) (before now : Outside) (words : List (
         probability = λ row within.
             let here : row < length plan.units = subst (λ (p : Plan). row < length p.units) framed.is within in
             subst (λ (p : Plan). Same (inclusion_probability (tree_of p) (start_of p) row) (row_probability p row)) (sym same) (exact.by_plan.probability row here);
+        balance = subst (λ (p : Plan). KeepsBalance p.procedure drawn) (sym framed.is) exact.by_plan.balance;
       }
     where
       ok_is : (x y : Outputs) → ◌≡◌ {A = Result Outputs Stop} (Ok x) (Ok y) → x ≡ y

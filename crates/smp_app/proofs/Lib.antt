@@ -4,3 +4,4 @@ pub mod Headline
 pub mod Selections
 pub mod Stages
 pub mod Written
+pub mod Cubes

@@ -32,12 +32,17 @@ use Rattle.smp_app.specs.declared.plan.FramePlan.{FramePlan}
 use Rattle.smp_app.specs.declared.status.Status.TheVariants.{TapeLong}
 use Rattle.smp_app.specs.Stages.{IsPlanned, plan_view}
 use Rattle.smp_app.specs.Draws.{IsDrawnBy}
-use Rattle.smp_app.specs.Plans.{Plan, free_values, tree_of, start_of, row_probability, Drawn}
+use Rattle.smp_app.specs.Plans.{Plan, free_values, design_of_plan, tree_of, start_of, row_probability, Drawn}
+use Rattle.smp_app.proofs.Cubes.{keeps_balance}
 use Rattle.smp_app.specs.Verdict.{Refused, draw_status, drawn_at, drawn_of}
 
 -- the selected units are as many as are counted
 length_selected : {State : Type 0} (tree : Tree State) (state : State) → length (selected_units tree state) ≡ selected_count tree state
 length_selected tree state = length-filter (tree.selected state) (range_with_len 0 tree.units)
+
+-- the entries that were told
+pub told_is : {path lines : List Entry} → Some lines ≡ Some path → lines ≡ path
+told_is {path} {lines} told = let same : ◌≡◌ {A = Option (List Entry)} (Some lines) (Some path) = told in cc
 
 -- ---- the run of the tape
 
@@ -102,6 +107,9 @@ module _ (plan : FramePlan) (planned : IsPlanned plan) where
   abbrev pub planned_design : AnyDesign
   planned_design = design_of plan.procedure plan.request (free_values plan.request plan.frame)
 
+  pub planned_design_is : planned_design ≡ design_of_plan (plan_view plan)
+  planned_design_is = ap (λ (r : Request). design_of plan.procedure r (free_values r plan.frame)) planned.request_is
+
   planned_start : first_state planned_design ≡ start_of (plan_view plan)
   planned_start = ap (λ (r : Request). first_state (design_of plan.procedure r (free_values r plan.frame))) planned.request_is
 
@@ -140,9 +148,12 @@ module _ (plan : FramePlan) (planned : IsPlanned plan) where
       → ((row : ℕ) → row < length plan.frame → Same (inclusion_probability tree state row) (asked_fraction plan.request row))
       → counts.LeavesSelect tree plan.n state
       → (path : List Entry) (to : AnyState) → Leads tree state path to → tree.done to ≡ true
-      → (drawn : Drawn) → drawn.plan ≡ plan_view plan → drawn.leaf ≡ to
+      → (drawn : Drawn) → drawn.plan ≡ plan_view plan → drawn.leaf ≡ to → drawn.path ≡ path
       → IsDrawnBy (plan_view plan) drawn
-  drawn_by tree tree_same state starts asked counted path to leads done drawn by ends = record {
+  drawn_by tree tree_same state starts asked counted path to leads done drawn by ends goes = record {
+    balance = keeps_balance plan planned path to
+        (subst (λ (t : Tree AnyState). Leads t (start_of (plan_view plan)) path to) tree_same (subst (λ (s : AnyState). Leads tree s path to) starts leads))
+        (subst (λ (t : Tree AnyState). t.done to ≡ true) tree_same done) drawn by ends goes;
     number =
         let selected : selected_count tree to ≡ plan.n = counted path to leads done in
         let in_tree : selected_count (tree_of (plan_view plan)) drawn.leaf ≡ plan.n =

@@ -121,6 +121,9 @@ module _ (plan : FramePlan) (selection : Selection) (is : IsSelection (plan_view
       subst (λ k. (k < length plan.frame) × ((tree_of (plan_view plan)).selected selection.state k ≡ true)) found
       (omega (arith, passed.0), passed.1)
 
+  pub drawn_there : (tree_of (plan_view plan)).selected selection.state drawn_row ≡ true
+  drawn_there = there.1
+
   -- a drawn row is one of the frame, and has a positive probability
   pub drawn_below : drawn_row < length plan.frame
   drawn_below = there.0

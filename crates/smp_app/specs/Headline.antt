@@ -16,6 +16,7 @@ use Rattle.smp_app.specs.declared.asked.Asked.{Asked}
 use Rattle.smp_app.specs.declared.status.Status.{Status}
 use Rattle.smp_app.specs.declared.status.Status.TheVariants as status
 use Rattle.smp_app.specs.Plans.{asked_of, row_probability, tree_of, start_of, Drawn, drawn_rows}
+use Rattle.smp_app.specs.Draws.{KeepsBalance}
 use Rattle.smp_app.specs.Texts.{log_text, sample_text, report_text}
 use Rattle.smp_app.specs.Verdict.{drawn_by}
 use Rattle.smp_app.specs.Deliveries.{with_files}
@@ -51,6 +52,9 @@ pub record IsExactDraw (a : DrawArguments) (fs : Files) (before now : Outside) :
   pub probability : (row : ℕ) → row < length units
       → Same (inclusion_probability (tree_of drawn.plan) (start_of drawn.plan) row)
       (row_probability drawn.plan row)
+  -- Where the method is the cube, each flight step keeps every balancing total in force exactly, and landing starts only where no direction
+  -- is left or the next step doesn't fit.
+  pub balance : KeepsBalance asked.procedure drawn
 
 -- Where the words are those of `draw` and the files are told, a call that answers Done is such a draw.
 abbrev pub Headline : Status → List (List ℕ) → Outside → Outside → Type 0

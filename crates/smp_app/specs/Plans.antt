@@ -18,6 +18,7 @@ use Rattle.smp_methods.specs.declared.any.AnyState.{AnyState}
 use Rattle.smp_methods.specs.Procedures.{procedure_of}
 use Rattle.smp_methods.specs.Designs.{design_of, first_state, method_of}
 use Rattle.smp_rows.specs.Rows.{rows_tree}
+use Rattle.smp_balance.specs.Strata.{Stratum}
 use Rattle.smp_app.specs.declared.asked.Asked.{Asked}
 
 -- ---- what is asked
@@ -73,6 +74,13 @@ abbrev pub row_probability : Plan → ℕ → Fraction
 row_probability plan row =
     let sizes = sizes_of plan.units in requested_fraction plan.n sizes (slice_index sizes row)
 
+-- the units of a plan as a stratum: their request, and the values of each
+abbrev pub values_of_units : List unit.Unit → List (List ℤ)
+values_of_units units = map (λ u. u.values) units
+
+abbrev pub stratum_of : Plan → Stratum
+stratum_of plan = record { request = request_of plan; values = values_of_units plan.units }
+
 -- the id of the unit in a row
 abbrev pub row_id : Plan → ℕ → List ℕ
 row_id plan row = slice_index_or (map (λ u. u.id) plan.units) row []
@@ -81,7 +89,7 @@ row_id plan row = slice_index_or (map (λ u. u.id) plan.units) row []
 
 -- the values of the unit in a row, and none past the last row; those of the free units
 abbrev pub values_at : List unit.Unit → ℕ → List ℤ
-values_at units row = slice_index_or (map (λ u. u.values) units) row []
+values_at units row = slice_index_or (values_of_units units) row []
 
 abbrev pub free_values : Request → List unit.Unit → List (List ℤ)
 free_values request units = map (values_at units) request.free

@@ -8,7 +8,12 @@ use Rattle.smp_frame.specs.Bounds.{IsFrame, sizes_of}
 use Rattle.smp_prob.specs.Requests.{IsRequest}
 use Rattle.smp_prob.specs.Standings.{IsRising, asked_fraction}
 use Rattle.smp_values.specs.Starts.{IsWhole}
-use Rattle.smp_methods.specs.Designs.{method_of}
+use Rattle.smp_split.specs.Paths.{Entry}
+use Rattle.smp_methods.specs.declared.any.AnyState.{AnyState}
+use Rattle.smp_methods.specs.declared.procedure.Procedure.{Procedure}
+use Rattle.smp_methods.specs.Procedures.{TakesValues}
+use Rattle.smp_methods.specs.Designs.{left_at, method_of}
+use Rattle.smp_frame.specs.declared.frame.Unit as unit
 use Rattle.smp_rows.specs.Rows.{rows_tree, BelongsToRows, Fills}
 use Rattle.smp_words.specs.Words.{all_distinct}
 use Rattle.smp_app.specs.declared.status.Status.{Status}
@@ -30,7 +35,7 @@ use Rattle.smp_app.specs.declared.job.Work.TheVariants as works
 use Rattle.smp_app.specs.declared.job.Job as code_job
 use Rattle.smp_app.specs.Codes.{Class, IsDone, IsUsage, IsRefusal, IsReadFault, IsWriteFault, IsNoMemory, class_of}
 use Rattle.smp_app.specs.FaultLines.{fault_line}
-use Rattle.smp_app.specs.Plans.{Plan, quick_design, request_of, row_probability, tree_of, Drawn, drawn_rows}
+use Rattle.smp_app.specs.Plans.{Plan, quick_design, request_of, row_probability, values_of_units, design_of_plan, tree_of, Drawn, drawn_rows}
 use Rattle.smp_app.specs.Texts.{ids_text, log_text, sample_text, report_text, probabilities_text, accepted_text}
 use Rattle.smp_app.specs.Commands.{DesignSource, Held, Given, DrawnFile, Work, Lists, Draws, Job, inputs_of}
 use Rattle.smp_app.specs.Verdict.{Stop, Refused, Missing, without}
@@ -42,8 +47,8 @@ use Rattle.smp_app.specs.Answers.{Outside, Untouched, RefusesBy, Done, ReadFault
 abbrev pub plan_view : FramePlan → Plan
 plan_view plan = record { procedure = plan.procedure; units = plan.frame; n = plan.n }
 
-abbrev pub walked_view : Plan → Walked → Drawn
-walked_view plan walked = record { plan = plan; leaf = walked.state; path = walked.lines }
+abbrev pub walked_view : Plan → AnyState → List Entry → Drawn
+walked_view plan state lines = record { plan = plan; leaf = state; path = lines }
 
 abbrev pub selection_view : Plan → Selection → Drawn
 selection_view plan selection =
@@ -153,6 +158,10 @@ GivesPlan (Ok plan) stage = stage ≡ Ok plan
 GivesPlan (Err misfits.NoMemory) stage = Unit {0}
 GivesPlan (Err misfit) stage = stage ≡ Err (Refused (status.Misfit misfit))
 
+-- the units of a frame have the values that a procedure needs
+abbrev pub TakesUnits : Procedure → List unit.Unit → Type 0
+TakesUnits procedure units = TakesValues procedure (values_of_units units)
+
 -- the request of a plan is that of its sizes
 pub record IsPlanned (plan : FramePlan) : Type 0 where
   pub frame : IsFrame plan.frame
@@ -163,19 +172,22 @@ pub record IsPlanned (plan : FramePlan) : Type 0 where
   pub asked : EachIndex (sizes_of plan.frame)
       (λ row. Same (asked_fraction plan.request row) (row_probability (plan_view plan) row))
   pub fills : Fills plan.request (length (sizes_of plan.frame)) plan.n
+  pub values : TakesUnits plan.procedure plan.frame
 
--- a done state of the plan's design over the rows
-pub record IsWalked (plan : Plan) (walked : Walked) : Type 0 where
+-- where a walk came to a leaf: a done state of the plan's design over the rows, and the path to it
+pub record IsWalked (plan : Plan) (walked : Walked) (lines : List Entry) : Type 0 where
+  pub design : walked.design.design ≡ design_of_plan plan
   pub tree : rows_tree walked.design.rows walked.design.request.now (method_of walked.design.design).tree
       ≡ tree_of plan
   pub belongs : BelongsToRows walked.design.request.now (method_of walked.design.design).tree
       (method_of walked.design.design).belongs walked.state
   pub done : (tree_of plan).done walked.state ≡ true
-  pub drawn : IsDrawnBy plan (walked_view plan walked)
+  pub drawn : IsDrawnBy plan (walked_view plan walked.state lines)
 
 -- what is drawn by a plan: the rows of such a state
 pub record IsSelection (plan : Plan) (selection : Selection) : Type 0 where
   pub rows : selection.rows.items ≡ drawn_rows (selection_view plan selection)
+  pub left : selection.left ≡ left_at (design_of_plan plan) selection.state
   pub drawn : IsDrawnBy plan (selection_view plan selection)
 
 -- ---- jobs

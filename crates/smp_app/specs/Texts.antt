@@ -8,7 +8,13 @@ use Rattle.smp_split.specs.Paths.{Entry}
 use Rattle.smp_split.specs.Kinds.{kind_word}
 use Rattle.smp_weights.specs.Rows.{row}
 use Rattle.smp_weights.specs.Sample.{sample_file}
-use Rattle.smp_app.specs.Plans.{Plan, row_id, row_probability, Drawn, drawn_rows}
+use Rattle.smp_methods.specs.declared.procedure.Procedure.{Procedure}
+use Rattle.smp_methods.specs.declared.procedure.Procedure.TheVariants as procedure
+use Rattle.smp_methods.specs.Designs.{left_at}
+use Rattle.smp_balance.specs.Lines as balance
+use Rattle.smp_balance.specs.Lines.{balance_lines}
+use Rattle.smp_balance.specs.Strata.{column_count}
+use Rattle.smp_app.specs.Plans.{Plan, row_id, row_probability, stratum_of, design_of_plan, Drawn, drawn_rows}
 
 -- ---- texts of a plan
 
@@ -55,8 +61,25 @@ abbrev pub sample_text : Drawn → List ℕ
 sample_text drawn = sample_file (map (weighted_row drawn.plan) (drawn_rows drawn))
 
 -- the report: how many units were drawn of how many, and in how many steps
-abbrev pub report_text : Drawn → List ℕ
-report_text drawn =
+abbrev pub summary_text : Drawn → List ℕ
+summary_text drawn =
     codes "selected " ++ (decimal (length (drawn_rows drawn))
     ++ (codes " of " ++ (decimal (length drawn.plan.units)
     ++ (codes "\nsteps " ++ (decimal (length drawn.path) ++ codes "\n")))))
+
+-- and where they were drawn by the cube, what it kept and gave up in the one stratum
+abbrev pub drawn_stratum : Drawn → balance.Drawn
+drawn_stratum drawn = record {
+  number = 1;
+  left = left_at (design_of_plan drawn.plan) drawn.leaf;
+  columns = column_count (stratum_of drawn.plan);
+  stratum = stratum_of drawn.plan;
+  units = drawn_rows drawn;
+}
+
+abbrev pub cube_lines : Procedure → Drawn → List ℕ
+cube_lines procedure.Cube drawn = balance_lines (drawn_stratum drawn)
+cube_lines other drawn = []
+
+abbrev pub report_text : Drawn → List ℕ
+report_text drawn = summary_text drawn ++ cube_lines drawn.plan.procedure drawn

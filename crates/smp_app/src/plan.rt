@@ -2,7 +2,7 @@ ghost use Rattle.std.specs.Prelude.{◌≡◌, ◌≤◌, ◌∷◌, [], IfOk, I
 ghost use Rattle.smp_frame.specs.Bounds.{IsFrame, sizes_of};
 ghost use Rattle.smp_app.specs.Commands.{design_names, plan_inputs};
 ghost use Rattle.smp_app.specs.Verdict.{content_of, plan_of, design_stage, frame_stage, plan_stage};
-ghost use Rattle.smp_app.specs.Stages.{Reads, GivesPlan, IsPlanned, IsJob, HasUnits, told, source_view, job_view, plan_view, result_view};
+ghost use Rattle.smp_app.specs.Stages.{Reads, GivesPlan, IsPlanned, IsJob, HasUnits, TakesUnits, told, source_view, job_view, plan_view, result_view};
 
 use crate::asked::quick_design;
 use crate::job::{DesignSource, Job};
@@ -73,6 +73,7 @@ fn sizes(alloc: Global, units: &[Unit]) -> Result<Vec<u32>, NoMemory>
 fn plan_for(alloc: Global, asked: Asked, frame: Frame) -> Result<FramePlan, Misfit>
     requires frame { IsFrame frame }
     requires some { 1 ≤ asked.n }
+    requires values { TakesUnits asked.procedure frame }
     ensures follows { GivesPlan (result_view plan_view result) (plan_of asked frame) }
     ensures planned { IfOk result IsPlanned }
 {

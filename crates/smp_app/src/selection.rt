@@ -19,19 +19,22 @@ use smp_split::{Lines, Splitting, WalkFault, selected_units, walk};
 use smp_tape::{DrawFault, Tape};
 use std::alloc::Global;
 
-/// A design over the rows of a frame, the done state at which a walk ended, and the lines of its steps.
+/// A design over the rows of a frame, the state at which a walk ended, and how it ended: at a leaf, with the lines of its steps, or by a
+/// refusal.
 #[derive(Drop)]
 pub struct Walked<'a> {
     pub design: Rows<'a, AnyDesign>,
     pub state: AnyState,
-    pub lines: Lines,
+    pub end: Result<Lines, Status>,
 }
 
-/// What is drawn: the done state at which a walk ended, the rows that it selects, in frame order, and the lines of its steps.
+/// What is drawn: the done state at which a walk ended, the rows that it selects, in frame order, how many units were undecided where the
+/// landing of a cube began, and the lines of its steps.
 #[derive(Drop)]
 pub struct Selection {
     pub state: AnyState,
     pub rows: Vec<usize>,
+    pub left: u32,
     pub lines: Lines,
 }
 
@@ -66,17 +69,20 @@ fn started(alloc: Global, plan: &FramePlan) -> Result<Started, NoMemory>
     Started::new(alloc, plan.procedure, &plan.request, values.as_slice())
 }
 
-// Walks by a plan with the values of a tape. All values are taken, or it is refused.
-fn walk_by_tape<'a>(alloc: Global, plan: &'a FramePlan, tape: Tape) -> Result<Walked<'a>, Status>
-    requires { IsPlanned plan.now }
-    ensures follows { Follows (result_view (walked_view (plan_view plan.now)) result)
+// Walks by a plan from its start with the values of a tape. All values are taken, or it is refused.
+fn walk_by_tape<'a>(alloc: Global, plan: &'a FramePlan, started: Started, tape: Tape) -> Walked<'a>
+    requires planned { IsPlanned plan.now }
+    requires started { IsStarted plan.now.procedure plan.now.request
+        (free_values plan.now.request plan.now.frame) started }
+    ensures follows { Follows
+        (result_view (walked_view (plan_view plan.now) result.state) result.end)
         (drawn_of (plan_view plan.now)
         (run tape_source (tree_of (plan_view plan.now)) (start_of (plan_view plan.now)) tape)) }
-    ensures kinds { IfErr result (λ error. IsOfContent (class_of error) error) }
-    ensures walked { IfOk result (IsWalked (plan_view plan.now)) }
+    ensures kinds { IfErr result.end (λ error. IsOfContent (class_of error) error) }
+    ensures walked { IfOk result.end (IsWalked (plan_view plan.now) result) }
 {
     let units = plan.frame.units();
-    let Started { design, mut state } = started(alloc, plan)?;
+    let Started { design, mut state } = started;
     let design = Rows {
         design,
         request: &plan.request,
@@ -89,28 +95,31 @@ fn walk_by_tape<'a>(alloc: Global, plan: &'a FramePlan, tape: Tape) -> Result<Wa
         Ok(()) => {}
         Err(WalkFault::Draw(DrawFault::Short)) => {
             let taken = tape.taken();
-            return Err(Status::TapeShort { taken });
+            let end = Err(Status::TapeShort { taken });
+            return Walked { design, state, end };
         }
         Err(WalkFault::Draw(DrawFault::TooBig { place, value })) => {
             let bound = design.bound(&state);
-            return Err(Status::TapeValue {
+            let end = Err(Status::TapeValue {
                 place,
                 value,
                 bound,
             });
+            return Walked { design, state, end };
         }
         Err(WalkFault::Draw(DrawFault::Rejected { .. })) => unreachable!(),
-        Err(WalkFault::NoMemory) => return Err(Status::NoMemory),
+        Err(WalkFault::NoMemory) => {
+            let end = Err(Status::NoMemory);
+            return Walked { design, state, end };
+        }
     }
     let left = tape.left();
     if left > 0 {
-        return Err(Status::TapeLong { left });
+        let end = Err(Status::TapeLong { left });
+        return Walked { design, state, end };
     }
-    Ok(Walked {
-        design,
-        state,
-        lines,
-    })
+    let end = Ok(lines);
+    Walked { design, state, end }
 }
 
 /// Selects by a plan with the values of a tape. All values are taken, or it is refused.
@@ -122,13 +131,17 @@ pub fn select(alloc: Global, plan: &FramePlan, tape: Tape) -> Result<Selection, 
     ensures kinds { IfErr result (λ error. IsOfContent (class_of error) error) }
     ensures selection { IfOk result (IsSelection (plan_view plan.now)) }
 {
-    let Walked {
-        design,
-        state,
-        lines,
-    } = walk_by_tape(alloc, plan, tape)?;
+    let started = started(alloc, plan)?;
+    let Walked { design, state, end } = walk_by_tape(alloc, plan, started, tape);
+    let lines = end?;
     let rows = selected_units(alloc, &design, &state)?;
-    Ok(Selection { state, rows, lines })
+    let left = design.design.left(&state);
+    Ok(Selection {
+        state,
+        rows,
+        left,
+        lines,
+    })
 }
 
 /// Reads a tape, and selects by a plan with its values.

@@ -1,6 +1,9 @@
-ghost use Rattle.std.specs.Prelude.{◌≡◌, ◌++◌, ◌∷◌, [], length, IfOk, OnOk, Some, string_bytes};
+ghost use Rattle.std.specs.Prelude.{◌≡◌, ◌++◌, ◌∷◌, [], length, map, IfOk, OnOk, Some, string_bytes};
 ghost use Rattle.smp_app.specs.Texts;
-ghost use Rattle.smp_app.specs.Texts.{step_text};
+ghost use Rattle.smp_app.specs.Texts.{cube_lines, drawn_stratum, step_text};
+ghost use Rattle.smp_app.specs.Plans.{values_at, values_of_units};
+ghost use Rattle.smp_balance.specs.Lines.{balance_lines};
+ghost use Rattle.smp_methods.specs.declared.procedure.Procedure.TheVariants.{Cube};
 ghost use Rattle.smp_app.specs.Stages as Stages;
 ghost use Rattle.smp_app.specs.Stages.{IsPlanned, IsSelection, plan_view, selection_view};
 ghost use Rattle.smp_frac.specs.Fractions.{fraction, fraction_text};
@@ -9,7 +12,10 @@ ghost use Rattle.smp_weights.specs.Rows.{AddsRow, row};
 use crate::job::{DrawnText, PlanText};
 use crate::plan::FramePlan;
 use crate::selection::Selection;
+use smp_balance::{DrawnStratum, push_balance_lines};
 use smp_frac::{Bytes, Frac, NoMemory, Text};
+use smp_frame::Unit;
+use smp_methods::Procedure;
 use smp_split::Kind;
 use smp_weights::{CsvRows, push_sample_row, sample_rows};
 use std::alloc::{AllocError, Global};
@@ -103,17 +109,83 @@ fn push_step(text: &mut String, step: &(Kind, u128, u128)) -> Result<(), AllocEr
     write!(text, "{} {bound} {value}\n", kind.word())
 }
 
-// The report of a draw: how many units were drawn of how many, and in how many steps.
+// The report of a draw: how many units were drawn of how many, and in how many steps; and the lines of the cube.
 fn report_text(alloc: Global, plan: &FramePlan, selection: &Selection) -> Result<Bytes, NoMemory>
-    requires { IsSelection (plan_view plan.now) selection.now }
+    requires planned { IsPlanned plan.now }
+    requires selection { IsSelection (plan_view plan.now) selection.now }
     ensures { IfOk result (λ text. text
         ≡ Texts.report_text (selection_view (plan_view plan.now) selection.now)) }
 {
     let drawn = selection.rows.as_slice().len();
     let units = plan.frame.units().len();
     let steps = selection.lines.as_slice().len();
-    let report = format!(in alloc; "selected {drawn} of {units}\nsteps {steps}\n")?;
+    let mut report = format!(in alloc; "selected {drawn} of {units}\nsteps {steps}\n")?;
+    push_cube_lines(alloc, &mut report, plan, selection)?;
     bytes_of(alloc, &report)
+}
+
+// What the cube kept and gave up, where the units were drawn by it.
+fn push_cube_lines(
+    alloc: Global,
+    text: &mut String,
+    plan: &FramePlan,
+    selection: &Selection,
+) -> Result<(), NoMemory>
+    requires planned { IsPlanned plan.now }
+    requires selection { IsSelection (plan_view plan.now) selection.now }
+    ensures { OnOk result (string_bytes text.new ≡ string_bytes text.old
+        ++ cube_lines plan.now.procedure (selection_view (plan_view plan.now) selection.now)) }
+{
+    match plan.procedure {
+        Procedure::Cube => push_stratum_lines(alloc, text, plan, selection),
+        _ => Ok(()),
+    }
+}
+
+fn push_stratum_lines(
+    alloc: Global,
+    text: &mut String,
+    plan: &FramePlan,
+    selection: &Selection,
+) -> Result<(), NoMemory>
+    requires planned { IsPlanned plan.now }
+    requires selection { IsSelection (plan_view plan.now) selection.now }
+    requires cube { plan.now.procedure ≡ Cube }
+    ensures { OnOk result (string_bytes text.new ≡ string_bytes text.old
+        ++ balance_lines (drawn_stratum (selection_view (plan_view plan.now) selection.now))) }
+{
+    let units = plan.frame.units();
+    let values = values_of(alloc, units)?;
+    let drawn = DrawnStratum {
+        number: 1,
+        left: selection.left,
+        columns: column_count(units),
+        request: &plan.request,
+        values: values.as_slice(),
+        units: selection.rows.as_slice(),
+    };
+    push_balance_lines(alloc, text, &drawn)
+}
+
+// How many values each unit has; none where there is no unit.
+fn column_count(units: &[Unit]) -> usize
+    ensures { result ≡ length (values_at units.now 0) }
+{
+    match units.get(0) {
+        Some(unit) => unit.values.as_slice().len(),
+        None => 0,
+    }
+}
+
+// The values of each unit.
+fn values_of<'a>(alloc: Global, units: &'a [Unit]) -> Result<Vec<&'a [i32]>, NoMemory>
+    ensures { IfOk result (λ values. map (λ v. v.now) values.items ≡ values_of_units units.now) }
+{
+    let mut values = Vec::with_capacity(alloc, units.len())?;
+    for unit in units {
+        values.push(unit.values.as_slice())?;
+    }
+    Ok(values)
 }
 
 fn bytes_of(alloc: Global, text: &str) -> Result<Bytes, NoMemory>

@@ -18,4 +18,5 @@ returns-in-Ok-clause-planned c =
       ordered = c.in-Ok.ensures.ordered;
       asked = rw sizes_are at c.in-Ok.ensures.probabilities;
       fills = rw sizes_are at c.in-Ok.ensures.drawn;
+      values = c.requires.values;
     }
