@@ -1,0 +1,26 @@
+/// A unit of a stage.
+#[derive(Clone, Copy, Debug, PartialEq, Eq)]
+pub struct Place {
+    /// The number of the stage.
+    pub stage: usize,
+    /// The number of the unit in it.
+    pub unit: usize,
+}
+
+/// A stage of a selection.
+#[derive(Drop)]
+pub struct Stage<D> {
+    /// The design by which the units of this stage are selected.
+    pub design: D,
+    /// The unit of a first stage within which this one selects, if it is a second stage.
+    pub within: Option<Place>,
+}
+
+/// Where a row of the frame is selected.
+#[derive(Clone, Copy, Debug, PartialEq, Eq)]
+pub struct Seat {
+    /// Its unit in a first stage.
+    pub first: Place,
+    /// Its unit in the second stage within that one, where there is a second stage.
+    pub second: Option<Place>,
+}
