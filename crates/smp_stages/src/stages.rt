@@ -1,10 +1,12 @@
 //! The stages, and the selection through them.
 
 ghost use Rattle.std.proofs.Props.{props};
-ghost use Rattle.std.specs.Prelude.{◌≡◌, ◌<◌, ℕ, true, false, length, Option, Some};
+ghost use Rattle.std.specs.Prelude.{◌≡◌, ◌<◌, ℕ, true, false, length, set, Option, Some};
 ghost use Rattle.std.specs.List.{slice_get};
 ghost use Rattle.smp_stages.specs.Laws.Staged.{staged_lawful};
-ghost use Rattle.smp_stages.specs.Stages.{EachBelongs, IsStaged, IsUnderWay, is_drawn, next_stage, progress, stage_done, staged_tree, unit_selected, units_of, waits};
+ghost use Rattle.smp_stages.specs.Stages.{EachBelongs, IsFirstUnit, IsStaged, IsUnderWay, IsUnitWithin, is_drawn, next_stage, progress, seat_selected, stage_done, stage_kind, stage_parts, staged_tree, unit_selected, units_of, waits};
+ghost use Rattle.smp_stages.specs.declared.places.Place.{Place};
+ghost use Rattle.smp_split.specs.Trees.{weight_sum, picked};
 
 use crate::{Place, Seat, Stage, StagesState};
 use smp_split::{Kind, Splitting};
@@ -83,5 +85,101 @@ impl<D: Splitting> Stages<D> {
             }
         }
         self.stages.len()
+    }
+
+    // The kind of the next step of a stage.
+    fn kind_of(&self, states: &[D::State], number: usize) -> Kind
+        requires each { EachBelongs D.tree D.belongs self.now.stages.items states.now }
+        requires stage { number < length self.now.stages.items }
+        requires waits { waits D.tree self.now.stages.items states.now number ≡ true }
+        ensures { result ≡ stage_kind D.tree self.now.stages.items states.now number }
+    {
+        let stage = &self.stages[number];
+        let state = &states[number];
+        stage.design.kind(state)
+    }
+
+    // The bound of the next step of a stage.
+    fn bound_of(&self, states: &[D::State], number: usize) -> u128
+        requires each { EachBelongs D.tree D.belongs self.now.stages.items states.now }
+        requires stage { number < length self.now.stages.items }
+        requires waits { waits D.tree self.now.stages.items states.now number ≡ true }
+        ensures { result ≡ weight_sum (stage_parts D.tree self.now.stages.items states.now number) }
+    {
+        let stage = &self.stages[number];
+        let state = &states[number];
+        stage.design.bound(state)
+    }
+
+    // Makes a step of a stage.
+    fn step(&self, states: &mut Vec<D::State>, number: usize, draw: u128)
+        requires each { EachBelongs D.tree D.belongs self.now.stages.items states.old.items }
+        requires stage { number < length self.now.stages.items }
+        requires waits { waits D.tree self.now.stages.items states.old.items number ≡ true }
+        requires within { draw < weight_sum
+            (stage_parts D.tree self.now.stages.items states.old.items number) }
+        ensures { (state : D.State) → slice_get states.old.items number ≡ Some state
+            → states.new.items ≡ set states.old.items number
+            (picked state (stage_parts D.tree self.now.stages.items states.old.items number) draw) }
+    {
+        let stage = &self.stages[number];
+        let state = &mut states[number];
+        stage.design.advance(state, draw);
+    }
+
+    // Whether a row that has this seat is selected, where no stage waits.
+    fn selects_seat(&self, states: &[D::State], seat: Seat) -> bool
+        requires each { EachBelongs D.tree D.belongs self.now.stages.items states.now }
+        requires ended { (i : ℕ) → i < length self.now.stages.items
+            → waits D.tree self.now.stages.items states.now i ≡ false }
+        requires first { IsFirstUnit D.tree self.now.stages.items seat.first }
+        requires second { (place : Place) → seat.second ≡ Some place
+            → IsUnitWithin D.tree self.now.stages.items seat.first place }
+        ensures { result ≡ seat_selected (unit_selected D.tree self.now.stages.items states.now)
+            (Some seat) }
+    {
+        if !self.selects(states, seat.first) {
+            return false;
+        }
+        match seat.second {
+            None => true,
+            Some(place) => self.selects(states, place),
+        }
+    }
+}
+
+impl<D: Splitting> Splitting for Stages<D> {
+    type State = StagesState<D::State>;
+
+    ghost tree = { λ s. staged_tree D.tree s.stages.items s.seats.items };
+
+    ghost belongs = { λ s. IsUnderWay D.tree D.belongs s.stages.items };
+
+    ghost lawful = { λ s. staged_lawful D.tree D.belongs D.lawful s.stages.items s.seats.items s.staged };
+
+    fn units(&self) -> usize {
+        self.seats.len()
+    }
+
+    fn done(&self, state: &StagesState<D::State>) -> bool {
+        state.at == self.stages.len()
+    }
+
+    fn kind(&self, state: &StagesState<D::State>) -> Kind {
+        self.kind_of(state.states.as_slice(), state.at)
+    }
+
+    fn bound(&self, state: &StagesState<D::State>) -> u128 {
+        self.bound_of(state.states.as_slice(), state.at)
+    }
+
+    fn advance(&self, state: &mut StagesState<D::State>, draw: u128) {
+        let at = state.at;
+        self.step(&mut state.states, at, draw);
+        state.at = self.next_from(state.states.as_slice(), at);
+    }
+
+    fn selected(&self, state: &StagesState<D::State>, unit: usize) -> bool {
+        self.selects_seat(state.states.as_slice(), self.seats[unit])
     }
 }

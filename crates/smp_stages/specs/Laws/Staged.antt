@@ -1,7 +1,7 @@
 -- A selection in stages is a lawful design where each stage is.
 use Rattle.std.proofs.Common.{◌≡◌, ◌≢◌, ℕ, ◌<◌, ◌≤◌, Bool, true, false, not, ◌&&◌, cond, nat_eq, List, length, set, Option, Some, None, arith, refl, sym, ap, subst, ◌∙◌, inl, inr}
 use Rattle.std.specs.List.{slice_get}
-use Rattle.std.proofs.lemmas.Bool.{cases_Bool, cases_eq, and_parts, and_cases, not-true, not-false, eqb-true, eqb-false}
+use Rattle.std.proofs.lemmas.Bool.{cases_Bool, cases_eq, and_parts, not-true, eqb-true, eqb-false}
 use Rattle.std.proofs.lemmas.List.{length-set}
 use Rattle.std.proofs.lemmas.Option.{slice_get_within, same_Some}
 use Rattle.smp_fractions.specs.Fractions.{Fraction, Same, whole, times}
@@ -13,7 +13,7 @@ use Rattle.smp_stages.specs.declared.places.Seat.{Seat}
 use Rattle.smp_stages.specs.declared.places.Stage.{Stage}
 use Rattle.smp_stages.specs.Stages.{Progress, read, units_of, within_of, seat_value, seat_selected, value_within, selected_within, stage_done, unit_value, unit_selected, drawn_within, is_drawn, waits, next_stage, progress, staged_tree, IsFirstUnit, IsUnitWithin, IsStaged, EachBelongs, IsUnderWay}
 use Rattle.smp_stages.specs.Laws.Reads.{slice_get-set_same, slice_get-set_other, set_self, some_within}
-use Rattle.smp_stages.specs.Laws.Turns.{read_is, next_passed, next_waits, next_within}
+use Rattle.smp_stages.specs.Laws.Turns.{read_is, done_where_drawn, first_drawn, next_passed, next_waits, next_within}
 use Rattle.smp_stages.specs.Laws.Lenses.{put, view, stage_lens}
 
 -- a row is selected where both of its units are
@@ -97,31 +97,21 @@ module _ {Design State : Type 0} (tree_of : Design → Tree State) (belongs : De
     -- ---- where no stage waits
 
     module _ (states : List State) (each : EachBelongs tree_of belongs stages states) (none : (i : ℕ) → i < length stages → waits tree_of stages states i ≡ false) where
-      ended : (i : ℕ) → i < length stages → is_drawn tree_of stages states i ≡ true → stage_done tree_of stages states i ≡ true
-      ended i within drawn =
-          elim (and_cases (is_drawn tree_of stages states i) (not (stage_done tree_of stages states i)) (none i within)) [
-            | inl off ↦ absurd (cc)
-            | inr done ↦ not-false (stage_done tree_of stages states i) done
-          ]
-
       unit_end : (place : Place) → is_drawn tree_of stages states place.stage ≡ true → place.unit < units_of tree_of (slice_get stages place.stage) → Same (unit_value tree_of stages states place) (whole (cond (unit_selected tree_of stages states place) 1 0))
       unit_end place drawn unit =
           let some = some_stage (slice_get stages place.stage) place.unit unit in
           let here : Stands stages states each place.stage = stands stages states each place.stage (slice_get_within stages place.stage some.0 some.1) in
           let within : place.unit < (tree_of here.stage.design).units = rw here.is_stage at unit in
           let done : (tree_of here.stage.design).done here.state ≡ true =
-          sym (read_is tree_of true (λ tree t. tree.done t) (slice_get stages place.stage) (slice_get states place.stage) here.stage here.state here.is_stage here.is_state) ∙ ended place.stage (slice_get_within stages place.stage some.0 some.1) drawn in
+          sym (read_is tree_of true (λ tree t. tree.done t) (slice_get stages place.stage) (slice_get states place.stage) here.stage here.state here.is_stage here.is_state) ∙ done_where_drawn tree_of stages states place.stage drawn (none place.stage (slice_get_within stages place.stage some.0 some.1)) in
           rw (here.is_stage, here.is_state) ((lawful here.stage.design).end here.state here.member done place.unit within)
-
-      first_drawn : (place : Place) → IsFirstUnit tree_of stages place → is_drawn tree_of stages states place.stage ≡ true
-      first_drawn place is = rw is.first refl
 
       seat_end : (first : Place) (second : Option Place) → IsFirstUnit tree_of stages first → ((place : Place) → second ≡ Some place → IsUnitWithin tree_of stages first place)
           → Same (value_within (unit_value tree_of stages states) (unit_value tree_of stages states first) second) (whole (cond (selected_within (unit_selected tree_of stages states) (unit_selected tree_of stages states first) second) 1 0))
-      seat_end first None is k = unit_end first (first_drawn first is) is.unit
+      seat_end first None is k = unit_end first (first_drawn tree_of stages states first is) is.unit
       seat_end first (Some second) is k =
           both (unit_selected tree_of stages states first) (unit_selected tree_of stages states second) (unit_value tree_of stages states first) (unit_value tree_of stages states second)
-          (unit_end first (first_drawn first is) is.unit)
+          (unit_end first (first_drawn tree_of stages states first is) is.unit)
           (λ selected. unit_end second (rw (k second refl).within selected) (k second refl).unit)
 
       row_end : (at : Option Seat) → ((seat : Seat) → at ≡ Some seat → IsFirstUnit tree_of stages seat.first) → ((seat : Seat) (place : Place) → at ≡ Some seat → seat.second ≡ Some place → IsUnitWithin tree_of stages seat.first place)

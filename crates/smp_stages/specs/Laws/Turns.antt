@@ -1,11 +1,12 @@
 -- Which stage comes next, where earlier stages stay in their states.
-use Rattle.std.proofs.Common.{◌≡◌, ◌≢◌, ℕ, ◌<◌, ◌≤◌, true, false, not, ◌&&◌, List, length, set, Option, Some, None, arith, refl, sym, ap, ◌∙◌}
+use Rattle.std.proofs.Common.{◌≡◌, ◌≢◌, ℕ, ◌<◌, ◌≤◌, true, false, not, ◌&&◌, List, length, set, Option, Some, None, arith, refl, sym, ap, ◌∙◌, inl, inr}
 use Rattle.std.specs.List.{slice_get}
+use Rattle.std.proofs.lemmas.Bool.{and_cases, not-false}
 use Rattle.smp_split.specs.Trees.{Tree}
 use Rattle.smp_stages.specs.declared.places.Place.{Place}
 use Rattle.smp_stages.specs.declared.places.Seat.{Seat}
 use Rattle.smp_stages.specs.declared.places.Stage.{Stage}
-use Rattle.smp_stages.specs.Stages.{read, within_of, stage_done, is_drawn, drawn_within, waits, next_stage, first_among, IsAfter, IsStaged}
+use Rattle.smp_stages.specs.Stages.{read, within_of, stage_done, is_drawn, drawn_within, waits, next_stage, first_among, IsFirstUnit, IsAfter, IsStaged}
 use Rattle.smp_stages.specs.Laws.Reads.{slice_get-set_other}
 use Rattle.smp_stages.specs.Laws.Firsts.{IsFirst, first_is, first_unique}
 
@@ -29,6 +30,17 @@ module _ {Design State : Type 0} (tree_of : Design → Tree State) where
         rw (drawn_same i states others (λ j l. same j (omega arith)), same i (omega arith)) refl
 
   module _ (stages : List (Stage Design)) (states : List State) where
+    -- a stage that is drawn and doesn't wait is done
+    pub done_where_drawn : (i : ℕ) → is_drawn tree_of stages states i ≡ true → waits tree_of stages states i ≡ false → stage_done tree_of stages states i ≡ true
+    done_where_drawn i drawn passed =
+        elim (and_cases (is_drawn tree_of stages states i) (not (stage_done tree_of stages states i)) passed) [
+          | inl off ↦ absurd (cc)
+          | inr done ↦ not-false (stage_done tree_of stages states i) done
+        ]
+
+    pub first_drawn : (place : Place) → IsFirstUnit tree_of stages place → is_drawn tree_of stages states place.stage ≡ true
+    first_drawn place is = rw is.first refl
+
     pub next_is : (i : ℕ) → i ≤ length stages → ((j : ℕ) → j < i → waits tree_of stages states j ≡ false) → (i < length stages → waits tree_of stages states i ≡ true) → next_stage tree_of stages states ≡ i
     next_is i within passed here =
         first_unique (waits tree_of stages states) 0 (length stages) (next_stage tree_of stages states) i (first_is (waits tree_of stages states) (length stages) 0)

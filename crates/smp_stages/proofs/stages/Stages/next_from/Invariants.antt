@@ -1,0 +1,7 @@
+use Rattle.std.proofs.Common.{◌≡◌, ℕ, ◌<◌, false}
+use Rattle.smp_stages.specs.Stages.{waits}
+use Rattle.smp_stages.proofs.stages.Stages.next_from.Given as goal
+
+-- no stage so far waits
+abbrev pub invariant-loop-number : goal.invariant-loop-number
+invariant-loop-number g l = (j : ℕ) → j < l.number → waits g.D.Splitting.tree l.self.stages.items l.states j ≡ false

@@ -1,0 +1,28 @@
+use Rattle.std.proofs.Common.{◌≡◌, Option, Some, sym, ap, subst, ◌∙◌}
+use Rattle.std.specs.List.{slice_get}
+use Rattle.smp_stages.specs.declared.places.Seat.{Seat}
+use Rattle.smp_stages.specs.Stages.{Progress, seat_selected, unit_selected}
+use Rattle.smp_stages.proofs.Scans.{read_at}
+use Rattle.smp_stages.proofs.Stepped.{none_waits_inside}
+use Rattle.smp_stages.proofs.stages.StagesSplitting.selected.Goals as goal
+
+pub selects_seat-requires-clause-ended : goal.selects_seat-requires-clause-ended
+selects_seat-requires-clause-ended g c =
+    let s : Progress g.row.D-State.Denot = record { states = c.state.inside.states.items; at = c.state.inside.at } in
+    rw c.as_slice.ensures.value (none_waits_inside g.D.Splitting.tree g.D.Splitting.belongs c.args.self.now.stages.items c.args.self.now.seats.items g.met.D.Splitting.lawful c.args.self.now.staged s c.args.state.now c.state.view_is c.requires.state c.requires.done)
+
+pub selects_seat-requires-clause-first : goal.selects_seat-requires-clause-first
+selects_seat-requires-clause-first g c =
+    c.args.self.now.staged.first c.args.unit c.index.result.now (read_at c.args.self.now.seats.items c.args.unit c.index.result.now c.requires.unit c.index.ensures)
+
+pub selects_seat-requires-clause-second : goal.selects_seat-requires-clause-second
+selects_seat-requires-clause-second g c place is =
+    c.args.self.now.staged.second c.args.unit c.index.result.now place (read_at c.args.self.now.seats.items c.args.unit c.index.result.now c.requires.unit c.index.ensures) is
+
+pub returns : goal.returns
+returns g c =
+    let s : Progress g.row.D-State.Denot = record { states = c.state.inside.states.items; at = c.state.inside.at } in
+    let answer : c.selects_seat.result ≡ seat_selected (unit_selected g.D.Splitting.tree c.args.self.now.stages.items s.states) (Some c.index.result.now) = rw c.as_slice.ensures.value at c.selects_seat.ensures in
+    let seat : slice_get c.args.self.now.seats.items c.args.unit ≡ Some c.index.result.now = read_at c.args.self.now.seats.items c.args.unit c.index.result.now c.requires.unit c.index.ensures in
+    subst (λ (t : Progress g.row.D-State.Denot). c.selects_seat.result ≡ seat_selected (unit_selected g.D.Splitting.tree c.args.self.now.stages.items t.states) (slice_get c.args.self.now.seats.items c.args.unit)) c.state.view_is
+    (answer ∙ ap (seat_selected (unit_selected g.D.Splitting.tree c.args.self.now.stages.items s.states)) (sym seat))
