@@ -21,6 +21,6 @@ module _ {Design State : Type 0} (tree_of : Design → Tree State) where
   -- A whole path, from these first states of the stages to these last ones: the part that each stage has of it.
   pub record GoesByStages (stages : List (Stage Design)) (firsts : List State) (path : List Entry) (leaves : List State) : Type 0 where
     pub part : ℕ → List Entry
-    pub joined : path ≡ joined part (length stages)
+    pub whole : path ≡ joined part (length stages)
     pub each : (i : ℕ) (stage : Stage Design) (first leaf : State) → slice_get stages i ≡ Some stage → slice_get firsts i ≡ Some first → slice_get leaves i ≡ Some leaf
         → IsStagePath (is_drawn tree_of stages leaves i) (tree_of stage.design) first (part i) leaf
