@@ -1,3 +1,5 @@
 pub mod Scans
 pub mod Stepped
 pub mod WholePaths
+pub mod StagePaths
+pub mod Starts

@@ -1,12 +1,12 @@
 -- What a look at the stages in turn comes to.
-use Rattle.std.proofs.Common.{◌≡◌, ℕ, ◌<◌, true, false, List, length, get_or, Option, Some, arith, refl, ap, ◌∙◌}
+use Rattle.std.proofs.Common.{◌≡◌, ℕ, ◌<◌, true, false, List, length, get_or, Option, Some, refl, ap, ◌∙◌}
 use Rattle.std.specs.List.{slice_get}
 use Rattle.std.proofs.lemmas.Option.{slice_get_read}
 use Rattle.smp_split.specs.Trees.{Tree}
 use Rattle.smp_stages.specs.declared.places.Place.{Place}
 use Rattle.smp_stages.specs.declared.places.Seat.{Seat}
 use Rattle.smp_stages.specs.declared.places.Stage.{Stage}
-use Rattle.smp_stages.specs.Stages.{units_of, within_of, stage_done, is_drawn, drawn_within, waits, IsStaged, EachBelongs}
+use Rattle.smp_stages.specs.Stages.{units_of, within_of, stage_done, is_drawn, drawn_within, waits, IsStaged}
 use Rattle.smp_stages.specs.Laws.Turns.{done_where_drawn, first_drawn}
 
 -- an element that was read

@@ -1,18 +1,16 @@
 -- A path to a leaf is made of the stages' own paths.
-use Rattle.std.proofs.Common.{◌≡◌, ◌≢◌, ℕ, zero, suc, ◌<◌, ◌≤◌, true, false, cond, nat_eq, List, [], ◌∷◌, ◌++◌, length, set, Some, arith, refl, sym, ap, subst, ◌∙◌, inl, inr}
+use Rattle.std.proofs.Common.{◌≡◌, ◌≢◌, ℕ, zero, suc, ◌<◌, ◌≤◌, true, false, cond, nat_eq, List, [], ◌∷◌, length, set, Some, arith, refl, sym, ap, subst, ◌∙◌, inl, inr}
 use Rattle.std.specs.List.{slice_get}
-use Rattle.std.proofs.lemmas.Bool.{cases_Bool, cases_eq, cases_lt, eq-eqb, ne_eqb, eqb-true}
+use Rattle.std.proofs.lemmas.Bool.{cases_Bool, cases_eq, cases_lt, eq-eqb, ne_eqb}
 use Rattle.std.proofs.lemmas.Option.{same_Some, slice_get_within}
-use Rattle.smp_split.specs.Parts.{moved}
 use Rattle.smp_split.specs.Paths.{Entry, IsStep, Leads, AtEachLeaf}
-use Rattle.smp_split.specs.Trees.{Part, Tree, Lawful, weight_sum, picked}
-use Rattle.smp_split.proofs.Steps.{picked_belongs}
+use Rattle.smp_split.specs.Trees.{Tree, Lawful, weight_sum, picked}
 use Rattle.smp_stages.specs.declared.places.Seat.{Seat}
 use Rattle.smp_stages.specs.declared.places.Stage.{Stage}
 use Rattle.smp_stages.specs.Paths.{IsStagePath, joined, GoesByStages}
-use Rattle.smp_stages.specs.Stages.{Progress, stage_done, stage_kind, stage_parts, is_drawn, waits, next_stage, progress, staged_tree, IsStaged, EachBelongs, IsUnderWay}
+use Rattle.smp_stages.specs.Stages.{Progress, stage_parts, is_drawn, waits, next_stage, progress, staged_tree, IsStaged, IsUnderWay}
 use Rattle.smp_stages.specs.Laws.Reads.{slice_get-set_same, slice_get-set_other}
-use Rattle.smp_stages.specs.Laws.Turns.{read_is, drawn_same, done_where_drawn, next_waits, next_within}
+use Rattle.smp_stages.specs.Laws.Turns.{read_is, drawn_same, done_where_drawn, next_waits}
 use Rattle.smp_stages.specs.Laws.Staged.{waiting, none_waits}
 use Rattle.smp_stages.proofs.Stepped.{GoesOn, goes_on, bound_is, Stepped, stepped}
 
@@ -72,6 +70,7 @@ module _ {Design State : Type 0} (tree_of : Design → Tree State) (belongs : De
   none_left : (s : Progress State) → IsUnderWay tree_of belongs stages s → outer.done s ≡ true → Going s [] s
   none_left s here done = record {
     goes = record {
+      paired = here.states.paired;
       part = λ i. [];
       whole = sym (joined_none (λ i. []) (length stages) (λ i l. refl));
       each = λ i stage first leaf is_stage is_first is_leaf.
@@ -147,7 +146,7 @@ module _ {Design State : Type 0} (tree_of : Design → Tree State) (belongs : De
             → IsStagePath (is_drawn tree_of stages leaf.states j) (tree_of other.design) first (put_at s.at entry rest.goes.part j) end
         here_each j same =
             let Q : ℕ → Type 0 = λ k. (other : Stage Design) (first end : State) → slice_get stages k ≡ Some other → slice_get s.states k ≡ Some first → slice_get leaf.states k ≡ Some end
-                → IsStagePath (is_drawn tree_of stages leaf.states k) (tree_of other.design) first (put_at s.at entry rest.goes.part k) end in
+            → IsStagePath (is_drawn tree_of stages leaf.states k) (tree_of other.design) first (put_at s.at entry rest.goes.part k) end in
             subst Q (sym same) (λ other first end is_other is_first is_end.
             (let here_is : IsStagePath (is_drawn tree_of stages leaf.states s.at) (tree_of stage.design) state (put_at s.at entry rest.goes.part s.at) end =
             subst (λ p. IsStagePath (is_drawn tree_of stages leaf.states s.at) (tree_of stage.design) state p end) (sym (put_here s.at entry rest.goes.part s.at refl)) (here_path end is_end) in
@@ -159,6 +158,7 @@ module _ {Design State : Type 0} (tree_of : Design → Tree State) (belongs : De
         one_more : Going s (entry ∷ path) leaf
         one_more = record {
           goes = record {
+            paired = rest.goes.paired;
             part = put_at s.at entry rest.goes.part;
             whole = ap (λ p. entry ∷ p) rest.goes.whole ∙ sym (joined_put s.at entry rest.goes.part part_before (length stages) on.within);
             each = λ j other first end is_other is_first is_end. elim (cases_eq j s.at) [

@@ -20,6 +20,7 @@ joined part (suc n) = joined part n ++ part n
 module _ {Design State : Type 0} (tree_of : Design → Tree State) where
   -- A whole path, from these first states of the stages to these last ones: the part that each stage has of it.
   pub record GoesByStages (stages : List (Stage Design)) (firsts : List State) (path : List Entry) (leaves : List State) : Type 0 where
+    pub paired : length leaves ≡ length stages
     pub part : ℕ → List Entry
     pub whole : path ≡ joined part (length stages)
     pub each : (i : ℕ) (stage : Stage Design) (first leaf : State) → slice_get stages i ≡ Some stage → slice_get firsts i ≡ Some first → slice_get leaves i ≡ Some leaf

@@ -89,6 +89,10 @@ module _ {Design State : Type 0} (tree_of : Design → Tree State) where
     abbrev pub is_drawn : List State → ℕ → Bool
     is_drawn states i = drawn_within states (within_of (slice_get stages i))
 
+    -- whether a unit is selected in its stage, which selects none where it isn't drawn
+    abbrev pub selected_in : List State → Place → Bool
+    selected_in states place = is_drawn states place.stage && unit_selected states place
+
     -- the stage is to be drawn and is not done
     abbrev pub waits : List State → ℕ → Bool
     waits states i = is_drawn states i && not (stage_done states i)

@@ -2,8 +2,8 @@
 #![tactic(auto)]
 
 mod places;
-mod state;
 mod stages;
+mod state;
 
 pub use places::{Place, Seat, Stage};
 pub use stages::Stages;

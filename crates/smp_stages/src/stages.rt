@@ -4,7 +4,8 @@ ghost use Rattle.std.proofs.Props.{props};
 ghost use Rattle.std.specs.Prelude.{◌≡◌, ◌<◌, ℕ, true, false, length, set, Option, Some};
 ghost use Rattle.std.specs.List.{slice_get};
 ghost use Rattle.smp_stages.specs.Laws.Staged.{staged_lawful};
-ghost use Rattle.smp_stages.specs.Stages.{EachBelongs, IsFirstUnit, IsStaged, IsUnderWay, IsUnitWithin, is_drawn, next_stage, progress, seat_selected, stage_done, stage_kind, stage_parts, staged_tree, unit_selected, units_of, waits};
+ghost use Rattle.smp_stages.specs.Stages.{EachBelongs, IsFirstUnit, IsStaged, IsUnderWay, IsUnitWithin, is_drawn, next_stage, progress, seat_selected, selected_in, stage_done, stage_kind, stage_parts, staged_tree, unit_selected, units_of, waits};
+ghost use Rattle.smp_stages.specs.Starts.{StartsInStages};
 ghost use Rattle.smp_stages.specs.declared.places.Place.{Place};
 ghost use Rattle.smp_split.specs.Trees.{weight_sum, picked};
 
@@ -27,6 +28,37 @@ impl<D: Splitting> Stages<D> {
         ensures seats { result.seats.items ≡ seats.items }
     {
         Stages { stages, seats }
+    }
+
+    /// The selection whose stages start from these states, one for each.
+    pub fn start(&self, states: Vec<D::State>) -> StagesState<D::State>
+        requires { EachBelongs D.tree D.belongs self.now.stages.items states.items }
+        ensures state { result ≡ progress D.tree self.now.stages.items states.items }
+        ensures starts { StartsInStages D.tree D.belongs self.now.stages.items self.now.seats.items
+            states.items result }
+    {
+        let at = self.next_from(states.as_slice(), 0);
+        StagesState { states, at }
+    }
+
+    /// A stage.
+    pub fn stage(&self, number: usize) -> &Stage<D>
+        requires { number < length self.now.stages.items }
+        ensures { slice_get self.now.stages.items number ≡ Some result.now }
+    {
+        &self.stages[number]
+    }
+
+    /// Whether a unit of a stage is selected in it, where the selection is done. A stage that wasn't drawn selects none.
+    pub fn is_selected_in(&self, state: &StagesState<D::State>, place: Place) -> bool
+        requires state { IsUnderWay D.tree D.belongs self.now.stages.items state.now }
+        requires done { (staged_tree D.tree self.now.stages.items self.now.seats.items).done state.now
+            ≡ true }
+        requires unit { place.unit < units_of D.tree (slice_get self.now.stages.items place.stage) }
+        ensures { result ≡ selected_in D.tree self.now.stages.items state.now.states place }
+    {
+        let states = state.states.as_slice();
+        self.is_drawn(states, place.stage) && self.selects(states, place)
     }
 
     // Whether a unit is selected in its stage, which is done.

@@ -1,10 +1,10 @@
 -- While one stage is under way, the rows see it through a lens.
-use Rattle.std.proofs.Common.{◌≡◌, ◌≢◌, ℕ, zero, suc, ◌<◌, ◌≤◌, true, false, not, ◌&&◌, cond, nat_eq, List, [], ◌∷◌, length, set, Option, Some, None, arith, refl, sym, ap, subst, ◌∙◌, inl, inr}
+use Rattle.std.proofs.Common.{◌≡◌, ◌≢◌, ℕ, zero, suc, ◌<◌, true, false, cond, nat_eq, List, [], ◌∷◌, length, set, Option, Some, None, arith, refl, ap, subst, ◌∙◌, inl, inr}
 use Rattle.std.specs.List.{slice_get}
 use Rattle.std.proofs.lemmas.Bool.{cases_Bool, eqb-true, eqb-false, ne_eqb}
-use Rattle.std.proofs.lemmas.List.{length-set, set-set}
+use Rattle.std.proofs.lemmas.List.{set-set}
 use Rattle.std.proofs.lemmas.Option.{slice_get_within}
-use Rattle.smp_fractions.specs.Fractions.{Fraction, Same, whole, times}
+use Rattle.smp_fractions.specs.Fractions.{Same, whole, times}
 use Rattle.smp_fractions.proofs.Fractions.{same_refl, times_comm}
 use Rattle.smp_split.specs.Lenses.{View, fixed, as_unit, as_share, seen, Within, Lens}
 use Rattle.smp_split.specs.Parts.{moved}
@@ -12,7 +12,7 @@ use Rattle.smp_split.specs.Trees.{Part, Tree}
 use Rattle.smp_stages.specs.declared.places.Place.{Place}
 use Rattle.smp_stages.specs.declared.places.Seat.{Seat}
 use Rattle.smp_stages.specs.declared.places.Stage.{Stage}
-use Rattle.smp_stages.specs.Stages.{Progress, read, units_of, within_of, seat_value, value_within, rank_sum, stage_done, stage_kind, stage_parts, unit_value, is_drawn, waits, next_stage, progress, staged_tree, IsFirstUnit, IsAfter, IsUnitWithin, IsStaged}
+use Rattle.smp_stages.specs.Stages.{Progress, read, units_of, seat_value, value_within, rank_sum, stage_done, stage_kind, stage_parts, unit_value, is_drawn, waits, next_stage, progress, staged_tree, IsFirstUnit, IsUnitWithin, IsStaged}
 use Rattle.smp_stages.specs.Laws.Reads.{slice_get-set_same, slice_get-set_other}
 use Rattle.smp_stages.specs.Laws.Turns.{read_is, drawn_same, waits_same, next_is}
 

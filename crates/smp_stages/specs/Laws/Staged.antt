@@ -1,17 +1,17 @@
 -- A selection in stages is a lawful design where each stage is.
-use Rattle.std.proofs.Common.{◌≡◌, ◌≢◌, ℕ, ◌<◌, ◌≤◌, Bool, true, false, not, ◌&&◌, cond, nat_eq, List, length, set, Option, Some, None, arith, refl, sym, ap, subst, ◌∙◌, inl, inr}
+use Rattle.std.proofs.Common.{◌≡◌, ℕ, ◌<◌, Bool, true, false, not, ◌&&◌, cond, List, length, set, Option, Some, None, arith, refl, sym, ap, subst, ◌∙◌, inl, inr}
 use Rattle.std.specs.List.{slice_get}
-use Rattle.std.proofs.lemmas.Bool.{cases_Bool, cases_eq, and_parts, not-true, eqb-true, eqb-false}
+use Rattle.std.proofs.lemmas.Bool.{cases_eq, and_parts, not-true, eqb-true, eqb-false}
 use Rattle.std.proofs.lemmas.List.{length-set}
 use Rattle.std.proofs.lemmas.Option.{slice_get_within, same_Some}
 use Rattle.smp_fractions.specs.Fractions.{Fraction, Same, whole, times}
 use Rattle.smp_fractions.proofs.Fractions.{same_refl, same_trans, times_same, one-times, zero-times}
-use Rattle.smp_split.specs.Trees.{Tree, LawfulSplit, LawfulEnd, Lawful}
+use Rattle.smp_split.specs.Trees.{Tree, LawfulSplit, Lawful}
 use Rattle.smp_split.proofs.Lenses.{split_through}
 use Rattle.smp_stages.specs.declared.places.Place.{Place}
 use Rattle.smp_stages.specs.declared.places.Seat.{Seat}
 use Rattle.smp_stages.specs.declared.places.Stage.{Stage}
-use Rattle.smp_stages.specs.Stages.{Progress, read, units_of, within_of, seat_value, seat_selected, value_within, selected_within, stage_done, unit_value, unit_selected, drawn_within, is_drawn, waits, next_stage, progress, staged_tree, IsFirstUnit, IsUnitWithin, IsStaged, EachBelongs, IsUnderWay}
+use Rattle.smp_stages.specs.Stages.{Progress, units_of, seat_value, seat_selected, value_within, selected_within, stage_done, unit_value, unit_selected, is_drawn, waits, next_stage, progress, staged_tree, IsFirstUnit, IsUnitWithin, IsStaged, EachBelongs, IsUnderWay}
 use Rattle.smp_stages.specs.Laws.Reads.{slice_get-set_same, slice_get-set_other, set_self, some_within}
 use Rattle.smp_stages.specs.Laws.Turns.{read_is, done_where_drawn, first_drawn, next_passed, next_waits, next_within}
 use Rattle.smp_stages.specs.Laws.Lenses.{put, view, stage_lens}

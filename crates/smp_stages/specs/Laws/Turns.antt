@@ -1,14 +1,13 @@
 -- Which stage comes next, where earlier stages stay in their states.
-use Rattle.std.proofs.Common.{◌≡◌, ◌≢◌, ℕ, ◌<◌, ◌≤◌, true, false, not, ◌&&◌, List, length, set, Option, Some, None, arith, refl, sym, ap, ◌∙◌, inl, inr}
+use Rattle.std.proofs.Common.{◌≡◌, ℕ, ◌<◌, ◌≤◌, true, false, not, List, length, Option, Some, None, arith, refl, ap, inl, inr}
 use Rattle.std.specs.List.{slice_get}
 use Rattle.std.proofs.lemmas.Bool.{and_cases, not-false}
 use Rattle.smp_split.specs.Trees.{Tree}
 use Rattle.smp_stages.specs.declared.places.Place.{Place}
 use Rattle.smp_stages.specs.declared.places.Seat.{Seat}
 use Rattle.smp_stages.specs.declared.places.Stage.{Stage}
-use Rattle.smp_stages.specs.Stages.{read, within_of, stage_done, is_drawn, drawn_within, waits, next_stage, first_among, IsFirstUnit, IsAfter, IsStaged}
-use Rattle.smp_stages.specs.Laws.Reads.{slice_get-set_other}
-use Rattle.smp_stages.specs.Laws.Firsts.{IsFirst, first_is, first_unique}
+use Rattle.smp_stages.specs.Stages.{read, within_of, stage_done, is_drawn, drawn_within, waits, next_stage, IsFirstUnit, IsAfter, IsStaged}
+use Rattle.smp_stages.specs.Laws.Firsts.{first_is, first_unique}
 
 module _ {Design State : Type 0} (tree_of : Design → Tree State) where
   -- what is read of a stage that is there

@@ -9,5 +9,9 @@ returns-then-waits g c =
 pub returns : goal.returns
 returns g c =
     let at_end : length c.args.self.now.stages.items ≤ c.loop-number.number = omega arith in
-    omega (arith, c.len.ensures, next_is g.D.Splitting.tree c.args.self.now.stages.items c.args.states.now (length c.args.self.now.stages.items) (omega arith)
-    (λ j l. c.loop-number.invariant j (omega arith)) (λ h. absurd (omega arith)))
+    omega (
+      arith,
+      c.len.ensures,
+      next_is g.D.Splitting.tree c.args.self.now.stages.items c.args.states.now (length c.args.self.now.stages.items) (omega arith)
+          (λ j l. c.loop-number.invariant j (omega arith)) (λ h. absurd (omega arith)),
+    )

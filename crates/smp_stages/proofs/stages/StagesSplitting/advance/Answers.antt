@@ -1,6 +1,6 @@
 use Rattle.std.proofs.Common.{◌≡◌, ℕ, ◌<◌, sym, ap, subst, ◌∙◌}
-use Rattle.smp_split.specs.Trees.{weight_sum, picked}
-use Rattle.smp_stages.specs.Stages.{Progress, stage_parts, staged_tree, progress, next_stage}
+use Rattle.smp_split.specs.Trees.{weight_sum}
+use Rattle.smp_stages.specs.Stages.{Progress, staged_tree, progress, next_stage}
 use Rattle.smp_stages.proofs.Stepped.{goes_on, bound_is, stepped_inside}
 use Rattle.smp_stages.proofs.stages.StagesSplitting.advance.Goals as goal
 

@@ -1,4 +1,4 @@
-use Rattle.std.proofs.Common.{◌≡◌, sym, ap, subst, ◌∙◌}
+use Rattle.std.proofs.Common.{◌≡◌, sym, subst, ◌∙◌}
 use Rattle.smp_split.specs.Trees.{weight_sum}
 use Rattle.smp_stages.specs.Stages.{Progress, stage_parts, staged_tree}
 use Rattle.smp_stages.proofs.Stepped.{goes_on, bound_is}

@@ -1,6 +1,5 @@
-use Rattle.std.proofs.Common.{◌≡◌, Option, Some, sym, ap, subst, ◌∙◌}
+use Rattle.std.proofs.Common.{◌≡◌, Some, sym, ap, subst, ◌∙◌}
 use Rattle.std.specs.List.{slice_get}
-use Rattle.smp_stages.specs.declared.places.Seat.{Seat}
 use Rattle.smp_stages.specs.Stages.{Progress, seat_selected, unit_selected}
 use Rattle.smp_stages.proofs.Scans.{read_at}
 use Rattle.smp_stages.proofs.Stepped.{none_waits_inside}

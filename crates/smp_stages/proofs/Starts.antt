@@ -1,0 +1,27 @@
+-- A selection in stages from any states of theirs.
+use Rattle.std.proofs.Common.{◌≡◌, List, refl, subst, sym}
+use Rattle.smp_split.specs.Trees.{Tree, Lawful}
+use Rattle.smp_split.proofs.Means.{mean_is_value, probability_is_value}
+use Rattle.smp_stages.specs.declared.places.Seat.{Seat}
+use Rattle.smp_stages.specs.declared.places.Stage.{Stage}
+use Rattle.smp_stages.specs.Stages.{Progress, progress, staged_tree, IsStaged, EachBelongs, IsUnderWay}
+use Rattle.smp_stages.specs.Starts.{StartsInStages}
+use Rattle.smp_stages.specs.Laws.Staged.{staged_lawful}
+use Rattle.smp_stages.proofs.StagePaths.{stages_lead}
+use Rattle.smp_stages.proofs.WholePaths.{goes_by_stages}
+
+module _ {Design State : Type 0} (tree_of : Design → Tree State) (belongs : Design → State → Type 0) (lawful : (design : Design) → Lawful (tree_of design) (belongs design)) (stages : List (Stage Design)) (seats : List Seat) (staged : IsStaged tree_of stages seats) (states : List State) (each : EachBelongs tree_of belongs stages states) where
+  at_progress : StartsInStages tree_of belongs stages seats states (progress tree_of stages states)
+  at_progress =
+      let here : IsUnderWay tree_of belongs stages (progress tree_of stages states) = record { states = each; at = refl } in
+      let law = staged_lawful tree_of belongs lawful stages seats staged in
+      record {
+        member = here;
+        mean = λ c. mean_is_value (staged_tree tree_of stages seats) (IsUnderWay tree_of belongs stages) law c (progress tree_of stages states) here;
+        probability = probability_is_value (staged_tree tree_of stages seats) (IsUnderWay tree_of belongs stages) law (progress tree_of stages states) here;
+        paths = goes_by_stages tree_of belongs lawful stages seats staged (progress tree_of stages states) here;
+        each_path = λ path leaves goes. stages_lead tree_of belongs stages seats staged states leaves path each.paired goes;
+      }
+
+  pub starts_in_stages : (start : Progress State) → start ≡ progress tree_of stages states → StartsInStages tree_of belongs stages seats states start
+  starts_in_stages start is = subst (StartsInStages tree_of belongs stages seats states) (sym is) at_progress

@@ -1,0 +1,24 @@
+use Rattle.std.proofs.Common.{◌≡◌, ◌<◌, true, length, arith, sym, ◌∙◌}
+use Rattle.std.specs.List.{slice_get}
+use Rattle.std.proofs.lemmas.Option.{slice_get_within}
+use Rattle.smp_stages.specs.Stages.{Progress, is_drawn}
+use Rattle.smp_stages.specs.Laws.Staged.{some_stage}
+use Rattle.smp_stages.specs.Laws.Turns.{done_where_drawn}
+use Rattle.smp_stages.proofs.Stepped.{none_waits_inside}
+use Rattle.smp_stages.proofs.stages.Stages.is_selected_in.Goals as goal
+
+pub is_drawn-requires-clause-passed : goal.is_drawn-requires-clause-passed
+is_drawn-requires-clause-passed g c i less =
+    let s : Progress g.row.D-State.Denot = record { states = c.state.inside.states.items; at = c.state.inside.at } in
+    let stage = some_stage g.D.Splitting.tree g.D.Splitting.belongs (slice_get c.args.self.now.stages.items c.args.place.stage) c.args.place.unit c.requires.unit in
+    let within : c.args.place.stage < length c.args.self.now.stages.items = slice_get_within c.args.self.now.stages.items c.args.place.stage stage.0 stage.1 in
+    rw c.as_slice-states.ensures.value (none_waits_inside g.D.Splitting.tree g.D.Splitting.belongs c.args.self.now.stages.items c.args.self.now.seats.items g.met.D.Splitting.lawful c.args.self.now.staged s c.args.state.now c.state.view_is c.requires.state c.requires.done i (omega arith))
+
+pub selects-requires-clause-done : goal.selects-requires-clause-done
+selects-requires-clause-done g c =
+    let s : Progress g.row.D-State.Denot = record { states = c.state.inside.states.items; at = c.state.inside.at } in
+    let stage = some_stage g.D.Splitting.tree g.D.Splitting.belongs (slice_get c.args.self.now.stages.items c.args.place.stage) c.args.place.unit c.requires.unit in
+    let within : c.args.place.stage < length c.args.self.now.stages.items = slice_get_within c.args.self.now.stages.items c.args.place.stage stage.0 stage.1 in
+    let passed = none_waits_inside g.D.Splitting.tree g.D.Splitting.belongs c.args.self.now.stages.items c.args.self.now.seats.items g.met.D.Splitting.lawful c.args.self.now.staged s c.args.state.now c.state.view_is c.requires.state c.requires.done c.args.place.stage within in
+    let drawn : is_drawn g.D.Splitting.tree c.args.self.now.stages.items s.states c.args.place.stage ≡ true = rw c.as_slice-states.ensures.value at (sym c.is_drawn.ensures ∙ c.if-is_drawn.true) in
+    rw c.as_slice-states.ensures.value (done_where_drawn g.D.Splitting.tree c.args.self.now.stages.items s.states c.args.place.stage drawn passed)
