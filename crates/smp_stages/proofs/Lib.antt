@@ -3,3 +3,4 @@ pub mod Stepped
 pub mod WholePaths
 pub mod StagePaths
 pub mod Starts
+pub mod Grown

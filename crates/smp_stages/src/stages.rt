@@ -41,12 +41,11 @@ impl<D: Splitting> Stages<D> {
         StagesState { states, at }
     }
 
-    /// A stage.
-    pub fn stage(&self, number: usize) -> &Stage<D>
-        requires { number < length self.now.stages.items }
-        ensures { slice_get self.now.stages.items number ≡ Some result.now }
+    /// The stages in their order.
+    pub fn stages(&self) -> &[Stage<D>]
+        ensures { result.now ≡ self.now.stages.items }
     {
-        &self.stages[number]
+        self.stages.as_slice()
     }
 
     /// Whether a unit of a stage is selected in it, where the selection is done. A stage that wasn't drawn selects none.

@@ -20,5 +20,6 @@ selects-requires-clause-done g c =
     let stage = some_stage g.D.Splitting.tree g.D.Splitting.belongs (slice_get c.args.self.now.stages.items c.args.place.stage) c.args.place.unit c.requires.unit in
     let within : c.args.place.stage < length c.args.self.now.stages.items = slice_get_within c.args.self.now.stages.items c.args.place.stage stage.0 stage.1 in
     let passed = none_waits_inside g.D.Splitting.tree g.D.Splitting.belongs c.args.self.now.stages.items c.args.self.now.seats.items g.met.D.Splitting.lawful c.args.self.now.staged s c.args.state.now c.state.view_is c.requires.state c.requires.done c.args.place.stage within in
-    let drawn : is_drawn g.D.Splitting.tree c.args.self.now.stages.items s.states c.args.place.stage ≡ true = rw c.as_slice-states.ensures.value at (sym c.is_drawn.ensures ∙ c.if-is_drawn.true) in
-    rw c.as_slice-states.ensures.value (done_where_drawn g.D.Splitting.tree c.args.self.now.stages.items s.states c.args.place.stage drawn passed)
+    let is : c.is_drawn.result ≡ is_drawn g.D.Splitting.tree c.args.self.now.stages.items s.states c.args.place.stage = rw c.as_slice-states.ensures.value at c.is_drawn.ensures in
+    let was : c.is_drawn.result ≡ true = c.if-is_drawn.true in
+    rw c.as_slice-states.ensures.value (done_where_drawn g.D.Splitting.tree c.args.self.now.stages.items s.states c.args.place.stage (sym is ∙ was) passed)
