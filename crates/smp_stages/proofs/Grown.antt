@@ -6,7 +6,7 @@ use Rattle.smp_split.specs.Trees.{Tree}
 use Rattle.smp_stages.specs.declared.places.Place.{Place}
 use Rattle.smp_stages.specs.declared.places.Seat.{Seat}
 use Rattle.smp_stages.specs.declared.places.Stage.{Stage}
-use Rattle.smp_stages.specs.Stages.{units_of, within_of, IsFirstUnit, IsAfter, IsUnitWithin, IsStaged, EachBelongs}
+use Rattle.smp_stages.specs.Stages.{units_of, within_of, IsFirstUnit, IsUnitWithin, IsStaged, EachBelongs}
 use Rattle.smp_stages.specs.Laws.Staged.{some_stage}
 
 module _ {X : Type 0} where

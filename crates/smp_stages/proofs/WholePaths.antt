@@ -187,3 +187,10 @@ module _ {Design State : Type 0} (tree_of : Design → Tree State) (belongs : De
   -- each whole path is made of the stages' own paths
   pub goes_by_stages : (s : Progress State) → IsUnderWay tree_of belongs stages s → AtEachLeaf outer s (λ path leaf. GoesByStages tree_of stages s.states path leaf.states)
   goes_by_stages s here path leaf leads done = (going_along path s leaf here leads done).goes
+
+  -- what holds at each leaf of a stage's own tree holds of the stage wherever it is drawn
+  pub holds_of_stage : (firsts leaves : List State) (path : List Entry) (goes : GoesByStages tree_of stages firsts path leaves) (i : ℕ) (stage : Stage Design) (first last : State) → slice_get stages i ≡ Some stage → slice_get firsts i ≡ Some first → slice_get leaves i ≡ Some last
+      → is_drawn tree_of stages leaves i ≡ true → (P : List Entry → State → Type 0) → AtEachLeaf (tree_of stage.design) first P → P (goes.part i) last
+  holds_of_stage firsts leaves path goes i stage first last is_stage is_first is_last drawn P all =
+      let own : IsStagePath true (tree_of stage.design) first (goes.part i) last = subst (λ b. IsStagePath b (tree_of stage.design) first (goes.part i) last) drawn (goes.each i stage first last is_stage is_first is_last) in
+      all (goes.part i) last own.0 own.1

@@ -1,3 +1,5 @@
+//! Where units stand: stages, and the seats of rows in them.
+
 /// A unit of a stage.
 #[derive(Clone, Copy, Debug, PartialEq, Eq)]
 pub struct Place {
@@ -7,7 +9,7 @@ pub struct Place {
     pub unit: usize,
 }
 
-/// A stage of a selection.
+/// A stage of a selection: a first stage, or a second stage within a unit of a first one.
 #[derive(Drop)]
 pub struct Stage<D> {
     /// The design by which the units of this stage are selected.

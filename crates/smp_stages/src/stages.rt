@@ -13,6 +13,9 @@ use crate::{Place, Seat, Stage, StagesState};
 use smp_split::{Kind, Splitting};
 
 /// A selection in stages, one after another. Its units are the rows that have a seat in it.
+///
+/// A step looks at the stage that is under way, and, where that is done, at those after it up to the next that goes on. So a whole walk looks at
+/// each stage once, besides its own steps. Whether a row is selected takes two looks at most.
 #[derive(Drop)]
 pub struct Stages<D: Splitting> {
     stages: Vec<Stage<D>>,
@@ -21,7 +24,7 @@ pub struct Stages<D: Splitting> {
 }
 
 impl<D: Splitting> Stages<D> {
-    /// These stages in this order, with these seats of the rows.
+    /// These stages in this order, with these seats of the rows. A second stage selects within a unit of a first stage that comes before it.
     pub fn new(stages: Vec<Stage<D>>, seats: Vec<Seat>) -> Stages<D>
         requires { IsStaged D.tree stages.items seats.items }
         ensures stages { result.stages.items ≡ stages.items }
@@ -174,7 +177,7 @@ impl<D: Splitting> Stages<D> {
         }
         match seat.second {
             None => true,
-            Some(place) => self.selects(states, place),
+            Some(second) => self.selects(states, second),
         }
     }
 }

@@ -15,6 +15,7 @@ use std::process::Abort;
 use std::test::Fail;
 
 const NORTH: Place = Place { stage: 0, unit: 0 };
+
 const SOUTH: Place = Place { stage: 0, unit: 1 };
 
 fn unit(stage: usize, unit: usize) -> Place {
