@@ -5,6 +5,7 @@ use Rattle.std.proofs.lemmas.Option.{same_Some, slice_get_within}
 use Rattle.smp_split.specs.Trees.{Tree}
 use Rattle.smp_stages.specs.declared.places.Place.{Place}
 use Rattle.smp_stages.specs.declared.places.Seat.{Seat}
+use Rattle.smp_stages.specs.declared.places.Seat.TheVariants.{First, Second}
 use Rattle.smp_stages.specs.declared.places.Stage.{Stage}
 use Rattle.smp_stages.specs.Stages.{units_of, within_of, IsFirstUnit, IsUnitWithin, IsStaged, EachBelongs}
 use Rattle.smp_stages.specs.Laws.Staged.{some_stage}
@@ -30,7 +31,7 @@ module _ {Design State : Type 0} (tree_of : Design → Tree State) where
   some_within_of None place is = absurd (cc)
 
   pub none_staged : IsStaged tree_of [] []
-  none_staged = record { within = λ i place is. absurd (cc); first = λ row seat is. absurd (cc); second = λ row seat place is _. absurd (cc) }
+  none_staged = record { within = λ i place is. absurd (cc); first = λ row place is. absurd (cc); second = λ row first second is. absurd (cc) }
 
   module _ (belongs : Design → State → Type 0) (stages : List (Stage Design)) (stage : Stage Design) where
     kept_unit : (place : Place) → place.unit < units_of tree_of (slice_get stages place.stage) → slice_get (stages ++ stage ∷ []) place.stage ≡ slice_get stages place.stage
@@ -57,10 +58,10 @@ module _ {Design State : Type 0} (tree_of : Design → Tree State) where
                 let there = some_stage tree_of belongs (slice_get stages place.stage) place.unit first.unit in
                 record { earlier = omega (arith, new.0, slice_get_within stages place.stage there.0 there.1); unit = kept_first place first })
           ]);
-      first = λ row seat at. kept_first seat.first (staged.first row seat at);
-      second = λ row seat place at inside.
-          (let within = staged.second row seat place at inside in
-          record { unit = rw (kept_unit place within.unit) within.unit; within = rw (kept_unit place within.unit) within.within });
+      first = λ row place at. kept_first place (staged.first row place at);
+      second = λ row first second at.
+          (let within = staged.second row first second at in
+          record { unit = rw (kept_unit second within.unit) within.unit; within = rw (kept_unit second within.unit) within.within });
     }
 
     pub one_more_state : (states : List State) (state : State) → EachBelongs tree_of belongs stages states → belongs stage.design state → EachBelongs tree_of belongs (stages ++ stage ∷ []) (states ++ state ∷ [])
@@ -82,16 +83,16 @@ module _ {Design State : Type 0} (tree_of : Design → Tree State) where
   pub none_belongs : (belongs : Design → State → Type 0) → EachBelongs tree_of belongs [] []
   none_belongs belongs = record { paired = refl; each = λ i stage state is _. absurd (cc) }
 
-  pub one_more_row : (stages : List (Stage Design)) (seats : List Seat) (seat : Seat) → IsStaged tree_of stages seats → IsFirstUnit tree_of stages seat.first → ((place : Place) → seat.second ≡ Some place → IsUnitWithin tree_of stages seat.first place)
+  pub one_more_row : (stages : List (Stage Design)) (seats : List Seat) (seat : Seat) → IsStaged tree_of stages seats → ((place : Place) → seat ≡ First place → IsFirstUnit tree_of stages place) → ((first second : Place) → seat ≡ Second first second → IsUnitWithin tree_of stages first second)
       → IsStaged tree_of stages (seats ++ seat ∷ [])
-  one_more_row stages seats seat staged first second = record {
+  one_more_row stages seats seat staged is_first is_second = record {
     within = staged.within;
-    first = λ row other at. elim (old_or_new seats seat row other at) [
-      | inl old ↦ staged.first row other old
-      | inr new ↦ subst (λ (s : Seat). IsFirstUnit tree_of stages s.first) new.1 first
+    first = λ row place at. elim (old_or_new seats seat row (First place) at) [
+      | inl old ↦ staged.first row place old
+      | inr new ↦ is_first place new.1
     ];
-    second = λ row other place at inside. elim (old_or_new seats seat row other at) [
-      | inl old ↦ staged.second row other place old inside
-      | inr new ↦ subst (λ (s : Seat). IsUnitWithin tree_of stages s.first place) new.1 (second place (ap (λ s. s.second) new.1 ∙ inside))
+    second = λ row first second at. elim (old_or_new seats seat row (Second first second) at) [
+      | inl old ↦ staged.second row first second old
+      | inr new ↦ is_second first second new.1
     ];
   }

@@ -1,9 +1,9 @@
 -- A step of the stage that is under way.
-use Rattle.std.proofs.Common.{◌≡◌, ℕ, ◌<◌, true, false, List, length, set, Some, arith, sym, ap, subst, ◌∙◌}
+use Rattle.std.proofs.Common.{◌≡◌, ℕ, ◌<◌, ◌≤◌, true, false, List, [], ◌∷◌, length, set, Some, arith, sym, ap, subst, ◌∙◌, inl, inr}
 use Rattle.std.specs.List.{slice_get}
-use Rattle.std.proofs.lemmas.Bool.{eqb-false}
+use Rattle.std.proofs.lemmas.Bool.{eqb-false, cases_lt}
 use Rattle.smp_split.specs.Parts.{moved}
-use Rattle.smp_split.specs.Trees.{Tree, Lawful, weight_sum, picked}
+use Rattle.smp_split.specs.Trees.{Part, Tree, EachPart, Lawful, weight_sum, picked}
 use Rattle.smp_split.proofs.Parts.{weight_sum-moved, picked-moved}
 use Rattle.smp_split.proofs.Steps.{picked_belongs}
 use Rattle.smp_stages.specs.declared.places.Seat.{Seat}
@@ -92,3 +92,26 @@ module _ {Design State : Type 0} (tree_of : Design → Tree State) (belongs : De
 
   pub each_inside : (inside s : Progress State) → inside ≡ s → IsUnderWay tree_of belongs stages s → EachBelongs tree_of belongs stages inside.states
   each_inside inside s is here = subst (λ (t : Progress State). EachBelongs tree_of belongs stages t.states) (sym is) here.states
+
+  -- ---- the stage that is under way never falls back
+
+  pub at_rises : IsStaged tree_of stages seats → (s : Progress State) → IsUnderWay tree_of belongs stages s → (state : State) → s.at ≤ next_stage tree_of stages (set s.states s.at state)
+  at_rises staged s here state =
+      let new : List State = set s.states s.at state in
+      let next : ℕ = next_stage tree_of stages new in
+      elim (cases_lt next s.at) [
+        | inl less ↦ absurd (
+            let is : waits tree_of stages new next ≡ true = next_waits tree_of stages new (omega (arith, here.at, next_within tree_of stages s.states)) in
+            let same : waits tree_of stages new next ≡ waits tree_of stages s.states next =
+            waits_same tree_of stages seats staged next new s.states (λ j l. slice_get-set_other s.states s.at j state (λ e. omega arith)) in
+            let passed : waits tree_of stages s.states next ≡ false = next_passed tree_of stages s.states next (omega (arith, here.at)) in
+            cc)
+        | inr most ↦ most
+      ]
+
+  rises_in : IsStaged tree_of stages seats → (s : Progress State) → IsUnderWay tree_of belongs stages s → (parts : List (Part State)) → EachPart (λ p. s.at ≤ p.state.at) (moved (λ state. progress tree_of stages (set s.states s.at state)) parts)
+  rises_in staged s here [] = tt
+  rises_in staged s here (p ∷ ps) = (at_rises staged s here p.state, rises_in staged s here ps)
+
+  pub parts_rise : IsStaged tree_of stages seats → (s : Progress State) → IsUnderWay tree_of belongs stages s → EachPart (λ p. s.at ≤ p.state.at) ((staged_tree tree_of stages seats).parts s)
+  parts_rise staged s here = rises_in staged s here (stage_parts tree_of stages s.states s.at)

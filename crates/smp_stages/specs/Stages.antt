@@ -9,6 +9,7 @@ use Rattle.smp_split.specs.declared.kind.Kind.{Kind}
 use Rattle.smp_split.specs.declared.kind.Kind.TheVariants.{Pivot}
 use Rattle.smp_stages.specs.declared.places.Place.{Place}
 use Rattle.smp_stages.specs.declared.places.Seat.{Seat}
+use Rattle.smp_stages.specs.declared.places.Seat.TheVariants.{First, Second}
 use Rattle.smp_stages.specs.declared.places.Stage.{Stage}
 
 -- the states of the stages, and the number of the stage that is under way, or the number of stages where none is
@@ -26,24 +27,18 @@ abbrev pub within_of : {Design : Type 0} → Option (Stage Design) → Option Pl
 within_of (Some stage) = stage.within
 within_of None = None
 
--- the value of a row, where the units of the stages have these values: that of its unit in the first stage, times that of its unit in the
--- second stage where there is one
-abbrev pub value_within : (Place → Fraction) → Fraction → Option Place → Fraction
-value_within value first None = first
-value_within value first (Some second) = times first (value second)
-
+-- The value of a row, where the units of the stages have these values: that of its unit in the first stage, times that of its unit in the
+-- second stage where it is in one. A row that has no seat has the value 0.
 abbrev pub seat_value : (Place → Fraction) → Option Seat → Fraction
-seat_value value None = whole 0
-seat_value value (Some seat) = value_within value (value seat.first) seat.second
+seat_value value (Some (First place)) = value place
+seat_value value (Some (Second first second)) = times (value first) (value second)
+seat_value value other = whole 0
 
--- a row is selected where these units are
-abbrev pub selected_within : (Place → Bool) → Bool → Option Place → Bool
-selected_within selected first None = first
-selected_within selected first (Some second) = first && selected second
-
+-- a row is selected where its units are
 abbrev pub seat_selected : (Place → Bool) → Option Seat → Bool
-seat_selected selected None = false
-seat_selected selected (Some seat) = selected_within selected (selected seat.first) seat.second
+seat_selected selected (Some (First place)) = selected place
+seat_selected selected (Some (Second first second)) = selected first && selected second
+seat_selected selected other = false
 
 module _ {Design State : Type 0} (tree_of : Design → Tree State) where
   -- ---- a stage in its state
@@ -138,8 +133,8 @@ module _ {Design State : Type 0} (tree_of : Design → Tree State) where
   -- the stages in their order, and a seat for each row
   pub record IsStaged (stages : List (Stage Design)) (seats : List Seat) : Type 0 where
     pub within : (i : ℕ) (place : Place) → within_of (slice_get stages i) ≡ Some place → IsAfter stages i place
-    pub first : (row : ℕ) (seat : Seat) → slice_get seats row ≡ Some seat → IsFirstUnit stages seat.first
-    pub second : (row : ℕ) (seat : Seat) (place : Place) → slice_get seats row ≡ Some seat → seat.second ≡ Some place → IsUnitWithin stages seat.first place
+    pub first : (row : ℕ) (place : Place) → slice_get seats row ≡ Some (First place) → IsFirstUnit stages place
+    pub second : (row : ℕ) (first second : Place) → slice_get seats row ≡ Some (Second first second) → IsUnitWithin stages first second
 
   -- ---- which states are the selection's
 

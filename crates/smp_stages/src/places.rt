@@ -20,9 +20,11 @@ pub struct Stage<D> {
 
 /// Where a row of the frame is selected.
 #[derive(Clone, Copy, Debug, PartialEq, Eq)]
-pub struct Seat {
-    /// Its unit in a first stage.
-    pub first: Place,
-    /// Its unit in the second stage within that one, where there is a second stage.
-    pub second: Option<Place>,
+pub enum Seat {
+    /// In no stage: the row is never selected.
+    Nowhere,
+    /// In a first stage, as this unit.
+    First(Place),
+    /// In the second stage within this unit of a first stage, as that unit.
+    Second(Place, Place),
 }

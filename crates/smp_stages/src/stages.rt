@@ -7,6 +7,7 @@ ghost use Rattle.smp_stages.specs.Laws.Staged.{staged_lawful};
 ghost use Rattle.smp_stages.specs.Stages.{EachBelongs, IsFirstUnit, IsStaged, IsUnderWay, IsUnitWithin, is_drawn, next_stage, progress, seat_selected, selected_in, stage_done, stage_kind, stage_parts, staged_tree, unit_selected, units_of, waits};
 ghost use Rattle.smp_stages.specs.Starts.{StartsInStages};
 ghost use Rattle.smp_stages.specs.declared.places.Place.{Place};
+ghost use Rattle.smp_stages.specs.declared.places.Seat.TheVariants as Seat;
 ghost use Rattle.smp_split.specs.Trees.{weight_sum, picked};
 
 use crate::{Place, Seat, Stage, StagesState};
@@ -166,18 +167,19 @@ impl<D: Splitting> Stages<D> {
         requires each { EachBelongs D.tree D.belongs self.now.stages.items states.now }
         requires ended { (i : ℕ) → i < length self.now.stages.items
             → waits D.tree self.now.stages.items states.now i ≡ false }
-        requires first { IsFirstUnit D.tree self.now.stages.items seat.first }
-        requires second { (place : Place) → seat.second ≡ Some place
-            → IsUnitWithin D.tree self.now.stages.items seat.first place }
+        requires first { (place : Place) → seat ≡ Seat.First place
+            → IsFirstUnit D.tree self.now.stages.items place }
+        requires second { (first second : Place) → seat ≡ Seat.Second first second
+            → IsUnitWithin D.tree self.now.stages.items first second }
         ensures { result ≡ seat_selected (unit_selected D.tree self.now.stages.items states.now)
             (Some seat) }
     {
-        if !self.selects(states, seat.first) {
-            return false;
-        }
-        match seat.second {
-            None => true,
-            Some(second) => self.selects(states, second),
+        match seat {
+            Seat::Nowhere => false,
+            Seat::First(place) => self.selects(states, place),
+            Seat::Second(first, second) => {
+                self.selects(states, first) && self.selects(states, second)
+            }
         }
     }
 }

@@ -2,6 +2,8 @@
 
 ghost use Rattle.std.specs.Prelude.{◌≡◌, [], IfOk, OnOk, Some};
 ghost use Rattle.smp_prob.specs.Requests.{IsRequest};
+ghost use Rattle.smp_stages.specs.declared.places.Place.{Place};
+ghost use Rattle.smp_stages.specs.declared.places.Seat.TheVariants as Seat;
 ghost use Rattle.smp_stages.specs.Stages.{EachBelongs, IsFirstUnit, IsStaged, IsUnitWithin};
 
 use super::*;
@@ -68,28 +70,16 @@ where
     Ok(())
 }
 
-// Adds a row that has this seat.
-fn add_row<D: Splitting>(
-    rt: &impl Abort,
-    stages: &[Stage<D>],
-    seats: &mut Vec<Seat>,
-    first: Place,
-    second: Option<Place>,
-) -> Result<(), NoMemory>
-    requires { IsStaged D.tree stages.now seats.old.items }
-    ensures { OnOk result (IsStaged D.tree stages.now seats.new.items) }
+// Stops where the stages have no such seat.
+fn assert_seat<D: Splitting>(rt: &impl Abort, stages: &[Stage<D>], seat: Seat)
+    ensures first { (place : Place) → seat ≡ Seat.First place → IsFirstUnit D.tree stages.now place }
+    ensures second { (first second : Place) → seat ≡ Seat.Second first second
+        → IsUnitWithin D.tree stages.now first second }
 {
-    assert_first(rt, stages, first);
-    match second {
-        None => {
-            seats.push(Seat { first, second })?;
-            Ok(())
-        }
-        Some(place) => {
-            assert_second(rt, stages, first, place);
-            seats.push(Seat { first, second })?;
-            Ok(())
-        }
+    match seat {
+        Seat::Nowhere => (),
+        Seat::First(place) => assert_first(rt, stages, place),
+        Seat::Second(first, second) => assert_second(rt, stages, first, second),
     }
 }
 
@@ -130,7 +120,7 @@ fn two_villages_and_a_town(
     Ok(())
 }
 
-// The villages' households, and those of the town.
+// The villages' households, those of the town, and one that is in no stage.
 fn households<D: Splitting>(
     rt: &impl Abort,
     alloc: Global,
@@ -140,18 +130,20 @@ fn households<D: Splitting>(
     ensures { IfOk result (λ seats. IsStaged D.tree stages.now seats.items) }
 {
     let rows = [
-        (NORTH, Some(unit(1, 0))),
-        (NORTH, Some(unit(1, 1))),
-        (NORTH, Some(unit(1, 2))),
-        (SOUTH, Some(unit(2, 0))),
-        (SOUTH, Some(unit(2, 1))),
-        (unit(3, 0), None),
-        (unit(3, 1), None),
-        (unit(3, 2), None),
+        Seat::Second(NORTH, unit(1, 0)),
+        Seat::Second(NORTH, unit(1, 1)),
+        Seat::Second(NORTH, unit(1, 2)),
+        Seat::Second(SOUTH, unit(2, 0)),
+        Seat::Second(SOUTH, unit(2, 1)),
+        Seat::First(unit(3, 0)),
+        Seat::First(unit(3, 1)),
+        Seat::First(unit(3, 2)),
+        Seat::Nowhere,
     ];
     let mut seats = Vec::new(alloc);
-    for (first, second) in rows {
-        add_row(rt, stages, &mut seats, first, second)?;
+    for seat in rows {
+        assert_seat(rt, stages, seat);
+        seats.push(seat)?;
     }
     Ok(seats)
 }

@@ -11,8 +11,9 @@ use Rattle.smp_split.specs.Parts.{moved}
 use Rattle.smp_split.specs.Trees.{Part, Tree}
 use Rattle.smp_stages.specs.declared.places.Place.{Place}
 use Rattle.smp_stages.specs.declared.places.Seat.{Seat}
+use Rattle.smp_stages.specs.declared.places.Seat.TheVariants.{Nowhere, First, Second}
 use Rattle.smp_stages.specs.declared.places.Stage.{Stage}
-use Rattle.smp_stages.specs.Stages.{Progress, read, units_of, seat_value, value_within, rank_sum, stage_done, stage_kind, stage_parts, unit_value, is_drawn, waits, next_stage, progress, staged_tree, IsFirstUnit, IsUnitWithin, IsStaged}
+use Rattle.smp_stages.specs.Stages.{Progress, read, units_of, seat_value, rank_sum, stage_done, stage_kind, stage_parts, unit_value, is_drawn, waits, next_stage, progress, staged_tree, IsFirstUnit, IsUnitWithin, IsStaged}
 use Rattle.smp_stages.specs.Laws.Reads.{slice_get-set_same, slice_get-set_other}
 use Rattle.smp_stages.specs.Laws.Turns.{read_is, drawn_same, waits_same, next_is}
 
@@ -83,13 +84,10 @@ module _ {Design State : Type 0} (tree_of : Design → Tree State) where
         cond (nat_eq second.stage i) (as_share (unit_value tree_of stages states first) second.unit)
         (cond (nat_eq first.stage i) (as_share (unit_value tree_of stages states second) first.unit) (fixed (times (unit_value tree_of stages states first) (unit_value tree_of stages states second))))
 
-    abbrev view_within : Place → Option Place → View
-    view_within first None = first_view first
-    view_within first (Some second) = second_view first second
-
     abbrev view_at : Option Seat → View
-    view_at None = fixed (whole 0)
-    view_at (Some seat) = view_within seat.first seat.second
+    view_at (Some (First place)) = first_view place
+    view_at (Some (Second first second)) = second_view first second
+    view_at other = fixed (whole 0)
 
     abbrev pub view : ℕ → View
     view row = view_at (slice_get seats row)
@@ -117,13 +115,11 @@ module _ {Design State : Type 0} (tree_of : Design → Tree State) where
           | inr e ↦ elim (cases_Bool (nat_eq first.stage i)) [ inl f ↦ rw (e, f) (in_inner first (eqb-true first.stage i f) h) | inr f ↦ rw (e, f) tt ]
         ]
 
-    within_seat : (first : Place) (second : Option Place) → IsFirstUnit tree_of stages first → ((place : Place) → second ≡ Some place → IsUnitWithin tree_of stages first place) → Within inner.units (view_within first second)
-    within_seat first None h k = within_first first h.unit
-    within_seat first (Some second) h k = within_second first second h.unit (k second refl).unit
-
-    within_at : (at : Option Seat) → ((seat : Seat) → at ≡ Some seat → IsFirstUnit tree_of stages seat.first) → ((seat : Seat) (place : Place) → at ≡ Some seat → seat.second ≡ Some place → IsUnitWithin tree_of stages seat.first place) → Within inner.units (view_at at)
+    within_at : (at : Option Seat) → ((place : Place) → at ≡ Some (First place) → IsFirstUnit tree_of stages place) → ((first second : Place) → at ≡ Some (Second first second) → IsUnitWithin tree_of stages first second) → Within inner.units (view_at at)
     within_at None h k = tt
-    within_at (Some seat) h k = within_seat seat.first seat.second (h seat refl) (λ place. k seat place refl)
+    within_at (Some Nowhere) h k = tt
+    within_at (Some (First place)) h k = within_first place (h place refl).unit
+    within_at (Some (Second first second)) h k = within_second first second (staged.within second.stage first (k first second refl).within).unit.unit (k first second refl).unit
 
     value_first : (state : State) (place : Place) → Same (unit_value tree_of stages (set states i state) place) (seen (first_view place) (inner.value state))
     value_first state place =
@@ -147,18 +143,11 @@ module _ {Design State : Type 0} (tree_of : Design → Tree State) where
               ])
         ]
 
-    value_seat : (state : State) (first : Place) (second : Option Place) → ((place : Place) → second ≡ Some place → first.stage < place.stage)
-        → Same (value_within (unit_value tree_of stages (set states i state)) (unit_value tree_of stages (set states i state) first) second) (seen (view_within first second) (inner.value state))
-    value_seat state first None h = value_first state first
-    value_seat state first (Some second) h = value_second state first second (h second refl)
-
-    value_at : (state : State) (at : Option Seat) → ((seat : Seat) (place : Place) → at ≡ Some seat → seat.second ≡ Some place → seat.first.stage < place.stage) → Same (seat_value (unit_value tree_of stages (set states i state)) at) (seen (view_at at) (inner.value state))
+    value_at : (state : State) (at : Option Seat) → ((first second : Place) → at ≡ Some (Second first second) → IsUnitWithin tree_of stages first second) → Same (seat_value (unit_value tree_of stages (set states i state)) at) (seen (view_at at) (inner.value state))
     value_at state None h = same_refl (whole 0)
-    value_at state (Some seat) h = value_seat state seat.first seat.second (λ place. h seat place refl)
-
-    -- the first stage of a seat is before the second
-    ordered : (row : ℕ) (seat : Seat) (place : Place) → slice_get seats row ≡ Some seat → seat.second ≡ Some place → seat.first.stage < place.stage
-    ordered row seat place at second = (staged.within place.stage seat.first (staged.second row seat place at second).within).earlier
+    value_at state (Some Nowhere) h = same_refl (whole 0)
+    value_at state (Some (First place)) h = value_first state place
+    value_at state (Some (Second first second)) h = value_second state first second (staged.within second.stage first (h first second refl).within).earlier
 
     -- ---- the lens
 
@@ -186,5 +175,5 @@ module _ {Design State : Type 0} (tree_of : Design → Tree State) where
       kind = kind_in;
       parts = parts_in;
       falls = λ from to less. rank_falls stages states i stage from to is paired less;
-      value = λ state _ row _. value_at state (slice_get seats row) (ordered row);
+      value = λ state _ row _. value_at state (slice_get seats row) (staged.second row);
     }

@@ -10,8 +10,9 @@ use Rattle.smp_split.specs.Trees.{Tree, LawfulSplit, Lawful}
 use Rattle.smp_split.proofs.Lenses.{split_through}
 use Rattle.smp_stages.specs.declared.places.Place.{Place}
 use Rattle.smp_stages.specs.declared.places.Seat.{Seat}
+use Rattle.smp_stages.specs.declared.places.Seat.TheVariants.{Nowhere, First, Second}
 use Rattle.smp_stages.specs.declared.places.Stage.{Stage}
-use Rattle.smp_stages.specs.Stages.{Progress, units_of, seat_value, seat_selected, value_within, selected_within, stage_done, unit_value, unit_selected, is_drawn, waits, next_stage, progress, staged_tree, IsFirstUnit, IsUnitWithin, IsStaged, EachBelongs, IsUnderWay}
+use Rattle.smp_stages.specs.Stages.{Progress, units_of, seat_value, seat_selected, stage_done, unit_value, unit_selected, is_drawn, waits, next_stage, progress, staged_tree, IsFirstUnit, IsUnitWithin, IsStaged, EachBelongs, IsUnderWay}
 use Rattle.smp_stages.specs.Laws.Reads.{slice_get-set_same, slice_get-set_other, set_self, some_within}
 use Rattle.smp_stages.specs.Laws.Turns.{read_is, done_where_drawn, first_drawn, next_passed, next_waits, next_within}
 use Rattle.smp_stages.specs.Laws.Lenses.{put, view, stage_lens}
@@ -106,18 +107,17 @@ module _ {Design State : Type 0} (tree_of : Design → Tree State) (belongs : De
           sym (read_is tree_of true (λ tree t. tree.done t) (slice_get stages place.stage) (slice_get states place.stage) here.stage here.state here.is_stage here.is_state) ∙ done_where_drawn tree_of stages states place.stage drawn (none place.stage (slice_get_within stages place.stage some.0 some.1)) in
           rw (here.is_stage, here.is_state) ((lawful here.stage.design).end here.state here.member done place.unit within)
 
-      seat_end : (first : Place) (second : Option Place) → IsFirstUnit tree_of stages first → ((place : Place) → second ≡ Some place → IsUnitWithin tree_of stages first place)
-          → Same (value_within (unit_value tree_of stages states) (unit_value tree_of stages states first) second) (whole (cond (selected_within (unit_selected tree_of stages states) (unit_selected tree_of stages states first) second) 1 0))
-      seat_end first None is k = unit_end first (first_drawn tree_of stages states first is) is.unit
-      seat_end first (Some second) is k =
-          both (unit_selected tree_of stages states first) (unit_selected tree_of stages states second) (unit_value tree_of stages states first) (unit_value tree_of stages states second)
-          (unit_end first (first_drawn tree_of stages states first is) is.unit)
-          (λ selected. unit_end second (rw (k second refl).within selected) (k second refl).unit)
-
-      row_end : (at : Option Seat) → ((seat : Seat) → at ≡ Some seat → IsFirstUnit tree_of stages seat.first) → ((seat : Seat) (place : Place) → at ≡ Some seat → seat.second ≡ Some place → IsUnitWithin tree_of stages seat.first place)
+      row_end : (at : Option Seat) → ((place : Place) → at ≡ Some (First place) → IsFirstUnit tree_of stages place) → ((first second : Place) → at ≡ Some (Second first second) → IsUnitWithin tree_of stages first second)
           → Same (seat_value (unit_value tree_of stages states) at) (whole (cond (seat_selected (unit_selected tree_of stages states) at) 1 0))
       row_end None h k = same_refl (whole 0)
-      row_end (Some seat) h k = seat_end seat.first seat.second (h seat refl) (λ place. k seat place refl)
+      row_end (Some Nowhere) h k = same_refl (whole 0)
+      row_end (Some (First place)) h k = unit_end place (first_drawn tree_of stages states place (h place refl)) (h place refl).unit
+      row_end (Some (Second first second)) h k =
+          let is : IsUnitWithin tree_of stages first second = k first second refl in
+          let unit : IsFirstUnit tree_of stages first = (staged.within second.stage first is.within).unit in
+          both (unit_selected tree_of stages states first) (unit_selected tree_of stages states second) (unit_value tree_of stages states first) (unit_value tree_of stages states second)
+          (unit_end first (first_drawn tree_of stages states first unit) unit.unit)
+          (λ selected. unit_end second (rw is.within selected) is.unit)
 
     -- no stage waits where the selection is done
     pub none_waits : (s : Progress State) → IsUnderWay tree_of belongs stages s → outer.done s ≡ true → (i : ℕ) → i < length stages → waits tree_of stages s.states i ≡ false

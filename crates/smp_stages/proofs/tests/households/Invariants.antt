@@ -1,5 +1,5 @@
 use Rattle.smp_stages.specs.Stages.{IsStaged}
 use Rattle.smp_stages.proofs.tests.households.Given as goal
 
-abbrev pub invariant-loop-first : goal.invariant-loop-first
-invariant-loop-first g l = IsStaged g.D.Splitting.tree l.stages l.seats.items
+abbrev pub invariant-loop-seat : goal.invariant-loop-seat
+invariant-loop-seat g l = IsStaged g.D.Splitting.tree l.stages l.seats.items
