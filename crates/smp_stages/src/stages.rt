@@ -19,8 +19,10 @@ use smp_split::{Kind, Splitting};
 /// each stage once, besides its own steps. Whether a row is selected takes two looks at most.
 #[derive(Drop)]
 pub struct Stages<D: Splitting> {
-    stages: Vec<Stage<D>>,
-    seats: Vec<Seat>,
+    /// The stages in their order.
+    pub stages: Vec<Stage<D>>,
+    /// The seats of the rows.
+    pub seats: Vec<Seat>,
     ghost staged: { IsStaged D.tree stages.items seats.items } by { Prim.hlevel props },
 }
 
@@ -43,13 +45,6 @@ impl<D: Splitting> Stages<D> {
     {
         let at = self.next_from(states.as_slice(), 0);
         StagesState { states, at }
-    }
-
-    /// The stages in their order.
-    pub fn stages(&self) -> &[Stage<D>]
-        ensures { result.now ≡ self.now.stages.items }
-    {
-        self.stages.as_slice()
     }
 
     /// Whether a unit of a stage is selected in it, where the selection is done. A stage that wasn't drawn selects none.

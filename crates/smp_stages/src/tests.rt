@@ -174,7 +174,7 @@ fn walks_by(
     let (design, mut state) = selection(rt, alloc)?;
     assert_eq!(rt; state.at(), 0);
     let walked = walks(alloc, &design, &mut state, path, units)?;
-    assert_eq!(rt; state.at(), design.stages().len());
+    assert_eq!(rt; state.at(), design.stages.len());
     Ok(walked)
 }
 
@@ -213,7 +213,7 @@ fn the_units_of_each_stage(rt: HostRuntime) -> Result<(), Fail> {
         (unit(2, 0), false),
         (unit(3, 1), true),
     ] {
-        let stages = design.stages();
+        let stages = &design.stages;
         assert!(rt; place.stage < stages.len());
         assert!(rt; place.unit < stages[place.stage].design.units());
         assert_eq!(rt; design.is_selected_in(&state, place), is_selected);
