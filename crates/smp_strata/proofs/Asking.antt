@@ -1,0 +1,141 @@
+-- The plan of a frame that serves a design: it is sound, and gives each row the probability that is asked for it.
+use Rattle.std.proofs.Common.{◌≡◌, ℕ, ◌+◌, ◌<◌, List, [], ◌∷◌, length, map, get_or, Option, Some, None, arith, refl, sym, ap, ◌∙◌}
+use Rattle.std.specs.Prelude.{All, slice_get, option_map}
+use Rattle.std.specs.List.{range_with_len, position_or_len}
+use Rattle.std.specs.Str.{bytes_eq}
+use Rattle.std.proofs.lemmas.List.{get_or-map, length-map, same_lists}
+use Rattle.std.proofs.lemmas.List.Elements.{All-map}
+use Rattle.std.proofs.lemmas.List.FromFn.{length-range_with_len, get_or-range_with_len, get_or-map-range_with_len, length-map-range_with_len}
+use Rattle.std.proofs.lemmas.Option.{slice_get-map, slice_get_within, get_or_from_slice_get}
+use Rattle.smp_fractions.specs.Fractions.{Same}
+use Rattle.smp_fractions.proofs.Fractions.{times_same}
+use Rattle.smp_design.specs.declared.design.Design.{Design}
+use Rattle.smp_design.specs.declared.design.Second as second
+use Rattle.smp_frame.specs.declared.frame.Unit as unit
+use Rattle.smp_prob.specs.Requested.{requested_fraction}
+use Rattle.smp_prob.specs.Standings.{asked_fraction}
+use Rattle.smp_strata.specs.Asked.{cluster_of, fraction_in_psu, fraction_in_stratum, row_fraction}
+use Rattle.smp_strata.specs.Bounds.{AreSeated, IsStratum}
+use Rattle.smp_strata.specs.Clusters.{clusters, clusters_in, first_row, stratum_names, stratum_number}
+use Rattle.smp_strata.specs.Misfits.{unit_in_two}
+use Rattle.smp_strata.specs.Plans.{first_of, first_sizes, sample_size, second_request, second_sizes, stratum_of}
+use Rattle.smp_strata.specs.Rows.{second_size_at, size_of, stratum_at, value_of}
+use Rattle.smp_strata.specs.Seats.{IsSeat, seat_fraction, stage_fraction}
+use Rattle.smp_strata.specs.declared.strata.First as first
+use Rattle.smp_strata.specs.declared.strata.Seat as seat
+use Rattle.smp_strata.specs.declared.strata.Stratum as stratum
+use Rattle.smp_strata.specs.Kept.Built.{AreSeats, IsBuilt, SecondAsks, second_method, seat_by}
+use Rattle.smp_strata.specs.Kept.Groups.{places_of}
+use Rattle.smp_strata.specs.Kept.Layouts.{AreRows, AreGroups, homes_of}
+use Rattle.smp_strata.proofs.Apart.{home_is, together}
+use Rattle.smp_strata.proofs.Members.{home_at, homes, members_are}
+use Rattle.smp_strata.proofs.MisfitOrder.{IsServed}
+use Rattle.smp_strata.proofs.Seating.{are_seats, home_within, place_is, seat_fraction_is, seat_only, stratum_at_home, stratum_is, unit_is}
+
+-- the cluster of a row, by its number
+cluster_home : (units : List unit.Unit) (second : Option second.Second) (row : ℕ) → row < length units
+    → get_or (clusters second units) (get_or (homes_of second units) row 0) [] ≡ cluster_of second units row
+cluster_home units None row l =
+    ap (λ i. get_or (clusters None units) i []) (get_or-range_with_len 0 (length units) row 0 l)
+    ∙ get_or-map-range_with_len (λ r. r ∷ []) 0 (length units) (0 + row) row [] (omega (arith, l)) (omega arith)
+cluster_home units (Some s) row l = home_is units s row [] l
+
+first_stratum : (units : List unit.Unit) (second : Option second.Second) → unit_in_two second units ≡ None → (row : ℕ) → row < length units
+    → stratum_at units (first_row (cluster_of second units row)) ≡ stratum_at units row
+first_stratum units None e row l = refl
+first_stratum units (Some s) e row l = together units e row l
+
+second_same : (units : List unit.Unit) (second : Option second.Second) (g : List ℕ) (row place : ℕ) → SecondAsks second (second_sizes units g) (second_request second units g)
+    → slice_get g place ≡ Some row → g ≡ cluster_of second units row → Same (stage_fraction (second_request second units g) place) (fraction_in_psu second units row)
+second_same units None g row place asks at is = record { cross = refl }
+second_same units (Some s) g row place asks at is =
+    let here : place < length g = slice_get_within g place row at in
+    let size : get_or (second_sizes units g) place 0 ≡ second_size_at units row = get_or-map (second_size_at units) g place 0 0 here ∙ ap (second_size_at units) (get_or_from_slice_get g place row 0 at) in
+    rw (← is) (rw size at (asks place (omega (arith, here, length-map g (second_size_at units)))))
+
+module _ (design : Design) (units : List unit.Unit) (rows : All (AreRows (length units)) (clusters design.second units)) (served : IsServed design units)
+    (strata : List stratum.Stratum) (long : length strata ≡ length (stratum_names units))
+    (each : (k : ℕ) (d : stratum.Stratum) → k < length (stratum_names units) → IsBuilt design units k (get_or strata k d)) where
+  abbrev numbers : List ℕ
+  numbers = range_with_len 0 (length (stratum_names units))
+
+  pub strata_are : strata ≡ map (stratum_of design units) numbers
+  strata_are =
+      same_lists strata (map (stratum_of design units) numbers) (long ∙ sym (length-map-range_with_len (stratum_of design units) 0 (length (stratum_names units))))
+      (λ k d l. (let here : k < length (stratum_names units) = omega (arith, l, long) in
+      (each k d here).value ∙ sym (get_or-map-range_with_len (stratum_of design units) 0 (length (stratum_names units)) k k d here (omega arith))))
+
+  built : (k : ℕ) → k < length (stratum_names units) → IsBuilt design units k (stratum_of design units k)
+  built k l = (let b = each k (stratum_of design units k) l in rw b.value at b)
+
+  pub are_strata : All (IsStratum (second_method design)) strata
+  are_strata k d l = (each k d (omega (arith, l, long))).stratum
+
+  pub have_columns : All (λ s. All (λ f. length f.values ≡ length design.columns.values) s.units) strata
+  have_columns k d l =
+      let here : k < length (stratum_names units) = omega (arith, l, long) in
+      rw (each k d here).value (All-map (λ (f : first.First). length f.values ≡ length design.columns.values) (first_of design units) (clusters_in design units k)
+      (λ j g m. length-map-range_with_len (value_of units (get_or (clusters_in design units k) j g)) 0 (length design.columns.values)))
+
+  module _ (row_places : List ℕ) (row_groups : AreGroups (homes_of design.second units) (length (clusters design.second units)) (clusters design.second units) row_places)
+      (long_rows : length (homes_of design.second units) ≡ length units)
+      (members : List (List ℕ)) (places : List ℕ) (groups : AreGroups (homes design units rows) (length (stratum_names units)) members places) where
+    abbrev row_homes : List ℕ
+    row_homes = homes_of design.second units
+
+    abbrev all : List (List ℕ)
+    all = clusters design.second units
+
+    abbrev by : ℕ → seat.Seat
+    by row = seat_by (homes design units rows) places row_homes row_places row
+
+    pub seats_are : (seats : List seat.Seat) → length seats ≡ length row_homes → ((row : ℕ) (d : seat.Seat) → row < length row_homes → get_or seats row d ≡ by row) → AreSeats strata seats
+    seats_are = are_seats design units rows strata strata_are row_homes row_places row_groups members places groups
+
+    fractions : (row : ℕ) → row < length units → Same (seat_fraction strata (by row)) (row_fraction design units row)
+    fractions row l =
+        let lr : row < length row_homes = omega (arith, l, long_rows) in
+        let i : ℕ = get_or row_homes row 0 in
+        let g : List ℕ = get_or all i [] in
+        let k : ℕ = (by row).stratum in
+        let u : ℕ = (by row).unit in
+        let home = home_within design units rows strata strata_are row_homes row_places row_groups members places groups row lr in
+        let here = stratum_at_home design units rows strata strata_are row_homes row_places row_groups members places groups i home in
+        let cluster : g ≡ cluster_of design.second units row = cluster_home units design.second row l in
+        let number : stratum_number units row ≡ k =
+        sym (home_at design units rows i home ∙ ap (λ x. stratum_number units (first_row x)) cluster
+        ∙ ap (λ t. position_or_len (bytes_eq t) (stratum_names units)) (first_stratum units design.second served.together row l)) in
+        let chosen : slice_get (places_of (homes design units rows) k) u ≡ Some i = groups.seated i (omega (arith, home, length-map all (λ x. stratum_number units (first_row x)))) in
+        let in_stratum : slice_get (clusters_in design units k) u ≡ Some g =
+        ap (λ gs. slice_get gs u) (sym (members_are design units rows k here)) ∙ slice_get-map (λ j. get_or all j []) (places_of (homes design units rows) k) u ∙ ap (option_map (λ j. get_or all j [])) chosen in
+        let within : u < length (clusters_in design units k) = slice_get_within (clusters_in design units k) u g in_stratum in
+        let size : get_or (first_sizes design units k) u 0 ≡ size_of units g =
+        get_or-map (size_of units) (clusters_in design units k) u [] 0 within ∙ ap (size_of units) (get_or_from_slice_get (clusters_in design units k) u g [] in_stratum) in
+        let first : Same (asked_fraction (stratum_of design units k).request u) (requested_fraction (sample_size design units k) (first_sizes design units k) (size_of units g)) =
+        rw size at ((built k here).asks u (omega (arith, within, length-map (clusters_in design units k) (size_of units)))) in
+        let in_its_stratum : Same (asked_fraction (stratum_of design units k).request u) (fraction_in_stratum design units row) = rw (number, ← cluster) first in
+        let second : Same (stage_fraction (second_request design.second units g) (by row).place) (fraction_in_psu design.second units row) =
+        second_same units design.second g row (by row).place
+        (rw (get_or_from_slice_get (clusters_in design units k) u g g in_stratum) at ((built k here).firsts u g within))
+        (place_is design units rows strata strata_are row_homes row_places row_groups members places groups row lr) cluster in
+        rw (seat_fraction_is strata (by row) (stratum_of design units k) (first_of design units g) (stratum_is design units rows strata strata_are k here)
+        (unit_is design units rows strata strata_are row_homes row_places row_groups members places groups row lr))
+        (times_same in_its_stratum second)
+
+    pub asks_as_frame : (row : ℕ) (s : seat.Seat) → row < length units → IsSeat strata row s → Same (seat_fraction strata s) (row_fraction design units row)
+    asks_as_frame row s l is =
+        rw (← (seat_only design units rows strata strata_are row_homes row_places row_groups members places groups row s is).1) (fractions row l)
+
+-- seats that are those of the rows
+pub seated_by : (strata : List stratum.Stratum) (seats : List seat.Seat) → AreSeats strata seats → AreSeated (length seats) strata
+seated_by strata seats are =
+    let none : seat.Seat = record { stratum = 0; unit = 0; place = 0 } in
+    record {
+      seats = λ row l. record { seat = get_or seats row none; is = are.here row none l };
+      once = λ row s t a b. sym ((are.only row s none a).1) ∙ (are.only row t none b).1;
+      below = λ row s a. (are.only row s none a).0;
+    }
+
+pub long_homes : (second : Option second.Second) (units : List unit.Unit) → length (homes_of second units) ≡ length units
+long_homes None units = length-range_with_len 0 (length units)
+long_homes (Some s) units = length-map-range_with_len _ 0 (length units)

@@ -1,0 +1,4 @@
+use Rattle.smp_strata.proofs.acceptance.accept.Goals as goal
+
+pub returns-clause-asked : goal.returns-clause-asked
+returns-clause-asked c = rw c.units-units.ensures at c.in_ok-plan.ensures.asked

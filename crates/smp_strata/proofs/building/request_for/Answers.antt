@@ -1,0 +1,11 @@
+use Rattle.smp_prob.specs.Requested.{is_certain, is_free}
+use Rattle.smp_strata.proofs.Pushes.{places_below}
+use Rattle.smp_strata.proofs.building.request_for.Goals as goal
+
+pub returns-in-Ok-clause-over : goal.returns-in-Ok-clause-over
+returns-in-Ok-clause-over c = record {
+  sound = c.in-Ok.ensures.request;
+  rising = c.in-Ok.ensures.ordered;
+  certain = rw c.in-Ok.ensures.value (places_below (is_certain c.args.n c.args.sizes.now) c.args.sizes.now);
+  free = rw c.in-Ok.ensures.value (places_below (is_free c.args.n c.args.sizes.now) c.args.sizes.now);
+}

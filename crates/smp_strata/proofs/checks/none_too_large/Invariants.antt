@@ -1,0 +1,11 @@
+use Rattle.std.proofs.Common.{◌≡◌, drop}
+use Rattle.smp_strata.specs.Rows.{is_large, psu_at}
+use Rattle.smp_strata.specs.Clusters.{first_row}
+use Rattle.smp_strata.specs.Misfits.{first_found, when}
+use Rattle.smp_strata.specs.declared.misfit.Misfit.TheVariants.{PsuTooLarge}
+use Rattle.smp_strata.proofs.checks.none_too_large.Given as goal
+
+abbrev pub invariant-loop-cluster : goal.invariant-loop-cluster
+invariant-loop-cluster l =
+    first_found (λ rows. when (is_large l.units l.columns rows) (PsuTooLarge (psu_at l.units (first_row rows)))) (drop l.cluster-index l.clusters)
+    ≡ first_found (λ rows. when (is_large l.units l.columns rows) (PsuTooLarge (psu_at l.units (first_row rows)))) l.clusters

@@ -1,0 +1,44 @@
+-- What is true of every plan.
+use Rattle.std.specs.Prelude.{◌≡◌, ℕ, ◌<◌, ◌≤◌, List, length, is_some, Option, IfSome, All}
+use Rattle.smp_frame.specs.Bounds.{AreNear}
+use Rattle.smp_prob.specs.declared.requests.Request.{Request}
+use Rattle.smp_prob.specs.Requests.{IsRequest}
+use Rattle.smp_prob.specs.Standings.{IsRising}
+use Rattle.smp_design.specs.declared.method.Method.{Method}
+use Rattle.smp_strata.specs.Plans.{Parts}
+use Rattle.smp_strata.specs.Seats.{IsSeat, Seated}
+use Rattle.smp_strata.specs.declared.strata.First as first
+use Rattle.smp_strata.specs.declared.strata.Seat as seat
+use Rattle.smp_strata.specs.declared.strata.Stratum as stratum
+
+-- a request over so many units, with the certain ones and the free ones in order
+pub record IsOver (count : ℕ) (request : Request) : Type 0 where
+  pub sound : IsRequest request
+  pub rising : IsRising request
+  pub certain : All (λ unit. unit < count) request.certain
+  pub free : All (λ unit. unit < count) request.free
+
+-- a first stage unit has rows, values within 2,147,483,647 of 0, and a request over its rows where there is a second stage
+pub record IsFirst (method : Option Method) (f : first.First) : Type 0 where
+  pub some : 1 ≤ length f.rows
+  pub near : AreNear f.values
+  pub over : IfSome f.second (IsOver (length f.rows))
+  pub staged : is_some f.second ≡ is_some method
+
+-- a stratum has first stage units, and a request over them
+pub record IsStratum (method : Option Method) (s : stratum.Stratum) : Type 0 where
+  pub some : 1 ≤ length s.units
+  pub over : IsOver (length s.units) s.request
+  pub firsts : All (IsFirst method) s.units
+
+-- each row of a frame of so many rows stands at one seat
+pub record AreSeated (rows : ℕ) (strata : List stratum.Stratum) : Type 0 where
+  pub seats : (row : ℕ) → row < rows → Seated strata row
+  pub once : (row : ℕ) (s t : seat.Seat) → IsSeat strata row s → IsSeat strata row t → s ≡ t
+  pub below : (row : ℕ) (s : seat.Seat) → IsSeat strata row s → row < rows
+
+-- a plan over so many columns of values
+pub record IsPlan (count : ℕ) (plan : Parts) : Type 0 where
+  pub strata : All (IsStratum plan.second) plan.strata
+  pub columns : All (λ s. All (λ f. length f.values ≡ count) s.units) plan.strata
+  pub seated : AreSeated plan.rows plan.strata

@@ -1,0 +1,10 @@
+pub mod Allocations
+pub mod Appearances
+pub mod Asked
+pub mod Bounds
+pub mod Clusters
+pub mod Misfits
+pub mod Plans
+pub mod Rows
+pub mod Seats
+pub mod Kept

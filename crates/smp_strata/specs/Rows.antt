@@ -1,0 +1,46 @@
+-- The rows of a frame by their numbers, of which the first is 0: what stands in a row, and the sums over some rows.
+use Rattle.std.specs.Prelude.{ℕ, ◌^◌, ℤ, pos, ◌+ℤ◌, nat_abs, nat_le, ◌||◌, Bool, List, [], length, map, fold, sum_by, slice_index, slice_index_or}
+use Rattle.std.specs.List.{list_any, range_with_len}
+use Rattle.smp_frame.specs.declared.frame.Unit as unit
+use Rattle.smp_frame.specs.Bounds.{sizes_of, second_sizes_of}
+
+abbrev pub rows_of : List unit.Unit → List ℕ
+rows_of units = range_with_len 0 (length units)
+
+-- ---- a row
+
+-- the names of its stratum and of its psu
+abbrev pub stratum_at : List unit.Unit → ℕ → List ℕ
+stratum_at units row = slice_index_or (map (λ u. u.stratum) units) row []
+
+abbrev pub psu_at : List unit.Unit → ℕ → List ℕ
+psu_at units row = slice_index_or (map (λ u. u.psu) units) row []
+
+-- its size, and its size in the second stage
+abbrev pub size_at : List unit.Unit → ℕ → ℕ
+size_at units row = slice_index (sizes_of units) row
+
+abbrev pub second_size_at : List unit.Unit → ℕ → ℕ
+second_size_at units row = slice_index (second_sizes_of units) row
+
+-- its value in a column of values
+abbrev pub value_at : List unit.Unit → ℕ → ℕ → ℤ
+value_at units row column = slice_index_or (slice_index_or (map (λ u. u.values) units) row []) column (pos 0)
+
+-- ---- some rows
+
+abbrev pub size_of : List unit.Unit → List ℕ → ℕ
+size_of units rows = sum_by (size_at units) rows
+
+-- the sum of a column of values
+abbrev pub value_of : List unit.Unit → List ℕ → ℕ → ℤ
+value_of units rows column = fold (λ sum row. sum +ℤ value_at units row column) (pos 0) rows
+
+-- the sums of so many columns of values
+abbrev pub values_of : List unit.Unit → ℕ → List ℕ → List ℤ
+values_of units columns rows = map (value_of units rows) (range_with_len 0 columns)
+
+-- a sum of sizes, or the absolute value of a sum of values, is above 2,147,483,647
+abbrev pub is_large : List unit.Unit → ℕ → List ℕ → Bool
+is_large units columns rows =
+    nat_le (2 ^ 31) (size_of units rows) || list_any (λ value. nat_le (2 ^ 31) (nat_abs value)) (values_of units columns rows)

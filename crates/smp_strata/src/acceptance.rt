@@ -1,0 +1,42 @@
+//! Whether a frame serves a design, and the plan of both.
+
+ghost use Rattle.std.specs.Prelude.{◌≡◌, IfOk, length};
+ghost use Rattle.smp_frame.specs.Bounds.{HaveValues, IsFrame};
+ghost use Rattle.smp_design.specs.Bounds.{IsDesign};
+ghost use Rattle.smp_strata.specs.Asked.{AsksAsFrame};
+ghost use Rattle.smp_strata.specs.Bounds.{IsPlan};
+ghost use Rattle.smp_strata.specs.Misfits.{Reports, misfit_of};
+ghost use Rattle.smp_strata.specs.Plans.{parts_of};
+
+use crate::building::planned;
+use crate::checks::checked;
+use crate::layout::{clusters_of, strata_of};
+use crate::{Misfit, Plan};
+use smp_design::Design;
+use smp_frame::Frame;
+use std::alloc::Global;
+
+/// The plan of a frame that was read with a design's columns, or the first reason why the frame doesn't serve the
+/// design, in the order of [`Misfit`]'s variants; each kind is looked for in the whole frame before the next.
+///
+/// Strata, first stage units and rows are in order of first appearance in the frame. The time is linear in the rows,
+/// but for the sorts of the allocation and of the requests.
+pub fn accept(alloc: Global, frame: &Frame, design: &Design) -> Result<Plan, Misfit>
+    requires frame { IsFrame frame.now }
+    requires design { IsDesign design.now }
+    requires columns { HaveValues (length design.now.columns.values) frame.now }
+    ensures misfit { Reports result (misfit_of design.now frame.now) }
+    ensures plan { IfOk result (λ plan. plan ≡ parts_of design.now frame.now) }
+
+    // what is true of every plan
+    ensures sound { IfOk result (IsPlan (length design.now.columns.values)) }
+    // each row has the inclusion probability that is asked for it
+    ensures asked { IfOk result (AsksAsFrame design.now frame.now) }
+{
+    let units = frame.units();
+    let clusters = clusters_of(alloc, units, design.second)?;
+    let strata = strata_of(alloc, units, &clusters.rows)?;
+    let sizes = checked(alloc, units, design, &clusters, &strata)?;
+    let plan = planned(alloc, units, design, &clusters, &strata, &sizes)?;
+    Ok(plan)
+}

@@ -1,0 +1,260 @@
+//! The parts of a plan, where the frame serves the design.
+
+ghost use Rattle.std.specs.Prelude.{◌≡◌, ◌^◌, ◌<◌, ◌≤◌, ℕ, None, false, [], All, EachIndex, IfOk, IfSome, length, map, option_map, slice_index, slice_index_or};
+ghost use Rattle.smp_frame.specs.Bounds.{HaveValues, IsFrame};
+ghost use Rattle.smp_design.specs.Bounds.{IsDesign};
+ghost use Rattle.smp_prob.specs.Requested.{positive_units, requested_of};
+ghost use Rattle.smp_strata.specs.Bounds.{IsOver, IsPlan};
+ghost use Rattle.smp_strata.specs.Clusters.{clusters as clusters_of, stratum_names};
+ghost use Rattle.smp_strata.specs.Rows.{is_large, size_of};
+ghost use Rattle.smp_strata.specs.Plans as Plans;
+ghost use Rattle.smp_strata.specs.Plans.{parts_of, sample_sizes};
+ghost use Rattle.smp_strata.specs.Asked.{AsksAsFrame};
+ghost use Rattle.smp_strata.specs.declared.strata.First.{First};
+ghost use Rattle.smp_strata.specs.declared.strata.Seat.{Seat};
+ghost use Rattle.smp_strata.specs.declared.strata.Stratum.{Stratum};
+ghost use Rattle.smp_strata.specs.Misfits.{misfit_of};
+ghost use Rattle.smp_strata.specs.Kept.Layouts.{AreGroups, AreRows, homes_of, strata_homes};
+ghost use Rattle.smp_strata.specs.Kept.Built.{Asks, CanBuild, IsBuilt, IsBuiltFirst, SecondAsks, seat_by};
+
+use crate::checks::Sizes;
+use crate::groups::Group;
+use crate::layout::{Clusters, Strata};
+use crate::sizes::{second_sizes, sizes_at};
+use crate::sums::values_of;
+use crate::{First, Plan, Seat, Stratum, Units};
+use smp_design::{Design, Method, Second};
+use smp_frac::NoMemory;
+use smp_frame::{Numbers, Unit};
+use smp_prob::{Places, ProbFault, Request, requested};
+use std::alloc::Global;
+
+// The request for n of the units with these sizes, which has that many positive ones.
+fn request_for(alloc: Global, sizes: &[u32], n: u32) -> Result<Request, NoMemory>
+    requires few { length sizes.now ≤ 100000 }
+    requires small { EachIndex sizes.now (λ i. slice_index sizes.now i < 2 ^ 31) }
+    requires some { 1 ≤ n }
+    requires enough { n ≤ positive_units sizes.now }
+    ensures value { IfOk result (λ request. request ≡ requested_of sizes.now n) }
+    ensures over { IfOk result (IsOver (length sizes.now)) }
+    ensures asks { IfOk result (Asks sizes.now n) }
+{
+    match requested(alloc, sizes, n) {
+        Ok(request) => Ok(request),
+        Err(ProbFault::TooMany { .. }) => unreachable!(),
+        Err(ProbFault::NoMemory) => Err(NoMemory),
+    }
+}
+
+fn second_request(
+    alloc: Global,
+    units: &[Unit],
+    second: Option<Second>,
+    rows: &[usize],
+) -> Result<Option<Request>, NoMemory>
+    requires frame { IsFrame units.now }
+    requires rows { AreRows (length units.now) rows.now }
+    requires some { IfSome second (λ s. 1 ≤ s.n) }
+    requires enough { IfSome second (λ s.
+        s.n ≤ positive_units (Plans.second_sizes units.now rows.now)) }
+    ensures value { IfOk result (λ request.
+        request ≡ Plans.second_request second units.now rows.now) }
+    ensures over { IfOk result (λ request. IfSome request (IsOver (length rows.now))) }
+    ensures asks { IfOk result
+        (SecondAsks second (Plans.second_sizes units.now rows.now)) }
+{
+    let Some(second) = second else {
+        return Ok(None);
+    };
+    let sizes = second_sizes(alloc, units, rows)?;
+    let request = request_for(alloc, &sizes, second.n)?;
+    Ok(Some(request))
+}
+
+// A first stage unit.
+fn first_of(
+    alloc: Global,
+    units: &[Unit],
+    design: &Design,
+    rows: &[usize],
+) -> Result<First, NoMemory>
+    requires frame { IsFrame units.now }
+    requires values { HaveValues (length design.now.columns.values) units.now }
+    requires rows { AreRows (length units.now) rows.now }
+    requires small { is_large units.now (length design.now.columns.values) rows.now ≡ false }
+    requires some { IfSome design.now.second (λ s. 1 ≤ s.n) }
+    requires enough { IfSome design.now.second (λ s.
+        s.n ≤ positive_units (Plans.second_sizes units.now rows.now)) }
+    ensures { IfOk result (IsBuiltFirst design.now units.now rows.now) }
+{
+    let values = values_of(alloc, units, design.columns.values.as_slice().len(), rows)?;
+    let second = second_request(alloc, units, design.second, rows)?;
+    Ok(First {
+        rows: Places::from_slice(alloc, rows)?,
+        values: Numbers::from_slice(alloc, &values)?,
+        second,
+    })
+}
+
+// The first stage units with some numbers.
+fn firsts(
+    alloc: Global,
+    units: &[Unit],
+    design: &Design,
+    clusters: &[Group],
+    members: &[usize],
+) -> Result<Units, NoMemory>
+    requires frame { IsFrame units.now }
+    requires values { HaveValues (length design.now.columns.values) units.now }
+    requires some { IfSome design.now.second (λ s. 1 ≤ s.n) }
+    requires clusters { All (CanBuild design.now units.now) clusters.now }
+    requires within { All (λ member. member < length clusters.now) members.now }
+    ensures length { IfOk result (λ firsts. length firsts ≡ length members.now) }
+    ensures each { IfOk result (λ firsts. (j : ℕ) (d : First) → j < length members.now
+        → IsBuiltFirst design.now units.now
+        (slice_index_or clusters.now (slice_index members.now j) [])
+        (slice_index_or firsts j d)) }
+{
+    let mut firsts = Vec::new(alloc);
+    for &member in members {
+        firsts.push(first_of(alloc, units, design, clusters[member].as_slice())?)?;
+    }
+    Ok(Units::from_vec(firsts))
+}
+
+// A stratum by its number.
+fn stratum_of(
+    alloc: Global,
+    units: &[Unit],
+    design: &Design,
+    clusters: &[Group],
+    strata: &Strata,
+    sizes: &Sizes,
+    stratum: usize,
+) -> Result<Stratum, NoMemory>
+    requires frame { IsFrame units.now }
+    requires values { HaveValues (length design.now.columns.values) units.now }
+    requires design { IsDesign design.now }
+    requires served { misfit_of design.now units.now ≡ None }
+    requires rows { clusters.now ≡ clusters_of design.now.second units.now }
+    requires all_rows { All (AreRows (length units.now)) clusters.now }
+    requires names { strata.now.names.items ≡ stratum_names units.now }
+    requires strata_homes { strata.now.homes.items ≡ strata_homes units.now clusters.now }
+    requires groups { AreGroups strata.now.homes.items (length strata.now.names.items)
+        strata.now.members.items strata.now.places.items }
+    requires sizes { sizes.now.clusters.items ≡ map (size_of units.now) clusters.now }
+    requires samples { sizes.now.samples.items ≡ sample_sizes design.now units.now }
+    requires number { stratum < length strata.now.names.items }
+    ensures { IfOk result (IsBuilt design.now units.now stratum) }
+{
+    let members = strata.members[stratum].as_slice();
+    let first_sizes = sizes_at(alloc, &sizes.clusters, members)?;
+    let request = request_for(alloc, &first_sizes, sizes.samples[stratum])?;
+    Ok(Stratum {
+        name: strata.names[stratum].copy(alloc)?,
+        units: firsts(alloc, units, design, clusters, members)?,
+        request,
+    })
+}
+
+/// The strata of a plan.
+pub(crate) fn plan_strata(
+    alloc: Global,
+    units: &[Unit],
+    design: &Design,
+    clusters: &[Group],
+    strata: &Strata,
+    sizes: &Sizes,
+) -> Result<Vec<Stratum>, NoMemory>
+    requires frame { IsFrame units.now }
+    requires values { HaveValues (length design.now.columns.values) units.now }
+    requires design { IsDesign design.now }
+    requires served { misfit_of design.now units.now ≡ None }
+    requires rows { clusters.now ≡ clusters_of design.now.second units.now }
+    requires all_rows { All (AreRows (length units.now)) clusters.now }
+    requires names { strata.now.names.items ≡ stratum_names units.now }
+    requires strata_homes { strata.now.homes.items ≡ strata_homes units.now clusters.now }
+    requires groups { AreGroups strata.now.homes.items (length strata.now.names.items)
+        strata.now.members.items strata.now.places.items }
+    requires sizes { sizes.now.clusters.items ≡ map (size_of units.now) clusters.now }
+    requires samples { sizes.now.samples.items ≡ sample_sizes design.now units.now }
+    ensures length { IfOk result (λ list. length list.items ≡ length strata.now.names.items) }
+    ensures each { IfOk result (λ list. (k : ℕ) (d : Stratum) → k < length strata.now.names.items
+        → IsBuilt design.now units.now k (slice_index_or list.items k d)) }
+{
+    let mut list = Vec::new(alloc);
+    for stratum in 0..strata.names.len() {
+        list.push(stratum_of(alloc, units, design, clusters, strata, sizes, stratum)?)?;
+    }
+    Ok(list)
+}
+
+/// Where each row stands.
+pub(crate) fn seats_of(
+    alloc: Global,
+    clusters: &Clusters,
+    strata: &Strata,
+) -> Result<Vec<Seat>, NoMemory>
+    requires homes { All (λ home. home < length strata.now.homes.items) clusters.now.homes.items }
+    requires strata_places { length strata.now.places.items ≡ length strata.now.homes.items }
+    requires places { length clusters.now.places.items ≡ length clusters.now.homes.items }
+    ensures length { IfOk result (λ seats.
+        length seats.items ≡ length clusters.now.homes.items) }
+    ensures each { IfOk result (λ seats. (row : ℕ) (d : Seat) → row < length clusters.now.homes.items
+        → slice_index_or seats.items row d
+        ≡ seat_by strata.now.homes.items strata.now.places.items
+        clusters.now.homes.items clusters.now.places.items row) }
+{
+    let mut seats = Vec::new(alloc);
+    for (row, &home) in clusters.homes.iter().enumerate() {
+        seats.push(Seat {
+            stratum: strata.homes[home],
+            unit: strata.places[home],
+            place: clusters.places[row],
+        })?;
+    }
+    Ok(seats)
+}
+
+fn second_method(design: &Design) -> Option<Method>
+    ensures { result ≡ option_map (λ second. second.method) design.now.second }
+{
+    match design.second {
+        Some(second) => Some(second.method),
+        None => None,
+    }
+}
+
+/// The plan of a frame that serves a design.
+pub(crate) fn planned(
+    alloc: Global,
+    units: &[Unit],
+    design: &Design,
+    clusters: &Clusters,
+    strata: &Strata,
+    sizes: &Sizes,
+) -> Result<Plan, NoMemory>
+    requires frame { IsFrame units.now }
+    requires values { HaveValues (length design.now.columns.values) units.now }
+    requires design { IsDesign design.now }
+    requires served { misfit_of design.now units.now ≡ None }
+    requires rows { clusters.now.rows.items ≡ clusters_of design.now.second units.now }
+    requires all_rows { All (AreRows (length units.now)) clusters.now.rows.items }
+    requires names { strata.now.names.items ≡ stratum_names units.now }
+    requires strata_homes { strata.now.homes.items ≡ strata_homes units.now clusters.now.rows.items }
+    requires groups { AreGroups strata.now.homes.items (length strata.now.names.items)
+        strata.now.members.items strata.now.places.items }
+    requires sizes { sizes.now.clusters.items ≡ map (size_of units.now) clusters.now.rows.items }
+    requires samples { sizes.now.samples.items ≡ sample_sizes design.now units.now }
+    requires homes { clusters.now.homes.items ≡ homes_of design.now.second units.now }
+    requires row_groups { AreGroups clusters.now.homes.items (length clusters.now.rows.items)
+        clusters.now.rows.items clusters.now.places.items }
+    ensures plan { IfOk result (λ plan. plan ≡ parts_of design.now units.now) }
+    ensures sound { IfOk result (IsPlan (length design.now.columns.values)) }
+    ensures asked { IfOk result (AsksAsFrame design.now units.now) }
+{
+    let list = plan_strata(alloc, units, design, &clusters.rows, strata, sizes)?;
+    let seats = seats_of(alloc, clusters, strata)?;
+    let second = second_method(design);
+    Ok(Plan::new(design.method, design.order, second, list, seats))
+}

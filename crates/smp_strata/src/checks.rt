@@ -1,0 +1,267 @@
+//! Why a frame doesn't serve a design: each kind of misfit is looked for in the whole frame.
+
+ghost use Rattle.std.specs.Prelude.{◌≡◌, ◌<◌, ◌≤◌, None, Some, All, IfOk, length, map, nat_eq, slice_index, slice_index_or, []};
+ghost use Rattle.std.specs.List.{range_with_len};
+ghost use Rattle.std.specs.Str.{bytes_eq};
+ghost use Rattle.smp_frame.specs.Bounds.{HaveValues, IsFrame};
+ghost use Rattle.smp_design.specs.Bounds.{IsDesign};
+ghost use Rattle.smp_strata.specs.Rows as Rows;
+ghost use Rattle.smp_strata.specs.Rows.{psu_at, stratum_at};
+ghost use Rattle.smp_strata.specs.Clusters.{clusters as clusters_of, first_row, stratum_names};
+ghost use Rattle.smp_strata.specs.Plans as Plans;
+ghost use Rattle.smp_strata.specs.Misfits.{Reports, first_apart, first_found, misfit_of, psu_short, second_too_many, short, unit_in_two, when};
+ghost use Rattle.smp_strata.specs.declared.misfit.Misfit.TheVariants as misfits;
+ghost use Rattle.smp_strata.specs.Kept.Layouts.{AreGroups, AreRows, homes_of, strata_homes};
+
+use crate::Misfit;
+use crate::groups::Group;
+use crate::layout::{Clusters, Strata};
+use crate::sizes::{cluster_sizes, positive_units, sample_sizes, second_sizes, sizes_at};
+use crate::sums::is_large;
+use smp_design::{Design, Second};
+use smp_frac::Text;
+use smp_frame::Unit;
+use std::alloc::Global;
+
+// Whether two rows are in one stratum.
+fn same_stratum(units: &[Unit], row: usize, other: usize) -> bool
+    requires row { row < length units.now }
+    requires other { other < length units.now }
+    ensures { result ≡ bytes_eq (stratum_at units.now row) (stratum_at units.now other) }
+{
+    units[row].stratum.as_str() == units[other].stratum.as_str()
+}
+
+// The first row of the first stage unit of a row.
+fn first_with(clusters: &Clusters, row: usize) -> usize
+    requires row { row < length clusters.now.homes.items }
+    requires home { slice_index clusters.now.homes.items row < length clusters.now.rows.items }
+    requires some { 1 ≤ length (slice_index_or clusters.now.rows.items
+        (slice_index clusters.now.homes.items row) []) }
+    ensures { result ≡ first_row (slice_index_or clusters.now.rows.items
+        (slice_index clusters.now.homes.items row) []) }
+{
+    clusters.rows[clusters.homes[row]].as_slice()[0]
+}
+
+// No psu has rows in two strata.
+fn none_apart(
+    alloc: Global,
+    units: &[Unit],
+    second: Second,
+    clusters: &Clusters,
+) -> Result<(), Misfit>
+    requires frame { IsFrame units.now }
+    requires rows { clusters.now.rows.items ≡ clusters_of (Some second) units.now }
+    requires homes { clusters.now.homes.items ≡ homes_of (Some second) units.now }
+    ensures { Reports result (first_apart units.now) }
+{
+    for row in 0..units.len() {
+        let first = first_with(clusters, row);
+        if !same_stratum(units, first, row) {
+            return Err(Misfit::UnitInTwo {
+                psu: units[row].psu.copy(alloc)?,
+            });
+        }
+    }
+    Ok(())
+}
+
+// No psu has rows in two strata, where there are psus.
+fn no_unit_in_two(
+    alloc: Global,
+    units: &[Unit],
+    second: Option<Second>,
+    clusters: &Clusters,
+) -> Result<(), Misfit>
+    requires frame { IsFrame units.now }
+    requires rows { clusters.now.rows.items ≡ clusters_of second units.now }
+    requires homes { clusters.now.homes.items ≡ homes_of second units.now }
+    ensures { Reports result (unit_in_two second units.now) }
+{
+    match second {
+        None => Ok(()),
+        Some(second) => none_apart(alloc, units, second, clusters),
+    }
+}
+
+// No psu has a sum above the limit.
+fn none_too_large(
+    alloc: Global,
+    units: &[Unit],
+    columns: usize,
+    clusters: &[Group],
+) -> Result<(), Misfit>
+    requires frame { IsFrame units.now }
+    requires values { HaveValues columns units.now }
+    requires rows { All (AreRows (length units.now)) clusters.now }
+    ensures { Reports result (first_found
+        (λ rows. when (Rows.is_large units.now columns rows)
+        (misfits.PsuTooLarge (psu_at units.now (first_row rows)))) clusters.now) }
+{
+    for cluster in clusters {
+        let rows = cluster.as_slice();
+        if is_large(units, columns, rows) {
+            return Err(Misfit::PsuTooLarge {
+                psu: units[rows[0]].psu.copy(alloc)?,
+            });
+        }
+    }
+    Ok(())
+}
+
+// A number of units is given for each stratum.
+fn all_have_sizes(alloc: Global, names: &[Text], sizes: &[u32]) -> Result<(), Misfit>
+    requires { length sizes.now ≡ length names.now }
+    ensures { Reports result (first_found
+        (λ stratum. when (nat_eq (slice_index sizes.now stratum) 0)
+        (misfits.NoSize (slice_index_or names.now stratum [])))
+        (range_with_len 0 (length names.now))) }
+{
+    for stratum in 0..names.len() {
+        if sizes[stratum] == 0 {
+            return Err(Misfit::NoSize {
+                stratum: names[stratum].copy(alloc)?,
+            });
+        }
+    }
+    Ok(())
+}
+
+// A stratum has as many positive sizes as its number of units.
+fn stratum_fits(alloc: Global, name: &Text, sizes: &[u32], n: u32) -> Result<(), Misfit>
+    requires { length sizes.now ≤ 100000 }
+    ensures { Reports result (short name.now sizes.now n) }
+{
+    let positive = positive_units(sizes);
+    if positive < n {
+        return Err(Misfit::TooMany {
+            stratum: name.copy(alloc)?,
+            n,
+            positive,
+        });
+    }
+    Ok(())
+}
+
+fn strata_fit(
+    alloc: Global,
+    strata: &Strata,
+    cluster_sizes: &[u32],
+    sizes: &[u32],
+) -> Result<(), Misfit>
+    requires sizes { length sizes.now ≡ length strata.now.names.items }
+    requires members { length strata.now.members.items ≡ length strata.now.names.items }
+    requires few { All (λ group. length group ≤ 100000) strata.now.members.items }
+    requires within { All (All (λ member. member < length cluster_sizes.now)) strata.now.members.items }
+    ensures { Reports result (first_found
+        (λ stratum. short (slice_index_or strata.now.names.items stratum [])
+        (map (slice_index cluster_sizes.now)
+        (slice_index_or strata.now.members.items stratum []))
+        (slice_index sizes.now stratum))
+        (range_with_len 0 (length strata.now.names.items))) }
+{
+    for stratum in 0..strata.names.len() {
+        let first_sizes = sizes_at(alloc, cluster_sizes, strata.members[stratum].as_slice())?;
+        stratum_fits(alloc, &strata.names[stratum], &first_sizes, sizes[stratum])?;
+    }
+    Ok(())
+}
+
+// A psu has as many positive second sizes as the second stage's number of rows.
+fn psu_fits(alloc: Global, units: &[Unit], n: u32, rows: &[usize]) -> Result<(), Misfit>
+    requires { AreRows (length units.now) rows.now }
+    ensures { Reports result (psu_short n units.now rows.now) }
+{
+    let sizes = second_sizes(alloc, units, rows)?;
+    let positive = positive_units(&sizes);
+    if positive < n {
+        return Err(Misfit::SecondTooMany {
+            psu: units[rows[0]].psu.copy(alloc)?,
+            n,
+            positive,
+        });
+    }
+    Ok(())
+}
+
+fn all_psus_fit(
+    alloc: Global,
+    units: &[Unit],
+    second: Second,
+    clusters: &[Group],
+) -> Result<(), Misfit>
+    requires { All (AreRows (length units.now)) clusters.now }
+    ensures { Reports result (first_found (psu_short second.n units.now) clusters.now) }
+{
+    for cluster in clusters {
+        psu_fits(alloc, units, second.n, cluster.as_slice())?;
+    }
+    Ok(())
+}
+
+fn psus_fit(
+    alloc: Global,
+    units: &[Unit],
+    second: Option<Second>,
+    clusters: &[Group],
+) -> Result<(), Misfit>
+    requires rows { clusters.now ≡ clusters_of second units.now }
+    requires all_rows { All (AreRows (length units.now)) clusters.now }
+    ensures { Reports result (second_too_many second units.now) }
+{
+    match second {
+        None => Ok(()),
+        Some(second) => all_psus_fit(alloc, units, second, clusters),
+    }
+}
+
+/// The sizes of a frame's first stage units, and how many of them are drawn from each stratum.
+#[derive(Drop)]
+pub(crate) struct Sizes {
+    pub clusters: Vec<u32>,
+    pub samples: Vec<u32>,
+}
+
+/// The sizes of a frame that serves a design, or the first misfit.
+pub(crate) fn checked(
+    alloc: Global,
+    units: &[Unit],
+    design: &Design,
+    clusters: &Clusters,
+    strata: &Strata,
+) -> Result<Sizes, Misfit>
+    requires frame { IsFrame units.now }
+    requires values { HaveValues (length design.now.columns.values) units.now }
+    requires design { IsDesign design.now }
+    requires rows { clusters.now.rows.items ≡ clusters_of design.now.second units.now }
+    requires homes { clusters.now.homes.items ≡ homes_of design.now.second units.now }
+    requires all_rows { All (AreRows (length units.now)) clusters.now.rows.items }
+    requires names { strata.now.names.items ≡ stratum_names units.now }
+    requires strata_homes { strata.now.homes.items
+        ≡ strata_homes units.now clusters.now.rows.items }
+    requires groups { AreGroups strata.now.homes.items (length strata.now.names.items)
+        strata.now.members.items strata.now.places.items }
+    ensures misfit { Reports result (misfit_of design.now units.now) }
+    ensures clusters { IfOk result (λ sizes.
+        sizes.clusters.items ≡ map (Rows.size_of units.now) clusters.now.rows.items) }
+    ensures samples { IfOk result (λ sizes.
+        sizes.samples.items ≡ Plans.sample_sizes design.now units.now) }
+{
+    no_unit_in_two(alloc, units, design.second, clusters)?;
+    none_too_large(
+        alloc,
+        units,
+        design.columns.values.as_slice().len(),
+        &clusters.rows,
+    )?;
+    let samples = sample_sizes(alloc, design, &strata.names, &strata.members)?;
+    all_have_sizes(alloc, &strata.names, &samples)?;
+    let sizes = cluster_sizes(alloc, units, &clusters.rows)?;
+    strata_fit(alloc, strata, &sizes, &samples)?;
+    psus_fit(alloc, units, design.second, &clusters.rows)?;
+    Ok(Sizes {
+        clusters: sizes,
+        samples,
+    })
+}

@@ -1,0 +1,29 @@
+//! Plans: which strata and first stage units a frame has, how many of each are drawn, and with which probabilities.
+//!
+//! [`accept`] makes the [`Plan`] of a frame and a design, or says why the frame doesn't serve the design.
+//! `specs/Plans.antt` says what the plan is, `specs/Misfits.antt` when there is none, and `specs/Asked.antt` which
+//! inclusion probability is asked for each row.
+#![tactic(auto)]
+
+mod acceptance;
+mod allocation;
+mod building;
+mod checks;
+mod groups;
+mod layout;
+mod misfit;
+mod names;
+mod plan;
+mod sizes;
+mod strata;
+mod sums;
+#[cfg(test)]
+mod tests;
+
+pub use acceptance::accept;
+pub use misfit::Misfit;
+pub use plan::{Plan, asked, first_asked};
+pub use strata::{First, Seat, Stratum, Units};
+
+/// A sum of sizes, and the absolute value of a sum of values, is so large at most.
+const MAX_SUM: u64 = 2_147_483_647;

@@ -1,0 +1,56 @@
+//! Texts numbered in order of first appearance.
+
+ghost use Rattle.std.specs.Prelude.{◌≡◌, map, IfOk};
+ghost use Rattle.std.specs.List.{position_or_len};
+ghost use Rattle.std.specs.Str.{bytes_eq};
+ghost use Rattle.smp_strata.specs.Appearances.{distinct};
+ghost use Rattle.smp_strata.specs.Kept.Seen.{with_text};
+
+use indexmap::IndexSet;
+use smp_frac::{NoMemory, Text};
+use std::alloc::Global;
+
+/// The distinct ones of some texts, in order of first appearance, and the number that each text has among them.
+#[derive(Drop)]
+pub(crate) struct Numbered {
+    pub names: Vec<Text>,
+    pub numbers: Vec<usize>,
+}
+
+// The number of a text, which is new or not.
+fn number_of<'a>(seen: &mut IndexSet<&'a str>, text: &'a str) -> Result<usize, NoMemory>
+    ensures seen { IfOk result (λ _.
+        map (λ n. n.now) seen.new.keys ≡ with_text (map (λ n. n.now) seen.old.keys) text.entry.now) }
+    ensures number { IfOk result (λ number.
+        number ≡ position_or_len (bytes_eq text.entry.now) (map (λ n. n.now) seen.old.keys)) }
+{
+    let (number, _) = seen.insert_full(text)?;
+    Ok(number)
+}
+
+// Copies of some texts.
+fn copies(alloc: Global, texts: &[&str]) -> Result<Vec<Text>, NoMemory>
+    ensures { IfOk result (λ list. list.items ≡ map (λ t. t.now) texts.now) }
+{
+    let mut list = Vec::new(alloc);
+    for text in texts {
+        list.push(Text::from_str(alloc, text)?)?;
+    }
+    Ok(list)
+}
+
+/// The texts numbered in order of first appearance.
+pub(crate) fn numbered_texts<'a>(alloc: Global, texts: &[&'a str]) -> Result<Numbered, NoMemory>
+    ensures names { IfOk result (λ n. n.names.items ≡ distinct (map (λ t. t.now) texts.now)) }
+    ensures numbers { IfOk result (λ n. n.numbers.items
+        ≡ map (λ t. position_or_len (bytes_eq t.now) (distinct (map (λ r. r.now) texts.now)))
+        texts.now) }
+{
+    let mut seen = IndexSet::new(alloc);
+    let mut numbers = Vec::new(alloc);
+    for text in texts {
+        numbers.push(number_of(&mut seen, text)?)?;
+    }
+    let names = copies(alloc, seen.as_slice())?;
+    Ok(Numbered { names, numbers })
+}
