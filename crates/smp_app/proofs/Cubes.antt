@@ -1,6 +1,7 @@
 -- The units of a plan as a stratum that the cube draws, and what it draws of them.
 use Rattle.std.proofs.Common.{◌≡◌, ℕ, ◌-◌, ◌^◌, ◌<◌, Bool, true, false, ℤ, List, length, get_or, Option, Some, None, refl, sym, ap, subst, ◌∙◌, arith, true≢false}
 use Rattle.std.specs.Prelude.{if◌then◌else◌, is_none, ◌&&◌}
+use Rattle.std.specs.List.{filter, range_with_len}
 use Rattle.std.proofs.lemmas.List.{length-map}
 use Rattle.std.proofs.lemmas.List.Elements.{All-from_get_or, All-map}
 use Rattle.smp_frame.specs.declared.frame.Unit as unit
@@ -9,6 +10,7 @@ use Rattle.smp_design.specs.declared.design.Design.{Design}
 use Rattle.smp_kernel.specs.Vectors.{Within}
 use Rattle.smp_prob.specs.declared.requests.Request.{Request}
 use Rattle.smp_prob.specs.Requests.{IsRequest}
+use Rattle.smp_split.specs.Counts.{selected_units}
 use Rattle.smp_split.specs.Paths.{Entry, Leads}
 use Rattle.smp_split.specs.Trees.{Tree}
 use Rattle.smp_split.specs.Embeds.{embedded}
@@ -23,6 +25,7 @@ use Rattle.smp_landing.specs.Cube.{Balancing, cube_tree}
 use Rattle.smp_landing.specs.Method.{started}
 use Rattle.smp_balance.specs.Strata.{IsStratum}
 use Rattle.smp_balance.proofs.Balances.{free_are_values, each_is_balanced}
+use Rattle.smp_balance.proofs.Reports.{each_line_tells}
 use Rattle.smp_balance.proofs.Requested.{requested_stratum}
 use Rattle.smp_methods.specs.declared.procedure.Procedure.{Procedure}
 use Rattle.smp_methods.specs.declared.procedure.Procedure.TheVariants as procedure
@@ -41,7 +44,7 @@ use Rattle.smp_app.specs.Texts.{drawn_stratum}
 use Rattle.smp_app.proofs.Written.{drawn_below, drawn_there}
 use Rattle.smp_balance.specs.Lines as balance
 use Rattle.smp_balance.specs.Lines.{IsTold}
-use Rattle.smp_balance.specs.Totals.{can_be_selected}
+use Rattle.smp_balance.specs.Totals.{can_be_selected, is_selected}
 use Rattle.smp_prob.specs.declared.standings.Standing.{Standing}
 use Rattle.smp_prob.specs.declared.standings.Standing.TheVariants.{Certain, Free, Never}
 
@@ -143,8 +146,14 @@ module _ (plan : FramePlan) (planned : IsPlanned plan) where
           leads = cube.leads;
           ended = ended;
           balanced = each_is_balanced (stratum_of (plan_view plan)) ok;
+          told = each_line_tells (drawn_stratum (record { plan = plan_view plan; leaf = states.Cube cube.inside; path = path })) cube.inside ok (rows_are cube.inside is);
         })
       where
+        rows_are : (b : Balancing) → plan.procedure ≡ procedure.Cube → selected_units (tree_of (plan_view plan)) (states.Cube b) ≡ filter (is_selected (stratum_of (plan_view plan)) b) (range_with_len 0 (length (values_of_units plan.frame)))
+        rows_are b is =
+            subst (λ (p : Procedure). selected_units (tree_by p) (states.Cube b) ≡ filter (is_selected (stratum_of (plan_view plan)) b) (range_with_len 0 (length (values_of_units plan.frame)))) (sym is)
+            (ap (λ n. filter (is_selected (stratum_of (plan_view plan)) b) (range_with_len 0 n)) (sym (length-map plan.frame (λ u. u.values))))
+
         drawn_is : (b : Balancing) → drawn.leaf ≡ states.Cube b → drawn ≡ record { plan = plan_view plan; leaf = states.Cube b; path = path }
         drawn_is b leaf_is =
             ap (λ (p : Plan). record { plan = p; leaf = drawn.leaf; path = drawn.path }) by

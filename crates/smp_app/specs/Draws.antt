@@ -7,10 +7,12 @@ use Rattle.smp_split.specs.Paths.{Leads}
 use Rattle.smp_landing.specs.Cube.{Balancing}
 use Rattle.smp_balance.specs.Strata as strata
 use Rattle.smp_balance.specs.Balances.{IsBalanced}
+use Rattle.smp_balance.specs.Reports.{TellsColumn}
 use Rattle.smp_methods.specs.declared.procedure.Procedure.{Procedure}
 use Rattle.smp_methods.specs.declared.procedure.Procedure.TheVariants as procedure
 use Rattle.smp_methods.specs.declared.any.AnyState.TheVariants as states
 use Rattle.smp_app.specs.Plans.{Plan, row_probability, stratum_of, tree_of, start_of, Drawn, drawn_rows}
+use Rattle.smp_app.specs.Texts.{drawn_stratum}
 use Rattle.smp_app.specs.Commands.{Work, Lists, Draws, Job}
 use Rattle.smp_app.specs.Verdict.{plan_stage, drawn_stage}
 
@@ -24,6 +26,8 @@ pub record IsCubeDraw (drawn : Drawn) : Type 0 where
       (strata.start_of (stratum_of drawn.plan)) drawn.path leaf
   pub ended : (strata.tree_of (stratum_of drawn.plan)).done leaf ≡ true
   pub balanced : IsBalanced (stratum_of drawn.plan)
+  -- The report tells the estimates at that leaf and the known totals.
+  pub told : (column : ℕ) → TellsColumn (drawn_stratum drawn) leaf column
 
 -- the other methods balance nothing
 abbrev pub KeepsBalance : Procedure → Drawn → Type 0

@@ -1,5 +1,5 @@
 -- Every selection from a stratum by the cube is balanced, since that from its free units is.
-use Rattle.std.proofs.Common.{◌≡◌, ℕ, zero, suc, ◌-◌, ◌^◌, ◌<◌, ◌≤◌, true, false, cond, ℤ, pos, List, [], ◌∷◌, map, length, get_or, arith, refl, sym, ap, ◌∙◌, subst, inl, inr, ◌⊎◌}
+use Rattle.std.proofs.Common.{◌≡◌, ℕ, zero, suc, ◌-◌, ◌^◌, ◌<◌, ◌≤◌, cond, ℤ, List, [], ◌∷◌, length, get_or, arith, refl, sym, ap, ◌∙◌, subst, inl, inr, ◌⊎◌}
 use Rattle.std.specs.Prelude.{slice_index}
 use Rattle.std.proofs.lemmas.Bool.{cases_eq}
 use Rattle.std.proofs.lemmas.List.{get_or-map, length-map}
@@ -8,10 +8,8 @@ use Rattle.smp_fractions.specs.Bounds.{absolute, DifferByAtMost}
 use Rattle.smp_fractions.proofs.Fractions.{same_refl, same_sym, same_trans, plus_same, plus_assoc, plus_left_comm, plus-zero, sum-zero}
 use Rattle.smp_fractions.proofs.Bounds.{plus_most, same_most, most_of_same, differ_same, differ_by_same}
 use Rattle.smp_kernel.specs.Vectors.{Within}
-use Rattle.smp_prob.specs.Shares.{Shares}
 use Rattle.smp_prob.specs.Standings.{standing}
 use Rattle.smp_split.specs.Trees.{picked}
-use Rattle.smp_split.specs.Paths.{Entry, IsStep, Leads}
 use Rattle.smp_values.specs.Values.{is_fractional, is_one, value_at}
 use Rattle.smp_flight.specs.States as flights
 use Rattle.smp_flight.specs.States.{Units, column}
@@ -20,7 +18,7 @@ use Rattle.smp_flight.specs.Totals as free
 use Rattle.smp_flight.specs.Totals.{expanded, addend, target}
 use Rattle.smp_flight.proofs.Making.{rows_are, units_are}
 use Rattle.smp_flight.proofs.Nexts.{started_flight}
-use Rattle.smp_landing.specs.Cube.{Balancing, values_in, cube_tree}
+use Rattle.smp_landing.specs.Cube.{Balancing, values_in}
 use Rattle.smp_landing.specs.Totals as cube
 use Rattle.smp_landing.specs.Landings as landings
 use Rattle.smp_landing.proofs.Starts.{cube_balances}

@@ -4,3 +4,4 @@ pub mod Terms
 pub mod Balances
 pub mod Requested
 pub mod Told
+pub mod Reports

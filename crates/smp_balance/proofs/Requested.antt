@@ -1,18 +1,18 @@
 -- The units of a stratum whose request is in proportion to their sizes.
-use Rattle.std.proofs.Common.{◌≡◌, ℕ, ◌+◌, ◌<◌, ◌≤◌, true, false, not, Bool, nat_eq, nat_lt, ℤ, List, length, get_or, Some, None, arith, refl, sym, ap, ◌∙◌, inl, inr, true≢false}
-use Rattle.std.specs.Prelude.{slice_index, filter, position, ◌&&◌}
-use Rattle.std.proofs.lemmas.Bool.{cases_Bool, cases_lt, and_parts}
+use Rattle.std.proofs.Common.{◌≡◌, ℕ, ◌<◌, true, false, not, Bool, ℤ, List, length, get_or, arith, refl, sym, ap, ◌∙◌, inl, inr, true≢false}
+use Rattle.std.specs.Prelude.{slice_index, filter}
+use Rattle.std.proofs.lemmas.Bool.{cases_lt, and_parts}
 use Rattle.std.proofs.lemmas.List.{get_or_past}
 use Rattle.std.proofs.lemmas.List.Elements.{All-get_or, filter_passes}
 use Rattle.std.proofs.lemmas.List.Sums.{length-filter}
 use Rattle.smp_prob.specs.declared.standings.Standing.TheVariants.{Free}
-use Rattle.smp_prob.specs.Requested.{is_certain, is_free, places, requested_of}
+use Rattle.smp_prob.specs.Requested.{is_certain, is_free, requested_of}
 use Rattle.smp_prob.specs.Requests.{IsRequest}
 use Rattle.smp_prob.specs.Standings.{standing}
 use Rattle.smp_prob.proofs.Picks.{length-places, size_at_place}
 use Rattle.smp_prob.proofs.Positions.{position-found, position-left, is_ordered}
 use Rattle.smp_flight.specs.Requests.{AreValues}
-use Rattle.smp_balance.specs.Strata.{Stratum, IsStratum}
+use Rattle.smp_balance.specs.Strata.{IsStratum}
 
 not_true : (b : Bool) → not b ≡ true → b ≡ false
 not_true false h = refl

@@ -1,11 +1,10 @@
 -- What each unit of a stratum adds to its sums: what the free units add to those of the cube, and a fixed part of the certain ones.
-use Rattle.std.proofs.Common.{◌≡◌, ◌≢◌, ℕ, zero, suc, ◌*◌, ◌<◌, ◌≤◌, max, mul-pos, Bool, true, false, cond, ℤ, pos, negsuc, ◌*ℤ◌, List, [], ◌∷◌, map, length, get_or, arith, refl, sym, ap, ◌∙◌, subst, le_of_suc-le-suc}
+use Rattle.std.proofs.Common.{◌≡◌, ◌≢◌, ℕ, zero, suc, ◌*◌, ◌<◌, ◌≤◌, mul-pos, Bool, true, false, cond, ℤ, pos, List, [], ◌∷◌, length, get_or, arith, refl, sym, ap, ◌∙◌, subst, le_of_suc-le-suc}
 use Rattle.std.specs.Prelude.{slice_index}
-use Rattle.std.specs.Int.RustNames.{unsigned_abs}
 use Rattle.std.proofs.lemmas.List.{get_or-map, length-map}
-use Rattle.smp_fractions.specs.Fractions.{Fraction, Same, whole, integer, plus, times, inverse, over, sum_below}
+use Rattle.smp_fractions.specs.Fractions.{Fraction, Same, whole, integer, plus, times, inverse}
 use Rattle.smp_fractions.specs.Bounds.{absolute}
-use Rattle.smp_fractions.proofs.Fractions.{same_refl, same_sym, same_trans, plus_same, times_same, times-one, times-zero, zero-plus, plus-zero, zero-plus-zero, inverse_same}
+use Rattle.smp_fractions.proofs.Fractions.{same_refl, same_sym, same_trans, times_same, times-one, times-zero, zero-plus, plus-zero, zero-plus-zero, inverse_same}
 use Rattle.smp_balance.proofs.Absolute.{absolute_same}
 use Rattle.smp_kernel.specs.Vectors.{entry}
 use Rattle.smp_prob.specs.declared.standings.Standing.{Standing}

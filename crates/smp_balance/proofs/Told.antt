@@ -5,10 +5,10 @@ use Rattle.std.specs.List.{flat_map}
 use Rattle.std.proofs.lemmas.Int.{fits_signed_from_abs}
 use Rattle.std.proofs.lemmas.List.{append-nil, append_assoc, drop_all}
 use Rattle.std.specs.Int.RustNames.{unsigned_abs}
-use Rattle.smp_fractions.specs.Fractions.{Fraction, Same}
+use Rattle.smp_fractions.specs.Fractions.{Fraction, Same, whole}
+use Rattle.smp_fractions.proofs.Fractions.{same_refl}
 use Rattle.smp_frac.specs.declared.fractions.Frac.{Frac}
 use Rattle.smp_frac.specs.Fractions.{fraction}
-use Rattle.smp_kernel.specs.Vectors.{entry, Within}
 use Rattle.smp_kernel.proofs.Fits.{abs_sum}
 use Rattle.smp_kernel.proofs.Limits.{entry_within}
 use Rattle.smp_prob.specs.declared.requests.Request.{Request}
@@ -23,7 +23,7 @@ use Rattle.smp_frac.proofs.Coprime.{part_positive}
 use Rattle.smp_frac.proofs.Gcds.{IsGcd-greatest_common_divisor}
 use Rattle.smp_rows.specs.Laws.Rows.{free_within}
 use Rattle.smp_weights.proofs.Arithmetic.{unsigned, lowest_terms_is}
-use Rattle.smp_balance.specs.Strata.{Stratum, IsStratum, value_in, values_of}
+use Rattle.smp_balance.specs.Strata.{Stratum, value_in, values_of}
 use Rattle.smp_balance.specs.Totals.{can_be_selected, known_value}
 use Rattle.smp_balance.specs.Lines.{known_total}
 
@@ -32,6 +32,15 @@ no_sign : (request : Request) (f : Frac) (stand : Standing) → Same (fraction f
 no_sign request f Certain h = h
 no_sign request f (Free u) h = h
 no_sign request f Never h = h
+
+-- so it is what it is without one
+unsigned_is : (request : Request) (stand : Standing) → Same (unsigned (fraction_at request stand)) (fraction_at request stand)
+unsigned_is request Certain = same_refl (whole 1)
+unsigned_is request (Free u) = same_refl (fraction_at request (Free u))
+unsigned_is request Never = same_refl (whole 0)
+
+pub no_sign_at : (request : Request) (k : ℕ) → Same (unsigned (asked_fraction request k)) (asked_fraction request k)
+no_sign_at request k = unsigned_is request (standing request k)
 
 pub asked_is : (request : Request) (f : Frac) (k : ℕ) → Same (fraction f) (asked_fraction request k) → f ≡ lowest_terms (asked_fraction request k)
 asked_is request f k h = lowest_terms_is f (asked_fraction request k) (no_sign request f (standing request k) h)

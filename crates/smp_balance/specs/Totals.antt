@@ -3,7 +3,7 @@ use Rattle.std.specs.Prelude.{ℕ, zero, suc, Bool, true, false, cond, ℤ, pos,
 use Rattle.smp_fractions.specs.Fractions.{Fraction, whole, integer, times, inverse, sum_below}
 use Rattle.smp_fractions.specs.Bounds.{absolute}
 use Rattle.smp_prob.specs.declared.standings.Standing.{Standing}
-use Rattle.smp_prob.specs.declared.standings.Standing.TheVariants.{Certain, Free, Never}
+use Rattle.smp_prob.specs.declared.standings.Standing.TheVariants.{Free, Never}
 use Rattle.smp_prob.specs.Shares.{Shares}
 use Rattle.smp_prob.specs.Standings.{standing, is_taken, asked_fraction}
 use Rattle.smp_values.specs.Values.{is_fractional, is_one, value_at}

@@ -7,5 +7,5 @@
 mod laws;
 mod lines;
 
-pub use laws::balance_law;
+pub use laws::{balance_law, report_law};
 pub use lines::{DrawnStratum, push_balance_lines};

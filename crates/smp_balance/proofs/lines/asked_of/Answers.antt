@@ -1,4 +1,4 @@
-use Rattle.std.proofs.Common.{◌≡◌, ◌++◌, ◌+◌, drop, map, refl, ap, ◌∙◌}
+use Rattle.std.proofs.Common.{◌++◌, ◌+◌, drop, map, ap, ◌∙◌}
 use Rattle.smp_balance.specs.Kept.{asked_for, asked_of}
 use Rattle.smp_balance.specs.Lines.{drawn_view}
 use Rattle.smp_balance.proofs.Told.{next_mapped}

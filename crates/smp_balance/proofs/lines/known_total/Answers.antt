@@ -1,7 +1,6 @@
-use Rattle.std.proofs.Common.{◌≡◌, ◌+◌, ◌+ℤ◌, ◌≤◌, ℕ, suc, refl, length, arith, sym, ap, ◌∙◌, to_z, of_z, w64, FitsSigned, SFits}
+use Rattle.std.proofs.Common.{◌≡◌, ◌+◌, ◌+ℤ◌, ℕ, suc, length, arith, ap, ◌∙◌, to_z, of_z, w64, FitsSigned, SFits}
 use Rattle.std.proofs.lemmas.Int.{to_z-of_z}
 use Rattle.std.proofs.lemmas.List.{length-map}
-use Rattle.smp_balance.specs.Strata.{Stratum}
 use Rattle.smp_balance.specs.Totals.{known_value}
 use Rattle.smp_balance.specs.Lines as Lines
 use Rattle.smp_balance.specs.Lines.{drawn_view}

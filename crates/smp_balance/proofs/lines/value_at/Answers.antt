@@ -1,7 +1,5 @@
-use Rattle.std.proofs.Common.{◌<◌, [], map, length, get_or, ap, arith, sym, ◌∙◌}
+use Rattle.std.proofs.Common.{◌<◌, [], map, length, ap, arith}
 use Rattle.std.proofs.lemmas.List.{get_or-map, length-map}
-use Rattle.smp_balance.specs.Lines.{drawn_view}
-use Rattle.smp_balance.specs.Strata.{column_count}
 use Rattle.smp_balance.proofs.lines.value_at.Goals as goal
 
 pub bounds-drawn-column : goal.bounds-drawn-column
