@@ -16,6 +16,7 @@ use Rattle.smp_prob.specs.Requested.{requested_fraction}
 use Rattle.smp_prob.specs.Standings.{asked_fraction}
 use Rattle.smp_strata.specs.Asked.{cluster_of, fraction_in_psu, fraction_in_stratum, row_fraction}
 use Rattle.smp_strata.specs.Bounds.{AreSeated, IsStratum}
+use Rattle.smp_strata.specs.Draws.{DrawsInStratum}
 use Rattle.smp_strata.specs.Clusters.{clusters, clusters_in, first_row, stratum_names, stratum_number}
 use Rattle.smp_strata.specs.Misfits.{unit_in_two}
 use Rattle.smp_strata.specs.Plans.{first_of, first_sizes, sample_size, second_request, second_sizes, stratum_of}
@@ -70,6 +71,10 @@ module _ (design : Design) (units : List unit.Unit) (rows : All (AreRows (length
 
   pub are_strata : All (IsStratum (second_method design)) strata
   are_strata k d l = (each k d (omega (arith, l, long))).stratum
+
+  pub draws_as_asked : (k : ℕ) (s : stratum.Stratum) → slice_get strata k ≡ Some s → DrawsInStratum design units k s
+  draws_as_asked k s e =
+      rw (get_or_from_slice_get strata k s s e) at ((each k s (omega (arith, slice_get_within strata k s e, long))).draws)
 
   pub have_columns : All (λ s. All (λ f. length f.values ≡ length design.columns.values) s.units) strata
   have_columns k d l =

@@ -12,6 +12,7 @@ use Rattle.smp_frame.specs.declared.frame.Unit as unit
 use Rattle.smp_frame.specs.Bounds.{IsFrame}
 use Rattle.smp_prob.specs.Requested.{positive_units}
 use Rattle.smp_prob.specs.declared.requests.Request.{Request}
+use Rattle.smp_rows.specs.Rows.{Fills}
 use Rattle.smp_strata.specs.Bounds.{IsOver}
 use Rattle.smp_strata.specs.Clusters.{clusters, clusters_in, stratum_names, stratum_name, first_row}
 use Rattle.smp_strata.specs.Misfits.{psu_short, second_too_many, short, when}
@@ -93,8 +94,9 @@ module _ (design : Design) (units : List unit.Unit) (rows : All (AreRows (length
         (each j d l2).value ∙ sym (get_or-map (first_of design units) (clusters_in design units k) j [] d (omega (arith, l2, long_in)) ∙ ap (first_of design units) (cluster_at j [] l2))))
 
     pub built : (request : Request) → IsOver (length (first_sizes design units k)) request → Asks (first_sizes design units k) (sample_size design units k) request
+        → Fills request (length (first_sizes design units k)) (sample_size design units k)
         → (s : stratum.Stratum) → s ≡ record { name = stratum_name units k; units = fs; request = request } → s ≡ stratum_of design units k → IsBuilt design units k s
-    built request over asks s is value =
+    built request over asks draws s is value =
         let long_sizes : length (first_sizes design units k) ≡ length fs = length-map (clusters_in design units k) (size_of units) ∙ long_in ∙ sym long in
         record {
           value = value;
@@ -104,6 +106,10 @@ module _ (design : Design) (units : List unit.Unit) (rows : All (AreRows (length
             firsts = λ j d l. (each j d (omega (arith, l, long))).first;
           };
           asks = rw is asks;
+          draws = rw is record {
+            firsts = rw (← long_sizes) draws;
+            rows = λ j d l. (each j d (omega (arith, l, long))).draws;
+          };
           firsts = λ j d l. (let l2 : j < length members = omega (arith, l, long_in) in
               let f : first.First = first_of design units (get_or all (get_or members j 0) []) in
               rw (cluster_at j d l2) (rw (each j f l2).value at (each j f l2).asks));

@@ -26,7 +26,9 @@ rank n counts h = count_by (comes_before n counts h) (range_with_len 0 (length c
 
 -- what stratum h gets: its whole part, and one more where fewer strata come before it than units are left over
 abbrev pub share : ℕ → List ℕ → ℕ → ℕ
-share n counts h = whole n (sum counts) (slice_index counts h) + (if nat_lt (rank n counts h) (left_over n counts) then 1 else 0)
+share n counts h =
+    whole n (sum counts) (slice_index counts h)
+    + (if nat_lt (rank n counts h) (left_over n counts) then 1 else 0)
 
 -- what each stratum gets
 abbrev pub allocation : ℕ → List ℕ → List ℕ
@@ -42,12 +44,18 @@ GetsMore n counts sizes h = slice_index sizes h ≡ whole n (sum counts) (slice_
 abbrev pub GetsWhole : ℕ → List ℕ → List ℕ → ℕ → Type 0
 GetsWhole n counts sizes h = slice_index sizes h ≡ whole n (sum counts) (slice_index counts h)
 
+-- stratum h has a larger remainder than stratum k, or an equal one and is earlier
+abbrev pub GoesBefore : ℕ → List ℕ → ℕ → ℕ → Type 0
+GoesBefore n counts h k =
+    let mine = remainder n (sum counts) (slice_index counts h) in
+    let other = remainder n (sum counts) (slice_index counts k) in
+    (other < mine) ⊎ ((mine ≡ other) × (h < k))
+
 -- each stratum gets its whole part or one more, those with the largest remainders get one more, of equal ones the earlier, and all n units
 -- are given
 pub record IsAllocation (n : ℕ) (counts sizes : List ℕ) : Type 0 where
   pub paired : length sizes ≡ length counts
   pub near : (h : ℕ) → h < length counts → GetsWhole n counts sizes h ⊎ GetsMore n counts sizes h
-  pub largest : (h k : ℕ) → h < length counts → k < length counts → GetsMore n counts sizes h → GetsWhole n counts sizes k
-      → (remainder n (sum counts) (slice_index counts k) < remainder n (sum counts) (slice_index counts h))
-      ⊎ ((remainder n (sum counts) (slice_index counts h) ≡ remainder n (sum counts) (slice_index counts k)) × (h < k))
+  pub largest : (h k : ℕ) → h < length counts → k < length counts
+      → GetsMore n counts sizes h → GetsWhole n counts sizes k → GoesBefore n counts h k
   pub given : sum sizes ≡ n

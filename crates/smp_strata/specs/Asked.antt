@@ -20,19 +20,23 @@ cluster_of (Some second) units row = in_psu units (psu_at units row)
 abbrev pub fraction_in_stratum : Design → List unit.Unit → ℕ → Fraction
 fraction_in_stratum design units row =
     let stratum = stratum_number units row in
-    requested_fraction (sample_size design units stratum) (first_sizes design units stratum) (size_of units (cluster_of design.second units row))
+    requested_fraction (sample_size design units stratum) (first_sizes design units stratum)
+    (size_of units (cluster_of design.second units row))
 
 -- the probability of a row in its psu: 1 without a second stage
 abbrev pub fraction_in_psu : Option second.Second → List unit.Unit → ℕ → Fraction
 fraction_in_psu None units row = whole 1
 fraction_in_psu (Some second) units row =
-    requested_fraction second.n (second_sizes units (in_psu units (psu_at units row))) (second_size_at units row)
+    requested_fraction second.n (second_sizes units (in_psu units (psu_at units row)))
+    (second_size_at units row)
 
 -- the probability that is asked for a row
 abbrev pub row_fraction : Design → List unit.Unit → ℕ → Fraction
-row_fraction design units row = times (fraction_in_stratum design units row) (fraction_in_psu design.second units row)
+row_fraction design units row =
+    times (fraction_in_stratum design units row) (fraction_in_psu design.second units row)
 
 -- the probability that a plan gives each row is the one that is asked for it
 abbrev pub AsksAsFrame : Design → List unit.Unit → Parts → Type 0
 AsksAsFrame design units plan =
-    (row : ℕ) (seat : seat.Seat) → row < length units → IsSeat plan.strata row seat → Same (seat_fraction plan.strata seat) (row_fraction design units row)
+    (row : ℕ) (seat : seat.Seat) → row < length units → IsSeat plan.strata row seat
+    → Same (seat_fraction plan.strata seat) (row_fraction design units row)

@@ -4,6 +4,7 @@ use Rattle.smp_frame.specs.Bounds.{AreNear}
 use Rattle.smp_prob.specs.declared.requests.Request.{Request}
 use Rattle.smp_prob.specs.Requests.{IsRequest}
 use Rattle.smp_prob.specs.Standings.{IsRising}
+use Rattle.smp_values.specs.Starts.{IsWhole}
 use Rattle.smp_design.specs.declared.method.Method.{Method}
 use Rattle.smp_strata.specs.Plans.{Parts}
 use Rattle.smp_strata.specs.Seats.{IsSeat, Seated}
@@ -11,10 +12,11 @@ use Rattle.smp_strata.specs.declared.strata.First as first
 use Rattle.smp_strata.specs.declared.strata.Seat as seat
 use Rattle.smp_strata.specs.declared.strata.Stratum as stratum
 
--- a request over so many units, with the certain ones and the free ones in order
+-- a request over so many units, with the certain ones and the free ones in order, which draws a whole number of units
 pub record IsOver (count : ℕ) (request : Request) : Type 0 where
   pub sound : IsRequest request
   pub rising : IsRising request
+  pub whole : IsWhole request
   pub certain : All (λ unit. unit < count) request.certain
   pub free : All (λ unit. unit < count) request.free
 

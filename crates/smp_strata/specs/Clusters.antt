@@ -43,4 +43,5 @@ stratum_number units row = position_or_len (bytes_eq (stratum_at units row)) (st
 -- the clusters of a stratum
 abbrev pub clusters_in : Design → List unit.Unit → ℕ → List (List ℕ)
 clusters_in design units stratum =
-    filter (λ rows. bytes_eq (stratum_at units (first_row rows)) (stratum_name units stratum)) (clusters design.second units)
+    filter (λ rows. bytes_eq (stratum_at units (first_row rows)) (stratum_name units stratum))
+    (clusters design.second units)

@@ -3,6 +3,7 @@ pub mod Appearances
 pub mod Asked
 pub mod Bounds
 pub mod Clusters
+pub mod Draws
 pub mod Misfits
 pub mod Plans
 pub mod Rows

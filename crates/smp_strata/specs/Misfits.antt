@@ -26,12 +26,14 @@ when holds misfit = if holds then Some misfit else None
 -- an earlier row of the same psu is in another stratum
 abbrev pub is_apart : List unit.Unit → ℕ → Bool
 is_apart units row =
-    list_any (λ earlier. bytes_eq (psu_at units earlier) (psu_at units row) && not (bytes_eq (stratum_at units earlier) (stratum_at units row)))
+    list_any (λ earlier. bytes_eq (psu_at units earlier) (psu_at units row)
+    && not (bytes_eq (stratum_at units earlier) (stratum_at units row)))
     (range_with_len 0 row)
 
 -- the first row that is apart so
 abbrev pub first_apart : List unit.Unit → Option Misfit
-first_apart units = first_found (λ row. when (is_apart units row) (UnitInTwo (psu_at units row))) (rows_of units)
+first_apart units =
+    first_found (λ row. when (is_apart units row) (UnitInTwo (psu_at units row))) (rows_of units)
 
 abbrev pub unit_in_two : Option second.Second → List unit.Unit → Option Misfit
 unit_in_two None units = None
@@ -39,7 +41,9 @@ unit_in_two (Some second) units = first_apart units
 
 -- a psu with a sum above the limit
 abbrev pub large : Design → List unit.Unit → List ℕ → Option Misfit
-large design units rows = when (is_large units (length design.columns.values) rows) (PsuTooLarge (psu_at units (first_row rows)))
+large design units rows =
+    when (is_large units (length design.columns.values) rows)
+    (PsuTooLarge (psu_at units (first_row rows)))
 
 -- The first such psu, in the whole frame. A row by itself is within the limit.
 abbrev pub psu_too_large : Design → List unit.Unit → Option Misfit
@@ -54,23 +58,31 @@ psu_short n units rows =
 -- the first such psu, in the whole frame
 abbrev pub second_too_many : Option second.Second → List unit.Unit → Option Misfit
 second_too_many None units = None
-second_too_many (Some second) units = first_found (psu_short second.n units) (clusters (Some second) units)
+second_too_many (Some second) units =
+    first_found (psu_short second.n units) (clusters (Some second) units)
 
 -- ---- strata
 
 -- the first stratum for which no number of units is given
 abbrev pub no_size : Design → List unit.Unit → Option Misfit
 no_size design units =
-    first_found (λ stratum. when (nat_eq (sample_size design units stratum) 0) (NoSize (stratum_name units stratum))) (strata_numbers units)
+    first_found (λ stratum.
+    when (nat_eq (sample_size design units stratum) 0) (NoSize (stratum_name units stratum)))
+    (strata_numbers units)
 
 -- a stratum with fewer positive sizes than n
 abbrev pub short : List ℕ → List ℕ → ℕ → Option Misfit
-short name sizes n = let positive = positive_units sizes in when (nat_lt positive n) (TooMany name n positive)
+short name sizes n =
+    let positive = positive_units sizes in
+    when (nat_lt positive n) (TooMany name n positive)
 
 -- the first such stratum
 abbrev pub too_many : Design → List unit.Unit → Option Misfit
 too_many design units =
-    first_found (λ stratum. short (stratum_name units stratum) (first_sizes design units stratum) (sample_size design units stratum)) (strata_numbers units)
+    first_found (λ stratum.
+    short (stratum_name units stratum) (first_sizes design units stratum)
+    (sample_size design units stratum))
+    (strata_numbers units)
 
 -- the first misfit of a frame and a design, in the order of these lines
 unfoldable pub misfit_of : Design → List unit.Unit → Option Misfit

@@ -27,11 +27,13 @@ pub record Parts : Type 0 where
 
 -- the number of a stratum's entry; 0 where it has none
 abbrev pub quota_of : List quota.Quota → List ℕ → ℕ
-quota_of quotas name = unwrap_or (option_map (λ quota. quota.n) (find (λ quota. bytes_eq quota.stratum name) quotas)) 0
+quota_of quotas name =
+    unwrap_or (option_map (λ quota. quota.n) (find (λ quota. bytes_eq quota.stratum name) quotas)) 0
 
 -- how many first stage units each stratum has
 abbrev pub cluster_counts : Design → List unit.Unit → List ℕ
-cluster_counts design units = map (λ stratum. length (clusters_in design units stratum)) (strata_numbers units)
+cluster_counts design units =
+    map (λ stratum. length (clusters_in design units stratum)) (strata_numbers units)
 
 -- by allocation of n among the strata with these counts, or by their entries; 0 is no number
 abbrev pub sizes_by : Option ℕ → List quota.Quota → List (List ℕ) → List ℕ → List ℕ
@@ -39,7 +41,8 @@ sizes_by (Some n) quotas names counts = allocation n counts
 sizes_by None quotas names counts = map (quota_of quotas) names
 
 abbrev pub sample_sizes : Design → List unit.Unit → List ℕ
-sample_sizes design units = sizes_by design.n design.sizes (stratum_names units) (cluster_counts design units)
+sample_sizes design units =
+    sizes_by design.n design.sizes (stratum_names units) (cluster_counts design units)
 
 abbrev pub sample_size : Design → List unit.Unit → ℕ → ℕ
 sample_size design units stratum = slice_index (sample_sizes design units) stratum

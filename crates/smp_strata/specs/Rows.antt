@@ -25,7 +25,8 @@ second_size_at units row = slice_index (second_sizes_of units) row
 
 -- its value in a column of values
 abbrev pub value_at : List unit.Unit → ℕ → ℕ → ℤ
-value_at units row column = slice_index_or (slice_index_or (map (λ u. u.values) units) row []) column (pos 0)
+value_at units row column =
+    slice_index_or (slice_index_or (map (λ u. u.values) units) row []) column (pos 0)
 
 -- ---- some rows
 
@@ -43,4 +44,5 @@ values_of units columns rows = map (value_of units rows) (range_with_len 0 colum
 -- a sum of sizes, or the absolute value of a sum of values, is above 2,147,483,647
 abbrev pub is_large : List unit.Unit → ℕ → List ℕ → Bool
 is_large units columns rows =
-    nat_le (2 ^ 31) (size_of units rows) || list_any (λ value. nat_le (2 ^ 31) (nat_abs value)) (values_of units columns rows)
+    nat_le (2 ^ 31) (size_of units rows)
+    || list_any (λ value. nat_le (2 ^ 31) (nat_abs value)) (values_of units columns rows)

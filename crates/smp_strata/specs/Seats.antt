@@ -9,11 +9,13 @@ use Rattle.smp_strata.specs.declared.strata.Stratum as stratum
 
 -- a first stage unit of a stratum, by the numbers of both
 abbrev pub first_at : List stratum.Stratum → ℕ → ℕ → Option first.First
-first_at strata stratum unit = option_and_then (λ s. slice_get s.units unit) (slice_get strata stratum)
+first_at strata stratum unit =
+    option_and_then (λ s. slice_get s.units unit) (slice_get strata stratum)
 
 -- the row at a seat
 abbrev pub row_at : List stratum.Stratum → seat.Seat → Option ℕ
-row_at strata seat = option_and_then (λ f. slice_get f.rows seat.place) (first_at strata seat.stratum seat.unit)
+row_at strata seat =
+    option_and_then (λ f. slice_get f.rows seat.place) (first_at strata seat.stratum seat.unit)
 
 -- a row stands at a seat
 pub record IsSeat (strata : List stratum.Stratum) (row : ℕ) (seat : seat.Seat) : Type 0 where
@@ -46,4 +48,5 @@ place_fraction (Some first) place = stage_fraction first.second place
 -- that of the row at a seat: its first stage unit's, times its own in that unit
 abbrev pub seat_fraction : List stratum.Stratum → seat.Seat → Fraction
 seat_fraction strata seat =
-    times (first_fraction strata seat.stratum seat.unit) (place_fraction (first_at strata seat.stratum seat.unit) seat.place)
+    times (first_fraction strata seat.stratum seat.unit)
+    (place_fraction (first_at strata seat.stratum seat.unit) seat.place)

@@ -5,6 +5,7 @@ ghost use Rattle.smp_frame.specs.Bounds.{HaveValues, IsFrame};
 ghost use Rattle.smp_design.specs.Bounds.{IsDesign};
 ghost use Rattle.smp_strata.specs.Asked.{AsksAsFrame};
 ghost use Rattle.smp_strata.specs.Bounds.{IsPlan};
+ghost use Rattle.smp_strata.specs.Draws.{DrawsAsAsked};
 ghost use Rattle.smp_strata.specs.Misfits.{Reports, misfit_of};
 ghost use Rattle.smp_strata.specs.Plans.{parts_of};
 
@@ -32,6 +33,8 @@ pub fn accept(alloc: Global, frame: &Frame, design: &Design) -> Result<Plan, Mis
     ensures sound { IfOk result (IsPlan (length design.now.columns.values)) }
     // each row has the inclusion probability that is asked for it
     ensures asked { IfOk result (AsksAsFrame design.now frame.now) }
+    // each stratum draws its sample size of first stage units, each second stage its n of the rows
+    ensures drawn { IfOk result (DrawsAsAsked design.now frame.now) }
 {
     let units = frame.units();
     let clusters = clusters_of(alloc, units, design.second)?;

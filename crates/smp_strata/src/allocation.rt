@@ -119,7 +119,8 @@ fn border(alloc: Global, keys: &[u64], left: u32) -> Result<u64, NoMemory>
     ensures test { IfOk result (λ border. (v : ℕ) → v < 2 ^ 40
         → nat_le border v ≡ nat_lt (count_by (nat_lt v) keys.now) left) }
     ensures number { IfOk result (λ border. ((v : ℕ) → count_by (nat_eq v) keys.now ≤ 1)
-        → 1 ≤ left → left ≤ length keys.now → count_by (nat_le border) keys.now ≡ left) }
+        → 1 ≤ left → left ≤ length keys.now
+        → count_by (nat_le border) keys.now ≡ left) }
 {
     let mut order = Vec::from_slice(alloc, keys)?;
     order.sort()?;
@@ -129,9 +130,11 @@ fn border(alloc: Global, keys: &[u64], left: u32) -> Result<u64, NoMemory>
 
 fn border_in(falling: &[u64], left: u32) -> u64
     requires { IsFalling falling.now }
-    ensures test { (v : ℕ) → v < 2 ^ 40 → nat_le result v ≡ nat_lt (count_by (nat_lt v) falling.now) left }
+    ensures test { (v : ℕ) → v < 2 ^ 40
+        → nat_le result v ≡ nat_lt (count_by (nat_lt v) falling.now) left }
     ensures number { ((v : ℕ) → count_by (nat_eq v) falling.now ≤ 1)
-        → 1 ≤ left → left ≤ length falling.now → count_by (nat_le result) falling.now ≡ left }
+        → 1 ≤ left → left ≤ length falling.now
+        → count_by (nat_le result) falling.now ≡ left }
 {
     if left == 0 {
         return 1 << 40;

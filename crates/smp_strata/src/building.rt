@@ -4,12 +4,14 @@ ghost use Rattle.std.specs.Prelude.{◌≡◌, ◌^◌, ◌<◌, ◌≤◌, ℕ,
 ghost use Rattle.smp_frame.specs.Bounds.{HaveValues, IsFrame};
 ghost use Rattle.smp_design.specs.Bounds.{IsDesign};
 ghost use Rattle.smp_prob.specs.Requested.{positive_units, requested_of};
+ghost use Rattle.smp_rows.specs.Rows.{Fills};
 ghost use Rattle.smp_strata.specs.Bounds.{IsOver, IsPlan};
 ghost use Rattle.smp_strata.specs.Clusters.{clusters as clusters_of, stratum_names};
 ghost use Rattle.smp_strata.specs.Rows.{is_large, size_of};
 ghost use Rattle.smp_strata.specs.Plans as Plans;
 ghost use Rattle.smp_strata.specs.Plans.{parts_of, sample_sizes};
 ghost use Rattle.smp_strata.specs.Asked.{AsksAsFrame};
+ghost use Rattle.smp_strata.specs.Draws.{DrawsAsAsked, SecondDraws};
 ghost use Rattle.smp_strata.specs.declared.strata.First.{First};
 ghost use Rattle.smp_strata.specs.declared.strata.Seat.{Seat};
 ghost use Rattle.smp_strata.specs.declared.strata.Stratum.{Stratum};
@@ -38,6 +40,7 @@ fn request_for(alloc: Global, sizes: &[u32], n: u32) -> Result<Request, NoMemory
     ensures value { IfOk result (λ request. request ≡ requested_of sizes.now n) }
     ensures over { IfOk result (IsOver (length sizes.now)) }
     ensures asks { IfOk result (Asks sizes.now n) }
+    ensures draws { IfOk result (λ request. Fills request (length sizes.now) n) }
 {
     match requested(alloc, sizes, n) {
         Ok(request) => Ok(request),
@@ -62,6 +65,7 @@ fn second_request(
     ensures over { IfOk result (λ request. IfSome request (IsOver (length rows.now))) }
     ensures asks { IfOk result
         (SecondAsks second (Plans.second_sizes units.now rows.now)) }
+    ensures draws { IfOk result (SecondDraws second (length rows.now)) }
 {
     let Some(second) = second else {
         return Ok(None);
@@ -115,7 +119,7 @@ fn firsts(
         (slice_index_or clusters.now (slice_index members.now j) [])
         (slice_index_or firsts j d)) }
 {
-    let mut firsts = Vec::new(alloc);
+    let mut firsts = Vec::with_capacity(alloc, members.len())?;
     for &member in members {
         firsts.push(first_of(alloc, units, design, clusters[member].as_slice())?)?;
     }
@@ -179,10 +183,11 @@ pub(crate) fn plan_strata(
     requires sizes { sizes.now.clusters.items ≡ map (size_of units.now) clusters.now }
     requires samples { sizes.now.samples.items ≡ sample_sizes design.now units.now }
     ensures length { IfOk result (λ list. length list.items ≡ length strata.now.names.items) }
-    ensures each { IfOk result (λ list. (k : ℕ) (d : Stratum) → k < length strata.now.names.items
+    ensures each { IfOk result (λ list. (k : ℕ) (d : Stratum)
+        → k < length strata.now.names.items
         → IsBuilt design.now units.now k (slice_index_or list.items k d)) }
 {
-    let mut list = Vec::new(alloc);
+    let mut list = Vec::with_capacity(alloc, strata.names.len())?;
     for stratum in 0..strata.names.len() {
         list.push(stratum_of(alloc, units, design, clusters, strata, sizes, stratum)?)?;
     }
@@ -200,12 +205,13 @@ pub(crate) fn seats_of(
     requires places { length clusters.now.places.items ≡ length clusters.now.homes.items }
     ensures length { IfOk result (λ seats.
         length seats.items ≡ length clusters.now.homes.items) }
-    ensures each { IfOk result (λ seats. (row : ℕ) (d : Seat) → row < length clusters.now.homes.items
+    ensures each { IfOk result (λ seats. (row : ℕ) (d : Seat)
+        → row < length clusters.now.homes.items
         → slice_index_or seats.items row d
         ≡ seat_by strata.now.homes.items strata.now.places.items
         clusters.now.homes.items clusters.now.places.items row) }
 {
-    let mut seats = Vec::new(alloc);
+    let mut seats = Vec::with_capacity(alloc, clusters.homes.len())?;
     for (row, &home) in clusters.homes.iter().enumerate() {
         seats.push(Seat {
             stratum: strata.homes[home],
@@ -241,7 +247,8 @@ pub(crate) fn planned(
     requires rows { clusters.now.rows.items ≡ clusters_of design.now.second units.now }
     requires all_rows { All (AreRows (length units.now)) clusters.now.rows.items }
     requires names { strata.now.names.items ≡ stratum_names units.now }
-    requires strata_homes { strata.now.homes.items ≡ strata_homes units.now clusters.now.rows.items }
+    requires strata_homes { strata.now.homes.items
+        ≡ strata_homes units.now clusters.now.rows.items }
     requires groups { AreGroups strata.now.homes.items (length strata.now.names.items)
         strata.now.members.items strata.now.places.items }
     requires sizes { sizes.now.clusters.items ≡ map (size_of units.now) clusters.now.rows.items }
@@ -252,6 +259,7 @@ pub(crate) fn planned(
     ensures plan { IfOk result (λ plan. plan ≡ parts_of design.now units.now) }
     ensures sound { IfOk result (IsPlan (length design.now.columns.values)) }
     ensures asked { IfOk result (AsksAsFrame design.now units.now) }
+    ensures drawn { IfOk result (DrawsAsAsked design.now units.now) }
 {
     let list = plan_strata(alloc, units, design, &clusters.rows, strata, sizes)?;
     let seats = seats_of(alloc, clusters, strata)?;

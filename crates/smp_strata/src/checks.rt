@@ -153,7 +153,8 @@ fn strata_fit(
     requires sizes { length sizes.now ≡ length strata.now.names.items }
     requires members { length strata.now.members.items ≡ length strata.now.names.items }
     requires few { All (λ group. length group ≤ 100000) strata.now.members.items }
-    requires within { All (All (λ member. member < length cluster_sizes.now)) strata.now.members.items }
+    requires within { All (All (λ member. member < length cluster_sizes.now))
+        strata.now.members.items }
     ensures { Reports result (first_found
         (λ stratum. short (slice_index_or strata.now.names.items stratum [])
         (map (slice_index cluster_sizes.now)

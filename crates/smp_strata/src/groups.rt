@@ -7,19 +7,22 @@ ghost use Rattle.smp_strata.specs.Kept.Layouts.{AreGroups};
 use smp_frac::NoMemory;
 use std::alloc::Global;
 use std::marker::Model;
+use std::slice;
 
-/// Numbers in a list that can grow.
+/// Numbers in a list that can grow. A single number takes no memory.
 #[derive(Drop)]
 pub(crate) struct Group {
+    single: Option<usize>,
     items: Vec<usize>,
 }
 
 impl Model for Group {
     ghost use Rattle.std.specs.Prelude.{List, ℕ};
+    ghost use Rattle.smp_strata.specs.Kept.Groups.{numbers_in};
 
     ghost Value = { List ℕ };
 
-    ghost view = { λ g. g.items.items };
+    ghost view = { λ g. numbers_in g.single g.items.items };
 }
 
 impl Group {
@@ -27,6 +30,7 @@ impl Group {
         ensures { result ≡ [] }
     {
         Group {
+            single: None,
             items: Vec::new(alloc),
         }
     }
@@ -34,14 +38,26 @@ impl Group {
     fn push(&mut self, item: usize) -> Result<(), NoMemory>
         ensures { OnOk result (self.new ≡ self.old ++ item ∷ []) }
     {
-        self.items.push(item)?;
+        match self.single {
+            Some(first) => {
+                self.items.clear();
+                self.items.push(first)?;
+                self.items.push(item)?;
+                self.single = None;
+            }
+            None if self.items.is_empty() => self.single = Some(item),
+            None => self.items.push(item)?,
+        }
         Ok(())
     }
 
     pub(crate) fn as_slice(&self) -> &[usize]
         ensures { result.now ≡ self.now }
     {
-        self.items.as_slice()
+        match &self.single {
+            Some(number) => slice::from_ref(number),
+            None => self.items.as_slice(),
+        }
     }
 }
 
@@ -53,9 +69,10 @@ pub(crate) struct Groups {
 }
 
 fn empty_groups(alloc: Global, count: usize) -> Result<Vec<Group>, NoMemory>
-    ensures { IfOk result (λ groups. groups.items ≡ map (λ number. []) (range_with_len 0 count)) }
+    ensures { IfOk result (λ groups.
+        groups.items ≡ map (λ number. []) (range_with_len 0 count)) }
 {
-    let mut groups = Vec::new(alloc);
+    let mut groups = Vec::with_capacity(alloc, count)?;
     for number in 0..count {
         prove!(number < count);
         groups.push(Group::new(alloc))?;

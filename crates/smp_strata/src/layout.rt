@@ -38,7 +38,8 @@ pub(crate) struct Strata {
 }
 
 fn strata_texts<'a>(alloc: Global, units: &'a [Unit]) -> Result<Vec<&'a str>, NoMemory>
-    ensures { IfOk result (λ texts. map (λ t. t.now) texts.items ≡ map (λ u. u.stratum) units.now) }
+    ensures { IfOk result (λ texts.
+        map (λ t. t.now) texts.items ≡ map (λ u. u.stratum) units.now) }
 {
     let mut texts = Vec::new(alloc);
     for unit in units {
@@ -48,7 +49,8 @@ fn strata_texts<'a>(alloc: Global, units: &'a [Unit]) -> Result<Vec<&'a str>, No
 }
 
 fn psu_texts<'a>(alloc: Global, units: &'a [Unit]) -> Result<Vec<&'a str>, NoMemory>
-    ensures { IfOk result (λ texts. map (λ t. t.now) texts.items ≡ map (λ u. u.psu) units.now) }
+    ensures { IfOk result (λ texts.
+        map (λ t. t.now) texts.items ≡ map (λ u. u.psu) units.now) }
 {
     let mut texts = Vec::new(alloc);
     for unit in units {
@@ -121,7 +123,8 @@ pub(crate) fn clusters_of(
     requires { IsFrame units.now }
     ensures rows { IfOk result (λ c. c.rows.items ≡ clusters second units.now) }
     ensures homes { IfOk result (λ c. c.homes.items ≡ Layouts.homes_of second units.now) }
-    ensures groups { IfOk result (λ c. AreGroups c.homes.items (length c.rows.items) c.rows.items c.places.items) }
+    ensures groups { IfOk result (λ c.
+        AreGroups c.homes.items (length c.rows.items) c.rows.items c.places.items) }
     ensures all_rows { IfOk result (λ c. All (AreRows (length units.now)) c.rows.items) }
 {
     let homes = homes_of(alloc, units, second)?;
@@ -159,7 +162,8 @@ pub(crate) fn strata_of(
     requires rows { All (AreRows (length units.now)) clusters.now }
     ensures names { IfOk result (λ s. s.names.items ≡ stratum_names units.now) }
     ensures homes { IfOk result (λ s. s.homes.items ≡ strata_homes units.now clusters.now) }
-    ensures groups { IfOk result (λ s. AreGroups s.homes.items (length s.names.items) s.members.items s.places.items) }
+    ensures groups { IfOk result (λ s.
+        AreGroups s.homes.items (length s.names.items) s.members.items s.places.items) }
 {
     let numbered = numbered_strata(alloc, units)?;
     let homes = strata_homes(alloc, clusters, &numbered.numbers)?;

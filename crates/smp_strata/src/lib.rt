@@ -1,8 +1,8 @@
 //! Plans: which strata and first stage units a frame has, how many of each are drawn, and with which probabilities.
 //!
 //! [`accept`] makes the [`Plan`] of a frame and a design, or says why the frame doesn't serve the design.
-//! `specs/Plans.antt` says what the plan is, `specs/Misfits.antt` when there is none, and `specs/Asked.antt` which
-//! inclusion probability is asked for each row.
+//! `specs/Plans.antt` says what the plan is, `specs/Misfits.antt` when there is none, `specs/Asked.antt` which inclusion
+//! probability is asked for each row, and `specs/Draws.antt` how many units are drawn.
 #![tactic(auto)]
 
 mod acceptance;

@@ -20,7 +20,8 @@ pub(crate) struct Numbered {
 // The number of a text, which is new or not.
 fn number_of<'a>(seen: &mut IndexSet<&'a str>, text: &'a str) -> Result<usize, NoMemory>
     ensures seen { IfOk result (λ _.
-        map (λ n. n.now) seen.new.keys ≡ with_text (map (λ n. n.now) seen.old.keys) text.entry.now) }
+        map (λ n. n.now) seen.new.keys
+        ≡ with_text (map (λ n. n.now) seen.old.keys) text.entry.now) }
     ensures number { IfOk result (λ number.
         number ≡ position_or_len (bytes_eq text.entry.now) (map (λ n. n.now) seen.old.keys)) }
 {
@@ -32,7 +33,7 @@ fn number_of<'a>(seen: &mut IndexSet<&'a str>, text: &'a str) -> Result<usize, N
 fn copies(alloc: Global, texts: &[&str]) -> Result<Vec<Text>, NoMemory>
     ensures { IfOk result (λ list. list.items ≡ map (λ t. t.now) texts.now) }
 {
-    let mut list = Vec::new(alloc);
+    let mut list = Vec::with_capacity(alloc, texts.len())?;
     for text in texts {
         list.push(Text::from_str(alloc, text)?)?;
     }

@@ -34,9 +34,16 @@ impl Model for Plan {
 
     ghost Value = { Parts };
 
-    ghost view = { λ p. record { method = p.method; order = p.order; second = p.second; rows = length p.seats.items; strata = p.strata.items } };
+    ghost view = { λ p. record {
+      method = p.method;
+      order = p.order;
+      second = p.second;
+      rows = length p.seats.items;
+      strata = p.strata.items;
+    } };
 
-    ghost invariant = { λ p. All (IsStratum p.second) p.strata.items × AreSeats p.strata.items p.seats.items };
+    ghost invariant = { λ p.
+        All (IsStratum p.second) p.strata.items × AreSeats p.strata.items p.seats.items };
 }
 
 impl Plan {

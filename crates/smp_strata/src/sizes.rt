@@ -31,7 +31,7 @@ pub(crate) fn cluster_sizes(
     requires small { All (λ rows. Rows.size_of units.now rows < 2 ^ 31) clusters.now }
     ensures { IfOk result (λ sizes. sizes.items ≡ map (Rows.size_of units.now) clusters.now) }
 {
-    let mut sizes = Vec::new(alloc);
+    let mut sizes = Vec::with_capacity(alloc, clusters.len())?;
     for cluster in clusters {
         sizes.push(size_of(units, cluster.as_slice()) as u32)?;
     }
@@ -43,7 +43,7 @@ pub(crate) fn sizes_at(alloc: Global, sizes: &[u32], places: &[usize]) -> Result
     requires { All (λ place. place < length sizes.now) places.now }
     ensures { IfOk result (λ list. list.items ≡ map (slice_index sizes.now) places.now) }
 {
-    let mut list = Vec::new(alloc);
+    let mut list = Vec::with_capacity(alloc, places.len())?;
     for &place in places {
         list.push(sizes[place])?;
     }
@@ -59,7 +59,7 @@ pub(crate) fn second_sizes(
     requires { All (λ row. row < length units.now) rows.now }
     ensures { IfOk result (λ list. list.items ≡ Plans.second_sizes units.now rows.now) }
 {
-    let mut list = Vec::new(alloc);
+    let mut list = Vec::with_capacity(alloc, rows.len())?;
     for &row in rows {
         list.push(units[row].second_size)?;
     }

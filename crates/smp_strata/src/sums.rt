@@ -76,7 +76,7 @@ pub(crate) fn values_of(
     requires small { is_large units.now columns rows.now ≡ false }
     ensures { IfOk result (λ values. values.items ≡ values_of units.now columns rows.now) }
 {
-    let mut values = Vec::new(alloc);
+    let mut values = Vec::with_capacity(alloc, columns)?;
     for column in 0..columns {
         values.push(value_of(units, columns, rows, column) as i32)?;
     }

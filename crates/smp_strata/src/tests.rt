@@ -48,6 +48,15 @@ const FOUR: &str =
 const SIZED: &str =
     "version = 1\nmethod = \"pivotal\"\nid = \"id\"\nstratum = \"s\"\nsize = \"z\"\nn = 2\n[second]\npsu = \"village\"\nmethod = \"pivotal\"\nn = 1\n";
 
+const SIZES: &str =
+    "version = 1\nmethod = \"pivotal\"\nid = \"id\"\nstratum = \"s\"\nsize = \"z\"\n[sizes]\nA = 2\nB = 1\n";
+
+const UNEVEN: &str =
+    "version = 1\nmethod = \"pivotal\"\nid = \"id\"\nsize = \"z\"\nn = 1\n[second]\npsu = \"village\"\nmethod = \"pivotal\"\nn = 2\n";
+
+const BALANCED: &str =
+    "version = 1\nmethod = \"cube\"\nid = \"id\"\nbalance = [\"x\"]\nn = 1\n[second]\npsu = \"village\"\nmethod = \"pivotal\"\nn = 1\n";
+
 const VILLAGES: &str = "id,village\na1,A\na2,A\na3,A\nb1,B\nb2,B\nb3,B\n";
 
 const TEN: &str = "id,s\na1,A\na2,A\na3,A\na4,A\na5,A\na6,A\na7,A\nb1,B\nb2,B\nb3,B\n";
@@ -108,5 +117,62 @@ fn probabilities(rt: HostRuntime) -> Result<(), Fail> {
             place: 1
         }
     );
+    Ok(())
+}
+
+#[test]
+fn misfits_at_the_edges(rt: HostRuntime) -> Result<(), Fail> {
+    let alloc = rt.alloc();
+    for (design, frame, wanted) in [
+        // no unit of B has a size
+        (SIZES, "id,s,z\na,A,1\nb,A,1\nc,B,0\nd,B,0\n", "1 of 0: B"),
+        (
+            BALANCED,
+            "id,village,x\na,A,2147483646\nb,A,1\n",
+            "1 strata",
+        ),
+        (
+            BALANCED,
+            "id,village,x\na,A,2147483646\nb,A,2\n",
+            "too large: A",
+        ),
+        (
+            BALANCED,
+            "id,village,x\na,A,-2147483646\nb,A,-1\n",
+            "1 strata",
+        ),
+        (
+            BALANCED,
+            "id,village,x\na,A,-2147483646\nb,A,-2\n",
+            "too large: A",
+        ),
+        // B is never drawn
+        (
+            UNEVEN,
+            "id,village,z\na,A,1\nb,A,1\nc,B,0\n",
+            "second 2 of 1: B",
+        ),
+        // A comes first in the frame, but the row of B is the first that is apart
+        (
+            SIZED,
+            "id,s,village,z\n1,x,A,1\n2,x,B,1\n3,x,A,1\n4,y,C,1\n5,x,D,1\n6,y,E,1\n7,y,B,1\n8,y,A,1\n",
+            "in two: B",
+        ),
+    ] {
+        assert_eq!(rt; told(alloc, design, frame)?.as_str(), wanted);
+    }
+    Ok(())
+}
+
+#[test]
+fn certain_units(rt: HostRuntime) -> Result<(), Fail> {
+    let alloc = rt.alloc();
+    let plan = plan_of(alloc, SIZES, "id,s,z\na,A,1\nb,B,3\nc,A,8\nd,B,1\ne,A,1\n")??;
+    assert_eq!(rt; plan.rows(), 5);
+    let wanted = [(1, 2), (3, 4), (1, 1), (1, 4), (1, 2)];
+    for row in 0..5 {
+        let share = asked(&plan, row);
+        assert_eq!(rt; (share.num, share.den), wanted[row]);
+    }
     Ok(())
 }

@@ -9,6 +9,7 @@ use Rattle.smp_design.specs.declared.method.Method.{Method}
 use Rattle.smp_design.specs.declared.design.Second as second
 use Rattle.smp_frame.specs.declared.frame.Unit as unit
 use Rattle.smp_strata.specs.Bounds.{IsFirst, IsStratum}
+use Rattle.smp_strata.specs.Draws.{DrawsInStratum, SecondDraws}
 use Rattle.smp_strata.specs.Plans.{first_of, first_sizes, sample_size, second_request, second_sizes, stratum_of}
 use Rattle.smp_strata.specs.Clusters.{clusters_in}
 use Rattle.smp_strata.specs.Rows.{is_large}
@@ -20,7 +21,8 @@ use Rattle.smp_strata.specs.declared.strata.Stratum as stratum
 
 -- a request gives each unit the probability that is requested of its size
 abbrev pub Asks : List ℕ → ℕ → Request → Type 0
-Asks sizes n request = EachIndex sizes (λ unit. Same (asked_fraction request unit) (requested_fraction n sizes (slice_index sizes unit)))
+Asks sizes n request = EachIndex sizes (λ unit.
+    Same (asked_fraction request unit) (requested_fraction n sizes (slice_index sizes unit)))
 
 -- the same of a second stage, where there is one
 abbrev pub SecondAsks : Option second.Second → List ℕ → Option Request → Type 0
@@ -33,17 +35,23 @@ abbrev pub second_method : Design → Option Method
 second_method design = option_map (λ second. second.method) design.second
 
 -- a first stage unit of some rows
-pub record IsBuiltFirst (design : Design) (units : List unit.Unit) (rows : List ℕ) (f : first.First) : Type 0 where
+pub record IsBuiltFirst (design : Design) (units : List unit.Unit) (rows : List ℕ)
+    (f : first.First) : Type 0 where
   pub value : f ≡ first_of design units rows
   pub first : IsFirst (second_method design) f
   pub asks : SecondAsks design.second (second_sizes units rows) f.second
+  pub draws : SecondDraws design.second (length f.rows) f.second
 
 -- the stratum of a number
-pub record IsBuilt (design : Design) (units : List unit.Unit) (number : ℕ) (s : stratum.Stratum) : Type 0 where
+pub record IsBuilt (design : Design) (units : List unit.Unit) (number : ℕ)
+    (s : stratum.Stratum) : Type 0 where
   pub value : s ≡ stratum_of design units number
   pub stratum : IsStratum (second_method design) s
   pub asks : Asks (first_sizes design units number) (sample_size design units number) s.request
-  pub firsts : All (λ rows. SecondAsks design.second (second_sizes units rows) (second_request design.second units rows)) (clusters_in design units number)
+  pub draws : DrawsInStratum design units number s
+  pub firsts : All (λ rows.
+      SecondAsks design.second (second_sizes units rows) (second_request design.second units rows))
+      (clusters_in design units number)
 
 -- rows that can be a first stage unit: their sums are within the limit, and enough of their second sizes are positive
 pub record CanBuild (design : Design) (units : List unit.Unit) (rows : List ℕ) : Type 0 where
@@ -61,5 +69,7 @@ seat_by strata_homes strata_places homes places row = record {
 
 -- seats that are those of the rows, and no others
 pub record AreSeats (strata : List stratum.Stratum) (seats : List seat.Seat) : Type 0 where
-  pub here : (row : ℕ) (d : seat.Seat) → row < length seats → IsSeat strata row (slice_index_or seats row d)
-  pub only : (row : ℕ) (s d : seat.Seat) → IsSeat strata row s → (row < length seats) × (slice_index_or seats row d ≡ s)
+  pub here : (row : ℕ) (d : seat.Seat) → row < length seats
+      → IsSeat strata row (slice_index_or seats row d)
+  pub only : (row : ℕ) (s d : seat.Seat) → IsSeat strata row s
+      → (row < length seats) × (slice_index_or seats row d ≡ s)

@@ -32,7 +32,8 @@ pub record AreRows (count : ℕ) (rows : List ℕ) : Type 0 where
   pub within : All (λ row. row < count) rows
 
 -- so many groups of places by the numbers that stand there, with the place of each place in its group
-pub record AreGroups (numbers : List ℕ) (count : ℕ) (groups : List (List ℕ)) (among : List ℕ) : Type 0 where
+pub record AreGroups (numbers : List ℕ) (count : ℕ) (groups : List (List ℕ))
+    (among : List ℕ) : Type 0 where
   pub each : groups ≡ map (places_of numbers) (range_with_len 0 count)
   pub within : All (λ number. number < count) numbers
   pub seated : AreAmong numbers (length numbers) among

@@ -1,7 +1,7 @@
 use Rattle.std.proofs.Common.{◌≡◌, ◌∙◌, ap, refl, length}
 use Rattle.smp_strata.specs.Clusters.{stratum_names}
 use Rattle.smp_strata.specs.Kept.Layouts.{homes_of}
-use Rattle.smp_strata.proofs.Asking.{are_strata, asks_as_frame, have_columns, long_homes, seated_by, seats_are, strata_are}
+use Rattle.smp_strata.proofs.Asking.{are_strata, asks_as_frame, draws_as_asked, have_columns, long_homes, seated_by, seats_are, strata_are}
 use Rattle.smp_strata.proofs.MisfitOrder.{IsServed, served}
 use Rattle.smp_strata.proofs.building.planned.Goals as goal
 
@@ -52,3 +52,12 @@ returns-clause-asked c =
     let each = rw c.requires.names at c.in_ok-list.ensures.each in
     let row_groups = rw (c.requires.homes, c.requires.rows) at c.requires.row_groups in
     rw c.new.ensures (asks_as_frame c.args.design.now c.args.units.now all_rows served c.in_ok-list.list.items long each c.args.clusters.now.places.items row_groups (long_homes c.args.design.now.second c.args.units.now) c.args.strata.now.members.items c.args.strata.now.places.items groups)
+
+pub returns-clause-drawn : goal.returns-clause-drawn
+returns-clause-drawn c =
+    let all_rows = rw c.requires.rows at c.requires.all_rows in
+    let groups = rw (c.requires.strata_homes, c.requires.rows, c.requires.names) at c.requires.groups in
+    let served : IsServed c.args.design.now c.args.units.now = served c.args.design.now c.args.units.now c.requires.served in
+    let long : length c.in_ok-list.list.items ≡ length (stratum_names c.args.units.now) = c.in_ok-list.ensures.length ∙ ap length c.requires.names in
+    let each = rw c.requires.names at c.in_ok-list.ensures.each in
+    rw c.new.ensures (draws_as_asked c.args.design.now c.args.units.now all_rows served c.in_ok-list.list.items long each)

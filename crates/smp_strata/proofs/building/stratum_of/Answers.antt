@@ -122,8 +122,9 @@ returns c =
     let each = rw (members, c.requires.rows) at c.in_ok-firsts.ensures.each in
     let over = rw sizes at c.in_ok-request.ensures.over in
     let asks = rw (sizes, n) at c.in_ok-request.ensures.asks in
+    let draws = rw (sizes, n) at c.in_ok-request.ensures.draws in
     let value = rw (sizes, n) at c.in_ok-request.ensures.value in
     let s : Stratum = record { name = c.in_ok-copy.field-0; units = c.in_ok-firsts.field-0; request = c.in_ok-request.request } in
     let is : s ≡ record { name = stratum_name c.args.units.now c.args.stratum; units = c.in_ok-firsts.field-0; request = c.in_ok-request.request } = rw name refl in
-    built c.args.design.now c.args.units.now all_rows served c.args.stratum here c.in_ok-firsts.field-0 long each c.in_ok-request.request over asks s is
+    built c.args.design.now c.args.units.now all_rows served c.args.stratum here c.in_ok-firsts.field-0 long each c.in_ok-request.request over asks draws s is
     (is ∙ is_stratum c.args.design.now c.args.units.now all_rows served c.args.stratum here c.in_ok-firsts.field-0 long each c.in_ok-request.request value)
