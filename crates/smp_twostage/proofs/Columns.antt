@@ -1,0 +1,95 @@
+-- A plan's method takes the values that its units have.
+use Rattle.std.proofs.Common.{◌≡◌, ℕ, ◌-◌, ◌^◌, ◌<◌, ◌≤◌, true, ℤ, List, [], ◌∷◌, length, map, get_or, Option, Some, None, All, arith, refl, sym, ap, subst, ◌∙◌}
+use Rattle.std.specs.Prelude.{is_some, unwrap_or}
+use Rattle.std.specs.List.{slice_get}
+use Rattle.std.proofs.lemmas.List.{get_or-map}
+use Rattle.std.proofs.lemmas.List.Elements.{All-get_or, All-map, All-weaker}
+use Rattle.std.proofs.lemmas.Option.{slice_get_within, get_or_from_slice_get}
+use Rattle.smp_stages.specs.Laws.Reads.{some_within}
+use Rattle.smp_frame.specs.Bounds.{AreNear}
+use Rattle.smp_kernel.specs.Vectors.{Within}
+use Rattle.smp_prob.specs.declared.requests.Request.{Request}
+use Rattle.smp_prob.specs.declared.orders.Order.TheVariants.{Frame}
+use Rattle.smp_values.specs.Starts.{IsWhole}
+use Rattle.smp_design.specs.declared.method.Method.{Method}
+use Rattle.smp_methods.specs.declared.procedure.Procedure.{Procedure}
+use Rattle.smp_methods.specs.declared.procedure.Procedure.TheVariants as ways
+use Rattle.smp_methods.specs.Procedures.{procedure_of, NeedsWhole, TakesValues}
+use Rattle.smp_methods.proofs.Columns.{procedure_takes}
+use Rattle.smp_strata.specs.Bounds.{IsFirst, IsStratum}
+use Rattle.smp_strata.specs.Plans.{Parts}
+use Rattle.smp_strata.specs.declared.strata.First.{First}
+use Rattle.smp_strata.specs.declared.strata.Stratum.{Stratum}
+use Rattle.smp_twostage.specs.Kept.{IsPlanned}
+use Rattle.smp_twostage.specs.Plans.{CanBeDrawn}
+use Rattle.smp_twostage.specs.Selections.{column_count, free_values, values_at}
+
+-- a procedure that is there
+given : (way : Option Procedure) (other : Procedure) → is_some way ≡ true → way ≡ Some (unwrap_or way other)
+given (Some way) other some = refl
+given None other some = absurd (cc)
+
+pub needs_whole : (way : Procedure) (request : Request) → IsWhole request → NeedsWhole way request
+needs_whole ways.MinimumSupport request whole = whole
+needs_whole ways.Brewer request whole = whole
+needs_whole (ways.Pivotal order) request whole = tt
+needs_whole (ways.Systematic order) request whole = tt
+needs_whole (ways.LocalPivotal dimensions) request whole = tt
+needs_whole ways.Cube request whole = tt
+
+first_long : (units : List First) (n : ℕ) → 1 ≤ length units → All (λ u. length u.values ≡ n) units → length (get_or (map (λ u. u.values) units) 0 []) ≡ n
+first_long [] n some all = absurd (omega (arith, some))
+first_long (u ∷ us) n some all = All-get_or (λ (v : First). length v.values ≡ n) (u ∷ us) 0 u (omega arith) all
+
+near_within : (values : List ℤ) → AreNear values → Within (2 ^ 31 - 1) values
+near_within values near k d l = let h = near k d l in omega (arith, h)
+
+module _ (plan : Parts) (s : Stratum) (planned : IsPlanned plan s) where
+  pub columns_are : column_count s ≡ planned.columns
+  columns_are = first_long s.units planned.columns planned.stratum.some planned.counted
+
+  pub has_procedure : is_some (procedure_of plan.method plan.order (column_count s)) ≡ true
+  has_procedure = ap (λ n. is_some (procedure_of plan.method plan.order n)) columns_are ∙ planned.method
+
+  -- the values of a free unit
+  free_at : (P : List ℤ → Type 0) → ((u : First) → IsFirst plan.second u → length u.values ≡ planned.columns → P u.values) → All P (free_values s)
+  free_at P holds =
+      All-map P (values_at s) s.request.free
+      (All-weaker (λ k. k < length s.units) (λ k. P (values_at s k)) (λ k l. at k l) s.request.free planned.stratum.over.free)
+    where
+      by_unit : (k : ℕ) (u : Option First) → slice_get s.units k ≡ u → k < length s.units → P (values_at s k)
+      by_unit k (Some u) is l =
+          let here : get_or s.units k u ≡ u = get_or_from_slice_get s.units k u u is in
+          let value : values_at s k ≡ u.values = get_or-map (λ (v : First). v.values) s.units k u [] l ∙ ap (λ (v : First). v.values) here in
+          let first : IsFirst plan.second u = subst (IsFirst plan.second) here (All-get_or (IsFirst plan.second) s.units k u l planned.stratum.firsts) in
+          let counted : length u.values ≡ planned.columns = subst (λ (v : First). length v.values ≡ planned.columns) here (All-get_or (λ (v : First). length v.values ≡ planned.columns) s.units k u l planned.counted) in
+          subst P (sym value) (holds u first counted)
+      by_unit k None is l = let some = some_within s.units k l in absurd (let none : None ≡ Some some.0 = sym is ∙ some.1 in cc)
+
+      at : (k : ℕ) → k < length s.units → P (values_at s k)
+      at k l = by_unit k (slice_get s.units k) refl l
+
+  pub takes_free : (way : Procedure) → procedure_of plan.method plan.order (column_count s) ≡ Some way → TakesValues way (free_values s)
+  takes_free way is =
+      procedure_takes planned.columns (free_values s) (free_at (λ v. length v ≡ planned.columns) (λ u first counted. counted)) (free_at (Within (2 ^ 31 - 1)) (λ u first counted. near_within u.values first.near))
+      plan.method plan.order way (ap (procedure_of plan.method plan.order) (sym columns_are) ∙ is)
+
+-- rows have no values
+pub takes_rows : (method : Method) (request : Request) (way : Procedure) → procedure_of method Frame 0 ≡ Some way → TakesValues way (map (λ _. []) request.free)
+takes_rows method request way is =
+    procedure_takes 0 (map (λ _. []) request.free) (All-map (λ (v : List ℤ). length v ≡ 0) (λ _. []) request.free (λ k d l. refl)) (All-map (Within (2 ^ 31 - 1)) (λ _. []) request.free (λ k d l i e m. absurd (omega (arith, m)))) method Frame way is
+
+-- ---- the strata of a plan that can be drawn
+
+module _ (plan : Parts) (drawable : CanBeDrawn plan) (h : ℕ) (s : Stratum) (is : slice_get plan.strata h ≡ Some s) where
+  pub is_planned : IsPlanned plan s
+  is_planned =
+      let within = slice_get_within plan.strata h s is in
+      let here : get_or plan.strata h s ≡ s = get_or_from_slice_get plan.strata h s s is in
+      record {
+        columns = drawable.columns;
+        method = drawable.method;
+        second = drawable.second;
+        stratum = subst (IsStratum plan.second) here (All-get_or (IsStratum plan.second) plan.strata h s within drawable.sound.strata);
+        counted = subst (λ (t : Stratum). All (λ u. length u.values ≡ drawable.columns) t.units) here (All-get_or (λ (t : Stratum). All (λ u. length u.values ≡ drawable.columns) t.units) plan.strata h s within drawable.sound.columns);
+      }

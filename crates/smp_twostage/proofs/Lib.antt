@@ -1,0 +1,9 @@
+pub mod Values
+pub mod Columns
+pub mod Cubes
+pub mod Inside
+pub mod Started
+pub mod Built
+pub mod Seats
+pub mod Positive
+pub mod Starts

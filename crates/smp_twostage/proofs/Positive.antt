@@ -1,0 +1,119 @@
+-- Only rows that can be selected are selected.
+use Rattle.std.proofs.Common.{◌≡◌, ℕ, zero, suc, ◌+◌, ◌*◌, ◌<◌, ◌≤◌, mul-pos, Bool, true, false, true≢false, ℤ, pos, negsuc, List, length, Option, Some, None, arith, refl, sym, ap, subst, ◌∙◌}
+use Rattle.std.specs.Prelude.{is_some, slice_index, option_and_then}
+use Rattle.std.specs.List.{slice_get}
+use Rattle.std.proofs.lemmas.Bool.{and_parts}
+use Rattle.smp_fractions.specs.Fractions.{Fraction, times}
+use Rattle.smp_prob.specs.declared.requests.Request.{Request}
+use Rattle.smp_prob.specs.declared.standings.Standing.{Standing}
+use Rattle.smp_prob.specs.declared.standings.Standing.TheVariants.{Certain, Free, Never}
+use Rattle.smp_prob.specs.Requests.{IsRequest}
+use Rattle.smp_prob.specs.Standings.{asked_fraction, fraction_at, is_taken, standing}
+use Rattle.smp_design.specs.declared.method.Method.{Method}
+use Rattle.smp_rows.specs.Laws.Rows.{free_within}
+use Rattle.smp_methods.specs.declared.any.AnyState.{AnyState}
+use Rattle.smp_methods.specs.Designs.{method_of}
+use Rattle.smp_stages.specs.declared.places.Place.{Place}
+use Rattle.smp_stages.specs.declared.places.Stage.{Stage}
+use Rattle.smp_stages.specs.Stages.{Progress, read, seat_selected, unit_selected}
+use Rattle.smp_strata.specs.Bounds.{IsOver}
+use Rattle.smp_strata.specs.Plans.{Parts}
+use Rattle.smp_strata.specs.Seats.{first_at, first_fraction, place_fraction, stage_fraction, unit_fraction}
+use Rattle.smp_strata.specs.declared.strata.Seat.{Seat}
+use Rattle.smp_twostage.specs.Plans.{CanBeDrawn}
+use Rattle.smp_twostage.specs.Selections.{Selecting, tree_of, first_number, first_stage, place_of, seat_by, second_stage, stages_of, whole_tree}
+use Rattle.smp_twostage.specs.Starts.{is_positive, row_fraction}
+use Rattle.smp_twostage.specs.Laws.Numbering.{first_there, second_there}
+use Rattle.smp_twostage.specs.Laws.Places.{StandsIn}
+use Rattle.smp_twostage.specs.Laws.Staged.{first_is, none_in, place_stands, seat_at, seconds_in}
+use Rattle.smp_twostage.proofs.Columns.{is_planned}
+
+positive_number : (n : ℕ) → 1 ≤ n → is_positive (pos n) ≡ true
+positive_number zero some = absurd (omega (arith, some))
+positive_number (suc n) some = refl
+
+abbrev IsAbove : ℤ → Type 0
+IsAbove z = (n : ℕ) × (z ≡ pos (suc n))
+
+above : (z : ℤ) → is_positive z ≡ true → IsAbove z
+above (pos zero) is = absurd (true≢false (sym is))
+above (pos (suc n)) is = (n, refl)
+above (negsuc n) is = absurd (true≢false (sym is))
+
+-- a product of two positive fractions
+positive_times : (a b : Fraction) → is_positive a.num ≡ true → is_positive b.num ≡ true → is_positive (times a b).num ≡ true
+positive_times a b first second =
+    let m = above a.num first in
+    let n = above b.num second in
+    rw (m.1, n.1) (positive_number (suc m.0 * suc n.0) (mul-pos (omega arith) (omega arith)))
+
+-- a unit that is taken has a positive probability
+module _ (request : Request) (sound : IsRequest request) (chosen : ℕ → Bool) where
+  taken_at : (stands : Standing) → ((unit : ℕ) → stands ≡ Free unit → unit < length request.free) → is_taken chosen stands ≡ true → is_positive (fraction_at request stands).num ≡ true
+  taken_at Certain within taken = refl
+  taken_at (Free unit) within taken =
+      let here : unit < length request.free = within unit refl in
+      positive_number (slice_index request.shape unit * request.r) (mul-pos (sound.positive unit (omega (arith, here, sound.paired))) (sound.drawn (omega (arith, here))))
+  taken_at Never within taken = absurd (true≢false (sym taken))
+
+  taken_positive : (unit : ℕ) → is_taken chosen (standing request unit) ≡ true → is_positive (asked_fraction request unit).num ≡ true
+  taken_positive unit = taken_at (standing request unit) (free_within request unit)
+
+module _ (plan : Parts) (drawable : CanBeDrawn plan) (states : List AnyState) where
+  -- a unit that is selected in its stage
+  selected_at : (stage : Stage Selecting) (unit : ℕ) (state : Option AnyState) → IsRequest stage.design.request → read tree_of false (λ tree s. tree.selected s unit) (Some stage) state ≡ true → is_positive (asked_fraction stage.design.request unit).num ≡ true
+  selected_at stage unit (Some state) sound selected = taken_positive stage.design.request sound ((method_of stage.design.design).tree.selected state) unit selected
+  selected_at stage unit None sound selected = absurd (true≢false (sym selected))
+
+  selected_unit : (i unit : ℕ) (stage : Stage Selecting) → slice_get (stages_of plan) i ≡ Some stage → IsRequest stage.design.request → unit_selected tree_of (stages_of plan) states (record { stage = i; unit = unit }) ≡ true → is_positive (asked_fraction stage.design.request unit).num ≡ true
+  selected_unit i unit stage is sound selected =
+      selected_at stage unit (slice_get states i) sound (ap (λ o. read tree_of false (λ tree s. tree.selected s unit) o (slice_get states i)) (sym is) ∙ selected)
+
+  module _ (row : ℕ) (here : StandsIn plan.strata row (place_of plan.strata row)) where
+    abbrev place : Seat
+    place = place_of plan.strata row
+
+    abbrev at : ℕ
+    at = first_number plan place.stratum
+
+    abbrev is_selected : Place → Bool
+    is_selected = unit_selected tree_of (stages_of plan) states
+
+    first_positive : is_selected (record { stage = at; unit = place.unit }) ≡ true → is_positive (first_fraction plan.strata place.stratum place.unit).num ≡ true
+    first_positive selected =
+        subst (λ o. is_positive (unit_fraction o place.unit).num ≡ true) (sym here.is_stratum)
+        (selected_unit at place.unit (first_stage plan here.stratum) (first_there plan place.stratum here.stratum here.is_stratum) (is_planned plan drawable place.stratum here.stratum here.is_stratum).stratum.over.sound selected)
+
+    place_is : place_fraction (first_at plan.strata place.stratum place.unit) place.place ≡ stage_fraction here.unit.second place.place
+    place_is =
+        ap (λ o. place_fraction (option_and_then (λ s. slice_get s.units place.unit) o) place.place) here.is_stratum
+        ∙ ap (λ o. place_fraction o place.place) here.is_unit
+
+    alone : (request : Option Request) → is_some request ≡ false → is_positive (stage_fraction request place.place).num ≡ true
+    alone None none = refl
+    alone (Some request) none = absurd (cc)
+
+    second_positive : (method : Method) → plan.second ≡ Some method → (request : Option Request) → here.unit.second ≡ request → is_some request ≡ true → is_selected (record { stage = suc (at + place.unit); unit = place.place }) ≡ true
+        → is_positive (stage_fraction request place.place).num ≡ true
+    second_positive method second (Some request) asks some selected =
+        let over : IsOver (length here.unit.rows) request = rw asks at (first_is plan drawable place.stratum place.unit here.stratum here.unit here.is_stratum here.is_unit).over in
+        selected_unit (suc (at + place.unit)) place.place (second_stage method request (length here.unit.rows) at place.unit)
+        (second_there plan place.stratum here.stratum here.is_stratum method second (seconds_in plan drawable method second place.stratum here.stratum here.is_stratum) place.unit here.unit here.is_unit request asks)
+        over.sound selected
+    second_positive method second None asks some selected = absurd (cc)
+
+    by_method : (method : Option Method) → plan.second ≡ method → seat_selected is_selected (Some (seat_by method at place)) ≡ true → is_positive (row_fraction plan row).num ≡ true
+    by_method None second selected =
+        positive_times (first_fraction plan.strata place.stratum place.unit) (place_fraction (first_at plan.strata place.stratum place.unit) place.place) (first_positive selected)
+        (ap (λ (f : Fraction). is_positive f.num) place_is ∙ alone here.unit.second (none_in plan drawable second place.stratum place.unit here.stratum here.unit here.is_stratum here.is_unit))
+    by_method (Some method) second selected =
+        let both = and_parts _ _ selected in
+        positive_times (first_fraction plan.strata place.stratum place.unit) (place_fraction (first_at plan.strata place.stratum place.unit) place.place) (first_positive both.0)
+        (ap (λ (f : Fraction). is_positive f.num) place_is
+        ∙ second_positive method second here.unit.second refl (seconds_in plan drawable method second place.stratum here.stratum here.is_stratum place.unit here.unit here.is_unit) both.1)
+
+-- a row that is selected has a positive probability
+pub selected_positive : (plan : Parts) → CanBeDrawn plan → (leaf : Progress AnyState) (row : ℕ) → row < plan.rows → (whole_tree plan).selected leaf row ≡ true → is_positive (row_fraction plan row).num ≡ true
+selected_positive plan drawable leaf row l selected =
+    by_method plan drawable leaf.states row (place_stands plan drawable row l) plan.second refl
+    (ap (seat_selected (unit_selected tree_of (stages_of plan) leaf.states)) (sym (seat_at plan drawable row l)) ∙ selected)

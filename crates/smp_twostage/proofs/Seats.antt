@@ -1,0 +1,49 @@
+-- The seat of each row, from its place in the plan.
+use Rattle.std.proofs.Common.{◌≡◌, ℕ, suc, ◌+◌, ◌<◌, true, List, [], ◌∷◌, ◌++◌, length, map, Option, Some, None, arith, refl, sym, ap, subst, ◌∙◌}
+use Rattle.std.specs.Prelude.{is_some}
+use Rattle.std.specs.List.{range_with_len}
+use Rattle.std.proofs.lemmas.List.FromFn.{map-range_with_len_more}
+use Rattle.std.proofs.lemmas.Option.{slice_get_within}
+use Rattle.smp_prob.specs.declared.requests.Request.{Request}
+use Rattle.smp_design.specs.declared.method.Method.{Method}
+use Rattle.smp_stages.specs.declared.places.Seat as seats
+use Rattle.smp_strata.specs.Plans.{Parts}
+use Rattle.smp_strata.specs.Seats.{IsSeat}
+use Rattle.smp_strata.specs.declared.strata.Seat.{Seat}
+use Rattle.smp_twostage.specs.Plans.{CanBeDrawn}
+use Rattle.smp_twostage.specs.Selections.{first_number, place_of, seat_by, seat_of, stages_of}
+use Rattle.smp_twostage.specs.Laws.Numbering.{second_there}
+use Rattle.smp_twostage.specs.Laws.Places.{StandsIn, place_is_seat}
+use Rattle.smp_twostage.specs.Laws.Staged.{place_stands, seconds_in}
+
+module _ (plan : Parts) (drawable : CanBeDrawn plan) (row : ℕ) (l : row < plan.rows) (p : Seat) (once : (s : Seat) → IsSeat plan.strata row s → s ≡ p) where
+  place_is : place_of plan.strata row ≡ p
+  place_is = let seated = drawable.sound.seated.seats row l in once (place_of plan.strata row) (place_is_seat plan.strata row seated.seat seated.is)
+
+  stands : StandsIn plan.strata row p
+  stands = subst (StandsIn plan.strata row) place_is (place_stands plan drawable row l)
+
+  pub inside : p.stratum < length plan.strata
+  inside = slice_get_within plan.strata p.stratum stands.stratum stands.is_stratum
+
+  room_for : (method : Method) → plan.second ≡ Some method → (request : Option Request) → stands.unit.second ≡ request → is_some request ≡ true → suc (first_number plan p.stratum + p.unit) < length (stages_of plan)
+  room_for method second (Some request) asks some =
+      slice_get_within (stages_of plan) (suc (first_number plan p.stratum + p.unit)) _
+      (second_there plan p.stratum stands.stratum stands.is_stratum method second (seconds_in plan drawable method second p.stratum stands.stratum stands.is_stratum) p.unit stands.unit stands.is_unit request asks)
+  room_for method second None asks some = absurd (cc)
+
+  room_by : (method : Option Method) → plan.second ≡ method → is_some method ≡ true → suc (first_number plan p.stratum + p.unit) < length (stages_of plan)
+  room_by (Some method) second some = room_for method second stands.unit.second refl (seconds_in plan drawable method second p.stratum stands.stratum stands.is_stratum p.unit stands.unit stands.is_unit)
+  room_by None second some = absurd (cc)
+
+  -- the number of the second stage within the unit is that of a stage
+  pub room : is_some plan.second ≡ true → suc (first_number plan p.stratum + p.unit) < length (stages_of plan)
+  room = room_by plan.second refl
+
+  -- the seats of one more row
+  pub next_seat : (done new : List seats.Seat) (seat : seats.Seat) → done ≡ map (λ r. seat_of plan (place_of plan.strata r)) (range_with_len 0 row) → seat ≡ seat_by plan.second (first_number plan p.stratum) p
+      → new ≡ done ++ seat ∷ [] → new ≡ map (λ r. seat_of plan (place_of plan.strata r)) (range_with_len 0 (row + 1))
+  next_seat done new seat so_far is more =
+      let here : seat ≡ seat_of plan (place_of plan.strata row) = is ∙ ap (seat_of plan) (sym place_is) in
+      more ∙ ap (λ xs. xs ++ seat ∷ []) so_far ∙ ap (λ s. map (λ r. seat_of plan (place_of plan.strata r)) (range_with_len 0 row) ++ s ∷ []) here
+      ∙ sym (map-range_with_len_more (λ r. seat_of plan (place_of plan.strata r)) 0 row row (omega arith))

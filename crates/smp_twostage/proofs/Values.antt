@@ -1,0 +1,83 @@
+-- Where each stage starts from its request, each row has the value that its plan gives it.
+use Rattle.std.proofs.Common.{◌≡◌, ℕ, true, false, suc, ◌+◌, ◌<◌, List, length, Option, Some, None, arith, refl, sym, ap, subst, ◌∙◌}
+use Rattle.std.specs.Prelude.{is_some, option_and_then}
+use Rattle.std.specs.List.{slice_get}
+use Rattle.std.proofs.lemmas.Option.{slice_get_within}
+use Rattle.smp_stages.specs.Laws.Reads.{some_within}
+use Rattle.smp_fractions.specs.Fractions.{Fraction, Same, whole, times}
+use Rattle.smp_fractions.proofs.Fractions.{same_sym, same_trans, times_same, times-one}
+use Rattle.smp_prob.specs.declared.requests.Request.{Request}
+use Rattle.smp_prob.specs.Standings.{asked_fraction}
+use Rattle.smp_design.specs.declared.method.Method.{Method}
+use Rattle.smp_rows.proofs.Asked.{value_is_asked}
+use Rattle.smp_methods.specs.declared.any.AnyState.{AnyState}
+use Rattle.smp_methods.specs.Designs.{method_of}
+use Rattle.smp_stages.specs.declared.places.Place.{Place}
+use Rattle.smp_stages.specs.declared.places.Stage.{Stage}
+use Rattle.smp_stages.specs.Stages.{seat_value, unit_value, read}
+use Rattle.smp_strata.specs.Plans.{Parts}
+use Rattle.smp_strata.specs.Seats.{first_fraction, place_fraction, first_at, seat_fraction, stage_fraction, unit_fraction}
+use Rattle.smp_strata.specs.declared.strata.Seat.{Seat}
+use Rattle.smp_twostage.specs.Plans.{CanBeDrawn}
+use Rattle.smp_twostage.specs.Selections.{Selecting, tree_of, stages_of, first_number, first_stage, second_stage, seat_by, place_of, seats_of}
+use Rattle.smp_twostage.specs.Starts.{row_fraction}
+use Rattle.smp_twostage.specs.Kept.{EachStarts}
+use Rattle.smp_twostage.specs.Laws.Numbering.{first_there, second_there}
+use Rattle.smp_twostage.specs.Laws.Places.{StandsIn}
+use Rattle.smp_twostage.specs.Laws.Staged.{place_stands, seat_at, seconds_in, none_in}
+
+-- the value of a unit in its stage
+module _ (stages : List (Stage Selecting)) (states : List AnyState) (each : EachStarts stages states) where
+  stage_value : (i unit : ℕ) (stage : Stage Selecting) (state : Option AnyState) → slice_get stages i ≡ Some stage → slice_get states i ≡ state → Same (read tree_of (whole 0) (λ tree s. tree.value s unit) (Some stage) state) (asked_fraction stage.design.request unit)
+  stage_value i unit stage (Some state) is_stage is_state =
+      value_is_asked stage.design.units stage.design.request (method_of stage.design.design).tree state (each.each i stage state is_stage is_state).serves unit
+  stage_value i unit stage None is_stage is_state =
+      let some = some_within states i (omega (arith, each.paired, slice_get_within stages i stage is_stage)) in
+      absurd (let none : None ≡ Some some.0 = sym is_state ∙ some.1 in cc)
+
+  pub unit_value_is : (i unit : ℕ) (stage : Stage Selecting) → slice_get stages i ≡ Some stage → Same (unit_value tree_of stages states (record { stage = i; unit = unit })) (asked_fraction stage.design.request unit)
+  unit_value_is i unit stage is = rw is (stage_value i unit stage (slice_get states i) is refl)
+
+module _ (plan : Parts) (drawable : CanBeDrawn plan) (states : List AnyState) (each : EachStarts (stages_of plan) states) where
+  module _ (row : ℕ) (here : StandsIn plan.strata row (place_of plan.strata row)) where
+    abbrev place : Seat
+    place = place_of plan.strata row
+
+    abbrev at : ℕ
+    at = first_number plan place.stratum
+
+    abbrev unit_values : Place → Fraction
+    unit_values = unit_value tree_of (stages_of plan) states
+
+    first_value : Same (unit_values (record { stage = at; unit = place.unit })) (first_fraction plan.strata place.stratum place.unit)
+    first_value =
+        let value : Same (unit_values (record { stage = at; unit = place.unit })) (asked_fraction here.stratum.request place.unit) =
+        unit_value_is (stages_of plan) states each at place.unit (first_stage plan here.stratum) (first_there plan place.stratum here.stratum here.is_stratum) in
+        subst (λ o. Same (unit_values (record { stage = at; unit = place.unit })) (unit_fraction o place.unit)) (sym here.is_stratum) value
+
+    place_is : place_fraction (first_at plan.strata place.stratum place.unit) place.place ≡ stage_fraction here.unit.second place.place
+    place_is =
+        ap (λ o. place_fraction (option_and_then (λ s. slice_get s.units place.unit) o) place.place) here.is_stratum
+        ∙ ap (λ o. place_fraction o place.place) here.is_unit
+
+    alone : (request : Option Request) → is_some request ≡ false → stage_fraction request place.place ≡ whole 1
+    alone None none = refl
+    alone (Some request) none = absurd (cc)
+
+    second_value : (method : Method) → plan.second ≡ Some method → (request : Option Request) → here.unit.second ≡ request → is_some request ≡ true
+        → Same (unit_values (record { stage = suc (at + place.unit); unit = place.place })) (stage_fraction request place.place)
+    second_value method second (Some request) asks some =
+        unit_value_is (stages_of plan) states each (suc (at + place.unit)) place.place (second_stage method request (length here.unit.rows) at place.unit)
+        (second_there plan place.stratum here.stratum here.is_stratum method second (seconds_in plan drawable method second place.stratum here.stratum here.is_stratum) place.unit here.unit here.is_unit request asks)
+    second_value method second None asks some = absurd (cc)
+
+    by_method : (method : Option Method) → plan.second ≡ method → Same (seat_value unit_values (Some (seat_by method at place))) (seat_fraction plan.strata place)
+    by_method None second =
+        subst (λ (f : Fraction). Same (unit_values (record { stage = at; unit = place.unit })) (times (first_fraction plan.strata place.stratum place.unit) f)) (sym (place_is ∙ alone here.unit.second (none_in plan drawable second place.stratum place.unit here.stratum here.unit here.is_stratum here.is_unit)))
+        (same_trans first_value (same_sym (times-one (first_fraction plan.strata place.stratum place.unit))))
+    by_method (Some method) second =
+        let value = second_value method second here.unit.second refl (seconds_in plan drawable method second place.stratum here.stratum here.is_stratum place.unit here.unit here.is_unit) in
+        times_same first_value (rw place_is value)
+
+  pub row_value_is : (row : ℕ) → row < plan.rows → Same (seat_value (unit_value tree_of (stages_of plan) states) (slice_get (seats_of plan) row)) (row_fraction plan row)
+  row_value_is row l = rw (seat_at plan drawable row l) (by_method row (place_stands plan drawable row l) plan.second refl)

@@ -1,0 +1,18 @@
+use Rattle.std.proofs.Common.{◌≡◌, ◌<◌, [], ◌∷◌, ◌++◌, Some, length, arith, rules, refl, sym, ap, ◌∙◌}
+use Rattle.std.specs.List.{slice_get}
+use Rattle.std.specs.Vec.{vec_len}
+use Rattle.std.proofs.lemmas.Option.{slice_get_read}
+use Rattle.smp_twostage.proofs.Built.{next_below, next_number}
+use Rattle.smp_twostage.proofs.made.Made.push_strata.Goals as goal
+
+pub loop-number-preserved : goal.loop-number-preserved
+loop-number-preserved c =
+    let within : c.loop-number.number < length c.args.plan.now.strata = omega (arith, c.loop-number-test.true, c.strata-number-end.ensures) in
+    let there : slice_get c.args.plan.now.strata c.loop-number.number ≡ Some c.stratum.result.now = slice_get_read c.args.plan.now.strata (length c.args.plan.now.strata) c.loop-number.number c.stratum.result.now refl within c.stratum.ensures.value in
+    let len : length c.loop-number.self.stages.items ≡ vec_len c.loop-number.self.stages = search rules in
+    record {
+      stages = next_below c.args.plan.now c.loop-number.number c.stratum.result.now c.loop-number.self.stages.items _ there c.loop-number.invariant.stages c.in_ok-push_stratum.ensures.stages;
+      each = c.in_ok-push_stratum.ensures.each;
+      firsts = next_number c.args.plan.now c.loop-number.number c.loop-number.firsts.items c.push.new.self.items c.loop-number.self.stages.items c.loop-number.invariant.firsts c.loop-number.invariant.stages
+          (c.in_ok-push.ensures.items ∙ ap (λ n. c.loop-number.firsts.items ++ n ∷ []) (c.len.ensures ∙ sym len));
+    }

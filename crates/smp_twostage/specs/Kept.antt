@@ -1,0 +1,40 @@
+-- What the code keeps on the way. No public clause cites it.
+use Rattle.std.specs.Prelude.{◌≡◌, ℕ, true, All, IfSome, is_some, List, Some, length, map}
+use Rattle.std.specs.List.{range_with_len, slice_get}
+use Rattle.smp_split.specs.Counts.{AddsUp}
+use Rattle.smp_rows.specs.Rows.{Serves}
+use Rattle.smp_methods.specs.declared.any.AnyState.{AnyState}
+use Rattle.smp_methods.specs.Designs.{first_state, method_of}
+use Rattle.smp_stages.specs.declared.places.Stage.{Stage}
+use Rattle.smp_methods.specs.Procedures.{procedure_of}
+use Rattle.smp_strata.specs.Bounds.{IsStratum}
+use Rattle.smp_strata.specs.Plans.{Parts}
+use Rattle.smp_strata.specs.declared.strata.Stratum.{Stratum}
+use Rattle.smp_twostage.specs.Plans.{TakesRows}
+use Rattle.smp_twostage.specs.Selections.{Selecting, belongs_to, first_number}
+
+-- a stratum of a plan that can be drawn
+pub record IsPlanned (plan : Parts) (s : Stratum) : Type 0 where
+  pub columns : ℕ
+  pub method : is_some (procedure_of plan.method plan.order columns) ≡ true
+  pub second : IfSome plan.second TakesRows
+  pub stratum : IsStratum plan.second s
+  pub counted : All (λ u. length u.values ≡ columns) s.units
+
+-- the number of each stratum's first stage
+abbrev pub first_numbers : Parts → List ℕ
+first_numbers plan = map (first_number plan) (range_with_len 0 (length plan.strata))
+
+-- a stage in its first state: each free unit has the value that is requested of it, and they add up to the number of draws
+pub record StageStarts (s : Selecting) (state : AnyState) : Type 0 where
+  pub is : state ≡ first_state s.design
+  pub member : belongs_to s state
+  pub serves : Serves s.request (method_of s.design).tree state
+  pub adds_up : AddsUp (method_of s.design).tree s.request.r state
+
+-- each stage is in its first state
+pub record EachStarts (stages : List (Stage Selecting)) (states : List AnyState) : Type 0 where
+  pub paired : length states ≡ length stages
+  pub each : (i : ℕ) (stage : Stage Selecting) (state : AnyState)
+      → slice_get stages i ≡ Some stage → slice_get states i ≡ Some state
+      → StageStarts stage.design state

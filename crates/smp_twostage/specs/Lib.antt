@@ -1,0 +1,6 @@
+pub mod Selections
+pub mod Plans
+pub mod Cubes
+pub mod Starts
+pub mod Kept
+pub mod Laws

@@ -1,0 +1,174 @@
+-- The whole selection by a plan, in stages. Strata are drawn in order of first appearance. In each its first stage units are drawn, and then,
+-- where there is a second stage, rows within each of those that were drawn, certain ones among them (Särndal, Swensson and Wretman 1992).
+use Rattle.std.specs.Prelude.{ℕ, zero, Bool, suc, ◌+◌, ℤ, nat_eq, List, [], ◌∷◌, ◌++◌, length, map, Option, Some, None, unwrap_or, slice_index_or}
+use Rattle.std.specs.List.{slice_get, list_any, position_or_len, range_with_len}
+use Rattle.smp_prob.specs.declared.orders.Order.{Order}
+use Rattle.smp_prob.specs.declared.orders.Order.TheVariants.{Frame}
+use Rattle.smp_prob.specs.declared.requests.Request.{Request}
+use Rattle.smp_split.specs.Trees.{Tree}
+use Rattle.smp_rows.specs.Rows.{rows_tree, BelongsToRows}
+use Rattle.smp_design.specs.declared.method.Method.{Method}
+use Rattle.smp_methods.specs.declared.any.AnyDesign.{AnyDesign}
+use Rattle.smp_methods.specs.declared.any.AnyState.{AnyState}
+use Rattle.smp_methods.specs.declared.procedure.Procedure.{Procedure}
+use Rattle.smp_methods.specs.declared.procedure.Procedure.TheVariants.{Pivotal}
+use Rattle.smp_methods.specs.Procedures.{procedure_of}
+use Rattle.smp_methods.specs.Designs.{design_of, first_state, method_of}
+use Rattle.smp_strata.specs.Plans.{Parts}
+use Rattle.smp_strata.specs.declared.strata.First as unit
+use Rattle.smp_strata.specs.declared.strata.Seat as place
+use Rattle.smp_strata.specs.declared.strata.Stratum as stratum
+use Rattle.smp_stages.specs.declared.places.Seat.{Seat}
+use Rattle.smp_stages.specs.declared.places.Seat.TheVariants.{First, Second}
+use Rattle.smp_stages.specs.declared.places.Stage.{Stage}
+use Rattle.smp_stages.specs.Stages.{Progress, IsUnderWay, progress, staged_tree}
+use Rattle.smp_twostage.specs.Plans.{CanBeDrawn}
+
+-- ---- how the units of one stage are drawn
+
+-- the units of a stage, the request for them, and the design by which the free ones among them are drawn
+pub record Selecting : Type 0 where
+  pub units : ℕ
+  pub request : Request
+  pub design : AnyDesign
+
+-- the draw tree over all units of the stage, the certain ones and those of probability 0 among them
+abbrev pub tree_of : Selecting → Tree AnyState
+tree_of s = rows_tree s.units s.request (method_of s.design).tree
+
+abbrev pub belongs_to : Selecting → AnyState → Type 0
+belongs_to s = BelongsToRows s.request (method_of s.design).tree (method_of s.design).belongs
+
+-- The procedure of a method, where so many columns of values are read. A plan that can be drawn has a method for its columns.
+abbrev pub procedure : Method → Order → ℕ → Procedure
+procedure method order columns = unwrap_or (procedure_of method order columns) (Pivotal order)
+
+-- ---- the stages
+
+-- the values of a first stage unit, how many there are, and those of the free units, in their order
+abbrev pub values_at : stratum.Stratum → ℕ → List ℤ
+values_at s k = slice_index_or (map (λ u. u.values) s.units) k []
+
+abbrev pub column_count : stratum.Stratum → ℕ
+column_count s = length (values_at s 0)
+
+abbrev pub free_values : stratum.Stratum → List (List ℤ)
+free_values s = map (values_at s) s.request.free
+
+-- the first stage of a stratum: its first stage units, by the plan's method and in its order
+abbrev pub first_stage : Parts → stratum.Stratum → Stage Selecting
+first_stage plan s = record {
+  design = record {
+    units = length s.units;
+    request = s.request;
+    design = design_of (procedure plan.method plan.order (column_count s)) s.request
+        (free_values s);
+  };
+  within = None;
+}
+
+-- the second stage within a unit of the stage `at`: its rows in frame order, which have no values
+abbrev pub second_stage : Method → Request → ℕ → ℕ → ℕ → Stage Selecting
+second_stage method request rows at k = record {
+  design = record {
+    units = rows;
+    request = request;
+    design = design_of (procedure method Frame 0) request (map (λ _. []) request.free);
+  };
+  within = Some (record { stage = at; unit = k });
+}
+
+-- the stage within unit k of the stage `at`, where the plan has a second method and the unit a second request
+abbrev pub stage_by : Option Method → Option Request → ℕ → ℕ → ℕ → List (Stage Selecting)
+stage_by (Some method) (Some request) rows at k = second_stage method request rows at k ∷ []
+stage_by (Some method) None rows at k = []
+stage_by None request rows at k = []
+
+abbrev pub stage_within : Option Method → ℕ → ℕ → Option unit.First → List (Stage Selecting)
+stage_within method at k (Some u) = stage_by method u.second (length u.rows) at k
+stage_within method at k None = []
+
+-- the stages within the first n of these units
+abbrev pub stages_within : Option Method → ℕ → List unit.First → ℕ → List (Stage Selecting)
+stages_within method at units zero = []
+stages_within method at units (suc n) =
+    stages_within method at units n ++ stage_within method at n (slice_get units n)
+
+-- the stages of a stratum: its first stage, which has the number `at`, and those within its units
+abbrev pub stages_in : Parts → ℕ → Option stratum.Stratum → List (Stage Selecting)
+stages_in plan at (Some s) =
+    first_stage plan s ∷ stages_within plan.second at s.units (length s.units)
+stages_in plan at None = []
+
+-- the stages of the first n strata
+abbrev pub stages_below : Parts → ℕ → List (Stage Selecting)
+stages_below plan zero = []
+stages_below plan (suc n) =
+    stages_below plan n
+    ++ stages_in plan (length (stages_below plan n)) (slice_get plan.strata n)
+
+-- all stages, and the number of a stratum's first stage
+abbrev pub stages_of : Parts → List (Stage Selecting)
+stages_of plan = stages_below plan (length plan.strata)
+
+abbrev pub first_number : Parts → ℕ → ℕ
+first_number plan h = length (stages_below plan h)
+
+-- ---- where the rows are selected
+
+-- the seat of the row at this place of the plan: its first stage unit, and with a second stage itself within that unit
+abbrev pub seat_by : Option Method → ℕ → place.Seat → Seat
+seat_by None at p = First (record { stage = at; unit = p.unit })
+seat_by (Some method) at p =
+    Second (record { stage = at; unit = p.unit })
+    (record { stage = suc (at + p.unit); unit = p.place })
+
+abbrev pub seat_of : Parts → place.Seat → Seat
+seat_of plan p = seat_by plan.second (first_number plan p.stratum) p
+
+-- the place of a row in the plan: the stratum, the first stage unit and the place in it that have the row
+abbrev pub unit_has : ℕ → unit.First → Bool
+unit_has row u = list_any (nat_eq row) u.rows
+
+abbrev pub stratum_has : ℕ → stratum.Stratum → Bool
+stratum_has row s = list_any (unit_has row) s.units
+
+abbrev pub units_at : Option stratum.Stratum → List unit.First
+units_at (Some s) = s.units
+units_at None = []
+
+abbrev pub rows_at : Option unit.First → List ℕ
+rows_at (Some u) = u.rows
+rows_at None = []
+
+abbrev pub place_of : List stratum.Stratum → ℕ → place.Seat
+place_of strata row =
+    let h = position_or_len (stratum_has row) strata in
+    let units = units_at (slice_get strata h) in
+    let k = position_or_len (unit_has row) units in
+    record {
+      stratum = h;
+      unit = k;
+      place = position_or_len (nat_eq row) (rows_at (slice_get units k));
+    }
+
+abbrev pub seats_of : Parts → List Seat
+seats_of plan = map (λ row. seat_of plan (place_of plan.strata row)) (range_with_len 0 plan.rows)
+
+-- ---- the whole selection
+
+-- the draw tree, whose units are the rows of the frame
+abbrev pub whole_tree : Parts → Tree (Progress AnyState)
+whole_tree plan = staged_tree tree_of (stages_of plan) (seats_of plan)
+
+-- the state is one of the selection by a plan that can be drawn
+pub record BelongsToWhole (plan : Parts) (state : Progress AnyState) : Type 0 where
+  pub drawable : CanBeDrawn plan
+  pub member : IsUnderWay tree_of belongs_to (stages_of plan) state
+
+-- the states from which the stages start, and the whole selection
+abbrev pub states_of : Parts → List AnyState
+states_of plan = map (λ stage. first_state stage.design.design) (stages_of plan)
+
+abbrev pub start_of : Parts → Progress AnyState
+start_of plan = progress tree_of (stages_of plan) (states_of plan)

@@ -1,0 +1,110 @@
+-- What the whole selection by a plan starts with.
+use Rattle.std.specs.Prelude.{◌≡◌, ℕ, zero, suc, ◌+◌, ◌<◌, Bool, true, false, cond, ℤ, pos, negsuc, List, length, Option, Some}
+use Rattle.std.specs.List.{count_by, range_with_len, slice_get}
+use Rattle.smp_fractions.specs.Fractions.{Fraction, Same, integer, inverse, times, sum_below}
+use Rattle.smp_split.specs.Means.{mean, inclusion_probability}
+use Rattle.smp_split.specs.Paths.{AtEachLeaf, Entry}
+use Rattle.smp_design.specs.declared.method.Method.TheVariants.{Cube}
+use Rattle.smp_rows.specs.Rows.{Fills}
+use Rattle.smp_prob.specs.declared.requests.Request.{Request}
+use Rattle.smp_methods.specs.declared.any.AnyState.{AnyState}
+use Rattle.smp_strata.specs.Plans.{Parts}
+use Rattle.smp_strata.specs.Seats.{seat_fraction}
+use Rattle.smp_strata.specs.declared.strata.First as unit
+use Rattle.smp_strata.specs.declared.strata.Stratum as stratum
+use Rattle.smp_methods.specs.Designs.{left_at}
+use Rattle.smp_stages.specs.declared.places.Place.{Place}
+use Rattle.smp_stages.specs.declared.places.Stage.{Stage}
+use Rattle.smp_stages.specs.Stages.{Progress, selected_in}
+use Rattle.smp_stages.specs.Paths.{GoesByStages}
+use Rattle.smp_twostage.specs.Cubes.{IsDrawnByCube}
+use Rattle.smp_twostage.specs.Selections.{Selecting, BelongsToWhole, tree_of, stages_of, states_of, first_number, place_of, whole_tree}
+
+-- the probability that a plan gives a row
+abbrev pub row_fraction : Parts → ℕ → Fraction
+row_fraction plan row = seat_fraction plan.strata (place_of plan.strata row)
+
+-- ---- weighted totals
+
+-- what a row counts for: its value times its design weight, which is one divided by its probability (Horvitz and Thompson 1952)
+abbrev pub weighted : Fraction → ℤ → Fraction
+weighted asked x = times (integer x) (inverse asked)
+
+-- the value of a row that can be selected, and 0 of one whose probability is 0
+abbrev pub is_positive : ℤ → Bool
+is_positive (pos zero) = false
+is_positive (pos (suc n)) = true
+is_positive (negsuc n) = false
+
+abbrev pub known : Fraction → ℤ → ℤ
+known asked x = cond (is_positive asked.num) x (pos 0)
+
+-- ---- units that are selected
+
+-- a unit of a stratum's first stage, and a row within it, by its place among the unit's rows
+abbrev pub first_place : Parts → ℕ → ℕ → Place
+first_place plan h k = record { stage = first_number plan h; unit = k }
+
+abbrev pub second_place : Parts → ℕ → ℕ → ℕ → Place
+second_place plan h k row = record { stage = suc (first_number plan h + k); unit = row }
+
+-- whether they are selected in their stages, where the stages are in these states
+abbrev pub first_selected : Parts → List AnyState → ℕ → ℕ → Bool
+first_selected plan states h k = selected_in tree_of (stages_of plan) states (first_place plan h k)
+
+abbrev pub second_selected : Parts → List AnyState → ℕ → ℕ → ℕ → Bool
+second_selected plan states h k row =
+    selected_in tree_of (stages_of plan) states (second_place plan h k row)
+
+-- how many of the units of stratum h were undecided where the landing of its cube began, and 0 by any other method
+abbrev pub left_by : Option (Stage Selecting) → Option AnyState → ℕ
+left_by (Some stage) (Some state) = left_at stage.design.design state
+left_by stage state = 0
+
+abbrev pub left_in : Parts → List AnyState → ℕ → ℕ
+left_in plan states h =
+    left_by (slice_get (stages_of plan) (first_number plan h))
+    (slice_get states (first_number plan h))
+
+-- at each leaf n of the first stage units of stratum h are selected
+abbrev pub FirstSelects : Parts → Progress AnyState → ℕ → stratum.Stratum → ℕ → Type 0
+FirstSelects plan start h s n =
+    AtEachLeaf (whole_tree plan) start (λ path leaf.
+    count_by (first_selected plan leaf.states h) (range_with_len 0 (length s.units)) ≡ n)
+
+-- at each leaf at which unit k of stratum h is selected, n of its rows are
+abbrev pub SecondSelects : Parts → Progress AnyState → ℕ → ℕ → unit.First → ℕ → Type 0
+SecondSelects plan start h k u n =
+    AtEachLeaf (whole_tree plan) start (λ path leaf. first_selected plan leaf.states h k ≡ true
+    → count_by (second_selected plan leaf.states h k) (range_with_len 0 (length u.rows)) ≡ n)
+
+-- ---- the start
+
+pub record StartsWhole (plan : Parts) (start : Progress AnyState) : Type 0 where
+  pub member : BelongsToWhole plan start
+  -- Each row's value is the probability that the plan gives it.
+  pub values : (row : ℕ) → row < plan.rows
+      → Same ((whole_tree plan).value start row) (row_fraction plan row)
+  -- Each row's probability of selection, over draws that are uniform below each bound, is exactly the one that the plan gives it.
+  pub probability : (row : ℕ) → row < plan.rows
+      → Same (inclusion_probability (whole_tree plan) start row) (row_fraction plan row)
+  -- The estimator of Horvitz and Thompson has no bias: over those draws the mean of the weighted total of any values, one for each row, is
+  -- their sum over the rows that can be selected.
+  pub unbiased : (asked : ℕ → Fraction)
+      → ((row : ℕ) → row < plan.rows → Same (asked row) (row_fraction plan row))
+      → (x : ℕ → ℤ) → Same (mean (whole_tree plan) (λ row. weighted (asked row) (x row)) start)
+      (sum_below plan.rows (λ row. integer (known (asked row) (x row))))
+  -- Each stratum's request fixes how many of its first stage units are selected, and a unit's request how many rows within it.
+  pub firsts : (h n : ℕ) (s : stratum.Stratum) → slice_get plan.strata h ≡ Some s
+      → Fills s.request (length s.units) n → FirstSelects plan start h s n
+  pub seconds : (h k n : ℕ) (s : stratum.Stratum) (u : unit.First) (request : Request)
+      → slice_get plan.strata h ≡ Some s → slice_get s.units k ≡ Some u → u.second ≡ Some request
+      → Fills request (length u.rows) n → SecondSelects plan start h k u n
+  -- A path to a leaf is made of the stages' own paths, one after another.
+  pub paths : AtEachLeaf (whole_tree plan) start
+      (λ path leaf. GoesByStages tree_of (stages_of plan) (states_of plan) path leaf.states)
+  -- Where the method is the cube, each stratum's part of it is one of the cube's own paths.
+  pub cubes : plan.method ≡ Cube → (path : List Entry) (ends : List AnyState)
+      (goes : GoesByStages tree_of (stages_of plan) (states_of plan) path ends)
+      → (h : ℕ) (s : stratum.Stratum) → slice_get plan.strata h ≡ Some s
+      → IsDrawnByCube plan h s (goes.part (first_number plan h)) ends

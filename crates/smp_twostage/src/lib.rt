@@ -1,0 +1,16 @@
+//! The whole selection by a plan: all strata, in one stage or in two.
+//!
+//! [`Whole`] is one lawful design, whose units are the rows of the frame. Strata are drawn in order of first appearance; in each its first
+//! stage units are drawn, and then, where there is a second stage, rows within each of those that were drawn. `specs/Selections.antt` says
+//! which stages these are, and `specs/Starts.antt` what holds of a selection from its start: each row's probability of selection is exactly
+//! the one that the plan gives it, and the estimator of Horvitz and Thompson has no bias.
+#![tactic(auto)]
+
+mod made;
+mod stage;
+#[cfg(test)]
+mod tests;
+mod whole;
+
+pub use stage::StageDesign;
+pub use whole::{StartedWhole, Whole};

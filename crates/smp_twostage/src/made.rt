@@ -1,0 +1,242 @@
+//! The stages of a plan, each with the state that it starts from.
+
+ghost use Rattle.std.specs.Prelude.{◌≡◌, ◌++◌, ◌∷◌, [], true, is_some, None, Some, All, IfOk, OnOk, length, map, slice_index_or};
+ghost use Rattle.smp_prob.specs.Requests.{IsRequest};
+ghost use Rattle.smp_prob.specs.Standings.{IsRising};
+ghost use Rattle.smp_values.specs.Starts.{IsWhole};
+ghost use Rattle.smp_methods.specs.Designs.{design_of};
+ghost use Rattle.smp_methods.specs.Procedures.{TakesValues, procedure_of};
+ghost use Rattle.smp_strata.specs.Bounds.{IsFirst};
+ghost use Rattle.smp_twostage.specs.Kept.{EachStarts, IsPlanned, StageStarts, first_numbers};
+ghost use Rattle.smp_twostage.specs.Plans.{CanBeDrawn, TakesRows};
+ghost use Rattle.smp_twostage.specs.Selections as Selections;
+ghost use Rattle.smp_twostage.specs.Selections.{first_stage, procedure, stage_by, stages_in, stages_of, stages_within};
+
+use crate::StageDesign;
+use smp_design::{Method, Order};
+use smp_frac::NoMemory;
+use smp_frame::Numbers;
+use smp_methods::{AnyState, Procedure, Started};
+use smp_prob::Request;
+use smp_stages::{Place, Stage};
+use smp_strata::{First, Plan, Stratum};
+use std::alloc::Global;
+
+// The design of a stage, and the state that it starts from.
+#[derive(Drop)]
+struct StartedStage<'a> {
+    design: StageDesign<'a>,
+    state: AnyState,
+}
+
+// Stages, and the states that they start from.
+#[derive(Drop)]
+pub(crate) struct Made<'a> {
+    pub stages: Vec<Stage<StageDesign<'a>>>,
+    pub states: Vec<AnyState>,
+}
+
+// The procedure of a method that takes so many columns.
+fn procedure(method: Method, order: Order, columns: usize) -> Procedure
+    requires { is_some (procedure_of method order columns) ≡ true }
+    ensures is { result ≡ procedure method order columns }
+    ensures given { procedure_of method order columns ≡ Some result }
+{
+    match Procedure::of_method(method, order, columns) {
+        Some(procedure) => procedure,
+        None => unreachable!(),
+    }
+}
+
+// The values of a first stage unit; none past the last one.
+fn values_at(alloc: Global, units: &[First], unit: usize) -> Result<Numbers, NoMemory>
+    ensures { IfOk result (λ values. values
+        ≡ slice_index_or (map (λ u. u.values) units.now) unit []) }
+{
+    match units.get(unit) {
+        Some(first) => Numbers::from_slice(alloc, first.values.as_slice()),
+        None => Numbers::from_slice(alloc, &[]),
+    }
+}
+
+// The values of the free units of a stratum, in their order.
+fn free_values(alloc: Global, stratum: &Stratum) -> Result<Vec<Numbers>, NoMemory>
+    ensures { IfOk result (λ values. values.items ≡ Selections.free_values stratum.now) }
+{
+    let mut values = Vec::new(alloc);
+    for unit in stratum.request.free.as_slice() {
+        values.push(values_at(alloc, stratum.units.as_slice(), *unit)?)?;
+    }
+    Ok(values)
+}
+
+// No values for each free row of a request.
+fn no_values(alloc: Global, request: &Request) -> Result<Vec<Numbers>, NoMemory>
+    ensures { IfOk result (λ values. values.items ≡ map (λ _. []) request.now.free) }
+{
+    let mut values = Vec::new(alloc);
+    for _ in request.free.as_slice() {
+        values.push(Numbers::from_slice(alloc, &[])?)?;
+    }
+    Ok(values)
+}
+
+// How many columns of values the units of a stratum have.
+fn column_count(stratum: &Stratum) -> usize
+    ensures { result ≡ Selections.column_count stratum.now }
+{
+    match stratum.units.as_slice().first() {
+        Some(first) => first.values.as_slice().len(),
+        None => 0,
+    }
+}
+
+// The design of a request over so many units, and the state that it starts from.
+fn start_stage<'a>(
+    alloc: Global,
+    procedure: Procedure,
+    units: usize,
+    request: &'a Request,
+    values: &[Numbers],
+) -> Result<StartedStage<'a>, NoMemory>
+    requires request { IsRequest request.now }
+    requires whole { IsWhole request.now }
+    requires rising { IsRising request.now }
+    requires paired { length values.now ≡ length request.now.free }
+    requires values { TakesValues procedure values.now }
+    ensures design { IfOk result (λ s. s.design ≡ record {
+      units = units;
+      request = request.now;
+      design = design_of procedure request.now values.now;
+    }) }
+    ensures starts { IfOk result (λ s. StageStarts s.design s.state) }
+{
+    let Started { design, state } = Started::new(alloc, procedure, request, values)?;
+    let design = StageDesign::new(units, request, design);
+    Ok(StartedStage { design, state })
+}
+
+impl<'a> Made<'a> {
+    // Adds a stage.
+    fn push(&mut self, started: StartedStage<'a>, within: Option<Place>) -> Result<(), NoMemory>
+        requires each { EachStarts self.old.stages.items self.old.states.items }
+        requires starts { StageStarts started.design started.state }
+        ensures stages { OnOk result (self.new.stages.items ≡ self.old.stages.items
+            ++ record { design = started.entry.design; within = within } ∷ []) }
+        ensures each { OnOk result (EachStarts self.new.stages.items self.new.states.items) }
+    {
+        let StartedStage { design, state } = started;
+        self.stages.push(Stage { design, within })?;
+        self.states.push(state)?;
+        Ok(())
+    }
+
+    // Adds the first stage of a stratum.
+    fn push_first(
+        &mut self,
+        alloc: Global,
+        plan: &Plan,
+        stratum: &'a Stratum,
+    ) -> Result<(), NoMemory>
+        requires each { EachStarts self.old.stages.items self.old.states.items }
+        requires planned { IsPlanned plan.now stratum.now }
+        ensures stages { OnOk result (self.new.stages.items
+            ≡ self.old.stages.items ++ first_stage plan.now stratum.now ∷ []) }
+        ensures each { OnOk result (EachStarts self.new.stages.items self.new.states.items) }
+    {
+        let units = stratum.units.as_slice().len();
+        let values = free_values(alloc, stratum)?;
+        let procedure = procedure(plan.method(), plan.order(), column_count(stratum));
+        let started = start_stage(alloc, procedure, units, &stratum.request, values.as_slice())?;
+        self.push(started, None)
+    }
+
+    // Adds the second stage within a unit, where it has one.
+    fn push_second(
+        &mut self,
+        alloc: Global,
+        method: Method,
+        within: Place,
+        first: &'a First,
+    ) -> Result<(), NoMemory>
+        requires each { EachStarts self.old.stages.items self.old.states.items }
+        requires method { TakesRows method }
+        requires first { IsFirst (Some method) first.now }
+        ensures stages { OnOk result (self.new.stages.items ≡ self.old.stages.items
+            ++ stage_by (Some method) first.now.second (length first.now.rows)
+            within.stage within.unit) }
+        ensures each { OnOk result (EachStarts self.new.stages.items self.new.states.items) }
+    {
+        let Some(request) = &first.second else {
+            return Ok(());
+        };
+        let rows = first.rows.as_slice().len();
+        let values = no_values(alloc, request)?;
+        let procedure = procedure(method, Order::Frame, 0);
+        let started = start_stage(alloc, procedure, rows, request, values.as_slice())?;
+        self.push(started, Some(within))
+    }
+
+    // Adds the second stages within the units of the stage before.
+    fn push_seconds(
+        &mut self,
+        alloc: Global,
+        method: Method,
+        stage: usize,
+        units: &'a [First],
+    ) -> Result<(), NoMemory>
+        requires each { EachStarts self.old.stages.items self.old.states.items }
+        requires method { TakesRows method }
+        requires units { All (IsFirst (Some method)) units.now }
+        ensures stages { OnOk result (self.new.stages.items ≡ self.old.stages.items
+            ++ stages_within (Some method) stage units.now (length units.now)) }
+        ensures each { OnOk result (EachStarts self.new.stages.items self.new.states.items) }
+    {
+        for (unit, first) in units.iter().enumerate() {
+            self.push_second(alloc, method, Place { stage, unit }, first)?;
+        }
+        Ok(())
+    }
+
+    // Adds the stages of a stratum.
+    fn push_stratum(
+        &mut self,
+        alloc: Global,
+        plan: &Plan,
+        stratum: &'a Stratum,
+    ) -> Result<(), NoMemory>
+        requires each { EachStarts self.old.stages.items self.old.states.items }
+        requires planned { IsPlanned plan.now stratum.now }
+        ensures stages { OnOk result (self.new.stages.items ≡ self.old.stages.items
+            ++ stages_in plan.now (length self.old.stages.items) (Some stratum.now)) }
+        ensures each { OnOk result (EachStarts self.new.stages.items self.new.states.items) }
+    {
+        let stage = self.stages.len();
+        self.push_first(alloc, plan, stratum)?;
+        match plan.second() {
+            Some(method) => self.push_seconds(alloc, method, stage, stratum.units.as_slice()),
+            None => Ok(()),
+        }
+    }
+
+    /// Adds the stages of all strata, and gives the number of each stratum's first stage.
+    pub(crate) fn push_strata(
+        &mut self,
+        alloc: Global,
+        plan: &'a Plan,
+    ) -> Result<Vec<usize>, NoMemory>
+        requires none { self.old.stages.items ≡ [] }
+        requires no_states { self.old.states.items ≡ [] }
+        requires plan { CanBeDrawn plan.now }
+        ensures stages { OnOk result (self.new.stages.items ≡ stages_of plan.now) }
+        ensures each { OnOk result (EachStarts self.new.stages.items self.new.states.items) }
+        ensures firsts { IfOk result (λ firsts. firsts.items ≡ first_numbers plan.now) }
+    {
+        let mut firsts = Vec::new(alloc);
+        for number in 0..plan.strata() {
+            firsts.push(self.stages.len())?;
+            self.push_stratum(alloc, plan, plan.stratum(number))?;
+        }
+        Ok(firsts)
+    }
+}
