@@ -1,0 +1,5 @@
+pub mod Streams
+pub mod Moves
+pub mod Blocks
+pub mod Draws
+pub mod Fairness

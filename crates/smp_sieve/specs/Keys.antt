@@ -1,0 +1,18 @@
+-- The words of a key: ChaCha with 20 rounds (Bernstein, ChaCha, a variant of Salsa20, 2008).
+use Rattle.std.specs.Prelude.{ℕ, ◌+◌, ◌%◌, ◌^◌, List}
+use Rattle.rand_chacha.specs.ChaCha.{word_at}
+
+-- a key, and how many words of its stream 0 came before the next one
+pub record Place : Type 0 where
+  pub key : List ℕ
+  pub next : ℕ
+
+-- the word of a key at a place: twenty rounds are ten double rounds, the stream is 0, and after 2^68 words they come round
+abbrev pub key_word : List ℕ → ℕ → ℕ
+key_word key place = word_at 10 key 0 (place % 2 ^ 68)
+
+abbrev pub key_first : Place → ℕ
+key_first at = key_word at.key at.next
+
+abbrev pub key_next : Place → Place
+key_next at = record { key = at.key; next = (at.next + 1) % 2 ^ 68 }

@@ -1,0 +1,6 @@
+pub mod Streams
+pub mod Sieves
+pub mod Fair
+pub mod Keys
+pub mod Given
+pub mod Laws
