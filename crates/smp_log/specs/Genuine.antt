@@ -1,0 +1,68 @@
+-- Genuine logs, and how much of any bytes is the beginning of one.
+use Rattle.std.specs.Prelude.{◌≡◌, ℕ, ◌+◌, ◌≤◌, List, [], length}
+use Rattle.smp_tape.specs.Sources.{Source}
+use Rattle.smp_tape.specs.Tapes.{tape_of_values}
+use Rattle.smp_tape.specs.Laws.Tapes.{tape_source}
+use Rattle.smp_split.specs.Trees.{Tree}
+use Rattle.smp_split.specs.Paths.{Entry}
+use Rattle.smp_split.specs.Runs.{Outcome, run}
+use Rattle.smp_log.specs.Lines.{ShareLines, whole_lines}
+use Rattle.smp_log.specs.Logs.{log_text}
+
+-- the path from a state to a leaf that a full tape takes: the run over its values comes to the leaf, and none is left
+pub record IsFullPath {State : Type 0} (tree : Tree State) (from : State) (path : List Entry)
+    (leaf : State) : Type 0 where
+  pub values : List ℕ
+  pub ran : run tape_source tree from (tape_of_values [] values)
+      ≡ Outcome.leaf leaf path (tape_of_values values [])
+
+-- the bytes are the log of the path of a full tape, which leads to this leaf
+pub record IsGenuine {State : Type 0} (tree : Tree State) (from : State) (head log : List ℕ)
+    (leaf : State) : Type 0 where
+  pub path : List Entry
+  pub full : IsFullPath tree from path leaf
+  pub text : log ≡ log_text head path
+
+-- ---- how much of any bytes is the beginning of a genuine log, whichever logs are genuine
+
+-- the first n whole lines of the bytes are the first lines of some genuine log
+pub record BeginsGenuine {State : Type 0} (Genuine : List ℕ → State → Type 0) (log : List ℕ)
+    (n : ℕ) : Type 0 where
+  pub genuine : List ℕ
+  pub leaf : State
+  pub is : Genuine genuine leaf
+  pub shares : ShareLines n log genuine
+
+-- the greatest number of whole lines of the bytes that are the first lines of some genuine log
+pub record IsKept {State : Type 0} (Genuine : List ℕ → State → Type 0) (log : List ℕ)
+    (kept : ℕ) : Type 0 where
+  pub begins : BeginsGenuine Genuine log kept
+  pub most : (n : ℕ) → BeginsGenuine Genuine log n → n ≤ kept
+
+-- the bytes are no genuine log, and this line is the first that isn't kept
+pub record DiffersAt {State : Type 0} (Genuine : List ℕ → State → Type 0) (log : List ℕ)
+    (line : ℕ) : Type 0 where
+  pub not_genuine : (leaf : State) → Genuine log leaf → ⊥
+  pub kept : ℕ
+  pub is_kept : IsKept Genuine log kept
+  pub next : line ≡ kept + 1
+
+-- ---- what a log tells
+
+-- a genuine log is that of one path alone, which leads to one leaf, and it has four whole lines more than steps
+pub record IsUnambiguous {State : Type 0} (tree : Tree State) (from : State) (head log : List ℕ)
+    : Type 0 where
+  pub one_path : (a b : State) (first : IsGenuine tree from head log a)
+      (second : IsGenuine tree from head log b) → first.path ≡ second.path
+  pub one_leaf : (a b : State) → IsGenuine tree from head log a → IsGenuine tree from head log b
+      → a ≡ b
+  pub steps : (leaf : State) (genuine : IsGenuine tree from head log leaf)
+      → length (whole_lines log) ≡ length genuine.path + 4
+
+-- where a run over a source comes to a leaf, the log of its path is genuine, and that leaf is its own
+abbrev pub IsRunGenuine : {State Rest : Type 0} → Source Rest → Tree State → State → Rest → List ℕ
+    → Type 0
+IsRunGenuine {State} {Rest} source tree from rest head =
+    (path : List Entry) (leaf : State) (left : Rest)
+    → run source tree from rest ≡ Outcome.leaf leaf path left
+    → IsGenuine tree from head (log_text head path) leaf

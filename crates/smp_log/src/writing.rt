@@ -1,0 +1,41 @@
+ghost use Rattle.std.specs.Prelude.{◌≡◌, ◌++◌, IfOk, OnOk, string_bytes};
+ghost use Rattle.smp_log.specs.Logs as Logs;
+ghost use Rattle.smp_log.specs.Logs.{log_text, steps_text};
+
+use crate::Head;
+use smp_frac::{Bytes, NoMemory};
+use smp_split::{Kind, Lines};
+use std::alloc::{AllocError, Global};
+
+/// The log of a path: the head, a line for each step, and how many steps there were.
+pub fn log_bytes(alloc: Global, head: &Head, lines: &Lines) -> Result<Bytes, NoMemory>
+    ensures { IfOk result (λ text. text ≡ log_text head.now lines.now) }
+{
+    let mut text = Bytes::new(alloc);
+    text.push_all(head.as_slice())?;
+    push_steps(alloc, &mut text, lines.as_slice())?;
+    text.push_all(end_text(alloc, lines.as_slice().len())?.as_bytes())?;
+    Ok(text)
+}
+
+fn push_steps(alloc: Global, text: &mut Bytes, steps: &[(Kind, u128, u128)]) -> Result<(), NoMemory>
+    ensures { OnOk result (text.new ≡ text.old ++ steps_text steps.now) }
+{
+    for step in steps {
+        text.push_all(step_text(alloc, step)?.as_bytes())?;
+    }
+    Ok(())
+}
+
+fn step_text(alloc: Global, step: &(Kind, u128, u128)) -> Result<String, AllocError>
+    ensures { IfOk result (λ line. string_bytes line ≡ Logs.step_text step.now) }
+{
+    let (kind, bound, value) = *step;
+    format!(in alloc; "{} {bound} {value}\n", kind.word())
+}
+
+fn end_text(alloc: Global, steps: usize) -> Result<String, AllocError>
+    ensures { IfOk result (λ line. string_bytes line ≡ Logs.end_text steps) }
+{
+    format!(in alloc; "end {steps}\n")
+}
