@@ -1,12 +1,20 @@
 //! The nearest of the points that are left.
 //!
 //! Spatially balanced selection (Grafström, Lundström and Schelin 2012) asks over and over which of the units that are not
-//! yet settled lies nearest to a given one. [`Points`] answers exactly, by a plain scan.
+//! yet settled lies nearest to a given one. [`Points`] answers exactly, by a search in a k-d tree.
 #![tactic(auto)]
 
+mod counts;
 mod distance;
+mod middle;
+mod near;
+mod orders;
 mod points;
+mod region;
+mod regions;
+mod searches;
 #[cfg(test)]
 mod tests;
+mod tree;
 
 pub use crate::points::{NoMemory, Points};

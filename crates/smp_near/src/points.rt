@@ -1,10 +1,12 @@
 //! Points, and the nearest of those that are left.
 #![tactic(auto)]
 
-ghost use Rattle.std.specs.Prelude.{◌≡◌, ℕ, ◌<◌, ◌≤◌, true, false, length, IfOk, IfSome, IfNone};
-ghost use Rattle.smp_near.specs.Nearest.{IsNearest, all_living, distance, is_living, is_other, nearer, nearest, removed};
+ghost use Rattle.std.specs.Prelude.{◌≡◌, ℕ, ◌<◌, ◌≤◌, true, false, length, slice_index, slice_set, IfOk, IfSome, IfNone};
+ghost use Rattle.smp_near.specs.Nearest.{IsNearest, all_living, is_living, is_other, nearest, removed};
+ghost use Rattle.smp_near.specs.Kept.Trees.{AreCounted, IsAlone, IsMirrored, IsOrder, IsSized, lives_at};
 
-use crate::distance::squared_distance;
+use crate::searches::search;
+use crate::tree::{Tree, take_out, tree_of};
 use std::alloc::{AllocError, Global};
 use std::marker::Model;
 
@@ -23,28 +25,31 @@ impl From<AllocError> for NoMemory {
 /// They are numbered from 0 on, in the order given, and keep their numbers when others are removed.
 #[derive(Drop)]
 pub struct Points<const K: usize> {
-    coords: Vec<[i32; K]>,
-    living: Vec<bool>,
+    tree: Tree<K>,
+    places: Vec<usize>,
 }
 
 impl<const K: usize> Model for Points<K> {
-    ghost use Rattle.smp_near.specs.Nearest.{LivingPoints, ArePoints};
+    ghost use Rattle.smp_near.specs.Nearest.{LivingPoints};
+    ghost use Rattle.smp_near.specs.Kept.Trees.{IsTree, points_of};
 
     ghost Value = { LivingPoints };
 
-    ghost view = { λ p. record { coords = p.coords.items; living = p.living.items } };
+    ghost view = { λ p. points_of p.tree };
 
-    ghost invariant = { λ p. ArePoints K p.coords.items p.living.items };
+    ghost invariant = { λ p. IsTree p.tree p.places.items };
 }
 
-// The nearer of the best so far and one more point, the best so far where both are equally near.
-fn nearer(best: Option<(usize, u128)>, point: usize, distance: u128) -> Option<(usize, u128)>
-    ensures { result ≡ nearer best (point, distance) }
+// The place of each number in an order.
+fn places_of(alloc: Global, order: &[usize]) -> Result<Vec<usize>, AllocError>
+    requires { IsOrder (length order.now) order.now }
+    ensures { IfOk result (λ places. IsMirrored order.now places.items) }
 {
-    match best {
-        Some((_, least)) if least <= distance => best,
-        _ => Some((point, distance)),
+    let mut places = vec![in alloc; 0; order.len()]?;
+    for place in 0..order.len() {
+        places[order[place]] = place;
     }
+    Ok(places)
 }
 
 impl<const K: usize> Points<K> {
@@ -53,46 +58,22 @@ impl<const K: usize> Points<K> {
         requires { (1 ≤ K) × (K ≤ 4) }
         ensures { IfOk result (λ points. points ≡ all_living coords.now) }
     {
-        let living = vec![in alloc; true; coords.len()]?;
-        Ok(Points {
-            coords: Vec::from_slice(alloc, coords)?,
-            living,
-        })
+        let tree = tree_of(alloc, coords)?;
+        let places = places_of(alloc, tree.order.as_slice())?;
+        Ok(Points { tree, places })
     }
 
     /// The first in order of the other living points at the least squared distance, and none where `i` alone is living.
     ///
-    /// It looks at each point once.
+    /// It takes no memory, and leaves out each part of the tree where no point can be the answer.
     pub fn nearest(&self, i: usize) -> Option<usize>
         requires { is_living self.now i ≡ true }
         ensures nearest { result ≡ nearest self.now i }
         ensures found { IfSome result (IsNearest self.now i) }
         ensures alone { IfNone result ((k : ℕ) → is_other self.now i k ≡ false) }
     {
-        let mut best = None;
-        for k in 0..self.living.len() {
-            if self.is_other(i, k) {
-                best = nearer(best, k, self.distance(i, k));
-            }
-        }
-        Some(best?.0)
-    }
-
-    // Whether k is another point than i, and living.
-    fn is_other(&self, i: usize, k: usize) -> bool
-        requires { k < length self.now.living }
-        ensures { result ≡ is_other self.now i k }
-    {
-        k != i && self.living[k]
-    }
-
-    // The squared distance of two points.
-    fn distance(&self, i: usize, k: usize) -> u128
-        requires i { i < length self.now.living }
-        requires k { k < length self.now.living }
-        ensures { result ≡ distance self.now i k }
-    {
-        squared_distance(&self.coords[i], &self.coords[k])
+        let near = search(&self.tree, 0, self.tree.coords.len(), i, None)?;
+        Some(near.unit)
     }
 
     /// Takes a living point out.
@@ -100,6 +81,6 @@ impl<const K: usize> Points<K> {
         requires { is_living self.old i ≡ true }
         ensures { self.new ≡ removed self.old i }
     {
-        self.living[i] = false;
+        take_out(&mut self.tree, self.places[i]);
     }
 }
