@@ -1,209 +1,207 @@
--- The units of a plan as a stratum that the cube draws, and what it draws of them.
-use Rattle.std.proofs.Common.{◌≡◌, ℕ, ◌-◌, ◌^◌, ◌<◌, Bool, true, false, ℤ, List, length, get_or, Option, Some, None, refl, sym, ap, subst, ◌∙◌, arith, true≢false}
-use Rattle.std.specs.Prelude.{if◌then◌else◌, is_none, ◌&&◌}
-use Rattle.std.specs.List.{filter, range_with_len}
+-- What the cube draws of the strata of a plan, and what the report tells of it.
+use Rattle.std.proofs.Common.{◌≡◌, ℕ, ◌+◌, ◌-◌, ◌^◌, ◌<◌, ◌≤◌, Bool, true, false, ℤ, List, [], ◌∷◌, length, map, get_or, Some, None, refl, sym, ap, subst, ◌∙◌, inl, inr, arith, true≢false}
+use Rattle.std.specs.Prelude.{if◌then◌else◌, is_some, nat_le, option_map}
+use Rattle.std.specs.Str.{bytes_eq}
+use Rattle.std.specs.List.{filter, range_with_len, slice_get}
 use Rattle.std.proofs.lemmas.List.{length-map}
-use Rattle.std.proofs.lemmas.List.Elements.{All-from_get_or, All-map}
+use Rattle.std.proofs.lemmas.Bool.{cases_Bool, leb-true}
+use Rattle.std.proofs.lemmas.List.FromFn.{length-range_with_len, get_or-range_with_len}
+use Rattle.std.proofs.lemmas.List.Elements.{All-from_get_or, All-map, All-weaker, filter_passes}
+use Rattle.std.proofs.lemmas.Option.{slice_get_within, slice_get-get_or, slice_get-map, same_Some}
 use Rattle.smp_frame.specs.declared.frame.Unit as unit
-use Rattle.smp_frame.specs.Bounds.{AreNear, HaveValues, IsFrame, sizes_of}
-use Rattle.smp_design.specs.declared.design.Design.{Design}
+use Rattle.smp_prob.specs.declared.orders.Order.{Order}
+use Rattle.smp_values.specs.Values.{is_one}
+use Rattle.smp_frame.specs.Bounds.{AreNear}
 use Rattle.smp_kernel.specs.Vectors.{Within}
 use Rattle.smp_prob.specs.declared.requests.Request.{Request}
-use Rattle.smp_prob.specs.Requests.{IsRequest}
-use Rattle.smp_split.specs.Counts.{selected_units}
-use Rattle.smp_split.specs.Paths.{Entry, Leads}
-use Rattle.smp_split.specs.Trees.{Tree}
-use Rattle.smp_split.specs.Embeds.{embedded}
-use Rattle.smp_split.specs.Lenses.{as_unit}
-use Rattle.smp_split.proofs.Embeds.{embedded_lens, embedded_closes}
-use Rattle.smp_split.proofs.Lenses.{came_whole}
-use Rattle.smp_rows.specs.Rows.{rows_tree}
-use Rattle.smp_rows.specs.Laws.Rows.{row_view, rows_lens, rows_close}
-use Rattle.smp_prob.specs.Standings.{standing, is_taken}
-use Rattle.smp_flight.specs.Requests.{AreValues, units_of}
-use Rattle.smp_landing.specs.Cube.{Balancing, cube_tree}
-use Rattle.smp_landing.specs.Method.{started}
-use Rattle.smp_balance.specs.Strata.{IsStratum}
-use Rattle.smp_balance.proofs.Balances.{free_are_values, each_is_balanced}
-use Rattle.smp_balance.proofs.Reports.{each_line_tells}
-use Rattle.smp_balance.proofs.Requested.{requested_stratum}
-use Rattle.smp_methods.specs.declared.procedure.Procedure.{Procedure}
-use Rattle.smp_methods.specs.declared.procedure.Procedure.TheVariants as procedure
-use Rattle.smp_methods.specs.declared.any.AnyState.{AnyState}
-use Rattle.smp_methods.specs.declared.any.AnyState.TheVariants as states
-use Rattle.smp_methods.specs.Designs.{design_of, first_state, left_at, method_of}
-use Rattle.smp_methods.specs.Procedures.{procedure_of, TakesValues}
-use Rattle.smp_methods.proofs.Columns.{procedure_takes}
-use Rattle.smp_app.specs.declared.asked.Asked.{Asked}
-use Rattle.smp_app.specs.declared.plan.FramePlan.{FramePlan}
-use Rattle.smp_app.specs.declared.selection.Selection.{Selection}
-use Rattle.smp_app.specs.Plans.{Plan, asked_of, asked_by, request_of, values_of_units, values_at, free_values, design_of_plan, stratum_of, tree_of, start_of, Drawn}
-use Rattle.smp_app.specs.Stages.{IsPlanned, IsSelection, TakesUnits, plan_view, selection_view}
-use Rattle.smp_app.specs.Draws.{IsCubeDraw, KeepsBalance}
-use Rattle.smp_app.specs.Texts.{drawn_stratum}
-use Rattle.smp_app.proofs.Written.{drawn_below, drawn_there}
-use Rattle.smp_balance.specs.Lines as balance
-use Rattle.smp_balance.specs.Lines.{IsTold}
-use Rattle.smp_balance.specs.Totals.{can_be_selected, is_selected}
 use Rattle.smp_prob.specs.declared.standings.Standing.{Standing}
 use Rattle.smp_prob.specs.declared.standings.Standing.TheVariants.{Certain, Free, Never}
+use Rattle.smp_prob.specs.Requested.{requested_of}
+use Rattle.smp_prob.specs.Requests.{IsRequest}
+use Rattle.smp_prob.specs.Standings.{standing, is_taken}
+use Rattle.smp_split.specs.Paths.{Entry}
+use Rattle.smp_flight.specs.Requests.{AreValues}
+use Rattle.smp_landing.specs.Cube.{Balancing, values_in}
+use Rattle.smp_balance.specs.Strata.{IsStratum}
+use Rattle.smp_balance.specs.Strata as balance
+use Rattle.smp_balance.specs.Totals.{can_be_selected, is_selected}
+use Rattle.smp_balance.specs.Reports.{TellsColumn}
+use Rattle.smp_balance.specs.Lines as lines
+use Rattle.smp_balance.specs.Lines.{IsTold}
+use Rattle.smp_balance.proofs.Balances.{each_is_balanced}
+use Rattle.smp_balance.proofs.Reports.{each_line_tells}
+use Rattle.smp_balance.proofs.Requested.{requested_stratum}
+use Rattle.smp_design.specs.declared.design.Design.{Design}
+use Rattle.smp_design.specs.declared.method.Method.{Method}
+use Rattle.smp_design.specs.declared.method.Method.TheVariants.{Cube}
+use Rattle.smp_methods.specs.declared.any.AnyState.TheVariants as states
+use Rattle.smp_methods.specs.declared.procedure.Procedure.TheVariants as ways
+use Rattle.smp_methods.specs.Procedures.{procedure_of}
+use Rattle.smp_methods.specs.declared.any.AnyState.{AnyState}
+use Rattle.smp_methods.proofs.Columns.{are_values}
+use Rattle.smp_stages.specs.Paths.{GoesByStages}
+use Rattle.smp_stages.specs.Stages.{Progress}
+use Rattle.smp_strata.specs.Bounds.{IsFirst}
+use Rattle.smp_strata.specs.Clusters.{clusters as clusters_of, clusters_in, first_row, strata_numbers, stratum_name, stratum_names}
+use Rattle.smp_strata.specs.Plans.{Parts, parts_of, first_of, first_sizes, sample_size, stratum_of}
+use Rattle.smp_strata.specs.Rows.{size_of, stratum_at}
+use Rattle.smp_strata.proofs.Members.{count_all}
+use Rattle.smp_strata.specs.declared.strata.First.{First}
+use Rattle.smp_strata.specs.declared.strata.Stratum.{Stratum}
+use Rattle.smp_twostage.specs.Cubes.{IsDrawnByCube, balancing}
+use Rattle.smp_twostage.specs.Selections.{tree_of as stage_tree, first_number, stages_of, states_of}
+use Rattle.smp_twostage.specs.Kept.{IsPlanned as IsPlannedStratum}
+use Rattle.smp_twostage.specs.Plans.{CanBeDrawn}
+use Rattle.smp_twostage.specs.Starts.{first_selected}
+use Rattle.smp_twostage.proofs.Columns.{is_planned}
+use Rattle.smp_twostage.proofs.Cubes.{cube_selected}
+use Rattle.smp_app.specs.declared.plan.FramePlan.{FramePlan}
+use Rattle.smp_app.specs.Plans.{parts, Drawn}
+use Rattle.smp_app.specs.Stages.{IsPlanned, plan_view}
+use Rattle.smp_app.specs.Draws.{KeepsBalance}
+use Rattle.smp_app.specs.Texts.{drawn_stratum}
+use Rattle.smp_app.proofs.Written.{passing}
 
--- ---- the values of a frame serve what a design asks
+-- ---- the strata of a plan
 
-record AskedSo (design : Design) (asked : Asked) : Type 0 where
-  is : procedure_of design.method design.order (length design.columns.values) ≡ Some asked.procedure
+drawn_open : (drawn : ℕ → Bool) (stand : Standing) → is_taken drawn stand ≡ true → can_be_selected stand ≡ true
+drawn_open drawn Certain h = refl
+drawn_open drawn (Free u) h = refl
+drawn_open drawn Never h = absurd (true≢false (sym h))
 
-asked_procedure : (told : Option Procedure) (n : Option ℕ) (asked : Asked) → asked_by told n ≡ Some asked → told ≡ Some asked.procedure
-asked_procedure (Some way) (Some n) asked h =
-    let same : record { procedure = way; n = n } ≡ asked = cc in
-    ap (λ (a : Asked). Some a.procedure) same
-asked_procedure None n asked h = absurd (cc)
-asked_procedure (Some way) None asked h = absurd (cc)
+filter_same : (p q : ℕ → Bool) (xs : List ℕ) → ((k : ℕ) → p k ≡ q k) → filter p xs ≡ filter q xs
+filter_same p q [] same = refl
+filter_same p q (x ∷ xs) same = rw (same x, filter_same p q xs same) refl
 
-asks_so : (served : Bool) (told : Option Procedure) (n : Option ℕ) (asked : Asked) → (if served then asked_by told n else None) ≡ Some asked → told ≡ Some asked.procedure
-asks_so true told n asked h = asked_procedure told n asked h
-asks_so false told n asked h = absurd (cc)
+shorter : {A : Type 0} (p : A → Bool) (xs : List A) → length (filter p xs) ≤ length xs
+shorter p [] = omega arith
+shorter p (x ∷ xs) =
+    let rest = shorter p xs in
+    elim (cases_Bool (p x)) [
+      | inl e ↦ rw e (omega (arith, rest))
+      | inr e ↦ rw e (omega (arith, rest))
+    ]
 
 near_within : (values : List ℤ) → AreNear values → Within (2 ^ 31 - 1) values
 near_within values near k d l = let h = near k d l in omega (arith, h)
 
-pub takes_units : (design : Design) (asked : Asked) (units : List unit.Unit) → asked_of design ≡ Some asked → HaveValues (length design.columns.values) units → IsFrame units → TakesUnits asked.procedure units
-takes_units design asked units asks counted frame =
-    procedure_takes (length design.columns.values) (values_of_units units)
-    (All-map (λ (v : List ℤ). length v ≡ length design.columns.values) (λ (u : unit.Unit). u.values) units counted)
-    (All-map (Within (2 ^ 31 - 1)) (λ (u : unit.Unit). u.values) units (λ k d l. near_within _ (frame.near k d l)))
-    design.method design.order asked.procedure
-    (asks_so (is_none design.columns.stratum && is_none design.second) (procedure_of design.method design.order (length design.columns.values)) design.n asked asks)
+few_if : (few : Bool) → is_some (if few then Some ways.Cube else None) ≡ true → few ≡ true
+few_if true h = refl
+few_if false h = absurd (cc)
 
--- ---- the stratum of a plan
+few_columns : (m : Method) (order : Order) (columns : ℕ) → m ≡ Cube → is_some (procedure_of m order columns) ≡ true → columns ≤ 15
+few_columns m order columns is some = leb-true columns 15 (few_if (nat_le columns 15) (rw is at some))
 
-module _ (plan : FramePlan) (planned : IsPlanned plan) where
-  paired : length (values_of_units plan.frame) ≡ length (sizes_of plan.frame)
-  paired = length-map plan.frame (λ u. u.values) ∙ sym (length-map plan.frame (λ u. u.size))
+-- the stratum at a number of a plan is that of the frame
+stratum_here : (design : Design) (units : List unit.Unit) (h : ℕ) (s : Stratum) → slice_get (parts_of design units).strata h ≡ Some s → s ≡ stratum_of design units h
+stratum_here design units h s is =
+    let numbers = strata_numbers units in
+    let long : length numbers ≡ length (stratum_names units) = length-range_with_len 0 (length (stratum_names units)) in
+    let within : h < length numbers = omega (arith, slice_get_within (map (stratum_of design units) numbers) h s is, length-map numbers (stratum_of design units)) in
+    let at : get_or numbers h 0 ≡ h = omega (arith, get_or-range_with_len 0 (length (stratum_names units)) h 0 (omega (arith, within, long))) in
+    let there : slice_get (map (stratum_of design units) numbers) h ≡ Some (stratum_of design units h) =
+    slice_get-map (stratum_of design units) numbers h ∙ ap (option_map (stratum_of design units)) (slice_get-get_or numbers h 0 within ∙ ap Some at) in
+    same_Some s (stratum_of design units h) (sym is ∙ there)
 
-  stratum_with : AreValues (values_of_units plan.frame) → IsStratum (stratum_of (plan_view plan))
-  stratum_with are = requested_stratum plan.n (sizes_of plan.frame) (subst IsRequest planned.request_is planned.is_request) (values_of_units plan.frame) paired are
+module _ (plan : FramePlan) (planned : IsPlanned plan) (cube : plan.design.method ≡ Cube) (h : ℕ) (s : Stratum) (is : slice_get (parts (plan_view plan)).strata h ≡ Some s) where
+  abbrev all : Parts
+  all = parts (plan_view plan)
 
-  pub is_stratum : plan.procedure ≡ procedure.Cube → IsStratum (stratum_of (plan_view plan))
-  is_stratum cube = stratum_with (subst (λ (p : Procedure). TakesUnits p plan.frame) cube planned.values)
+  drawable : CanBeDrawn all
+  drawable = subst CanBeDrawn planned.parts_are planned.drawable
 
-  takes_by : (p : Procedure) → plan.procedure ≡ p → TakesValues p (free_values plan.request plan.frame)
-  takes_by procedure.Cube is =
-      subst (λ (r : Request). AreValues (free_values r plan.frame)) (sym planned.request_is)
-      (free_are_values (stratum_of (plan_view plan)) (is_stratum is))
-  takes_by (procedure.Pivotal o) is = tt
-  takes_by (procedure.Systematic o) is = tt
-  takes_by procedure.MinimumSupport is = tt
-  takes_by procedure.Brewer is = tt
-  takes_by (procedure.LocalPivotal d) is = tt
+  abbrev own : IsPlannedStratum all s
+  own = is_planned all drawable h s is
 
-  -- the values of the free units serve the procedure
-  pub takes_free : TakesValues plan.procedure (free_values plan.request plan.frame)
-  takes_free = takes_by plan.procedure refl
+  values_are : AreValues (map (λ u. u.values) s.units)
+  values_are =
+      are_values own.columns (map (λ u. u.values) s.units)
+      (All-map (λ (v : List ℤ). length v ≡ own.columns) (λ (u : First). u.values) s.units own.counted)
+      (All-map (Within (2 ^ 31 - 1)) (λ (u : First). u.values) s.units (All-weaker (IsFirst all.second) (λ u. Within (2 ^ 31 - 1) u.values) (λ u first. near_within u.values first.near) s.units own.stratum.firsts))
+      (few_columns all.method all.order own.columns cube own.method)
 
-  -- ---- what the cube draws
+  is_here : s ≡ stratum_of plan.design plan.frame h
+  is_here = stratum_here plan.design plan.frame h s is
 
-  abbrev out : AnyState → Option Balancing
-  out = elim [ states.Cube state ↦ Some state | other ↦ None ]
+  abbrev stratum_by : Stratum → balance.Stratum
+  stratum_by t = record { request = requested_of (first_sizes plan.design plan.frame h) (sample_size plan.design plan.frame h); values = map (λ u. u.values) t.units }
 
-  module _ (path : List Entry) (to : AnyState) (leads : Leads (tree_of (plan_view plan)) (start_of (plan_view plan)) path to) (done : (tree_of (plan_view plan)).done to ≡ true) (drawn : Drawn) (by : drawn.plan ≡ plan_view plan) (ends : drawn.leaf ≡ to) (goes : drawn.path ≡ path) where
-    abbrev request : Request
-    request = request_of (plan_view plan)
+  -- the stratum, as the cube draws from it
+  pub is_stratum : IsStratum (balancing s)
+  is_stratum =
+      let request_is : s.request ≡ requested_of (first_sizes plan.design plan.frame h) (sample_size plan.design plan.frame h) = ap (λ (t : Stratum). t.request) is_here in
+      let clusters = clusters_in plan.design plan.frame h in
+      let long : length s.units ≡ length clusters = ap (λ (t : Stratum). length t.units) is_here ∙ length-map clusters (first_of plan.design plan.frame) in
+      let paired : length (map (λ u. u.values) s.units) ≡ length (first_sizes plan.design plan.frame h) = omega (arith, long, length-map s.units (λ u. u.values), length-map clusters (size_of plan.frame)) in
+      subst (λ (r : Request). IsStratum (record { request = r; values = map (λ u. u.values) s.units })) (sym request_is)
+      (requested_stratum (sample_size plan.design plan.frame h) (first_sizes plan.design plan.frame h) (subst IsRequest request_is own.stratum.over.sound) (map (λ u. u.values) s.units) paired values_are)
 
-    abbrev values : List (List ℤ)
-    values = free_values request plan.frame
+  few_units : length (map (λ u. u.values) s.units) ≤ 200000
+  few_units =
+      let clusters = clusters_in plan.design plan.frame h in
+      let long : length s.units ≡ length clusters = ap (λ (t : Stratum). length t.units) is_here ∙ length-map clusters (first_of plan.design plan.frame) in
+      omega (arith, long, length-map s.units (λ u. u.values), shorter (λ rows. bytes_eq (stratum_at plan.frame (first_row rows)) (stratum_name plan.frame h)) (clusters_of plan.design.second plan.frame), count_all plan.design.second plan.frame, planned.frame.few)
 
-    abbrev inner : Tree Balancing
-    inner = cube_tree (units_of request values)
+  -- ---- what was drawn of it
 
-    abbrev outer : Tree AnyState
-    outer = embedded states.Cube out inner
+  module _ (path : List Entry) (to : Progress AnyState) (leaf : Balancing) (leaf_is : slice_get to.states (first_number all h) ≡ Some (states.Cube leaf)) where
+    abbrev here : Drawn
+    here = record { plan = plan_view plan; leaf = to; path = path }
 
-    abbrev tree_by : Procedure → Tree AnyState
-    tree_by p = rows_tree (length plan.frame) request (method_of (design_of p request values)).tree
+    units_are : (drawn_stratum here h s).units ≡ filter (is_selected (balancing s) leaf) (range_with_len 0 (length (map (λ u. u.values) s.units)))
+    units_are =
+        filter_same (first_selected all to.states h) (is_selected (balancing s) leaf) (range_with_len 0 (length s.units)) (cube_selected all drawable cube to.states h s is leaf leaf_is)
+        ∙ ap (λ n. filter (is_selected (balancing s) leaf) (range_with_len 0 n)) (sym (length-map s.units (λ u. u.values)))
 
-    abbrev start_by : Procedure → AnyState
-    start_by p = first_state (design_of p request values)
+    pub tells : (column : ℕ) → TellsColumn (drawn_stratum here h s) leaf column
+    tells = each_line_tells (drawn_stratum here h s) leaf is_stratum units_are
 
-    cube_draw : plan.procedure ≡ procedure.Cube → IsCubeDraw drawn
-    cube_draw is =
-        let ok = is_stratum is in
-        let leads_by : Leads (tree_by procedure.Cube) (start_by procedure.Cube) path to = subst (λ (p : Procedure). Leads (tree_by p) (start_by p) path to) is leads in
-        let done_by : (tree_by procedure.Cube).done to ≡ true = subst (λ (p : Procedure). (tree_by p).done to ≡ true) is done in
-        let rows = came_whole outer (λ _. Unit {0}) (rows_tree (length plan.frame) request outer) (λ s. s) (λ row. row_view (standing request row))
-        (rows_lens (length plan.frame) request outer (λ _. Unit {0}) (sym ok.request.paired)) (rows_close (length plan.frame) request outer (λ _. Unit {0}))
-        path (states.Cube (started (units_of request values))) to leads_by in
-        let cube = came_whole inner (λ _. Unit {0}) outer states.Cube (λ k. as_unit k)
-        (embedded_lens states.Cube out inner (λ _. refl) (λ _. Unit {0})) (embedded_closes states.Cube out inner (λ _. refl) (λ _. Unit {0}))
-        path (started (units_of request values)) rows.inside rows.leads in
-        let there : to ≡ states.Cube cube.inside = rows.is ∙ cube.is in
-        let here : drawn.leaf ≡ states.Cube cube.inside = ends ∙ there in
-        let ended : (tree_by procedure.Cube).done (states.Cube cube.inside) ≡ true = subst (λ (s : AnyState). (tree_by procedure.Cube).done s ≡ true) there done_by in
-        subst IsCubeDraw (sym (drawn_is cube.inside here))
-        (record {
-          leaf = cube.inside;
-          leaf_is = refl;
-          leads = cube.leads;
-          ended = ended;
-          balanced = each_is_balanced (stratum_of (plan_view plan)) ok;
-          told = each_line_tells (drawn_stratum (record { plan = plan_view plan; leaf = states.Cube cube.inside; path = path })) cube.inside ok (rows_are cube.inside is);
-        })
-      where
-        rows_are : (b : Balancing) → plan.procedure ≡ procedure.Cube → selected_units (tree_of (plan_view plan)) (states.Cube b) ≡ filter (is_selected (stratum_of (plan_view plan)) b) (range_with_len 0 (length (values_of_units plan.frame)))
-        rows_are b is =
-            subst (λ (p : Procedure). selected_units (tree_by p) (states.Cube b) ≡ filter (is_selected (stratum_of (plan_view plan)) b) (range_with_len 0 (length (values_of_units plan.frame)))) (sym is)
-            (ap (λ n. filter (is_selected (stratum_of (plan_view plan)) b) (range_with_len 0 n)) (sym (length-map plan.frame (λ u. u.values))))
+    pub is_told : IsTold (drawn_stratum here h s)
+    is_told = record {
+      stratum = is_stratum;
+      few = few_units;
+      columns = refl;
+      units =
+          All-weaker (λ k. first_selected all to.states h k ≡ true) (λ k. can_be_selected (standing s.request k) ≡ true)
+          (λ k selected. drawn_open (is_one (values_in leaf)) (standing s.request k) (sym (cube_selected all drawable cube to.states h s is leaf leaf_is k) ∙ selected))
+          (drawn_stratum here h s).units (filter_passes (first_selected all to.states h) (range_with_len 0 (length s.units)));
+      within =
+          All-from_get_or (λ k. k < length (map (λ u. u.values) s.units)) (drawn_stratum here h s).units 0
+          (λ i l. let below = (passing (first_selected all to.states h) 0 0 (length s.units) i l).0 in omega (arith, below, length-map s.units (λ u. u.values)));
+    }
 
-        drawn_is : (b : Balancing) → drawn.leaf ≡ states.Cube b → drawn ≡ record { plan = plan_view plan; leaf = states.Cube b; path = path }
-        drawn_is b leaf_is =
-            ap (λ (p : Plan). record { plan = p; leaf = drawn.leaf; path = drawn.path }) by
-            ∙ ap (λ (s : AnyState). record { plan = plan_view plan; leaf = s; path = drawn.path }) leaf_is
-            ∙ ap (λ (q : List Entry). record { plan = plan_view plan; leaf = states.Cube b; path = q }) goes
+    -- what the code says of it
+    pub drawn_same : (left columns : ℕ) (request : Request) (values : List (List ℤ)) (units : List ℕ) → left ≡ (drawn_stratum here h s).left → columns ≡ (drawn_stratum here h s).columns → request ≡ s.request
+        → values ≡ map (λ u. u.values) s.units → units ≡ (drawn_stratum here h s).units
+        → ◌≡◌ {A = lines.Drawn} (record { number = h + 1; left = left; columns = columns; stratum = record { request = request; values = values }; units = units }) (drawn_stratum here h s)
+    drawn_same left columns request values units left_is columns_are request_is values_are units_are =
+        ap (λ (n : ℕ). record { number = h + 1; left = n; columns = columns; stratum = record { request = request; values = values }; units = units }) left_is
+        ∙ ap (λ (n : ℕ). record { number = h + 1; left = (drawn_stratum here h s).left; columns = n; stratum = record { request = request; values = values }; units = units }) columns_are
+        ∙ ap (λ (r : Request). record { number = h + 1; left = (drawn_stratum here h s).left; columns = (drawn_stratum here h s).columns; stratum = record { request = r; values = values }; units = units }) request_is
+        ∙ ap (λ (vs : List (List ℤ)). record { number = h + 1; left = (drawn_stratum here h s).left; columns = (drawn_stratum here h s).columns; stratum = record { request = s.request; values = vs }; units = units }) values_are
+        ∙ ap (λ (us : List ℕ). record { number = h + 1; left = (drawn_stratum here h s).left; columns = (drawn_stratum here h s).columns; stratum = balancing s; units = us }) units_are
 
-    keeps_by : (p : Procedure) → plan.procedure ≡ p → KeepsBalance p drawn
-    keeps_by procedure.Cube is = cube_draw is
-    keeps_by (procedure.Pivotal o) is = tt
-    keeps_by (procedure.Systematic o) is = tt
-    keeps_by procedure.MinimumSupport is = tt
-    keeps_by procedure.Brewer is = tt
-    keeps_by (procedure.LocalPivotal d) is = tt
+-- ---- the balance of what is drawn
 
-    pub keeps_balance : KeepsBalance plan.procedure drawn
-    keeps_balance = keeps_by plan.procedure refl
+module _ (plan : FramePlan) (planned : IsPlanned plan) (path : List Entry) (to : Progress AnyState) where
+  abbrev pub Goes : Parts → Type 0
+  Goes p = GoesByStages stage_tree (stages_of p) (states_of p) path to.states
 
--- ---- what the report tells of it
+  abbrev Has : Parts → Type 0
+  Has p = (goes : Goes p) × ((h : ℕ) (s : Stratum) → slice_get p.strata h ≡ Some s → p.method ≡ Cube → IsDrawnByCube p h s (goes.part (first_number p h)) to.states)
 
-is_open : (selected : ℕ → Bool) (stand : Standing) → is_taken selected stand ≡ true → can_be_selected stand ≡ true
-is_open selected Certain h = refl
-is_open selected (Free u) h = refl
-is_open selected Never h = absurd (true≢false (sym h))
-
-module _ (plan : FramePlan) (planned : IsPlanned plan) (cube : plan.procedure ≡ procedure.Cube) (selection : Selection) (is : IsSelection (plan_view plan) selection) where
-  abbrev drawn_by : Drawn
-  drawn_by = selection_view (plan_view plan) selection
-
-  open_at : (i : ℕ) → i < length selection.rows.items → can_be_selected (standing (request_of (plan_view plan)) (get_or selection.rows.items i 0)) ≡ true
-  open_at i l = is_open _ (standing (request_of (plan_view plan)) (get_or selection.rows.items i 0)) (drawn_there plan selection is i l)
-
-  told_rows : IsTold (record (drawn_stratum drawn_by) { units = selection.rows.items })
-  told_rows = record {
-    stratum = is_stratum plan planned cube;
-    few = omega (arith, planned.frame.few, length-map plan.frame (λ u. u.values));
-    columns = refl;
-    units = All-from_get_or (λ k. can_be_selected (standing (request_of (plan_view plan)) k) ≡ true) selection.rows.items 0 open_at;
-    within = All-from_get_or (λ k. k < length (values_of_units plan.frame)) selection.rows.items 0
-        (λ i l. let below = drawn_below plan selection is i l in omega (arith, below, length-map plan.frame (λ u. u.values)));
-  }
-
-  pub told : IsTold (drawn_stratum drawn_by)
-  told = subst (λ (us : List ℕ). IsTold (record (drawn_stratum drawn_by) { units = us })) is.rows told_rows
-
-  pub drawn_same : (left columns : ℕ) (request : Request) (values : List (List ℤ)) (units : List ℕ) → left ≡ selection.left → columns ≡ length (values_at plan.frame 0) → request ≡ plan.request
-      → values ≡ values_of_units plan.frame → units ≡ selection.rows.items
-      → ◌≡◌ {A = balance.Drawn} (record { number = 1; left = left; columns = columns; stratum = record { request = request; values = values }; units = units }) (drawn_stratum drawn_by)
-  drawn_same left columns request values units left_is columns_are request_is values_are units_are =
-      ap (λ (n : ℕ). record { number = 1; left = n; columns = columns; stratum = record { request = request; values = values }; units = units }) (left_is ∙ is.left)
-      ∙ ap (λ (n : ℕ). record { number = 1; left = left_at (design_of_plan (plan_view plan)) selection.state; columns = n; stratum = record { request = request; values = values }; units = units }) columns_are
-      ∙ ap (λ (r : Request). record { number = 1; left = left_at (design_of_plan (plan_view plan)) selection.state; columns = length (values_at plan.frame 0); stratum = record { request = r; values = values }; units = units }) (request_is ∙ planned.request_is)
-      ∙ ap (λ (vs : List (List ℤ)). record { number = 1; left = left_at (design_of_plan (plan_view plan)) selection.state; columns = length (values_at plan.frame 0); stratum = record { request = request_of (plan_view plan); values = vs }; units = units }) values_are
-      ∙ ap (λ (us : List ℕ). record { number = 1; left = left_at (design_of_plan (plan_view plan)) selection.state; columns = length (values_at plan.frame 0); stratum = stratum_of (plan_view plan); units = us }) (units_are ∙ is.rows)
+  pub keeps_balance : (goes : Goes plan.plan) → (plan.plan.method ≡ Cube → (q : List Entry) (ends : List AnyState) (by : GoesByStages stage_tree (stages_of plan.plan) (states_of plan.plan) q ends) (h : ℕ) (s : Stratum)
+      → slice_get plan.plan.strata h ≡ Some s → IsDrawnByCube plan.plan h s (by.part (first_number plan.plan h)) ends)
+      → KeepsBalance (record { plan = plan_view plan; leaf = to; path = path })
+  keeps_balance goes cubes =
+      let has : Has (parts (plan_view plan)) = subst Has planned.parts_are (goes, λ h s is cube. cubes cube path to.states goes h s is) in
+      record {
+        goes = has.0;
+        cubes = λ cube h s is.
+            (let drawn_so = has.1 h s is cube in
+            record {
+              drawn_so = drawn_so;
+              balanced = each_is_balanced (balancing s) (is_stratum plan planned cube h s is);
+              told = tells plan planned cube h s is path to drawn_so.leaf drawn_so.leaf_is;
+            });
+      }

@@ -1,34 +1,31 @@
 -- A draw that ended well is the one of the design, the frame and the tape that were read.
-use Rattle.std.proofs.Common.{◌≡◌, ℕ, ◌<◌, Bool, true, false, nat_lt, List, [], ◌∷◌, length, Option, Some, None, Result, Ok, Err, refl, sym, ap, subst, ◌∙◌}
-use Rattle.std.specs.Prelude.{if◌then◌else◌, option_map, option_and_then}
+use Rattle.std.proofs.Common.{◌≡◌, ℕ, List, [], ◌∷◌, Option, Some, None, Result, Ok, Err, refl, sym, ap, subst, ◌∙◌}
+use Rattle.std.specs.Prelude.{option_map, option_and_then}
 use Rattle.smp_io.specs.Sink.{with_bytes}
 use Rattle.smp_io.specs.Store.{Files}
-use Rattle.smp_fractions.specs.Fractions.{Same}
 use Rattle.smp_tape.specs.TapeText.{tape_of}
 use Rattle.smp_tape.specs.Tapes.{Values}
-use Rattle.smp_split.specs.Means.{inclusion_probability}
 use Rattle.smp_split.specs.Paths.{Entry}
 use Rattle.smp_split.specs.Runs.{Outcome, leaf, stopped}
 use Rattle.smp_frame.specs.declared.frame.Unit as unit
-use Rattle.smp_frame.specs.Bounds.{sizes_of}
 use Rattle.smp_frame.specs.Frames.{frame_of}
-use Rattle.smp_prob.specs.Requested.{positive_units}
+use Rattle.smp_stages.specs.Stages.{Progress}
+use Rattle.smp_strata.specs.Misfits.{misfit_of}
+use Rattle.smp_strata.specs.declared.misfit.Misfit.{Misfit}
 use Rattle.smp_design.specs.Designs.{design_of}
 use Rattle.smp_design.specs.declared.design.Design.{Design}
 use Rattle.smp_methods.specs.declared.any.AnyState.{AnyState}
 use Rattle.smp_words.specs.declared.command.DrawArguments.{DrawArguments}
 use Rattle.smp_words.specs.declared.command.Command.TheVariants as commands
 use Rattle.smp_words.specs.Words.{command_of}
-use Rattle.smp_app.specs.declared.asked.Asked.{Asked}
 use Rattle.smp_app.specs.declared.status.Status.{Status}
-use Rattle.smp_app.specs.declared.status.Status.TheVariants as status
 use Rattle.smp_app.specs.Codes.{class_of, design_status, frame_status, tape_status}
-use Rattle.smp_app.specs.Plans.{Plan, Drawn, asked_of, row_probability, tree_of, start_of}
+use Rattle.smp_app.specs.Plans.{Plan, Drawn}
 use Rattle.smp_app.specs.Texts.{log_text, sample_text, report_text}
 use Rattle.smp_app.specs.Commands.{Held, Draws, Job, job_of, job_for, outputs_by}
-use Rattle.smp_app.specs.Verdict.{Stop, ◌>>=◌, content, or_fault, or_refused, drawn_at, drawn_of, drawn_by, design_stage, frame_stage, drawn_stage, outputs_stage}
+use Rattle.smp_app.specs.Verdict.{Stop, ◌>>=◌, content, or_fault, unless_misfit, drawn_at, drawn_of, drawn_by, design_stage, frame_stage, drawn_stage, outputs_stage}
 use Rattle.smp_app.specs.Deliveries.{Outputs, with_files}
-use Rattle.smp_app.specs.Draws.{IsDraw, KeepsBalance}
+use Rattle.smp_app.specs.Draws.{IsDraw, HasProbabilities}
 use Rattle.smp_app.specs.Answers.{Outside, Says, IsWork, Done}
 use Rattle.smp_app.specs.Headline.{IsExactDraw, Headline}
 use Rattle.smp_app.proofs.Ends.{verdict_of}
@@ -53,13 +50,9 @@ read_is : {A Fault : Type 0} (refusal : Fault → Status) (read : Result A Fault
 read_is {A} refusal (Ok y) x h = let same : ◌≡◌ {A = Result A Stop} (Ok y) (Ok x) = h in cc
 read_is refusal (Err fault) x h = absurd (cc)
 
-there_is : {A : Type 0} (refusal : Status) (held : Option A) (x : A) → or_refused refusal held ≡ Ok x → held ≡ Some x
-there_is {A} refusal (Some y) x h = let same : ◌≡◌ {A = Result A Stop} (Ok y) (Ok x) = h in cc
-there_is refusal None x h = absurd (cc)
-
-plan_is : (test : Bool) (refusal : Stop) (made plan : Plan) → ◌≡◌ {A = Result Plan Stop} (if test then Err refusal else Ok made) (Ok plan) → made ≡ plan
-plan_is true refusal made plan h = absurd (cc)
-plan_is false refusal made plan h = let same : ◌≡◌ {A = Result Plan Stop} (Ok made) (Ok plan) = h in cc
+plan_is : (plan made : Plan) (found : Option Misfit) → unless_misfit made found ≡ Ok plan → (found ≡ None) × (made ≡ plan)
+plan_is plan made None h = let same : ◌≡◌ {A = Result Plan Stop} (Ok made) (Ok plan) = h in (refl, cc)
+plan_is plan made (Some misfit) h = absurd (cc)
 
 design_read : (name : List ℕ) (fs : Files) (design : Design) → design_stage (Held name) fs ≡ Ok design → option_map design_of (fs name) ≡ Some (Ok design)
 unfolding design_stage
@@ -69,25 +62,23 @@ design_read name fs design h =
 
 -- what was read for a plan
 record Planned (design : Design) (frame : List ℕ) (fs : Files) (plan : Plan) : Type 0 where
-  asked : Asked
-  asks : asked_of design ≡ Some asked
   units : List unit.Unit
   read : option_map (frame_of design.columns) (fs frame) ≡ Some (Ok units)
-  is : record { procedure = asked.procedure; units = units; n = asked.n } ≡ plan
+  served : misfit_of design units ≡ None
+  is : record { design = design; units = units } ≡ plan
 
 planned : (design : Design) (frame : List ℕ) (fs : Files) (plan : Plan) → frame_stage design frame fs ≡ Ok plan → Planned design frame fs plan
 unfolding frame_stage
 planned design frame fs plan h =
-    let asked = step (or_refused status.NotYet (asked_of design)) _ plan h in
-    let bytes = step (content frame (fs frame)) _ plan asked.then_is in
+    let bytes = step (content frame (fs frame)) _ plan h in
     let units = step (or_fault frame_status (frame_of design.columns bytes.value)) _ plan bytes.then_is in
+    let made = plan_is plan (record { design = design; units = units.value }) (misfit_of design units.value) units.then_is in
     record {
-      asked = asked.value;
-      asks = there_is status.NotYet (asked_of design) asked.value asked.first_is;
       units = units.value;
       read = ap (option_map (frame_of design.columns)) (content_is (fs frame) frame bytes.value bytes.first_is)
           ∙ ap Some (read_is frame_status (frame_of design.columns bytes.value) units.value units.first_is);
-      is = plan_is (nat_lt (positive_units (sizes_of units.value)) asked.value.n) _ _ plan units.then_is;
+      served = made.0;
+      is = made.1;
     }
 
 -- what was read of a tape
@@ -108,14 +99,14 @@ taped plan tape fs drawn h =
     }
 
 -- what is drawn is drawn by the plan
-plan_at : (plan : Plan) (state : AnyState) (path : List Entry) (left : List ℕ) (drawn : Drawn) → drawn_at plan state path left ≡ Ok drawn → drawn.plan ≡ plan
+plan_at : (plan : Plan) (state : Progress AnyState) (path : List Entry) (left : List ℕ) (drawn : Drawn) → drawn_at plan state path left ≡ Ok drawn → drawn.plan ≡ plan
 plan_at plan state path [] drawn h =
     let same : ◌≡◌ {A = Result Drawn Stop} (Ok (record { plan = plan; leaf = state; path = path })) (Ok drawn) = h in
     let is : record { plan = plan; leaf = state; path = path } ≡ drawn = cc in
     ap (λ (d : Drawn). d.plan) (sym is)
 plan_at plan state path (value ∷ left) drawn h = absurd (cc)
 
-plan_same : (plan : Plan) (outcome : Outcome AnyState Values) (drawn : Drawn) → drawn_of plan outcome ≡ Ok drawn → drawn.plan ≡ plan
+plan_same : (plan : Plan) (outcome : Outcome (Progress AnyState) Values) (drawn : Drawn) → drawn_of plan outcome ≡ Ok drawn → drawn.plan ≡ plan
 plan_same plan (leaf state path end) drawn h = plan_at plan state path end.left drawn h
 plan_same plan (stopped state path fault end) drawn h = absurd (cc)
 
@@ -147,10 +138,9 @@ module _ (a : DrawArguments) (fs : Files) (before now : Outside) (words : List (
       record {
         design = design.value;
         design_read = design_read a.design fs design.value design.first_is;
-        asked = framed.asked;
-        asks = framed.asks;
         units = framed.units;
         frame_read = framed.read;
+        served = framed.served;
         values = tape.values;
         tape_read = tape.read;
         drawn = drawn;
@@ -158,11 +148,10 @@ module _ (a : DrawArguments) (fs : Files) (before now : Outside) (words : List (
         is_drawn = subst (λ (p : Plan). drawn_by p tape.values ≡ Ok drawn) (sym same) tape.is;
         written = work.files ∙ ap (λ (o : Outputs). Some (with_files o.files fs)) (sym outputs_are);
         put = work.written ∙ ap (λ (o : Outputs). with_bytes o.put before.written) (sym outputs_are);
-        number = exact.by_plan.number ∙ ap (λ (p : Plan). p.n) (sym framed.is);
-        probability = λ row within.
-            let here : row < length plan.units = subst (λ (p : Plan). row < length p.units) framed.is within in
-            subst (λ (p : Plan). Same (inclusion_probability (tree_of p) (start_of p) row) (row_probability p row)) (sym same) (exact.by_plan.probability row here);
-        balance = subst (λ (p : Plan). KeepsBalance p.procedure drawn) (sym framed.is) exact.by_plan.balance;
+        firsts = exact.by_plan.firsts;
+        seconds = exact.by_plan.seconds;
+        probabilities = subst HasProbabilities (sym exact.by_plan.plan_is) exact.by_plan.probabilities;
+        balance = exact.by_plan.balance;
       }
     where
       ok_is : (x y : Outputs) → ◌≡◌ {A = Result Outputs Stop} (Ok x) (Ok y) → x ≡ y

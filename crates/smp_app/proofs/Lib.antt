@@ -1,3 +1,4 @@
+pub mod Designs
 pub mod Deliveries
 pub mod Ends
 pub mod Headline

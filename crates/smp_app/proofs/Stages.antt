@@ -1,5 +1,5 @@
 -- One stage of a job's work after another.
-use Rattle.std.proofs.Common.{◌≡◌, ℕ, suc, zero, Bool, true, false, not, ◌||◌, List, [], ◌∷◌, ◌++◌, map, Result, Ok, Err, IfErr, refl, sym, ap, subst, ◌∙◌, inl, inr, arith, true≢false}
+use Rattle.std.proofs.Common.{◌≡◌, ℕ, suc, zero, Bool, true, false, not, ◌||◌, List, [], ◌∷◌, ◌++◌, map, Some, Result, Ok, Err, IfErr, refl, sym, ap, subst, ◌∙◌, inl, inr, arith, true≢false}
 use Rattle.std.specs.Prelude.{Contains}
 use Rattle.std.specs.List.{list_any}
 use Rattle.std.specs.Str.{bytes_eq}
@@ -9,12 +9,16 @@ use Rattle.smp_io.specs.Store.{Files}
 use Rattle.smp_design.specs.declared.design.Design.{Design}
 use Rattle.smp_words.specs.Words.{all_distinct}
 use Rattle.smp_app.specs.declared.status.Status.{Status}
-use Rattle.smp_app.specs.Plans.{Drawn}
+use Rattle.smp_frame.specs.declared.frame.Unit as unit
+use Rattle.smp_frame.specs.Frames.{frame_of}
+use Rattle.smp_strata.specs.declared.misfit.Misfit.{Misfit}
+use Rattle.smp_strata.specs.declared.misfit.Misfit.TheVariants as misfits
+use Rattle.smp_app.specs.Plans.{Plan, Drawn}
 use Rattle.smp_app.specs.Commands.{DesignSource, Held, Given, DrawnFile, Job, design_names, plan_inputs, written_by}
 use Rattle.smp_app.specs.Deliveries.{names_of}
-use Rattle.smp_app.specs.Verdict.{Stop, ◌>>=◌, without, design_stage, frame_stage, plan_stage}
-use Rattle.smp_app.specs.Codes.{Class, IsDone, IsUsage, IsRefusal, IsReadFault, IsWriteFault, IsNoMemory, class_of}
-use Rattle.smp_app.specs.Stages.{Told, IsErrorOf, IsCaused, ReadCause, Reads}
+use Rattle.smp_app.specs.Verdict.{Stop, ◌>>=◌, without, content_of, design_stage, frame_stage, plan_of, plan_stage}
+use Rattle.smp_app.specs.Codes.{Class, IsDone, IsUsage, IsRefusal, IsReadFault, IsWriteFault, IsNoMemory, class_of, misfit_status}
+use Rattle.smp_app.specs.Stages.{Told, GivesPlan, IsErrorOf, IsOfInputs, IsCaused, ReadCause, Reads}
 use Rattle.smp_app.proofs.Deliveries.{rose_since}
 
 -- ---- names in a list
@@ -154,3 +158,43 @@ module _ {A B : Type 0} (inputs others : List (List ℕ)) (stage : Files → Res
 pub names_written : (drawn : Drawn) (files : List DrawnFile) → names_of (map (written_by drawn) files) ≡ map (λ file. file.name) files
 names_written drawn [] = refl
 names_written drawn (file ∷ files) = ap (λ names. file.name ∷ names) (names_written drawn files)
+
+-- ---- a frame and its plan
+
+-- what was read of a frame leads to its plan
+module _ (design : Design) (frame bytes : List ℕ) (units : List unit.Unit) (before now : Told) (read : Reads (frame ∷ []) (content_of frame) (Ok bytes) before now) (framed : frame_of design.columns bytes ≡ Ok units) where
+  staged : (fs : Files) → before.files ≡ Some fs → frame_stage design frame fs ≡ plan_of design units
+  unfolding frame_stage
+  staged fs told = rw (read.follows fs told, framed) refl
+
+  pub plan_read : (plan : Plan) → plan_of design units ≡ Ok plan → Reads (frame ∷ []) (frame_stage design frame) (Ok plan) before now
+  plan_read plan is = record {
+    follows = λ fs told. staged fs told ∙ is;
+    kinds = tt;
+    cause = tt;
+    same = read.same;
+    reads = read.reads;
+    writes = read.writes;
+  }
+
+  abbrev pub refusal_of : Misfit → Result Plan Status
+  refusal_of misfit = Err (misfit_status misfit)
+
+  refused_so : (misfit : Misfit) (class : Class) → class_of (misfit_status misfit) ≡ class → IsOfInputs class (misfit_status misfit) → ((fs : Files) → before.files ≡ Some fs → IsErrorOf class (misfit_status misfit) (frame_stage design frame fs)) → IsCaused class (ReadCause (frame ∷ []) (frame_stage design frame) before now)
+      → Reads (frame ∷ []) (frame_stage design frame) (refusal_of misfit) before now
+  refused_so misfit class is kind follows cause = record {
+    follows = λ fs told. rw is (follows fs told);
+    kinds = rw is kind;
+    cause = rw is cause;
+    same = read.same;
+    reads = read.reads;
+    writes = read.writes;
+  }
+
+  pub misfit_read : (misfit : Misfit) → GivesPlan (Err misfit) (plan_of design units) → Reads (frame ∷ []) (frame_stage design frame) (refusal_of misfit) before now
+  misfit_read misfits.NoMemory gives = refused_so misfits.NoMemory IsNoMemory refl tt (λ fs told. tt) tt
+  misfit_read (misfits.UnitInTwo psu) gives = refused_so (misfits.UnitInTwo psu) IsRefusal refl refl (λ fs told. staged fs told ∙ gives) tt
+  misfit_read (misfits.PsuTooLarge psu) gives = refused_so (misfits.PsuTooLarge psu) IsRefusal refl refl (λ fs told. staged fs told ∙ gives) tt
+  misfit_read (misfits.NoSize stratum) gives = refused_so (misfits.NoSize stratum) IsRefusal refl refl (λ fs told. staged fs told ∙ gives) tt
+  misfit_read (misfits.TooMany stratum n positive) gives = refused_so (misfits.TooMany stratum n positive) IsRefusal refl refl (λ fs told. staged fs told ∙ gives) tt
+  misfit_read (misfits.SecondTooMany psu n positive) gives = refused_so (misfits.SecondTooMany psu n positive) IsRefusal refl refl (λ fs told. staged fs told ∙ gives) tt

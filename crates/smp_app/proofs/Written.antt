@@ -1,9 +1,10 @@
 -- Texts that are written row by row.
-use Rattle.std.proofs.Common.{◌≡◌, ℕ, ◌+◌, ◌*◌, ◌<◌, ◌≤◌, max, suc, zero, Bool, true, List, [], ◌∷◌, ◌++◌, length, get_or, drop, Option, Some, Result, Ok, Err, IfOk, arith, refl, sym, ap, subst, ◌∙◌, inl, inr, drop-cons, mul-pos, true≢false}
+use Rattle.std.proofs.Common.{◌≡◌, ℕ, ◌+◌, ◌*◌, ◌<◌, ◌≤◌, suc, zero, Bool, true, ℤ, pos, negsuc, ◌*ℤ◌, List, [], ◌∷◌, ◌++◌, length, get_or, drop, Option, Some, Result, Ok, Err, IfOk, arith, sym, ap, subst, ◌∙◌, inl, inr, drop-cons, true≢false}
 use Rattle.std.specs.List.{filter, flat_map, range_with_len}
-use Rattle.std.specs.Prelude.{slice_index, option_map}
+use Rattle.std.specs.Prelude.{option_map}
 use Rattle.std.proofs.lemmas.Bool.{cases_Bool}
 use Rattle.std.proofs.lemmas.Int.{ints}
+use Rattle.std.proofs.lemmas.List.FromFn.{length-range_with_len}
 use Rattle.std.proofs.lemmas.List.{append-nil, drop_all, get_or-map, length-map}
 use Rattle.smp_fractions.specs.Fractions.{Same, inverse}
 use Rattle.smp_fractions.proofs.Fractions.{same_trans, numerator_positive, inverse_same}
@@ -11,19 +12,20 @@ use Rattle.smp_frac.specs.declared.fractions.Frac.{Frac}
 use Rattle.smp_frac.specs.Fractions.{fraction, fraction_text}
 use Rattle.smp_frac.proofs.Texts.{fraction_text-same}
 use Rattle.smp_frame.specs.declared.frame.Unit as unit
-use Rattle.smp_prob.specs.declared.requests.Request.{Request}
-use Rattle.smp_prob.specs.declared.standings.Standing.{Standing}
-use Rattle.smp_prob.specs.declared.standings.Standing.TheVariants.{Certain, Free, Never}
-use Rattle.smp_prob.specs.Requests.{IsRequest}
-use Rattle.smp_prob.specs.Standings.{standing, is_taken, fraction_at, asked_fraction}
-use Rattle.smp_methods.specs.Designs.{method_of}
-use Rattle.smp_rows.specs.Laws.Rows.{free_within}
+use Rattle.smp_strata.specs.Plans.{Parts}
+use Rattle.smp_strata.specs.Seats.{IsSeat, seat_fraction}
+use Rattle.smp_strata.specs.declared.strata.Seat.{Seat}
+use Rattle.smp_twostage.specs.Selections as selections
+use Rattle.smp_twostage.specs.Selections.{place_of, whole_tree}
+use Rattle.smp_twostage.specs.Starts.{is_positive, row_fraction}
+use Rattle.smp_twostage.specs.Laws.Places.{place_is_seat}
+use Rattle.smp_twostage.proofs.Positive.{selected_positive}
 use Rattle.smp_weights.specs.Rows.{AddsRow, row}
 use Rattle.smp_weights.specs.Sample.{sample_row}
 use Rattle.smp_weights.proofs.Written.{row_added}
 use Rattle.smp_app.specs.declared.plan.FramePlan.{FramePlan}
 use Rattle.smp_app.specs.declared.selection.Selection.{Selection}
-use Rattle.smp_app.specs.Plans.{Plan, row_id, row_probability, design_of_plan, tree_of, drawn_rows}
+use Rattle.smp_app.specs.Plans.{Plan, parts, row_id, row_probability, tree_of, drawn_rows}
 use Rattle.smp_app.specs.Stages.{IsPlanned, IsSelection, plan_view, selection_view}
 
 -- the row of one more element
@@ -80,9 +82,18 @@ module _ (plan : Plan) (r : ℕ) (u : unit.Unit) (within : r < length plan.units
   pub id_is : u.id ≡ row_id plan r
   id_is = sym (get_or-map (λ (v : unit.Unit). v.id) plan.units r u [] within ∙ ap (λ (v : unit.Unit). v.id) (sym is))
 
-module _ (plan : FramePlan) (planned : IsPlanned plan) (r : ℕ) (within : r < length plan.frame) (f : Frac) (asked : Same (fraction f) (asked_fraction plan.request r)) where
+module _ (plan : FramePlan) (planned : IsPlanned plan) (r : ℕ) (within : r < length plan.frame) (f : Frac) (asked : (seat : Seat) → IsSeat plan.plan.strata r seat → Same (fraction f) (seat_fraction plan.plan.strata seat)) where
+  inside : r < plan.plan.rows
+  inside = omega (arith, within, ap (λ (p : Parts). p.rows) planned.parts_are)
+
+  place_there : IsSeat plan.plan.strata r (place_of plan.plan.strata r)
+  place_there = let seated = planned.drawable.sound.seated.seats r inside in place_is_seat plan.plan.strata r seated.seat seated.is
+
+  pub asked_by_plan : Same (fraction f) (row_fraction plan.plan r)
+  asked_by_plan = asked (place_of plan.plan.strata r) place_there
+
   probability_is : Same (fraction f) (row_probability (plan_view plan) r)
-  probability_is = same_trans asked (planned.asked r (omega (arith, length-map plan.frame (λ u. u.size), within)))
+  probability_is = same_trans asked_by_plan (planned.asked r (place_of plan.plan.strata r) within place_there)
 
   pub probability_text : fraction_text (fraction f) ≡ fraction_text (row_probability (plan_view plan) r)
   probability_text = fraction_text-same (fraction f) (row_probability (plan_view plan) r) probability_is
@@ -95,20 +106,17 @@ module _ (plan : FramePlan) (planned : IsPlanned plan) (r : ℕ) (within : r < l
       (fraction_text-same (inverse (fraction f)) (inverse (row_probability (plan_view plan) r))
       (inverse_same (fraction f) (row_probability (plan_view plan) r) (λ none. omega (arith, ints, some, none)) probability_is))
 
--- ---- a drawn row has a positive probability
+  -- ---- a drawn row has a positive probability
 
-module _ (request : Request) (is : IsRequest request) (chosen : ℕ → Bool) (f : Frac) where
-  positive_at : (stands : Standing) → ((unit : ℕ) → stands ≡ Free unit → unit < length request.free) → is_taken chosen stands ≡ true → Same (fraction f) (fraction_at request stands) → 1 ≤ f.num
-  positive_at Certain within taken same = omega (arith, ints, same.cross, f.positive)
-  positive_at (Free unit) within taken same =
-      let here : unit < length request.free = within unit refl in
-      let some : 1 ≤ slice_index request.shape unit * request.r = mul-pos (is.positive unit (omega (arith, here, is.paired))) (is.drawn (omega (arith, here))) in
-      let crossed : slice_index request.shape unit * request.r * f.den ≡ f.num * max 1 request.total = omega (arith, ints, same.cross) in
-      numerator_positive _ f.den f.num _ some f.positive crossed
-  positive_at Never within taken same = absurd (true≢false (sym taken))
+  num_positive : (z : ℤ) (d : ℕ) → is_positive z ≡ true → pos f.num *ℤ pos d ≡ z *ℤ pos f.den → 1 ≤ f.num
+  num_positive (pos zero) d some cross = absurd (true≢false (sym some))
+  num_positive (pos (suc n)) d some cross =
+      let crossed : suc n * f.den ≡ f.num * d = omega (arith, ints, cross) in
+      numerator_positive (suc n) f.den f.num d (omega arith) f.positive crossed
+  num_positive (negsuc n) d some cross = absurd (true≢false (sym some))
 
-  drawn_positive : (r : ℕ) → is_taken chosen (standing request r) ≡ true → Same (fraction f) (asked_fraction request r) → 1 ≤ f.num
-  drawn_positive r = positive_at (standing request r) (free_within request r)
+  pub positive : is_positive (row_fraction plan.plan r).num ≡ true → 1 ≤ f.num
+  positive some = num_positive (row_fraction plan.plan r).num (row_fraction plan.plan r).den some asked_by_plan.cross
 
 module _ (plan : FramePlan) (selection : Selection) (is : IsSelection (plan_view plan) selection) (i : ℕ) (within : i < length selection.rows.items) where
   abbrev pub drawn_row : ℕ
@@ -116,20 +124,20 @@ module _ (plan : FramePlan) (selection : Selection) (is : IsSelection (plan_view
 
   there : (drawn_row < length plan.frame) × ((tree_of (plan_view plan)).selected selection.state drawn_row ≡ true)
   there =
-      let passed = passing ((tree_of (plan_view plan)).selected selection.state) 0 0 (length plan.frame) i (rw is.rows at within) in
+      let passed = passing ((tree_of (plan_view plan)).selected selection.state) 0 0 (length (selections.seats_of (parts (plan_view plan)))) i (rw is.rows at within) in
       let found : get_or (drawn_rows (selection_view (plan_view plan) selection)) i 0 ≡ drawn_row = ap (λ (items : List ℕ). get_or items i 0) (sym is.rows) in
       subst (λ k. (k < length plan.frame) × ((tree_of (plan_view plan)).selected selection.state k ≡ true)) found
-      (omega (arith, passed.0), passed.1)
-
-  pub drawn_there : (tree_of (plan_view plan)).selected selection.state drawn_row ≡ true
-  drawn_there = there.1
+      (omega (arith, passed.0, all_seats), passed.1)
+    where
+      all_seats : length (selections.seats_of (parts (plan_view plan))) ≡ length plan.frame
+      all_seats = length-map (range_with_len 0 (length plan.frame)) _ ∙ length-range_with_len 0 (length plan.frame)
 
   -- a drawn row is one of the frame, and has a positive probability
   pub drawn_below : drawn_row < length plan.frame
   drawn_below = there.0
 
-  pub drawn_asked : IsPlanned plan → (f : Frac) → Same (fraction f) (asked_fraction plan.request drawn_row) → 1 ≤ f.num
+  pub drawn_asked : (planned : IsPlanned plan) (f : Frac) → ((seat : Seat) → IsSeat plan.plan.strata drawn_row seat → Same (fraction f) (seat_fraction plan.plan.strata seat)) → 1 ≤ f.num
   drawn_asked planned f asked =
-      let chosen : ℕ → Bool = (method_of (design_of_plan (plan_view plan))).tree.selected selection.state in
-      let taken : is_taken chosen (standing plan.request drawn_row) ≡ true = subst (λ (r : Request). is_taken chosen (standing r drawn_row) ≡ true) (sym planned.request_is) there.1 in
-      drawn_positive plan.request planned.is_request chosen f drawn_row taken asked
+      positive plan planned drawn_row drawn_below f asked
+      (selected_positive plan.plan planned.drawable selection.state drawn_row (inside plan planned drawn_row drawn_below f asked)
+      (subst (λ (p : Parts). (whole_tree p).selected selection.state drawn_row ≡ true) (sym planned.parts_are) there.1))

@@ -6,8 +6,8 @@ use Rattle.smp_frame.specs.declared.fault.FrameFault.{FrameFault}
 use Rattle.smp_frame.specs.declared.fault.FrameFault.TheVariants as frame_fault
 use Rattle.smp_tape.specs.declared.fault.TapeFault.{TapeFault}
 use Rattle.smp_tape.specs.declared.fault.TapeFault.TheVariants as tape_fault
-use Rattle.smp_app.specs.declared.misfit.Misfit.{Misfit}
-use Rattle.smp_app.specs.declared.misfit.Misfit.TheVariants as misfits
+use Rattle.smp_strata.specs.declared.misfit.Misfit.{Misfit}
+use Rattle.smp_strata.specs.declared.misfit.Misfit.TheVariants as misfits
 use Rattle.smp_app.specs.declared.status.Status.{Status}
 use Rattle.smp_app.specs.declared.status.Status.TheVariants as status
 

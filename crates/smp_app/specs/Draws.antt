@@ -1,46 +1,106 @@
 -- What holds of what a job draws.
-use Rattle.std.specs.Prelude.{◌≡◌, ℕ, ◌<◌, true, List, length, Ok}
+use Rattle.std.specs.Prelude.{◌≡◌, ℕ, ◌<◌, true, List, ℤ, length, Some, Ok}
+use Rattle.std.specs.List.{count_by, range_with_len, slice_get}
 use Rattle.smp_io.specs.Store.{Files}
-use Rattle.smp_fractions.specs.Fractions.{Same}
-use Rattle.smp_split.specs.Means.{inclusion_probability}
-use Rattle.smp_split.specs.Paths.{Leads}
-use Rattle.smp_landing.specs.Cube.{Balancing}
-use Rattle.smp_balance.specs.Strata as strata
+use Rattle.smp_fractions.specs.Fractions.{Fraction, Same, integer, sum_below}
+use Rattle.smp_split.specs.Means.{mean, inclusion_probability}
 use Rattle.smp_balance.specs.Balances.{IsBalanced}
 use Rattle.smp_balance.specs.Reports.{TellsColumn}
-use Rattle.smp_methods.specs.declared.procedure.Procedure.{Procedure}
-use Rattle.smp_methods.specs.declared.procedure.Procedure.TheVariants as procedure
-use Rattle.smp_methods.specs.declared.any.AnyState.TheVariants as states
-use Rattle.smp_app.specs.Plans.{Plan, row_probability, stratum_of, tree_of, start_of, Drawn, drawn_rows}
+use Rattle.smp_design.specs.declared.design.Second as second
+use Rattle.smp_design.specs.declared.method.Method.TheVariants.{Cube}
+use Rattle.smp_strata.specs.Plans.{sample_size}
+use Rattle.smp_strata.specs.declared.strata.First as first
+use Rattle.smp_strata.specs.declared.strata.Stratum.{Stratum}
+use Rattle.smp_stages.specs.Paths.{GoesByStages}
+use Rattle.smp_twostage.specs.Cubes.{IsDrawnByCube, balancing}
+use Rattle.smp_twostage.specs.Selections.{tree_of as stage_tree, first_number, stages_of, states_of}
+use Rattle.smp_twostage.specs.Starts.{first_selected, known, second_selected, weighted}
+use Rattle.smp_app.specs.Plans.{Plan, parts, row_probability, tree_of, start_of, Drawn}
 use Rattle.smp_app.specs.Texts.{drawn_stratum}
 use Rattle.smp_app.specs.Commands.{Work, Lists, Draws, Job}
 use Rattle.smp_app.specs.Verdict.{plan_stage, drawn_stage}
 
--- What is drawn by the cube: its path leads through the cube's tree from the requested probabilities to the leaf. On it, as on every
--- path from there, each flight step keeps every balancing total in force exactly, and the landing begins only where no direction is left
--- or the next step doesn't fit; `IsBalanced` says what else holds.
-pub record IsCubeDraw (drawn : Drawn) : Type 0 where
-  pub leaf : Balancing
-  pub leaf_is : drawn.leaf ≡ states.Cube leaf
-  pub leads : Leads (strata.tree_of (stratum_of drawn.plan))
-      (strata.start_of (stratum_of drawn.plan)) drawn.path leaf
-  pub ended : (strata.tree_of (stratum_of drawn.plan)).done leaf ≡ true
-  pub balanced : IsBalanced (stratum_of drawn.plan)
+-- ---- how many are drawn
+
+-- how many of the first stage units of stratum h are drawn, and how many rows of its unit k
+abbrev pub firsts_drawn : Drawn → ℕ → Stratum → ℕ
+firsts_drawn drawn h s =
+    let selected = first_selected (parts drawn.plan) drawn.leaf.states h in
+    count_by selected (range_with_len 0 (length s.units))
+
+abbrev pub rows_drawn : Drawn → ℕ → ℕ → first.First → ℕ
+rows_drawn drawn h k u =
+    let selected = second_selected (parts drawn.plan) drawn.leaf.states h k in
+    count_by selected (range_with_len 0 (length u.rows))
+
+-- as many first stage units of each stratum are drawn as the design asks for
+abbrev pub DrawsFirsts : Drawn → Type 0
+DrawsFirsts drawn =
+    (h : ℕ) (s : Stratum) → slice_get (parts drawn.plan).strata h ≡ Some s
+    → firsts_drawn drawn h s ≡ sample_size drawn.plan.design drawn.plan.units h
+
+-- with a second stage, as many rows of each of these as it asks for
+abbrev pub DrawsSeconds : Drawn → Type 0
+DrawsSeconds drawn =
+    (h k : ℕ) (s : Stratum) (u : first.First) (asked : second.Second)
+    → slice_get (parts drawn.plan).strata h ≡ Some s → slice_get s.units k ≡ Some u
+    → drawn.plan.design.second ≡ Some asked
+    → first_selected (parts drawn.plan) drawn.leaf.states h k ≡ true
+    → rows_drawn drawn h k u ≡ asked.n
+
+-- ---- balance
+
+-- The path is made of the stages' own paths, one after another.
+abbrev pub Goes : Drawn → Type 0
+Goes drawn =
+    let plan = parts drawn.plan in
+    GoesByStages stage_tree (stages_of plan) (states_of plan) drawn.path drawn.leaf.states
+
+-- The part of the path that is drawn in stratum h leads through the cube's tree, from the requested probabilities to a leaf.
+abbrev pub IsPart : (drawn : Drawn) → Goes drawn → ℕ → Stratum → Type 0
+IsPart drawn goes h s =
+    let plan = parts drawn.plan in
+    IsDrawnByCube plan h s (goes.part (first_number plan h)) drawn.leaf.states
+
+-- What is drawn of a stratum by the cube. On its part of the path, as on every path of the cube from there, each flight step keeps every
+-- balancing total in force exactly, and the landing begins only where no direction is left or the next step doesn't fit; `IsBalanced`
+-- says what else holds.
+pub record IsCubeDraw (drawn : Drawn) (goes : Goes drawn) (h : ℕ) (s : Stratum) : Type 0 where
+  pub drawn_so : IsPart drawn goes h s
+  pub balanced : IsBalanced (balancing s)
   -- The report tells the estimates at that leaf and the known totals.
-  pub told : (column : ℕ) → TellsColumn (drawn_stratum drawn) leaf column
+  pub told : (column : ℕ) → TellsColumn (drawn_stratum drawn h s) drawn_so.leaf column
 
--- the other methods balance nothing
-abbrev pub KeepsBalance : Procedure → Drawn → Type 0
-KeepsBalance procedure.Cube drawn = IsCubeDraw drawn
-KeepsBalance other drawn = Unit {0}
+-- Where the method is the cube, each stratum is drawn so.
+pub record KeepsBalance (drawn : Drawn) : Type 0 where
+  pub goes : Goes drawn
+  pub cubes : drawn.plan.design.method ≡ Cube → (h : ℕ) (s : Stratum)
+      → slice_get (parts drawn.plan).strata h ≡ Some s → IsCubeDraw drawn goes h s
 
--- As many rows are drawn as was asked. In the draw tree each row's probability of selection, over draws that are uniform below each asked
--- bound, is exactly the requested fraction.
-pub record IsDrawnBy (plan : Plan) (drawn : Drawn) : Type 0 where
-  pub number : length (drawn_rows drawn) ≡ plan.n
+-- ---- what is drawn by a plan
+
+-- what a row counts for in the weighted total of some values: its value over its probability
+abbrev pub counted : Plan → (ℕ → ℤ) → ℕ → Fraction
+counted plan x row = weighted (row_probability plan row) (x row)
+
+-- its value, and 0 where its probability is 0
+abbrev pub to_estimate : Plan → (ℕ → ℤ) → ℕ → Fraction
+to_estimate plan x row = integer (known (row_probability plan row) (x row))
+
+-- In the draw tree each row's probability of selection, over draws that are uniform below each asked bound, is exactly the one that is
+-- asked for it; and the mean of the weighted total of any values is their sum over the rows that can be selected.
+pub record HasProbabilities (plan : Plan) : Type 0 where
   pub probability : (row : ℕ) → row < length plan.units
       → Same (inclusion_probability (tree_of plan) (start_of plan) row) (row_probability plan row)
-  pub balance : KeepsBalance plan.procedure drawn
+  pub unbiased : (x : ℕ → ℤ) → Same (mean (tree_of plan) (counted plan x) (start_of plan))
+      (sum_below (length plan.units) (to_estimate plan x))
+
+pub record IsDrawnBy (plan : Plan) (drawn : Drawn) : Type 0 where
+  pub plan_is : drawn.plan ≡ plan
+  pub firsts : DrawsFirsts drawn
+  pub seconds : DrawsSeconds drawn
+  pub probabilities : HasProbabilities plan
+  pub balance : KeepsBalance drawn
 
 -- what the tape of a name draws by the plan of a job
 pub record IsDraw (job : Job) (tape : List ℕ) (fs : Files) : Type 0 where

@@ -5,8 +5,8 @@ use Rattle.smp_design.specs.declared.fault.DesignFault.{DesignFault}
 use Rattle.smp_design.specs.declared.fault.DesignFault.TheVariants as design_fault
 use Rattle.smp_frame.specs.declared.fault.FrameFault.{FrameFault}
 use Rattle.smp_frame.specs.declared.fault.FrameFault.TheVariants as frame_fault
-use Rattle.smp_app.specs.declared.misfit.Misfit.{Misfit}
-use Rattle.smp_app.specs.declared.misfit.Misfit.TheVariants as misfits
+use Rattle.smp_strata.specs.declared.misfit.Misfit.{Misfit}
+use Rattle.smp_strata.specs.declared.misfit.Misfit.TheVariants as misfits
 use Rattle.smp_app.specs.declared.status.Status.{Status}
 use Rattle.smp_app.specs.declared.status.Status.TheVariants as status
 use Rattle.smp_app.specs.Codes.{Class, IsUsage, IsRefusal, class_of}
@@ -34,7 +34,11 @@ frame_line frame_fault.NoRows = Some (codes "error 4.10 no rows\n")
 frame_line frame_fault.NoMemory = None
 
 abbrev pub misfit_line : Misfit → Option (List ℕ)
+misfit_line (misfits.UnitInTwo psu) = Some (codes "error 5.1 first stage unit in two strata: " ++ (psu ++ codes "\n"))
+misfit_line (misfits.PsuTooLarge psu) = Some (codes "error 5.2 first stage unit too large: " ++ (psu ++ codes "\n"))
+misfit_line (misfits.NoSize stratum) = Some (codes "error 5.3 no sample size: " ++ (stratum ++ codes "\n"))
 misfit_line (misfits.TooMany stratum n positive) = Some (codes "error 5.4 " ++ (decimal n ++ (codes " asked of " ++ (decimal positive ++ (codes ": " ++ (stratum ++ codes "\n"))))))
+misfit_line (misfits.SecondTooMany psu n positive) = Some (codes "error 5.5 second stage " ++ (decimal n ++ (codes " asked of " ++ (decimal positive ++ (codes ": " ++ (psu ++ codes "\n"))))))
 misfit_line misfits.NoMemory = None
 
 abbrev pub usage_line : List ℕ

@@ -1,25 +1,22 @@
 -- What the functions of the crate owe each other: they read, and hand on a result that is a stage of the verdict.
-use Rattle.std.specs.Prelude.{◌≡◌, ◌⊎◌, ℕ, ◌≤◌, List, length, map, EachIndex, Contains, Option, Some, None, IfSome, is_some, true, Result, Ok, Err, IfErr}
+use Rattle.std.specs.Prelude.{◌≡◌, ◌⊎◌, ℕ, List, map, Contains, Option, Some, None, is_some, true, Result, Ok, Err, IfErr}
 use Rattle.smp_io.specs.Counts.{Rose, NeverFalls}
 use Rattle.smp_io.specs.Sink.{with_bytes, AppendsFront}
 use Rattle.smp_io.specs.Store.{Files}
-use Rattle.smp_fractions.specs.Fractions.{Same}
-use Rattle.smp_frame.specs.Bounds.{IsFrame, sizes_of}
-use Rattle.smp_prob.specs.Requests.{IsRequest}
-use Rattle.smp_prob.specs.Standings.{IsRising, asked_fraction}
-use Rattle.smp_values.specs.Starts.{IsWhole}
+use Rattle.smp_frame.specs.Bounds.{IsFrame}
 use Rattle.smp_split.specs.Paths.{Entry}
+use Rattle.smp_design.specs.Bounds.{IsDesign}
 use Rattle.smp_methods.specs.declared.any.AnyState.{AnyState}
-use Rattle.smp_methods.specs.declared.procedure.Procedure.{Procedure}
-use Rattle.smp_methods.specs.Procedures.{TakesValues}
-use Rattle.smp_methods.specs.Designs.{left_at, method_of}
-use Rattle.smp_frame.specs.declared.frame.Unit as unit
-use Rattle.smp_rows.specs.Rows.{rows_tree, BelongsToRows, Fills}
+use Rattle.smp_stages.specs.Stages.{Progress}
+use Rattle.smp_strata.specs.Asked.{AsksAsFrame}
+use Rattle.smp_strata.specs.Draws.{DrawsAsAsked}
+use Rattle.smp_twostage.specs.Plans.{CanBeDrawn}
+use Rattle.smp_twostage.specs.Selections.{BelongsToWhole}
 use Rattle.smp_words.specs.Words.{all_distinct}
 use Rattle.smp_app.specs.declared.status.Status.{Status}
 use Rattle.smp_app.specs.declared.status.Status.TheVariants as status
-use Rattle.smp_app.specs.declared.misfit.Misfit.{Misfit}
-use Rattle.smp_app.specs.declared.misfit.Misfit.TheVariants as misfits
+use Rattle.smp_strata.specs.declared.misfit.Misfit.{Misfit}
+use Rattle.smp_strata.specs.declared.misfit.Misfit.TheVariants as misfits
 use Rattle.smp_app.specs.declared.plan.FramePlan.{FramePlan}
 use Rattle.smp_app.specs.declared.selection.Walked.{Walked}
 use Rattle.smp_app.specs.declared.selection.Selection.{Selection}
@@ -35,7 +32,7 @@ use Rattle.smp_app.specs.declared.job.Work.TheVariants as works
 use Rattle.smp_app.specs.declared.job.Job as code_job
 use Rattle.smp_app.specs.Codes.{Class, IsDone, IsUsage, IsRefusal, IsReadFault, IsWriteFault, IsNoMemory, class_of}
 use Rattle.smp_app.specs.FaultLines.{fault_line}
-use Rattle.smp_app.specs.Plans.{Plan, quick_design, request_of, row_probability, values_of_units, design_of_plan, tree_of, Drawn, drawn_rows}
+use Rattle.smp_app.specs.Plans.{Plan, parts, quick_design, tree_of, Drawn, drawn_rows}
 use Rattle.smp_app.specs.Texts.{ids_text, log_text, sample_text, report_text, probabilities_text, accepted_text}
 use Rattle.smp_app.specs.Commands.{DesignSource, Held, Given, DrawnFile, Work, Lists, Draws, Job, inputs_of}
 use Rattle.smp_app.specs.Verdict.{Stop, Refused, Missing, without}
@@ -45,9 +42,9 @@ use Rattle.smp_app.specs.Answers.{Outside, Untouched, RefusesBy, Done, ReadFault
 -- ---- values of the code as the definitions see them
 
 abbrev pub plan_view : FramePlan → Plan
-plan_view plan = record { procedure = plan.procedure; units = plan.frame; n = plan.n }
+plan_view plan = record { design = plan.design; units = plan.frame }
 
-abbrev pub walked_view : Plan → AnyState → List Entry → Drawn
+abbrev pub walked_view : Plan → Progress AnyState → List Entry → Drawn
 walked_view plan state lines = record { plan = plan; leaf = state; path = lines }
 
 abbrev pub selection_view : Plan → Selection → Drawn
@@ -158,49 +155,40 @@ GivesPlan (Ok plan) stage = stage ≡ Ok plan
 GivesPlan (Err misfits.NoMemory) stage = Unit {0}
 GivesPlan (Err misfit) stage = stage ≡ Err (Refused (status.Misfit misfit))
 
--- the units of a frame have the values that a procedure needs
-abbrev pub TakesUnits : Procedure → List unit.Unit → Type 0
-TakesUnits procedure units = TakesValues procedure (values_of_units units)
-
--- the request of a plan is that of its sizes
+-- the plan is that of a design and a frame that serves it
 pub record IsPlanned (plan : FramePlan) : Type 0 where
   pub frame : IsFrame plan.frame
-  pub request_is : plan.request ≡ request_of (plan_view plan)
-  pub is_request : IsRequest plan.request
-  pub whole : IsWhole plan.request
-  pub ordered : IsRising plan.request
-  pub asked : EachIndex (sizes_of plan.frame)
-      (λ row. Same (asked_fraction plan.request row) (row_probability (plan_view plan) row))
-  pub fills : Fills plan.request (length (sizes_of plan.frame)) plan.n
-  pub values : TakesUnits plan.procedure plan.frame
+  pub parts_are : plan.plan ≡ parts (plan_view plan)
+  pub drawable : CanBeDrawn plan.plan
+  pub asked : AsksAsFrame plan.design plan.frame plan.plan
+  pub draws : DrawsAsAsked plan.design plan.frame plan.plan
 
--- where a walk came to a leaf: a done state of the plan's design over the rows, and the path to it
+-- where a walk came to a leaf: a done state of the whole selection by the plan, and the path to it
 pub record IsWalked (plan : Plan) (walked : Walked) (lines : List Entry) : Type 0 where
-  pub design : walked.design.design ≡ design_of_plan plan
-  pub tree : rows_tree walked.design.rows walked.design.request.now (method_of walked.design.design).tree
-      ≡ tree_of plan
-  pub belongs : BelongsToRows walked.design.request.now (method_of walked.design.design).tree
-      (method_of walked.design.design).belongs walked.state
+  pub whole : walked.whole ≡ parts plan
+  pub belongs : BelongsToWhole walked.whole walked.state
   pub done : (tree_of plan).done walked.state ≡ true
   pub drawn : IsDrawnBy plan (walked_view plan walked.state lines)
 
 -- what is drawn by a plan: the rows of such a state
 pub record IsSelection (plan : Plan) (selection : Selection) : Type 0 where
+  pub whole : selection.whole ≡ parts plan
+  pub belongs : BelongsToWhole selection.whole selection.state
+  pub done : (tree_of plan).done selection.state ≡ true
   pub rows : selection.rows.items ≡ drawn_rows (selection_view plan selection)
-  pub left : selection.left ≡ left_at (design_of_plan plan) selection.state
   pub drawn : IsDrawnBy plan (selection_view plan selection)
 
 -- ---- jobs
 
--- a design that stands with the command has units to draw
-abbrev pub HasUnits : DesignSource → Type 0
-HasUnits (Held name) = Unit {0}
-HasUnits (Given design) = IfSome design.n (λ n. 1 ≤ n)
+-- a design that stands with the command is in its ranges
+abbrev pub IsInRanges : DesignSource → Type 0
+IsInRanges (Held name) = Unit {0}
+IsInRanges (Given design) = IsDesign design
 
 -- what the words of a command are sure to have: the inputs have different names
 pub record IsJob (job : Job) : Type 0 where
   pub distinct : all_distinct (inputs_of job) ≡ true
-  pub units : HasUnits job.design
+  pub design : IsInRanges job.design
 
 -- ---- the work before the line of a refusal
 

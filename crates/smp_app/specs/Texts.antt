@@ -1,6 +1,6 @@
 -- The texts that are written and put.
-use Rattle.std.specs.Prelude.{ℕ, List, [], ◌∷◌, ◌++◌, length, map, codes}
-use Rattle.std.specs.List.{flat_map, range_with_len}
+use Rattle.std.specs.Prelude.{ℕ, ◌+◌, List, [], ◌∷◌, ◌++◌, length, map, Option, Some, None, codes}
+use Rattle.std.specs.List.{filter, flat_map, range_with_len, slice_get}
 use Rattle.std.specs.Fmt.{decimal}
 use Rattle.smp_fractions.specs.Fractions.{Fraction}
 use Rattle.smp_frac.specs.Fractions.{fraction_text}
@@ -8,13 +8,15 @@ use Rattle.smp_split.specs.Paths.{Entry}
 use Rattle.smp_split.specs.Kinds.{kind_word}
 use Rattle.smp_weights.specs.Rows.{row}
 use Rattle.smp_weights.specs.Sample.{sample_file}
-use Rattle.smp_methods.specs.declared.procedure.Procedure.{Procedure}
-use Rattle.smp_methods.specs.declared.procedure.Procedure.TheVariants as procedure
-use Rattle.smp_methods.specs.Designs.{left_at}
+use Rattle.smp_design.specs.declared.method.Method.{Method}
+use Rattle.smp_design.specs.declared.method.Method.TheVariants.{Cube}
 use Rattle.smp_balance.specs.Lines as balance
 use Rattle.smp_balance.specs.Lines.{balance_lines}
 use Rattle.smp_balance.specs.Strata.{column_count}
-use Rattle.smp_app.specs.Plans.{Plan, row_id, row_probability, stratum_of, design_of_plan, Drawn, drawn_rows}
+use Rattle.smp_strata.specs.declared.strata.Stratum.{Stratum}
+use Rattle.smp_twostage.specs.Cubes.{balancing}
+use Rattle.smp_twostage.specs.Starts.{first_selected, left_in}
+use Rattle.smp_app.specs.Plans.{Plan, parts, row_id, row_probability, Drawn, drawn_rows}
 
 -- ---- texts of a plan
 
@@ -28,10 +30,11 @@ probabilities_text plan =
     row (codes "id" ∷ codes "probability" ∷ [])
     ++ flat_map (probability_row plan) (range_with_len 0 (length plan.units))
 
--- what is said of a plan: its units, and their strata, of which there is one
+-- what is said of a plan: its units, and in how many strata they are
 abbrev pub accepted_text : Plan → List ℕ
 accepted_text plan =
-    codes "accepted " ++ (decimal (length plan.units) ++ codes " units in 1 strata\n")
+    codes "accepted " ++ (decimal (length plan.units)
+    ++ (codes " units in " ++ (decimal (length (parts plan).strata) ++ codes " strata\n")))
 
 -- ---- texts of what is drawn
 
@@ -67,19 +70,27 @@ summary_text drawn =
     ++ (codes " of " ++ (decimal (length drawn.plan.units)
     ++ (codes "\nsteps " ++ (decimal (length drawn.path) ++ codes "\n")))))
 
--- and where they were drawn by the cube, what it kept and gave up in the one stratum
-abbrev pub drawn_stratum : Drawn → balance.Drawn
-drawn_stratum drawn = record {
-  number = 1;
-  left = left_at (design_of_plan drawn.plan) drawn.leaf;
-  columns = column_count (stratum_of drawn.plan);
-  stratum = stratum_of drawn.plan;
-  units = drawn_rows drawn;
+-- and where they were drawn by the cube, what it kept and gave up in each stratum
+abbrev pub drawn_stratum : Drawn → ℕ → Stratum → balance.Drawn
+drawn_stratum drawn h s = record {
+  number = h + 1;
+  left = left_in (parts drawn.plan) drawn.leaf.states h;
+  columns = column_count (balancing s);
+  stratum = balancing s;
+  units = filter (first_selected (parts drawn.plan) drawn.leaf.states h) (range_with_len 0 (length s.units));
 }
 
-abbrev pub cube_lines : Procedure → Drawn → List ℕ
-cube_lines procedure.Cube drawn = balance_lines (drawn_stratum drawn)
+abbrev pub lines_at : Drawn → ℕ → Option Stratum → List ℕ
+lines_at drawn h (Some s) = balance_lines (drawn_stratum drawn h s)
+lines_at drawn h None = []
+
+abbrev pub stratum_lines : Drawn → ℕ → List ℕ
+stratum_lines drawn h = lines_at drawn h (slice_get (parts drawn.plan).strata h)
+
+abbrev pub cube_lines : Method → Drawn → List ℕ
+cube_lines Cube drawn =
+    flat_map (stratum_lines drawn) (range_with_len 0 (length (parts drawn.plan).strata))
 cube_lines other drawn = []
 
 abbrev pub report_text : Drawn → List ℕ
-report_text drawn = summary_text drawn ++ cube_lines drawn.plan.procedure drawn
+report_text drawn = summary_text drawn ++ cube_lines drawn.plan.design.method drawn

@@ -1,5 +1,5 @@
 -- What a call is to answer, by its words and the files: the first refusal in the order of work, or what it is to write and put.
-use Rattle.std.specs.Prelude.{ℕ, List, [], ◌∷◌, length, nat_lt, Option, Some, None, Result, Ok, Err, if◌then◌else◌}
+use Rattle.std.specs.Prelude.{ℕ, List, [], ◌∷◌, length, Option, Some, None, Result, Ok, Err, if◌then◌else◌}
 use Rattle.std.specs.Str.{bytes_eq}
 use Rattle.smp_io.specs.Store.{Files}
 use Rattle.smp_tape.specs.TapeText.{tape_of}
@@ -11,20 +11,20 @@ use Rattle.smp_split.specs.Trees.{weight_sum}
 use Rattle.smp_split.specs.Paths.{Entry}
 use Rattle.smp_split.specs.Runs.{Outcome, run, leaf, stopped}
 use Rattle.smp_frame.specs.Frames.{frame_of}
-use Rattle.smp_frame.specs.Bounds.{sizes_of}
 use Rattle.smp_frame.specs.declared.frame.Unit as unit
 use Rattle.smp_design.specs.Designs.{design_of}
 use Rattle.smp_design.specs.declared.design.Design.{Design}
-use Rattle.smp_prob.specs.Requested.{positive_units}
 use Rattle.smp_methods.specs.declared.any.AnyState.{AnyState}
 use Rattle.smp_words.specs.Words.{command_of}
-use Rattle.smp_app.specs.declared.asked.Asked.{Asked}
-use Rattle.smp_app.specs.declared.misfit.Misfit.TheVariants.{TooMany}
+use Rattle.smp_stages.specs.Stages.{Progress}
+use Rattle.smp_strata.specs.Misfits.{misfit_of}
+use Rattle.smp_strata.specs.declared.misfit.Misfit.{Misfit}
 use Rattle.smp_app.specs.declared.status.Status.{Status}
-use Rattle.smp_app.specs.declared.status.Status.TheVariants.{Usage, Misfit, TapeShort, TapeValue, TapeLong, NotYet}
+use Rattle.smp_app.specs.declared.status.Status.TheVariants.{Usage, TapeShort, TapeValue, TapeLong, NotYet}
+use Rattle.smp_app.specs.declared.status.Status.TheVariants as status
 use Rattle.smp_app.specs.Codes.{design_status, frame_status, tape_status}
 use Rattle.smp_app.specs.Deliveries.{Outputs}
-use Rattle.smp_app.specs.Plans.{Plan, Drawn, asked_of, tree_of, start_of}
+use Rattle.smp_app.specs.Plans.{Plan, Drawn, tree_of, start_of}
 use Rattle.smp_app.specs.Commands.{DesignSource, Held, Given, Work, Lists, Draws, Job, job_of, outputs_by}
 
 -- why a call doesn't go on to its writes
@@ -61,15 +61,16 @@ without name fs = λ other. if bytes_eq name other then None else fs other
 
 -- ---- what is made of what was read
 
--- the units and how to draw them, unless more are asked than have a size; the one stratum has the empty name
-abbrev pub plan_of : Asked → List unit.Unit → Result Plan Stop
-plan_of asked units =
-    let positive = positive_units (sizes_of units) in
-    if nat_lt positive asked.n then Err (Refused (Misfit (TooMany [] asked.n positive)))
-    else Ok (record { procedure = asked.procedure; units = units; n = asked.n })
+-- the plan of a design and the rows of a frame, unless the frame doesn't serve the design
+abbrev pub unless_misfit : Plan → Option Misfit → Result Plan Stop
+unless_misfit plan None = Ok plan
+unless_misfit plan (Some misfit) = Err (Refused (status.Misfit misfit))
+
+abbrev pub plan_of : Design → List unit.Unit → Result Plan Stop
+plan_of design units = unless_misfit (record { design = design; units = units }) (misfit_of design units)
 
 -- at a leaf, where these values are left: what is drawn, unless there are some
-abbrev pub drawn_at : Plan → AnyState → List Entry → List ℕ → Result Drawn Stop
+abbrev pub drawn_at : Plan → Progress AnyState → List Entry → List ℕ → Result Drawn Stop
 drawn_at plan state path [] = Ok (record { plan = plan; leaf = state; path = path })
 drawn_at plan state path (value ∷ left) = Err (Refused (TapeLong (length (value ∷ left))))
 
@@ -79,7 +80,7 @@ draw_status Short bound taken = TapeShort taken
 draw_status (TooBig place value) bound taken = TapeValue place value bound
 draw_status (Rejected rejected) bound taken = NotYet
 
-abbrev pub drawn_of : Plan → Outcome AnyState Values → Result Drawn Stop
+abbrev pub drawn_of : Plan → Outcome (Progress AnyState) Values → Result Drawn Stop
 drawn_of plan (leaf state path tape) = drawn_at plan state path tape.left
 drawn_of plan (stopped state path fault tape) =
     Err (Refused (draw_status fault (weight_sum ((tree_of plan).parts state)) (length tape.taken)))
@@ -98,13 +99,12 @@ design_stage (Held name) fs = do
   bytes ← content_of name fs
   or_fault design_status (design_of bytes)
 
--- what it asks, the frame, and the plan
+-- the frame, and the plan
 unfoldable pub frame_stage : Design → List ℕ → Files → Result Plan Stop
 frame_stage design frame fs = do
-  asked ← or_refused NotYet (asked_of design)
   bytes ← content_of frame fs
   units ← or_fault frame_status (frame_of design.columns bytes)
-  plan_of asked units
+  plan_of design units
 
 abbrev pub plan_stage : Job → Files → Result Plan Stop
 plan_stage job fs = design_stage job.design fs >>= λ design. frame_stage design job.frame fs

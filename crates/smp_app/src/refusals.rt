@@ -3,10 +3,11 @@ ghost use Rattle.smp_app.specs.FaultLines;
 ghost use Rattle.smp_app.specs.FaultLines.{fault_line, design_line, frame_line, misfit_line};
 ghost use Rattle.smp_app.specs.Stages.{Reports, put_by};
 
-use crate::{Misfit, Status};
+use crate::Status;
 use smp_design::DesignFault;
 use smp_frame::FrameFault;
 use smp_io::{Sink, StoreFault};
+use smp_strata::Misfit;
 use std::alloc::{AllocError, Global};
 
 /// Puts the line of a refusal, and answers how the call ended: as it did before, unless there is no memory for the line.
@@ -126,6 +127,17 @@ fn misfit_line(alloc: Global, misfit: &Misfit) -> Result<Option<String>, AllocEr
     ensures none { misfit_line misfit.now ≡ None → result ≡ Ok None }
 {
     match misfit {
+        Misfit::UnitInTwo { psu } => Ok(Some(format!(in alloc;
+            "error 5.1 first stage unit in two strata: {}\n",
+            psu.as_str()
+        )?)),
+        Misfit::PsuTooLarge { psu } => Ok(Some(format!(in alloc;
+            "error 5.2 first stage unit too large: {}\n",
+            psu.as_str()
+        )?)),
+        Misfit::NoSize { stratum } => {
+            Ok(Some(format!(in alloc; "error 5.3 no sample size: {}\n", stratum.as_str())?))
+        }
         Misfit::TooMany {
             stratum,
             n,
@@ -133,6 +145,10 @@ fn misfit_line(alloc: Global, misfit: &Misfit) -> Result<Option<String>, AllocEr
         } => Ok(Some(format!(in alloc;
             "error 5.4 {n} asked of {positive}: {}\n",
             stratum.as_str()
+        )?)),
+        Misfit::SecondTooMany { psu, n, positive } => Ok(Some(format!(in alloc;
+            "error 5.5 second stage {n} asked of {positive}: {}\n",
+            psu.as_str()
         )?)),
         Misfit::NoMemory => Ok(None),
     }

@@ -2,10 +2,10 @@ ghost use Rattle.std.specs.Prelude.{◌≡◌};
 ghost use Rattle.smp_app.specs.Codes.{code_of, design_status, frame_status, misfit_status, tape_status};
 ghost use Rattle.smp_app.specs.declared.status.Status.TheVariants as status;
 
-use crate::Misfit;
 use smp_design::DesignFault;
 use smp_frac::NoMemory;
 use smp_frame::FrameFault;
+use smp_strata::Misfit;
 use smp_tape::TapeFault;
 
 /// How a call ended.
@@ -19,7 +19,7 @@ pub enum Status {
     Design(DesignFault),
     /// The frame has this fault.
     Frame(FrameFault),
-    /// The frame doesn't serve the number of units that is asked.
+    /// The frame doesn't serve the design: this is the first misfit.
     Misfit(Misfit),
     /// This line of the tape, counted from 1, is the first that isn't a number.
     TapeText {

@@ -1,22 +1,23 @@
-ghost use Rattle.std.specs.Prelude.{◌≡◌, ◌++◌, ◌∷◌, [], length, map, IfOk, OnOk, Some, string_bytes};
+ghost use Rattle.std.specs.Prelude.{◌≡◌, ◌++◌, ◌∷◌, [], ◌+◌, ◌^◌, ◌<◌, true, length, map, slice_index_or, IfOk, OnOk, Some, string_bytes};
+ghost use Rattle.std.specs.List.{filter, range_with_len, slice_get};
 ghost use Rattle.smp_app.specs.Texts;
-ghost use Rattle.smp_app.specs.Texts.{cube_lines, drawn_stratum, step_text};
-ghost use Rattle.smp_app.specs.Plans.{values_at, values_of_units};
-ghost use Rattle.smp_balance.specs.Lines.{balance_lines};
-ghost use Rattle.smp_methods.specs.declared.procedure.Procedure.TheVariants.{Cube};
+ghost use Rattle.smp_app.specs.Texts.{cube_lines, step_text, stratum_lines};
 ghost use Rattle.smp_app.specs.Stages as Stages;
 ghost use Rattle.smp_app.specs.Stages.{IsPlanned, IsSelection, plan_view, selection_view};
+ghost use Rattle.smp_design.specs.declared.method.Method.TheVariants.{Cube};
 ghost use Rattle.smp_frac.specs.Fractions.{fraction, fraction_text};
+ghost use Rattle.smp_twostage.specs.Selections.{BelongsToWhole, units_at, whole_tree};
+ghost use Rattle.smp_twostage.specs.Starts.{first_selected};
 ghost use Rattle.smp_weights.specs.Rows.{AddsRow, row};
 
 use crate::job::{DrawnText, PlanText};
 use crate::plan::FramePlan;
 use crate::selection::Selection;
 use smp_balance::{DrawnStratum, push_balance_lines};
+use smp_design::Method;
 use smp_frac::{Bytes, Frac, NoMemory, Text};
-use smp_frame::Unit;
-use smp_methods::Procedure;
 use smp_split::Kind;
+use smp_strata::{First, asked};
 use smp_weights::{CsvRows, push_sample_row, sample_rows};
 use std::alloc::{AllocError, Global};
 
@@ -86,7 +87,7 @@ fn sample_text(alloc: Global, plan: &FramePlan, selection: &Selection) -> Result
     let units = plan.frame.units();
     let mut rows = sample_rows(alloc)?;
     for row in selection.rows.as_slice() {
-        push_sample_row(alloc, &mut rows, &units[*row].id, plan.request.asked(*row))?;
+        push_sample_row(alloc, &mut rows, &units[*row].id, asked(&plan.plan, *row))?;
     }
     rows.into_bytes(alloc)
 }
@@ -124,7 +125,7 @@ fn report_text(alloc: Global, plan: &FramePlan, selection: &Selection) -> Result
     bytes_of(alloc, &report)
 }
 
-// What the cube kept and gave up, where the units were drawn by it.
+// What the cube kept and gave up in each stratum, where the units were drawn by it.
 fn push_cube_lines(
     alloc: Global,
     text: &mut String,
@@ -134,15 +135,15 @@ fn push_cube_lines(
     requires planned { IsPlanned plan.now }
     requires selection { IsSelection (plan_view plan.now) selection.now }
     ensures { OnOk result (string_bytes text.new ≡ string_bytes text.old
-        ++ cube_lines plan.now.procedure (selection_view (plan_view plan.now) selection.now)) }
+        ++ cube_lines plan.now.design.method (selection_view (plan_view plan.now) selection.now)) }
 {
-    match plan.procedure {
-        Procedure::Cube => push_stratum_lines(alloc, text, plan, selection),
+    match plan.design.method {
+        Method::Cube => push_strata_lines(alloc, text, plan, selection),
         _ => Ok(()),
     }
 }
 
-fn push_stratum_lines(
+fn push_strata_lines(
     alloc: Global,
     text: &mut String,
     plan: &FramePlan,
@@ -150,36 +151,84 @@ fn push_stratum_lines(
 ) -> Result<(), NoMemory>
     requires planned { IsPlanned plan.now }
     requires selection { IsSelection (plan_view plan.now) selection.now }
-    requires cube { plan.now.procedure ≡ Cube }
+    requires cube { plan.now.design.method ≡ Cube }
     ensures { OnOk result (string_bytes text.new ≡ string_bytes text.old
-        ++ balance_lines (drawn_stratum (selection_view (plan_view plan.now) selection.now))) }
+        ++ cube_lines Cube (selection_view (plan_view plan.now) selection.now)) }
 {
-    let units = plan.frame.units();
+    for number in 0..plan.plan.strata() {
+        push_stratum_lines(alloc, text, plan, selection, number)?;
+    }
+    Ok(())
+}
+
+fn push_stratum_lines(
+    alloc: Global,
+    text: &mut String,
+    plan: &FramePlan,
+    selection: &Selection,
+    number: usize,
+) -> Result<(), NoMemory>
+    requires planned { IsPlanned plan.now }
+    requires selection { IsSelection (plan_view plan.now) selection.now }
+    requires cube { plan.now.design.method ≡ Cube }
+    requires number { number < length plan.now.plan.strata }
+    requires room { number + 1 < 2 ^ 64 }
+    ensures { OnOk result (string_bytes text.new ≡ string_bytes text.old
+        ++ stratum_lines (selection_view (plan_view plan.now) selection.now) number) }
+{
+    let stratum = plan.plan.stratum(number);
+    let units = stratum.units.as_slice();
     let values = values_of(alloc, units)?;
+    let drawn = drawn_units(alloc, selection, number, units.len())?;
     let drawn = DrawnStratum {
-        number: 1,
-        left: selection.left,
+        number: number + 1,
+        left: selection.whole.left(&selection.state, number),
         columns: column_count(units),
-        request: &plan.request,
+        request: &stratum.request,
         values: values.as_slice(),
-        units: selection.rows.as_slice(),
+        units: drawn.as_slice(),
     };
     push_balance_lines(alloc, text, &drawn)
 }
 
-// How many values each unit has; none where there is no unit.
-fn column_count(units: &[Unit]) -> usize
-    ensures { result ≡ length (values_at units.now 0) }
+// The first stage units of a stratum that are drawn, in order.
+fn drawn_units(
+    alloc: Global,
+    selection: &Selection,
+    stratum: usize,
+    units: usize,
+) -> Result<Vec<usize>, NoMemory>
+    requires state { BelongsToWhole selection.now.whole selection.now.state }
+    requires done { (whole_tree selection.now.whole).done selection.now.state ≡ true }
+    requires stratum { stratum < length selection.now.whole.strata }
+    requires units { units ≡ length (units_at (slice_get selection.now.whole.strata stratum)) }
+    ensures { IfOk result (λ drawn. drawn.items
+        ≡ filter (first_selected selection.now.whole selection.now.state.states stratum)
+        (range_with_len 0 units)) }
 {
-    match units.get(0) {
+    let mut drawn = Vec::new(alloc);
+    for unit in 0..units {
+        if selection.whole.first(&selection.state, stratum, unit) {
+            drawn.push(unit)?;
+        }
+    }
+    Ok(drawn)
+}
+
+// How many values each unit has; none where there is no unit.
+fn column_count(units: &[First]) -> usize
+    ensures { result ≡ length (slice_index_or (map (λ u. u.values) units.now) 0 []) }
+{
+    match units.first() {
         Some(unit) => unit.values.as_slice().len(),
         None => 0,
     }
 }
 
 // The values of each unit.
-fn values_of<'a>(alloc: Global, units: &'a [Unit]) -> Result<Vec<&'a [i32]>, NoMemory>
-    ensures { IfOk result (λ values. map (λ v. v.now) values.items ≡ values_of_units units.now) }
+fn values_of<'a>(alloc: Global, units: &'a [First]) -> Result<Vec<&'a [i32]>, NoMemory>
+    ensures { IfOk result (λ values. map (λ v. v.now) values.items
+        ≡ map (λ u. u.values) units.now) }
 {
     let mut values = Vec::with_capacity(alloc, units.len())?;
     for unit in units {
@@ -205,7 +254,7 @@ fn probabilities_text(alloc: Global, plan: &FramePlan) -> Result<Bytes, NoMemory
     let mut rows = CsvRows::new(alloc);
     rows.push(&[b"id", b"probability"])?;
     for row in 0..units.len() {
-        push_probability(alloc, &mut rows, &units[row].id, plan.request.asked(row))?;
+        push_probability(alloc, &mut rows, &units[row].id, asked(&plan.plan, row))?;
     }
     rows.into_bytes(alloc)
 }
@@ -226,9 +275,11 @@ fn push_probability(
 
 // What is said of a design and a frame that are accepted: how many units there are, and in how many strata.
 fn accepted_text(alloc: Global, plan: &FramePlan) -> Result<Bytes, NoMemory>
+    requires { IsPlanned plan.now }
     ensures { IfOk result (λ text. text ≡ Texts.accepted_text (plan_view plan.now)) }
 {
     let units = plan.frame.units().len();
-    let accepted = format!(in alloc; "accepted {units} units in 1 strata\n")?;
+    let strata = plan.plan.strata();
+    let accepted = format!(in alloc; "accepted {units} units in {strata} strata\n")?;
     bytes_of(alloc, &accepted)
 }

@@ -1,4 +1,5 @@
-use Rattle.std.proofs.Common.{◌≡◌, map, Ok, Err, [], ◌∷◌, ap, ◌∙◌, rules}
+use Rattle.std.proofs.Common.{◌≡◌, map, Ok, Err, [], ◌∷◌, ap, ◌∙◌, arith, rules}
+use Rattle.smp_app.specs.declared.status.Status.TheVariants.{NoMemory}
 use Rattle.smp_app.specs.Commands.{Draws, plan_inputs, outputs_by}
 use Rattle.smp_app.specs.Verdict.{plan_stage, work_stage, drawn_stage}
 use Rattle.smp_app.specs.Deliveries.{Outputs, names_of}
@@ -19,6 +20,20 @@ returns-in_err-selection-in-Draws-clause-reads g c =
     rw (ends, c.in-Draws.is)
     (goes_on (plan_inputs job) (tape ∷ []) (plan_stage job) (work_stage (Draws tape files put)) _ _ _ plan _ c.in_ok-plan.ensures.reads selected
     (rw c.in-Draws.is at c.requires.distinct) (plan_ignores job))
+
+pub returns-in_err-drawn_outputs-in-Draws-clause-reads : goal.returns-in_err-drawn_outputs-in-Draws-clause-reads
+returns-in_err-drawn_outputs-in-Draws-clause-reads g c =
+    let ends : c.from_residual-in_err-drawn_outputs-in-Draws.result ≡ Err NoMemory = search (rules, c.from_residual-in_err-drawn_outputs-in-Draws.ensures) in
+    let first = c.in_ok-plan.ensures.reads in
+    let second = c.in_ok-selection-in-Draws.ensures.reads in
+    rw ends (record {
+      follows = λ fs told. tt;
+      kinds = tt;
+      cause = tt;
+      same = second.same ∙ first.same;
+      reads = λ name. omega (arith, first.reads name, second.reads name);
+      writes = λ name. omega (arith, first.writes name, second.writes name);
+    })
 
 pub returns-clause-named : goal.returns-clause-named
 returns-clause-named g c =
