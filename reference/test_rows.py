@@ -1,0 +1,493 @@
+"""Worked rows for the reference: small draws that can be followed by hand, refusals, generators, and probabilities over whole trees.
+
+    python3 reference/test_rows.py
+"""
+import itertools
+import os
+import subprocess
+import sys
+import tempfile
+import unittest
+from fractions import Fraction
+
+sys.dont_write_bytecode = True
+import sampler
+from run_cases import Memory
+
+HERE = os.path.dirname(os.path.abspath(__file__))
+FOUR = "id,size\na,1\nb,2\nc,3\nd,4\n"
+ZEROS = "0" * 64
+FILES = ["--design", "design", "--frame", "frame"]
+DRAW = ["sampler", "draw", *FILES, "--log", "log", "--sample", "sample"]
+
+
+def design(method, n=2, more="", size='size = "size"\n'):
+    """A design for the frame of four, or another."""
+    return f'version = 1\nmethod = "{method}"\nid = "id"\n{size}n = {n}\n{more}'
+
+
+def store_of(design_text, frame_text, tape=None):
+    """Files of a call."""
+    files = {"design": design_text.encode(), "frame": frame_text.encode()}
+    if tape is not None:
+        files["tape"] = tape.encode() if isinstance(tape, str) else "".join(f"{value}\n" for value in tape).encode()
+    return Memory(files)
+
+
+class Rows(unittest.TestCase):
+    """Each test is a row or a few that belong together."""
+
+    maxDiff = None
+
+    def drawn(self, design_text, frame_text, tape, steps, sample, report=None):
+        """A draw by a tape has these steps, this sample and this report, and its whole log replays."""
+        store = store_of(design_text, frame_text, tape)
+        self.assertEqual(sampler.sampler([*DRAW, "--tape", "tape"], store, "steps"), 0, store.written)
+        lines = "".join(line + "\n" for line in steps)
+        self.assertEqual(store.files["log"].decode(), lines)
+        self.assertEqual(store.files["sample"].decode(), "id,weight\n" + sample)
+        if report is not None:
+            self.assertEqual(store.written.decode(), report)
+
+        whole = store_of(design_text, frame_text, tape)
+        self.assertEqual(sampler.sampler([*DRAW, "--tape", "tape"], whole), 0)
+        self.assertEqual(whole.files["log"].decode().split("\n", 3)[3], f"{lines}end {len(steps)}\n")
+        self.assertEqual((whole.files["sample"], whole.written), (store.files["sample"], store.written))
+        again = Memory({name: whole.files[name] for name in ("design", "frame", "log")})
+        self.assertEqual(sampler.sampler(["sampler", "replay", *FILES, "--log", "log", "--sample", "sample"], again), 0)
+        self.assertEqual((again.files["sample"], again.written), (store.files["sample"], store.written))
+
+    def refused(self, words, store, code, line):
+        """A call ends with this code and this line, and no file has changed."""
+        before = dict(store.files)
+        self.assertEqual(sampler.sampler(words, store), code)
+        self.assertEqual(store.written.decode(), line + "\n" if line else "")
+        self.assertEqual(store.files, before)
+
+    def refused_draw(self, design_text, frame_text, tape, code, line):
+        self.refused([*DRAW, "--tape", "tape"], store_of(design_text, frame_text, tape), code, line)
+
+    def put(self, command, design_text, frame_text, text):
+        """What `probs` or `check` puts."""
+        store = store_of(design_text, frame_text)
+        self.assertEqual(sampler.sampler(["sampler", command, *FILES], store), 0, store.written)
+        self.assertEqual(store.written.decode(), text)
+
+    # The methods
+
+    def test_pivotal(self):
+        steps = ["pivot 3 0", "pivot 4 3", "pivot 5 4"]
+        self.drawn(design("pivotal"), FOUR, [0, 3, 4], steps, "c,5/3\nd,5/4\n", "selected 2 of 4\nsteps 3\n")
+
+    def test_quick(self):
+        store = store_of("", FOUR, [0, 3, 4])
+        self.assertEqual(sampler.sampler(["sampler", "quick", "frame", "2", "tape", "out"], store), 0)
+        self.assertEqual(store.files["out"], b"id\nc\nd\n")
+        self.assertEqual(store.written, b"pivot 3 0\npivot 4 3\npivot 5 4\n")
+
+    def test_systematic(self):
+        weights = {"a": "5/1", "b": "5/2", "c": "5/3", "d": "5/4"}
+        for value, ids in enumerate(["ac", "bd", "bd", "cd", "cd"]):
+            sample = "".join(f"{name},{weights[name]}\n" for name in ids)
+            self.drawn(design("systematic"), FOUR, [value], [f"system 5 {value}"], sample)
+
+    def test_systematic_in_random_order(self):
+        steps = ["order 4 3", "order 3 0", "order 2 0", "system 5 0"]
+        self.drawn(design("systematic", more='order = "random"\n'), FOUR, [3, 0, 0, 0], steps, "b,5/2\nd,5/4\n")
+
+    def test_certain_units(self):
+        self.put("probs", design("pivotal"), "id,size\na,1\nb,1\nc,8\n", "id,probability\na,1/2\nb,1/2\nc,1/1\n")
+        self.drawn(design("pivotal", 3), "id,size\na,2\nb,2\nc,4\nd,8\n", [1], ["pivot 2 1"], "b,2/1\nc,1/1\nd,1/1\n")
+        self.put("probs", design("pivotal", 1), "id,size\na,0\nb,1\nc,1\n", "id,probability\na,0/1\nb,1/2\nc,1/2\n")
+
+    def test_minimum_support(self):
+        for value in range(3):
+            self.drawn(design("minimum_support"), FOUR, [value], [f"support 5 {value}"], "c,5/3\nd,5/4\n")
+        self.drawn(design("minimum_support"), FOUR, [3, 0], ["support 5 3", "support 2 0"], "b,5/2\nd,5/4\n")
+
+    def test_brewer(self):
+        steps = ["offer 10 0", "take 48 20", "offer 10 9", "take 12 5", "offer 6 3", "take 9 0"]
+        self.drawn(design("brewer"), FOUR, [0, 20, 9, 5, 3, 0], steps, "c,5/3\nd,5/4\n")
+        tape = [0, 8] * 192 + [0, 4]
+        steps = ["offer 5 0", "take 9 8"] * 192 + ["spent 1 0", "pivot 4 0", "pivot 5 4"]
+        self.drawn(design("brewer"), "id,size\na,1\nb,2\nc,2\n", tape, steps, "a,5/2\nc,5/4\n", "selected 2 of 3\nsteps 387\n")
+
+    def test_local_pivotal_with_a_tie(self):
+        text = design("local_pivotal", more='near = ["x"]\n', size="")
+        steps = ["choose 4 1", "pivot 2 1", "choose 2 0", "pivot 2 0"]
+        self.drawn(text, "id,x\na,0\nb,2\nc,4\nd,9\n", [1, 1, 0, 0], steps, "a,2/1\nc,2/1\n")
+
+    def test_cube_to_the_end(self):
+        text = design("cube", more='balance = ["x"]\n', size="")
+        for sign, end in (("", "10/1 10"), ("-", "-10/1 -10")):
+            frame = "id,x\n" + "".join(f"{i},{sign}{i}\n" for i in range(1, 5))
+            report = f"selected 2 of 4\nsteps 2\nleft 1 0\nbalance 1 1 {end}\n"
+            self.drawn(text, frame, [0, 0], ["flight 2 0", "flight 4 0"], "1,2/1\n4,2/1\n", report)
+
+    def test_cube_with_a_dropped_row(self):
+        text = design("cube", more='balance = ["x"]\n', size="")
+        for last, sample, end in ((0, "3,2/1\n4,2/1\n", "14/1"), (1, "1,2/1\n3,2/1\n", "8/1"), (2, "1,2/1\n3,2/1\n", "8/1")):
+            steps = ["flight 2 0", "flight 4 3", "drop 1 0", f"flight 3 {last}"]
+            report = f"selected 2 of 4\nsteps 4\nleft 1 2\nbalance 1 1 {end} 10\n"
+            self.drawn(text, "id,x\n1,1\n2,2\n3,3\n4,4\n", [0, 3, last], steps, sample, report)
+
+    def test_cube_wide_at_once(self):
+        text = design("cube", more='balance = ["x", "y"]\n', size="")
+        frame = "id,x,y\n1,2147483647,0\n2,0,2147483646\n3,0,0\n4,1,1\n"
+        balance = "balance 1 1 4294967294/1 2147483648\nbalance 1 2 0/1 2147483647\n"
+        report = "selected 2 of 4\nsteps 3\nleft 1 4\n" + balance
+        self.drawn(text, frame, [0, 0], ["wide 1 0", "pivot 2 0", "pivot 2 0"], "1,2/1\n3,2/1\n", report)
+
+    def test_all_and_one_more(self):
+        self.drawn(design("pivotal", 4), FOUR, [], [], "a,1/1\nb,1/1\nc,1/1\nd,1/1\n", "selected 4 of 4\nsteps 0\n")
+        self.refused_draw(design("pivotal", 5), FOUR, [], 5, "error 5.4 5 asked of 4: ")
+
+    def test_largest_sizes(self):
+        frame = "id,size\na,2147483647\nb,2147483646\n"
+        steps = ["pivot 4294967293 4294967292"]
+        self.drawn(design("pivotal", 1), frame, [4294967292], steps, "b,4294967293/2147483646\n")
+
+    def test_quoted_id_and_byte_order_mark(self):
+        frame = 'id,size\n"x,1",1\ny,1'
+        for text in (frame, "\ufeff" + frame, "\ufeff\ufeff" + frame):
+            self.drawn(design("pivotal", 1), text, [0], ["pivot 2 0"], '"x,1",2/1\n')
+
+    # Strata and stages
+
+    STRATA = "id,s\n" + "".join(f"a{i},A\n" for i in range(1, 8)) + "".join(f"b{i},B\n" for i in range(1, 4))
+
+    def test_strata_and_allocation(self):
+        text = design("systematic", 5, 'stratum = "s"\n', size="")
+        sample = "a1,7/4\na2,7/4\na4,7/4\na6,7/4\nb1,3/1\n"
+        self.drawn(text, self.STRATA, [0, 0], ["system 7 0", "system 3 0"], sample, "selected 5 of 10\nsteps 2\n")
+        self.put("check", text, self.STRATA, "accepted 10 units in 2 strata\n")
+        sizes = 'version = 1\nmethod = "systematic"\nid = "id"\nstratum = "s"\n[sizes]\nA = 2\n'
+        self.refused_draw(sizes, self.STRATA, [0, 0], 5, "error 5.3 no sample size: B")
+        halves = "id,s\n" + "".join(f"{name}{i},{name}\n" for name in "AB" for i in range(5))
+        self.refused_draw(design("pivotal", 1, 'stratum = "s"\n', size=""), halves, [0], 5, "error 5.3 no sample size: B")
+
+    VILLAGES = "id,village\na1,A\na2,A\na3,A\nb1,B\nb2,B\nb3,B\n"
+
+    def two_stages(self, n=2, more=""):
+        second = f'{more}[second]\npsu = "village"\nmethod = "pivotal"\nn = {n}\n'
+        return design("pivotal", 1, second, size="")
+
+    def test_two_stages(self):
+        steps = ["pivot 2 1", "pivot 2 0", "pivot 3 0"]
+        self.drawn(self.two_stages(), self.VILLAGES, [1, 0, 0], steps, "b1,3/1\nb2,3/1\n", "selected 2 of 6\nsteps 3\n")
+        probabilities = "".join(f"{name},1/3\n" for name in ("a1", "a2", "a3", "b1", "b2", "b3"))
+        self.put("probs", self.two_stages(), self.VILLAGES, "id,probability\n" + probabilities)
+
+    def test_misfits_of_two_stages(self):
+        self.refused_draw(self.two_stages(4), self.VILLAGES, [1, 0, 0], 5, "error 5.5 second stage 4 asked of 3: A")
+        frame = "id,village,s\na1,A,x\nb1,B,x\na2,A,y\n"
+        self.refused_draw(self.two_stages(1, 'stratum = "s"\n'), frame, [], 5, "error 5.1 first stage unit in two strata: A")
+        frame = "id,village,z\na1,A,2147483647\na2,A,1\n"
+        self.refused_draw(self.two_stages(1, 'size = "z"\n'), frame, [], 5, "error 5.2 first stage unit too large: A")
+
+    # Refusals
+
+    def test_tapes_that_are_not_full(self):
+        self.refused_draw(design("pivotal"), FOUR, [0, 3], 7, "error 7 tape ends after 2")
+        self.refused_draw(design("pivotal"), FOUR, [0, 3, 4, 0], 9, "error 9 tape has 1 more")
+        self.refused_draw(design("pivotal"), FOUR, [0, 4, 4], 8, "error 8 tape value 2 is 4, bound 4")
+        self.refused_draw(design("pivotal"), FOUR, "0\n3x\n", 6, "error 6 tape line 2 isn't a number")
+
+    def test_replay(self):
+        store = store_of(design("pivotal"), FOUR, [0, 3, 4])
+        sampler.sampler([*DRAW, "--tape", "tape"], store)
+        log = store.files["log"]
+        self.assertEqual((log.count(b"\n"), len(log)), (7, 193))
+        self.assertTrue(log.endswith(b"\npivot 3 0\npivot 4 3\npivot 5 4\nend 3\n"))
+        words = ["sampler", "replay", *FILES, "--log", "log", "--sample", "again"]
+
+        def files(changed):
+            return Memory({"design": store.files["design"], "frame": store.files["frame"], "log": changed})
+
+        other = files(log.replace(b"pivot 4 3", b"pivot 4 0"))
+        self.assertEqual(sampler.sampler(words, other), 0)
+        self.assertEqual(other.files["again"], b"id,weight\na,5/1\nd,5/4\n")
+        differing = [
+            (log.replace(b"pivot 4 3", b"pivot 4 4"), 5),
+            (log.replace(b"pivot 4 3", b"pivot 4 03"), 5),
+            (log.replace(b"pivot 4 3", b"pivot 4  3"), 5),
+            (log[: log.index(b" 3\npivot 5")], 5),
+            (log + b"end 3\n", 8),
+            (log + b"e", 8),
+            (log[:-1], 7),
+            (log.replace(b"end 3", b"end 2"), 7),
+            (log.replace(b"pivot 5 4\n", b""), 6),
+            (log.replace(b"sampler-log 1", b"sampler-log 2"), 1),
+            (log.replace(b"\nframe ", b"\nframe 0"), 3),
+            (b"", 1),
+        ]
+        for changed, line in differing:
+            self.refused(words, files(changed), 11, f"error 11 log differs at line {line}")
+
+    def test_replay_of_a_dropped_row(self):
+        store = store_of(design("cube", more='balance = ["x"]\n', size=""), "id,x\n1,1\n2,2\n3,3\n4,4\n", [0, 3, 0])
+        sampler.sampler([*DRAW, "--tape", "tape"], store)
+        log = store.files["log"].replace(b"flight 4 3", b"flight 4 0")
+        files = Memory({"design": store.files["design"], "frame": store.files["frame"], "log": log})
+        words = ["sampler", "replay", *FILES, "--log", "log", "--sample", "again"]
+        self.refused(words, files, 11, "error 11 log differs at line 6")
+
+    def test_refused_frames(self):
+        rows = {
+            "": "4.1 no header",
+            "id,size\n": "4.10 no rows",
+            "id,weight\na,1\n": "4.2 missing column size",
+            "id,size,size\na,1,1\n": "4.3 repeated column size",
+            "id,size\na,1,2\n": "4.4 length of row 1",
+            "id,size\na,1\na,2\n": "4.7 repeated id in row 2",
+            "id,size\na,1.5\n": "4.5 no number in row 1 column size",
+            "id,size\na,-1\n": "4.5 no number in row 1 column size",
+            "id,size\na,2147483648\n": "4.6 number too large in row 1 column size",
+            "id,size\na," + "9" * 5000 + "\n": "4.6 number too large in row 1 column size",
+            "id,size\n" + "".join(f"u{i},1\n" for i in range(100_001)): "4.8 too many rows",
+        }
+        for frame, line in rows.items():
+            self.refused_draw(design("pivotal"), frame, [], 4, "error " + line)
+        for frame, row in ((b"id,si\xffze\na,1\n", 0), (b"id,size\nx\xff,1\n", 1)):
+            store = Memory({"design": design("pivotal").encode(), "frame": frame})
+            self.refused(["sampler", "check", *FILES], store, 4, f"error 4.9 row {row} isn't UTF-8")
+
+    def test_records(self):
+        rows = {
+            b"": [],
+            b"\r\n\n\r": [],
+            b"a,b": [[b"a", b"b"]],
+            b"a,\n,b\r\n": [[b"a", b""], [b"", b"b"]],
+            b'""\n': [[b""]],
+            b'"a""b","c\nd"\n': [[b'a"b', b"c\nd"]],
+            b'"a"b"c,d\n': [[b'ab"c', b"d"]],
+            b'a"b",c\n': [[b'a"b"', b"c"]],
+            b'""x,"y\n': [[b"x", b"y\n"]],
+            b"a\rb\n": [[b"a"], [b"b"]],
+        }
+        for content, found in rows.items():
+            self.assertEqual(sampler.records(content), found)
+
+    def test_refused_designs(self):
+        rows = {
+            "": "3.2 version",
+            design("pivotal", more="colour = 1\n"): "3.3 unknown key colour",
+            design("pivotal").replace('id = "id"\n', ""): "3.4 missing key id",
+            design("pivotal", 0): "3.5 bad value of n",
+            design("pivotal", more='balance = ["x"]\n'): "3.6 balance clashes with method",
+            "version = \n": "3.1 design isn't TOML",
+            "version = true\n": "3.2 version",
+            design("pivotal", more="[second]\nz = 1\na = 1\n"): "3.3 unknown key second.a",
+            design("pivotal", more="[second]\n"): "3.4 missing key second.psu",
+            design("pivotal", more="second = 1\n"): "3.5 bad value of second",
+            design("cube", more="balance = []\n"): "3.5 bad value of balance",
+            design("cube", more='order = "frame"\nbalance = ["x"]\n'): "3.6 order clashes with method",
+            design("pivotal", more="sizes = {}\n"): "3.6 n clashes with sizes",
+            design("pivotal").replace("n = 2", "sizes = {}"): "3.6 sizes clashes with stratum",
+            design("pivotal", more="colour = 9223372036854775808\n"): "3.1 design isn't TOML",
+            design("pivotal", more="colour = 1_0e400\n"): "3.1 design isn't TOML",
+            design("pivotal", more="colour = -inf\n"): "3.3 unknown key colour",
+            design("pivotal", more=".".join("a" * 2000) + " = 1\n"): "3.1 design isn't TOML",
+        }
+        for text, line in rows.items():
+            self.refused_draw(text, FOUR, [], 3, "error " + line)
+
+    def test_words(self):
+        tape = ["--tape", "tape"]
+        rows = [
+            [],
+            ["sampler"],
+            ["sampler", "sample"],
+            [*DRAW, *tape, "--seed", ZEROS],
+            ["sampler", "draw", *FILES, "--log", "log", "--sample", "log", *tape],
+            [*DRAW, "--seed", ZEROS[1:]],
+            ["sampler", "quick", "frame", "0", "tape", "out"],
+            ["sampler", "check", *FILES, "--frame", "frame2"],
+            ["sampler", "check", "--design", "design", "--frame"],
+            ["sampler", "check", "--design", "design", "--frame", "--", "frame"],
+            ["sampler", "quick", "\udcff", "2", "tape", "out"],
+            ["sampler", "demo", "29", "1"],
+        ]
+        for words in rows:
+            self.refused(words, store_of(design("pivotal"), FOUR, [0, 3, 4]), 2, sampler.USAGE)
+        accepted = [["sampler", "--frame=frame", "--design", "design", "check"], ["sampler", *FILES, "--", "check"]]
+        for words in accepted:
+            store = store_of(design("pivotal"), FOUR)
+            self.assertEqual((sampler.sampler(words, store), store.written), (0, b"accepted 4 units in 1 strata\n"))
+
+    # Draws from words, and the generator
+
+    def test_words_of_a_bound(self):
+        self.assertEqual(sampler.Seed(iter([])).below("pivot", 1), 0)
+        self.assertEqual(sampler.sieve(iter([2**32 - 1]), 2**32), 2**32 - 1)
+        self.assertEqual(sampler.sieve(iter([5, 1, 7, 2]), 2**32 + 1), 7)
+        self.assertEqual(sampler.sieve(iter([5, 1] * 255 + [7, 2]), 2**32 + 1), 7)
+        words = iter([5, 1] * 256 + [9])
+        with self.assertRaises(sampler.Refusal) as refused:
+            sampler.Seed(words).below("pivot", 2**32 + 1)
+        self.assertEqual((refused.exception.code, refused.exception.line), (10, "error 10 rejected 256 times below 4294967297"))
+        self.assertEqual(list(words), [9])
+
+    def test_generator(self):
+        """The published key streams for a key of zeros, blocks 0 and 1, and for a key that ends in 1, block 1."""
+        rows = {
+            (bytes(32), 0): "76b8e0ada0f13d90405d6ae55386bd28bdd219b8a08ded1aa836efcc8b770dc7da41597c5157488d7724e03fb8d84a376a43b8f41518a11cc387b669b2ee6586",
+            (bytes(32), 1): "9f07e7be5551387a98ba977c732d080dcb0f29a048e3656912c6533e32ee7aed29b721769ce64e43d57133b074d839d531ed1f28510afb45ace10a1f4b794d6f",
+            (bytes(31) + b"\1", 1): "3aeb5224ecf849929b9d828db1ced4dd832025e8018b8160b82284f3c949aa5a8eca00bbb4a73bdad192b5c42f73f2fd4e273644c8b36125a64addeb006c13a0",
+        }
+        for (key, counter), stream in rows.items():
+            block = b"".join(word.to_bytes(4, "little") for word in sampler.chacha_block(key, counter))
+            self.assertEqual(block.hex(), stream)
+
+    def test_draw_by_a_seed(self):
+        for text in (design("pivotal"), design("brewer"), design("systematic", more='order = "random"\n')):
+            store = store_of(text, FOUR)
+            self.assertEqual(sampler.sampler([*DRAW, "--seed", ZEROS], store), 0)
+            self.assertEqual(store.files["sample"].count(b"\n"), 3)
+            again = Memory({name: store.files[name] for name in ("design", "frame", "log")})
+            self.assertEqual(sampler.sampler(["sampler", "replay", *FILES, "--log", "log", "--sample", "sample"], again), 0)
+            self.assertEqual((again.files["sample"], again.written), (store.files["sample"], store.written))
+
+    def test_demo(self):
+        self.assertTrue(sampler.demo_frame(30, 0).startswith(b"id,region,area,herd,workers\nu1,r1,1808,"))
+        store = Memory({})
+        self.assertEqual(sampler.sampler(["sampler", "demo", "300", "1"], store), 0)
+        lines = store.written.decode().splitlines()
+        self.assertEqual((lines[:2], lines[-1], len(lines)), (["units 300", "selected 60"], "replay ok", 5))
+
+    def test_a_survey(self):
+        frame, text = sampler.demo_frame(200, 7), sampler.demo_design(200)
+        store = Memory({"design": text, "frame": frame})
+        self.assertEqual(sampler.sampler([*DRAW, "--seed", ZEROS], store), 0)
+        lines = store.written.decode().splitlines()
+        self.assertEqual(lines[0], "selected 40 of 200")
+        self.assertNotIn(b"wide", store.files["log"])
+        self.assertTrue(all(int(line.split()[2]) <= 4 for line in lines if line.startswith("left")))
+        strata = sampler.plan(sampler.read_frame(frame, sampler.read_design(text)), sampler.read_design(text))
+        self.assertEqual([(part.name, len(part.units), part.request.r) for part in strata], [("r1", 67, 14), ("r2", 67, 13), ("r0", 66, 13)])
+
+    # Real files
+
+    def test_real_files(self):
+        with tempfile.TemporaryDirectory() as folder:
+            def run(*words):
+                done = subprocess.run([sys.executable, os.path.join(HERE, "sampler.py"), *words], cwd=folder, stdout=subprocess.PIPE, check=False)
+                return done.returncode, done.stdout
+
+            for name, text in (("design", design("pivotal")), ("frame", FOUR), ("tape", "0\n3\n4\n")):
+                with open(os.path.join(folder, name), "w", encoding="utf-8") as file:
+                    file.write(text)
+            draw = [*DRAW[1:], "--tape", "tape"]
+            self.assertEqual(run(*draw), (0, b"selected 2 of 4\nsteps 3\n"))
+            with open(os.path.join(folder, "sample"), "rb") as file:
+                self.assertEqual(file.read(), b"id,weight\nc,5/3\nd,5/4\n")
+            self.assertEqual(run("replay", *FILES, "--log", "log", "--sample", "again"), (0, b"selected 2 of 4\nsteps 3\n"))
+            self.assertEqual(run("--as-of", "steps", *draw), (0, b"selected 2 of 4\nsteps 3\n"))
+            with open(os.path.join(folder, "log"), "rb") as file:
+                self.assertEqual(file.read(), b"pivot 3 0\npivot 4 3\npivot 5 4\n")
+            self.assertEqual(run("--as-of", "steps", "demo", "30", "1"), (15, b"error 15 not yet\n"))
+            self.assertEqual(run("check", "--design", "design", "--frame", "elsewhere"), (12, b""))
+            self.assertEqual(run("quick", "frame", "2", "tape", "elsewhere/out"), (13, b""))
+            self.assertEqual(run("quick", "frame", "0", "tape", "out"), (2, sampler.USAGE.encode() + b"\n"))
+            self.assertEqual(sorted(os.listdir(folder)), ["again", "design", "frame", "log", "sample", "tape"])
+
+
+def mean(state, count, known):
+    """The probability of each of `count` units to be drawn from a state, over all its parts."""
+    key = (type(state), state)
+    if key not in known:
+        step = state.step()
+        if step is None:
+            known[key] = [Fraction(place in state.selected()) for place in range(count)]
+        else:
+            total = sum(weight for weight, _ in step[1])
+            parts = [(weight, mean(following(), count, known)) for weight, following in step[1]]
+            known[key] = [sum(weight * values[place] for weight, values in parts) / total for place in range(count)]
+    return known[key]
+
+
+class Asking(Exception):
+    """A step asks for a number below this bound, and none is left."""
+
+    def __init__(self, bound):
+        super().__init__()
+        self.bound = bound
+
+
+class Front:
+    """The first numbers of a tape."""
+
+    def __init__(self, values):
+        self.values = iter(values)
+
+    def below(self, _kind, bound):
+        value = 0 if bound == 1 else next(self.values, None)
+        if value is None:
+            raise Asking(bound)
+        return value
+
+
+def over_all_tapes(strata, text, count, values=()):
+    """The probability of each row over all full tapes that begin with these values."""
+    try:
+        drawn = sampler.select(strata, text, Front(values))
+    except Asking as asking:
+        tails = [over_all_tapes(strata, text, count, (*values, value)) for value in range(asking.bound)]
+        return [sum(row) / asking.bound for row in zip(*tails)]
+    return [Fraction(place in drawn.rows) for place in range(count)]
+
+
+class Probabilities(unittest.TestCase):
+    """Over whole trees each unit is drawn with exactly the probability that is requested."""
+
+    SIZES = [[1, 2, 3, 4], [1, 1, 1, 1, 1], [3, 3, 2, 5, 1], [5, 1, 1, 1, 1, 1], [7, 0, 2, 2, 9]]
+
+    def of_request(self, method, order, sizes, n, columns):
+        request = sampler.requested(sizes, n)
+        found = mean(sampler.start(method, order, request, columns), len(request.free), {})
+        self.assertEqual(found, [request.fractions[unit] for unit in request.free], (method, sizes, n))
+
+    def test_methods(self):
+        for sizes in self.SIZES:
+            positive = sum(size > 0 for size in sizes)
+            columns = [(place * place, 3 - place) for place in range(len(sizes))]
+            for n, method in itertools.product(range(1, positive + 1), sampler.METHODS):
+                if method != "brewer":
+                    self.of_request(method, "frame", sizes, n, columns)
+                if method in ("pivotal", "systematic") and len(sizes) < 5:
+                    self.of_request(method, "random", sizes, n, columns)
+
+    def test_brewer_with_few_offers(self):
+        limit, sampler.OFFERS_PER_UNIT = sampler.OFFERS_PER_UNIT, 1
+        try:
+            for sizes in self.SIZES:
+                for n in range(1, sum(size > 0 for size in sizes) + 1):
+                    self.of_request("brewer", "frame", sizes, n, [()] * len(sizes))
+        finally:
+            sampler.OFFERS_PER_UNIT = limit
+
+    def test_wide_cubes(self):
+        columns = [(2147483647, 0), (0, 2147483646), (0, 0), (1, 1), (5, 7)]
+        for sizes in ([1] * 5, [3, 3, 2, 5, 1]):
+            for n in range(1, 5):
+                self.of_request("cube", "frame", sizes, n, columns)
+
+    def test_whole_designs(self):
+        frame = "id,s,village,z,x\na,N,A,1,3\nb,N,A,2,1\nc,N,B,1,4\nd,S,C,3,1\ne,N,B,1,5\nf,S,D,1,9\ng,S,D,1,2\n"
+        second = '[second]\npsu = "village"\nmethod = "{}"\nn = 1\n'
+        for method, inside, more in (
+            ("pivotal", "systematic", 'size = "z"\n'),
+            ("systematic", "minimum_support", 'order = "random"\n'),
+            ("minimum_support", "pivotal", 'size = "z"\n'),
+            ("cube", "pivotal", 'balance = ["x"]\n'),
+        ):
+            text = sampler.read_design((design(method, 3, 'stratum = "s"\n' + more + second.format(inside), size="")).encode())
+            rows = sampler.read_frame(frame.encode(), text)
+            strata = sampler.plan(rows, text)
+            fractions = sampler.asked(strata, len(rows))
+            self.assertEqual(over_all_tapes(strata, text, len(rows)), fractions, (method, inside))
+            self.assertEqual(sum(fractions), 3)
+
+
+if __name__ == "__main__":
+    unittest.main()
