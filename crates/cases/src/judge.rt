@@ -18,30 +18,76 @@ pub fn differences(alloc: Global, case: Case) -> Result<Differences, NoMemory> {
     } = case;
     let before = copies(alloc, files.as_slice())?;
     let tries = failing_calls.len() as u64 + 1;
-    let mut store = WatchedStore::new(alloc, MemStore::new(files, failing_calls));
-    let mut sink = MemSink::new(alloc, failing_puts);
-    let status = sampler(alloc, words.as_slice(), &mut store, &mut sink);
-    if let Status::NoMemory = status {
-        return Err(NoMemory);
-    }
+    let store = MemStore::new(files, failing_calls);
+    let sink = MemSink::new(alloc, failing_puts);
+    let mut seen = seen_of(alloc, words.as_slice(), store, sink, tries)?;
+    compare(alloc, &wanted, before.as_slice(), &mut seen)
+}
 
+// What is seen of a call: its code, the store after it, the names under which it was asked to write, and what was put.
+#[derive(Drop)]
+struct Seen {
+    code: u8,
+    after: After,
+    names: Vec<String>,
+    sink: MemSink,
+}
+
+fn seen_of(
+    alloc: Global,
+    words: &[String],
+    store: MemStore,
+    sink: MemSink,
+    tries: u64,
+) -> Result<Seen, NoMemory> {
+    let mut store = WatchedStore::new(alloc, store);
+    let mut sink = sink;
+    let code = code_of(alloc, words, &mut store, &mut sink)?;
     let (store, names) = store.into_parts();
-    let mut after = After {
+    let names = names?;
+    let after = After {
         alloc,
         store,
         tries,
     };
+    Ok(Seen {
+        code,
+        after,
+        names,
+        sink,
+    })
+}
+
+// The code with which the call ends. What it promises is of no use to the judge, who looks for himself.
+fn code_of(
+    alloc: Global,
+    words: &[String],
+    store: &mut WatchedStore<MemStore>,
+    sink: &mut MemSink,
+) -> Result<u8, NoMemory> {
+    match sampler(alloc, words, store, sink) {
+        Status::NoMemory => Err(NoMemory),
+        status => Ok(status.code()),
+    }
+}
+
+fn compare(
+    alloc: Global,
+    wanted: &Wanted,
+    before: &[(Text, Bytes)],
+    seen: &mut Seen,
+) -> Result<Differences, NoMemory> {
     let mut found = Differences::new(alloc);
-    found.compare_codes(wanted.code, status.code())?;
-    compare_named(&mut found, &wanted, &mut after)?;
+    found.compare_codes(wanted.code, seen.code)?;
+    compare_named(&mut found, wanted, &mut seen.after)?;
     compare_others(
         &mut found,
-        &wanted,
-        before.as_slice(),
-        names?.as_slice(),
-        &mut after,
+        wanted,
+        before,
+        seen.names.as_slice(),
+        &mut seen.after,
     )?;
-    found.compare_bytes("put", wanted.put.as_slice(), sink.as_slice())?;
+    found.compare_bytes("put", wanted.put.as_slice(), seen.sink.as_slice())?;
     Ok(found)
 }
 
