@@ -12,10 +12,14 @@ pub mod Reducing
 pub mod Searched
 pub mod Making
 pub mod Windowed
+pub mod Touching
 pub mod Advancing
 pub mod Untouched
 pub mod Counting
+pub mod Ended
 pub mod Ahead
+pub mod Firsts
+pub mod Fitting
 pub mod Evens
 pub mod LineSums
 pub mod Proportions

@@ -1,5 +1,5 @@
 -- The values at the end of a line lie from 0 to 1, and fewer of them are fractional.
-use Rattle.std.proofs.Common.{◌≡◌, ℕ, zero, suc, ◌+◌, ◌*◌, ◌<◌, ◌≤◌, ◌^◌, Bool, true, false, cond, List, [], ◌∷◌, length, get_or, arith, sym, ◌∙◌, subst, inl, inr, le_of_suc-le-suc, eq-zero-or-pos, mul-pos}
+use Rattle.std.proofs.Common.{◌≡◌, ℕ, zero, suc, ◌+◌, ◌*◌, ◌<◌, ◌≤◌, ◌^◌, Bool, true, false, cond, List, [], ◌∷◌, length, get_or, pos, arith, refl, sym, ◌∙◌, subst, inl, inr, le_of_suc-le-suc, eq-zero-or-pos, mul-pos}
 use Rattle.std.specs.List.{count_by, Contains}
 use Rattle.std.proofs.lemmas.Bool.{cases_Bool, cases_lt}
 use Rattle.std.proofs.lemmas.List.Sums.{sum_by-cons}
@@ -13,7 +13,7 @@ use Rattle.smp_values.proofs.Fractional.{fractional_is, is_fractional-between}
 use Rattle.smp_values.proofs.Units.{fractional_within}
 use Rattle.smp_flight.specs.declared.lines.Ratio.{Ratio}
 use Rattle.smp_flight.specs.States.{Units, Flight, IsFlight}
-use Rattle.smp_flight.specs.Moves.{Line, Move, IsLine, IsMoved, along, fraction_of, turned}
+use Rattle.smp_flight.specs.Moves.{Line, Move, IsLine, IsMoved, along, entry_of, fraction_of, turned}
 use Rattle.smp_flight.specs.Steps.{extent, end_of, chosen_line, chosen_extent}
 use Rattle.smp_flight.specs.Kept.Ends.{IsOver}
 use Rattle.smp_fractions.proofs.Differences.{over_cross, over_at_most_one}
@@ -28,6 +28,11 @@ same_fractional a c b d pc h t =
     is_fractional-between c a
     (elim (eq-zero-or-pos a) [ inl z ↦ absurd (let g : a * d ≡ 0 = rw z (omega arith) in let m : 0 < b * c = mul-pos r.0 pc in omega arith) | inr p ↦ p ])
     (elim (cases_lt a c) [ inl l ↦ l | inr m ↦ absurd (let g : c * d ≤ a * d = mul-le-mul_right d m in let k : (b + 1) * c ≤ d * c = mul-le-mul_right c (let t : b + 1 ≤ d = omega (arith, r.1) in t) in omega arith) ])
+
+same_tests : (b c : Bool) → (b ≡ true → c ≡ true) → (c ≡ true → b ≡ true) → b ≡ c
+same_tests true c h k = sym (h refl)
+same_tests false true h k = k refl
+same_tests false false h k = refl
 
 -- ---- counting
 pub count_at_most : (P Q : ℕ → Bool) (xs ys : List ℕ) → length xs ≡ length ys → ((k : ℕ) → k < length xs → Q (get_or ys k 0) ≡ true → P (get_or xs k 0) ≡ true) → count_by Q ys ≤ count_by P xs
@@ -69,13 +74,24 @@ module _ (first : ℕ) (s : Shares) (is_over : IsOver first s) (line : Line) (ok
   pub end_within : (k : ℕ) → get_or last.numer k 0 ≤ last.den
   end_within k = over_at_most_one (get_or last.numer k 0) last.den (along s line (fraction_of (extent s line)) k) last_moved.positive (last_moved.values k) ((greatest first s is_over line ok).stays.high k)
 
-  -- a unit that isn't on the line keeps its value
-  pub keeps_off : (k : ℕ) → (Contains line.units k → ⊥) → get_or last.numer k 0 * s.den ≡ get_or s.numer k 0 * last.den
-  keeps_off k out =
+  -- a unit at which the line is 0 keeps its value
+  pub keeps_still : (k : ℕ) → entry_of line k ≡ pos 0 → get_or last.numer k 0 * s.den ≡ get_or s.numer k 0 * last.den
+  keeps_still k none =
       let t = fraction_of (extent s line) in
       let stays : Same (along s line t k) (value_at s k) =
-      rw (off_line s line ok k out) (same_trans (plus_same (same_refl (value_at s k)) (times-zero t)) (plus-zero (value_at s k))) in
+      rw none (same_trans (plus_same (same_refl (value_at s k)) (times-zero t)) (plus-zero (value_at s k))) in
       over_cross (get_or last.numer k 0) last.den (get_or s.numer k 0) s.den last_moved.positive is_over.values.positive (same_trans (last_moved.values k) stays)
+
+  -- and is fractional where it was so before
+  pub same_still : (k : ℕ) → entry_of line k ≡ pos 0 → is_fractional last k ≡ is_fractional s k
+  same_still k none =
+      same_tests (is_fractional last k) (is_fractional s k)
+      (same_fractional (get_or s.numer k 0) s.den (get_or last.numer k 0) last.den is_over.values.positive (keeps_still k none))
+      (same_fractional (get_or last.numer k 0) last.den (get_or s.numer k 0) s.den last_moved.positive (sym (keeps_still k none)))
+
+  -- a unit that isn't on the line keeps its value
+  pub keeps_off : (k : ℕ) → (Contains line.units k → ⊥) → get_or last.numer k 0 * s.den ≡ get_or s.numer k 0 * last.den
+  keeps_off k out = keeps_still k (off_line s line ok k out)
 
   -- what is fractional after the move was so before
   pub keeps_fractional : (k : ℕ) → is_fractional last k ≡ true → is_fractional s k ≡ true

@@ -1,5 +1,5 @@
 -- What a search that found a circuit leads to, and what an answer allows.
-use Rattle.std.proofs.Common.{◌≡◌, ℕ, ◌≤◌, ◌^◌, false, List, ℤ, pos, take, length, arith, refl, sym, ap, ◌∙◌, subst, inl, inr, length-take, get_or-take}
+use Rattle.std.proofs.Common.{◌≡◌, ℕ, ◌+◌, ◌≤◌, ◌^◌, false, List, ℤ, pos, take, length, arith, refl, sym, ap, ◌∙◌, subst, inl, inr, length-take, get_or-take}
 use Rattle.std.proofs.lemmas.Bool.{cases_lt}
 use Rattle.std.proofs.lemmas.List.{take-take}
 use Rattle.std.specs.Int.RustNames.{unsigned_abs}
@@ -7,16 +7,18 @@ use Rattle.smp_kernel.specs.Vectors.{entry, IsZero, Within}
 use Rattle.smp_kernel.specs.Searches.{found}
 use Rattle.smp_kernel.proofs.SearchLaw.{search, search_is}
 use Rattle.smp_values.specs.Values.{fractional_units}
-use Rattle.smp_flight.specs.States.{Units, Flight, IsFlight, columns_of}
+use Rattle.smp_flight.specs.States.{AreFirst, Flight, IsFlight, Tracked, Units, columns_of}
 use Rattle.smp_flight.specs.Moves.{IsLine, IsOrder, sized}
-use Rattle.smp_flight.specs.Steps.{wide, direction, entries_fit, next_along, next_of, next_on, next}
+use Rattle.smp_flight.specs.Steps.{move, wide, direction, entries_fit, next_along, next_of, next_on, next}
 use Rattle.smp_flight.specs.Statements.{Finds}
-use Rattle.smp_flight.specs.Answers.{Allows, answer_of}
+use Rattle.smp_flight.specs.Answers.{Allows, answer_of, move_of}
 use Rattle.smp_flight.specs.Kept.Lines.{IsPaddedIn}
 use Rattle.smp_flight.specs.declared.steps.Next.{Next as Answer}
 use Rattle.smp_flight.specs.declared.steps.Next.TheVariants as answers
-use Rattle.smp_flight.proofs.Entries.{frame_order}
-use Rattle.smp_flight.proofs.Nexts.{circuit_within, direction_line, independent_columns, is_direction, some_sized}
+use Rattle.smp_flight.proofs.Entries.{frame_order, order_front}
+use Rattle.smp_flight.proofs.Firsts.{from_each}
+use Rattle.smp_flight.proofs.Fitting.{moves_within}
+use Rattle.smp_flight.proofs.Nexts.{circuit_within, direction_line, independent_columns, is_direction, known, next_on_front, some_sized}
 
 module _ (units : Units) (s : Flight) (is_flight : IsFlight units s) (us : List ℕ) (number : ℕ) (lu : number ≤ length us) (ok : IsOrder s.shares (take number us)) (w : List ℤ) (n : ℕ) (lw : n ≤ length w) (e : found (take n w) ≡ search s.rows (columns_of units (take number us))) (past : (i : ℕ) → n ≤ i → entry w i ≡ pos 0) where
   pub finds : Finds units s (take number us) (found (take n w))
@@ -55,7 +57,20 @@ module _ (units : Units) (s : Flight) (is_flight : IsFlight units s) (us : List 
   found_wide h = (let f : wide ≡ next_along units.requested.den s.shares (direction units (take number us) (take n w)) = rw h refl in f) ∙ found_next
 
 -- what an answer of the frame's order allows
-pub allowed : (units : Units) (s : Flight) (result : Answer) → answer_of result ≡ next units s → IsPaddedIn result → Allows units s result
-allowed units s (answers.Move m) e padded = record { order = fractional_units s.shares; is_order = frame_order s.shares; is = sym e; padded = padded }
-allowed units s answers.Independent e padded = independent_columns units s (fractional_units s.shares) (sym e)
-allowed units s answers.Wide e padded = tt
+module _ (units : Units) (s : Tracked) (is_flight : IsFlight units s.flight) (first : AreFirst s.flight s.window) where
+  abbrev front : List ℕ
+  front = take (s.flight.rows + 1) (fractional_units s.flight.shares)
+
+  front_order : IsOrder s.flight.shares (take (s.flight.rows + 1) (fractional_units s.flight.shares))
+  front_order = order_front s.flight.shares (fractional_units s.flight.shares) (frame_order s.flight.shares) (s.flight.rows + 1)
+
+  pub allowed : (result : Answer) → answer_of result ≡ next units s.flight → IsPaddedIn result → Allows units s result
+  allowed (answers.Move m) e padded =
+      let is : next_on units front s.flight ≡ move (move_of m) = next_on_front units s.flight (fractional_units s.flight.shares) ∙ sym e in
+      let k = known units s.flight front is_flight front_order (move_of m) is in
+      record {
+        is_move = record { order = front; is_order = front_order; is = is; padded = padded; few = omega (arith, length-take (s.flight.rows + 1) (fractional_units s.flight.shares)); window = first };
+        first = from_each front (move_of m).direction.units (moves_within units s.flight front (move_of m) k);
+      }
+  allowed answers.Independent e padded = independent_columns units s.flight (fractional_units s.flight.shares) (sym e)
+  allowed answers.Wide e padded = tt

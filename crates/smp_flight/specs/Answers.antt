@@ -1,9 +1,10 @@
 -- What the code answers, as the definitions have it.
-use Rattle.std.specs.Prelude.{◌≡◌, ℕ, ◌≤◌, List, pos, take, slice_index, ⊤}
+use Rattle.std.specs.Prelude.{◌≡◌, ℕ, ◌+◌, ◌≤◌, List, pos, length, take, slice_index, ⊤}
+use Rattle.std.specs.List.{All, Contains}
 use Rattle.smp_kernel.specs.Vectors.{entry}
 use Rattle.smp_kernel.specs.Elimination.{cut, AreIndependent}
 use Rattle.smp_values.specs.Values.{fractional_units}
-use Rattle.smp_flight.specs.States.{Units, Flight, columns_of}
+use Rattle.smp_flight.specs.States.{AreFirst, Tracked, Units, columns_of}
 use Rattle.smp_flight.specs.Moves.{Line, Move, IsOrder}
 use Rattle.smp_flight.specs.Steps.{Next, move, independent, wide, next_on}
 use Rattle.smp_flight.specs.declared.lines.Line.{Line as LineOfPlaces}
@@ -35,15 +36,24 @@ answer_of (answers.Move m) = move (move_of m)
 answer_of answers.Independent = independent
 answer_of answers.Wide = wide
 
--- a move that a step of this state gives, whichever fractional units its search goes through
-pub record IsMoveOf (units : Units) (s : Flight) (m : MoveOfPlaces) : Type 0 where
+-- A move that a step of this state gives, whichever fractional units its search goes through. They are at most one more than there are rows in
+-- force, and the units of the window are among them.
+pub record IsMoveOf (units : Units) (s : Tracked) (m : MoveOfPlaces) : Type 0 where
   pub order : List ℕ
-  pub is_order : IsOrder s.shares order
-  pub is : next_on units order s ≡ move (move_of m)
+  pub is_order : IsOrder s.flight.shares order
+  pub is : next_on units order s.flight ≡ move (move_of m)
   pub padded : IsPadded m.direction
+  pub few : length order ≤ s.flight.rows + 1
+  pub window : All (Contains order) s.window
+
+-- a move of the search through the first fractional units, so it changes only these
+pub record IsFirstMove (units : Units) (s : Tracked) (m : MoveOfPlaces) : Type 0 where
+  pub is_move : IsMoveOf units s m
+  pub first : AreFirst s.flight (move_of m).direction.units
 
 -- what may follow an answer: a move can be made, and where there is none a row can be dropped
-abbrev pub Allows : Units → Flight → Answer → Type 0
-Allows units s (answers.Move m) = IsMoveOf units s m
-Allows units s answers.Independent = AreIndependent s.rows (cut s.rows (columns_of units (fractional_units s.shares)))
+abbrev pub Allows : Units → Tracked → Answer → Type 0
+Allows units s (answers.Move m) = IsFirstMove units s m
+Allows units s answers.Independent =
+    AreIndependent s.flight.rows (cut s.flight.rows (columns_of units (fractional_units s.flight.shares)))
 Allows units s answers.Wide = ⊤

@@ -1,6 +1,7 @@
 //! The values at the end of a line.
 
-ghost use Rattle.std.specs.Prelude.{◌≡◌, ◌+◌, ◌*◌, ◌<◌, ◌≤◌, length, slice_index};
+ghost use Rattle.std.specs.Prelude.{◌≡◌, ◌≢◌, ℕ, ◌+◌, ◌*◌, ◌<◌, ◌≤◌, ◌⊎◌, length, slice_index, true};
+ghost use Rattle.std.specs.List.{AllPairs};
 ghost use Rattle.smp_frac.specs.Divisors.{greatest_common_divisor};
 ghost use Rattle.smp_values.specs.Values.{fractional_count};
 ghost use Rattle.smp_flight.specs.Moves.{IsLine, entry_of};
@@ -8,12 +9,14 @@ ghost use Rattle.smp_flight.specs.Steps.{advanced, advanced_numbers, common_fact
 ghost use Rattle.smp_flight.specs.Answers.{IsPadded, line_of};
 ghost use Rattle.smp_flight.specs.Kept.Lines.{HasSmallEntries};
 ghost use Rattle.smp_flight.specs.Kept.Ends.{CanAdvance, CanMove, IsEndOf, IsOver};
-ghost use Rattle.smp_flight.specs.Kept.Windows.{HasOnlyFractional, shares_in};
+ghost use Rattle.smp_flight.specs.Kept.Windows.{FitIn, HasOnlyFractional, is_in, shares_in};
 
 use crate::lines::Line;
 use crate::reaches::{Reach, advanced, reach_along};
 use crate::values::FlightValues;
 use smp_frac::gcd;
+use smp_kernel::Steps;
+use std::sync::ledger::Ledger;
 
 /// What is known of the end of a line.
 #[derive(Clone, Copy)]
@@ -84,24 +87,40 @@ pub(crate) fn end_of(values: &FlightValues, line: &Line) -> End
     }
 }
 
-/// Goes to the end of a line, and says how many units are settled there.
-pub(crate) fn go_to_end(values: &mut FlightValues, line: &Line) -> usize
+/// Goes to the end of a line, and says how many units are settled there. Each unit of the window, and each that the line changes, is written once.
+pub(crate) fn go_to_end<L: Ledger>(
+    values: &mut FlightValues,
+    line: &Line,
+    steps: &mut Steps<L>,
+) -> usize
     requires over { IsOver values.old.first (shares_in values.old) }
     requires line { IsLine (shares_in values.old) (line_of line.now) }
     requires padded { IsPadded line.now }
     requires small { HasSmallEntries line.now }
     requires window { HasOnlyFractional values.old }
+    requires short { length values.old.window ≤ 17 }
+    requires few { FitIn 17 values.old.window (line_of line.now) }
     ensures values { shares_in values.new
         ≡ end_of values.old.first (shares_in values.old) (line_of line.now) }
     ensures first { values.new.first ≡ values.old.first }
     ensures window { HasOnlyFractional values.new }
+    ensures distinct { AllPairs (λ k l. k ≢ l) values.new.window }
+    ensures from { (k : ℕ) →
+        is_in values.new.window k ≡ true
+        → (is_in values.old.window k ≡ true) ⊎ (is_in (line_of line.now).units k ≡ true) }
     ensures settled { fractional_count (shares_in values.new) + result
         ≡ fractional_count (shares_in values.old) }
+    ensures short { (most : ℕ) →
+        FitIn most values.old.window (line_of line.now)
+        → length values.new.window ≤ most }
+    ensures rises { values.old.writes ≤ values.new.writes }
+    ensures few { (most : ℕ) →
+        FitIn most values.old.window (line_of line.now)
+        → values.new.writes ≤ values.old.writes + most }
+    ensures steps { steps.new + values.old.writes ≡ steps.old + values.new.writes }
 {
-    values.take_in_line(line);
     let end = end_of(values, line);
-    values.advance(line, end);
-    let moved = values.window.len();
-    values.let_settled_go();
-    moved - values.window.len()
+    let touched = values.touched(line);
+    values.advance(&touched, line, end, steps);
+    touched.number - values.window.len()
 }

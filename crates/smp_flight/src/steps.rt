@@ -1,8 +1,8 @@
 //! One step.
 
-ghost use Rattle.std.specs.Prelude.{◌≡◌, ◌<◌, ◌≤◌, take};
+ghost use Rattle.std.specs.Prelude.{◌≡◌, ◌+◌, ◌<◌, ◌≤◌, take};
 ghost use Rattle.smp_values.specs.Values.{fractional_count, fractional_units};
-ghost use Rattle.smp_flight.specs.States.{IsFlight};
+ghost use Rattle.smp_flight.specs.States.{AreFirst, IsFlight};
 ghost use Rattle.smp_flight.specs.Moves.{IsLine, IsMoved, IsOrder};
 ghost use Rattle.smp_flight.specs.Steps.{chosen, chosen_extent, chosen_line, lowest, next, next_along, next_on};
 ghost use Rattle.smp_flight.specs.Statements.{IsNext};
@@ -18,7 +18,8 @@ use crate::shapes::Shape;
 use crate::states::FlightState;
 use crate::values::FlightValues;
 use smp_frac::gcd;
-use smp_kernel::Searched;
+use smp_kernel::{Searched, Steps};
+use std::sync::ledger::Ledger;
 
 /// The greatest common denominator of the values.
 const GATE: u128 = 1 << 80;
@@ -116,12 +117,13 @@ fn step_through(
 
 /// The step of a state: the move along the circuit of its first dependent column, or why there is none.
 pub fn step(shape: &Shape, state: &FlightState) -> Next
-    requires { IsFlight shape.now state.now }
-    ensures is { answer_of result ≡ next shape.now state.now }
+    requires flight { IsFlight shape.now state.now.flight }
+    requires first { AreFirst state.now.flight state.now.window }
+    ensures is { answer_of result ≡ next shape.now state.now.flight }
     ensures exact { IsNext
         shape.now
-        state.now
-        (fractional_units state.now.shares)
+        state.now.flight
+        (fractional_units state.now.flight.shares)
         (answer_of result) }
     ensures allows { Allows shape.now state.now result }
 {
@@ -146,20 +148,35 @@ fn chosen_line(mv: &Move, plus: bool) -> Line
 }
 
 /// Goes to one of the two ends of a move that `step` gives for the state. Some unit that was fractional is settled there.
-pub fn apply(shape: &Shape, state: &mut FlightState, mv: &Move, plus: bool)
-    requires flight { IsFlight shape.now state.old }
+///
+/// Numerators are written at most one time more than there are rows in force, and each time is a step.
+pub fn apply<L: Ledger>(
+    shape: &Shape,
+    state: &mut FlightState,
+    mv: &Move,
+    plus: bool,
+    steps: &mut Steps<L>,
+)
+    requires flight { IsFlight shape.now state.old.flight }
     requires mv { IsMoveOf shape.now state.old mv.now }
-    ensures is { state.new ≡ chosen shape.now state.old (move_of mv.now) plus }
+    ensures is { state.new.flight ≡ chosen shape.now state.old.flight (move_of mv.now) plus }
     ensures moved { IsMoved
         shape.now.requested.den
-        state.old.shares
+        state.old.flight.shares
         (chosen_line (move_of mv.now) plus)
         (chosen_extent (move_of mv.now) plus)
-        state.new.shares }
-    ensures flight { IsFlight shape.now state.new }
-    ensures settles { fractional_count state.new.shares < fractional_count state.old.shares }
+        state.new.flight.shares }
+    ensures flight { IsFlight shape.now state.new.flight }
+    ensures settles { fractional_count state.new.flight.shares
+        < fractional_count state.old.flight.shares }
+    ensures first { AreFirst state.old.flight state.old.window
+        → AreFirst state.old.flight (move_of mv.now).direction.units
+        → AreFirst state.new.flight state.new.window }
+    ensures rises { state.old.writes ≤ state.new.writes }
+    ensures few { state.new.writes ≤ state.old.writes + (state.old.flight.rows + 1) }
+    ensures steps { steps.new + state.old.writes ≡ steps.old + state.new.writes }
 {
     let line = chosen_line(mv, plus);
     state.front = state.next_front();
-    state.fractional -= go_to_end(&mut state.values, &line);
+    state.fractional -= go_to_end(&mut state.values, &line, steps);
 }

@@ -1,17 +1,20 @@
 //! Flights step by step: rows worked by hand from the definitions, and steps at each gate.
 
-ghost use Rattle.std.specs.Prelude.{◌≡◌, ◌-◌, ◌*◌, ◌^◌, ◌<◌, ◌≤◌, ◌&&◌, IfOk, IsTrue, length, nat_lt};
+ghost use Rattle.std.specs.Prelude.{◌≡◌, ◌+◌, ◌-◌, ◌*◌, ◌^◌, ◌<◌, ◌≤◌, ◌&&◌, IfOk, IsTrue, length, nat_lt};
 ghost use Rattle.std.specs.List.{list_all};
 ghost use Rattle.smp_kernel.specs.Vectors.{Within};
 ghost use Rattle.smp_prob.specs.Requests.{IsRequest};
-ghost use Rattle.smp_flight.specs.States.{IsFlight};
+ghost use Rattle.smp_flight.specs.States.{AreFirst, IsFlight};
 ghost use Rattle.smp_flight.specs.Requests.{AreValues};
 
 use super::*;
 use smp_frac::{NoMemory, gcd};
 use smp_frame::Numbers;
+use smp_kernel::Steps;
 use smp_prob::{Places, Request, Shapes};
 use std::alloc::Global;
+use std::marker::Brand;
+use std::sync::ledger::{Blank, Ledger};
 use std::test::Fail;
 
 /// A step that is wanted, the end that is then chosen, and the state there.
@@ -125,13 +128,21 @@ fn is_at<const N: usize>(state: &FlightState, wanted: &Wanted<N>) -> bool {
 }
 
 /// Takes the next step, and says whether it is the one that is wanted and leads to the values that are wanted.
-fn takes<const N: usize>(shape: &Shape, state: &mut FlightState, wanted: &Wanted<N>) -> bool
-    requires { IsFlight shape.now state.old }
-    ensures { IsFlight shape.now state.new }
+fn takes<const N: usize, L: Ledger>(
+    shape: &Shape,
+    state: &mut FlightState,
+    wanted: &Wanted<N>,
+    steps: &mut Steps<L>,
+) -> bool
+    requires flight { IsFlight shape.now state.old.flight }
+    requires first { AreFirst state.old.flight state.old.window }
+    ensures flight { IsFlight shape.now state.new.flight }
+    ensures first { AreFirst state.new.flight state.new.window }
+    ensures few { steps.new ≤ steps.old + (state.old.flight.rows + 1) }
 {
     let next = step(shape, state);
     match next {
-        Next::Move(mv) => apply(shape, state, &mv, wanted.plus),
+        Next::Move(mv) => apply(shape, state, &mv, wanted.plus, steps),
         Next::Independent => {
             if state.rows() > 0 {
                 state.drop_row(shape);
@@ -143,15 +154,42 @@ fn takes<const N: usize>(shape: &Shape, state: &mut FlightState, wanted: &Wanted
 }
 
 /// Whether a state takes these steps.
-fn follows<const N: usize>(shape: &Shape, state: &mut FlightState, steps: &[Wanted<N>]) -> bool
-    requires { IsFlight shape.now state.old }
+fn follows<const N: usize, L: Ledger>(
+    shape: &Shape,
+    state: &mut FlightState,
+    course: &[Wanted<N>],
+    steps: &mut Steps<L>,
+) -> bool
+    requires flight { IsFlight shape.now state.old.flight }
+    requires first { AreFirst state.old.flight state.old.window }
 {
-    for wanted in steps {
-        if !takes(shape, state, wanted) {
+    for wanted in course {
+        if !takes(shape, state, wanted, steps) {
             return false;
         }
     }
     true
+}
+
+/// Whether the flight of a request takes these steps, counted on a ledger that nothing was written into.
+fn flies_on<const N: usize, L: Ledger>(
+    alloc: Global,
+    request: &Request,
+    xs: &[Numbers],
+    course: &[Wanted<N>],
+    blank: Blank,
+) -> Result<bool, NoMemory>
+    requires request { IsRequest request.now }
+    requires values { AreValues xs.now }
+    requires one_each { length xs.now ≡ length request.now.free }
+    requires name { blank.name ≡ L.name }
+    requires parts { blank.parts ≡ L.parts }
+    requires some { 1 ≤ blank.parts }
+{
+    let shape = Shape::new(alloc, request, xs)?;
+    let mut state = start(alloc, &shape)?;
+    let mut steps = Steps::<L>::new(blank);
+    Ok(follows(&shape, &mut state, course, &mut steps))
 }
 
 /// Whether the flight of a request takes these steps.
@@ -159,15 +197,13 @@ fn flies<const N: usize>(
     alloc: Global,
     request: &Request,
     xs: &[Numbers],
-    steps: &[Wanted<N>],
+    course: &[Wanted<N>],
 ) -> Result<bool, NoMemory>
     requires request { IsRequest request.now }
     requires values { AreValues xs.now }
     requires one_each { length xs.now ≡ length request.now.free }
 {
-    let shape = Shape::new(alloc, request, xs)?;
-    let mut state = start(alloc, &shape)?;
-    Ok(follows(&shape, &mut state, steps))
+    flies_on::<N, Brand>(alloc, request, xs, course, Blank::new(1))
 }
 
 /// A wanted move to one of its ends.
@@ -221,6 +257,58 @@ fn rows_worked_by_hand(rt: HostRuntime) -> Result<(), Fail> {
     let far = balancing(alloc, &[[2147483647, 0], [0, 2147483646], [0, 0], [1, 1]])?;
     let wide = [to(Next::Wide, true, [1, 1, 1, 1], 2, 4)];
     assert!(rt; flies(alloc, &four, far.as_slice(), wide.as_slice())?);
+    Ok(())
+}
+
+/// Takes the wanted step of a state with two rows in force. At most three numerators are written.
+fn takes_with_two_rows<const N: usize, L: Ledger>(
+    shape: &Shape,
+    state: &mut FlightState,
+    wanted: &Wanted<N>,
+    steps: &mut Steps<L>,
+) -> bool
+    requires flight { IsFlight shape.now state.old.flight }
+    requires first { AreFirst state.old.flight state.old.window }
+    requires two { state.old.flight.rows ≡ 2 }
+    ensures { steps.new ≤ steps.old + 3 }
+{
+    takes(shape, state, wanted, steps)
+}
+
+/// Whether the flight of a request with two rows begins with this step.
+fn begins_on<const N: usize, L: Ledger>(
+    alloc: Global,
+    request: &Request,
+    xs: &[Numbers],
+    wanted: &Wanted<N>,
+    blank: Blank,
+) -> Result<bool, NoMemory>
+    requires request { IsRequest request.now }
+    requires values { AreValues xs.now }
+    requires one_each { length xs.now ≡ length request.now.free }
+    requires name { blank.name ≡ L.name }
+    requires parts { blank.parts ≡ L.parts }
+    requires some { 1 ≤ blank.parts }
+{
+    let shape = Shape::new(alloc, request, xs)?;
+    let mut state = start(alloc, &shape)?;
+    let mut steps = Steps::<L>::new(blank);
+    Ok(state.rows() == 2 && takes_with_two_rows(&shape, &mut state, wanted, &mut steps))
+}
+
+#[test]
+fn the_first_move_writes_three_numerators_at_most(rt: HostRuntime) -> Result<(), Fail> {
+    let alloc = rt.alloc();
+    let four = request(alloc, &[0, 1, 2, 3], &[1; 4], 2, 4)?;
+    let line = balancing(alloc, &[[1], [2], [3], [4]])?;
+    let first = to(
+        move_along((1, 1), (1, 4), (1, 4), [(0, 1), (1, -2), (2, 1)]),
+        true,
+        [3, 0, 3, 2],
+        4,
+        3,
+    );
+    assert!(rt; begins_on::<4, Brand>(alloc, &four, line.as_slice(), &first, Blank::new(1))?);
     Ok(())
 }
 
@@ -391,9 +479,17 @@ impl Plain {
 }
 
 /// Makes the next step, in the plain program too, and says whether it is none that the plain program couldn't make.
-fn goes_on(shape: &Shape, state: &mut FlightState, plain: &mut Plain, plus: bool) -> bool
-    requires { IsFlight shape.now state.old }
-    ensures { IsFlight shape.now state.new }
+fn goes_on<L: Ledger>(
+    shape: &Shape,
+    state: &mut FlightState,
+    plain: &mut Plain,
+    plus: bool,
+    steps: &mut Steps<L>,
+) -> bool
+    requires flight { IsFlight shape.now state.old.flight }
+    requires first { AreFirst state.old.flight state.old.window }
+    ensures flight { IsFlight shape.now state.new.flight }
+    ensures first { AreFirst state.new.flight state.new.window }
 {
     match step(shape, state) {
         Next::Move(mv) => {
@@ -401,7 +497,7 @@ fn goes_on(shape: &Shape, state: &mut FlightState, plain: &mut Plain, plus: bool
             let extent = if plus { mv.up } else { mv.down };
             let begins = plain.starts_with(&mv.direction);
             plain.advance(first, &mv.direction, plus, extent);
-            apply(shape, state, &mv, plus);
+            apply(shape, state, &mv, plus, steps);
             begins
         }
         Next::Independent => {
@@ -416,18 +512,36 @@ fn goes_on(shape: &Shape, state: &mut FlightState, plain: &mut Plain, plus: bool
 }
 
 /// Whether a flight keeps pace with the plain program until all values are settled.
-fn lands(shape: &Shape, state: &mut FlightState, plain: &mut Plain) -> bool
-    requires { IsFlight shape.now state.old }
+fn lands<L: Ledger>(
+    shape: &Shape,
+    state: &mut FlightState,
+    plain: &mut Plain,
+    steps: &mut Steps<L>,
+) -> bool
+    requires flight { IsFlight shape.now state.old.flight }
+    requires first { AreFirst state.old.flight state.old.window }
 {
     for number in 0..1000 {
         if state.fractional() == 0 {
             return true;
         }
-        if !goes_on(shape, state, plain, number % 3 == 0) || !plain.is_at(state) {
+        if !goes_on(shape, state, plain, number % 3 == 0, steps) || !plain.is_at(state) {
             return false;
         }
     }
     false
+}
+
+/// Whether the flight of these units keeps pace with the plain program to its end, counted on a ledger that nothing was written into.
+fn lands_on<L: Ledger>(alloc: Global, shape: &Shape, blank: Blank) -> Result<bool, NoMemory>
+    requires name { blank.name ≡ L.name }
+    requires parts { blank.parts ≡ L.parts }
+    requires some { 1 ≤ blank.parts }
+{
+    let mut state = start(alloc, shape)?;
+    let mut plain = Plain::requested(alloc, shape)?;
+    let mut steps = Steps::<L>::new(blank);
+    Ok(lands(shape, &mut state, &mut plain, &mut steps))
 }
 
 /// Whether the flight of these sizes and balancing values keeps pace with the plain program to its end.
@@ -442,9 +556,7 @@ fn flies_plainly<const N: usize, const P: usize>(
 {
     let xs = balancing(alloc, lists)?;
     let shape = Shape::new(alloc, request, xs.as_slice())?;
-    let mut state = start(alloc, &shape)?;
-    let mut plain = Plain::requested(alloc, &shape)?;
-    Ok(lands(&shape, &mut state, &mut plain))
+    lands_on::<Brand>(alloc, &shape, Blank::new(1))
 }
 
 /// Small numbers in no order, `P` for each unit.

@@ -1,96 +1,129 @@
 //! The window of the units that a flight has changed.
 
-ghost use Rattle.std.specs.Prelude.{◌≡◌, ℕ, ◌+◌, ◌<◌, ◌≤◌, length, slice_index};
+ghost use Rattle.std.specs.Prelude.{◌≡◌, ◌≢◌, ℕ, ◌+◌, ◌<◌, ◌≤◌, ◌&&◌, false, length, slice_index};
+ghost use Rattle.std.specs.List.{AllPairs};
 ghost use Rattle.smp_flight.specs.Moves.{IsLine};
 ghost use Rattle.smp_flight.specs.Steps.{end_of};
 ghost use Rattle.smp_flight.specs.Answers.{IsPadded, line_of};
-ghost use Rattle.smp_flight.specs.Kept.Ends.{IsEndOf};
-ghost use Rattle.smp_flight.specs.Kept.Windows.{ChangesWindow, Covers, FractionalFrom, HasOnlyFractional, IsLeft, IsTakenIn, KeepsValues, shares_in};
+ghost use Rattle.smp_flight.specs.Kept.Ends.{IsEndOf, IsOver};
+ghost use Rattle.smp_flight.specs.Kept.Windows.{AreTouched, FitIn, IsLeft, HasOnlyFractional, is_in, shares_in, touched_units};
 
 use crate::ends::{End, number_at};
 use crate::lines::Line;
 use crate::values::FlightValues;
+use smp_kernel::Steps;
+use std::sync::ledger::Ledger;
+
+/// The units that a move changes or that are in the window, in the first places of an array.
+#[derive(Clone, Copy)]
+pub(crate) struct Touched {
+    pub(crate) units: [usize; 17],
+    pub(crate) number: usize,
+}
+
+/// The numerator that is kept of a unit, over the first denominator where it is settled.
+fn kept(number: u128, den: u128, first: u128) -> u128
+    ensures settled { number ≡ den → result ≡ first }
+    ensures others { number ≢ den → result ≡ number }
+{
+    if number == den { first } else { number }
+}
 
 impl FlightValues {
-    /// Takes a unit into the window. Its value stays, over the common denominator.
-    fn take_in(&mut self, unit: usize)
-        requires { unit < length self.old.numer }
-        ensures keeps { KeepsValues self.old self.new }
-        ensures units { length self.new.numer ≡ length self.old.numer }
-        ensures window { IsTakenIn self.old.window unit self.new.window }
+    /// The units of the window.
+    fn window_units(&self) -> Touched
+        requires { length self.now.window ≤ 17 }
+        ensures units { touched_units result ≡ self.now.window }
+        ensures distinct { AllPairs (λ k l. k ≢ l) self.now.window }
+        ensures number { result.number ≡ length self.now.window }
     {
-        if !self.is_in_window(unit) {
-            self.numer[unit] *= self.times;
-            self.window.push_reserved(unit);
+        let mut units = [0; 17];
+        for place in 0..self.window.len() {
+            units[place] = self.window[place];
+        }
+        Touched {
+            units,
+            number: self.window.len(),
         }
     }
 
-    /// Takes the units into the window that a line changes. Their values stay.
-    pub(crate) fn take_in_line(&mut self, line: &Line)
-        requires line { IsLine (shares_in self.old) (line_of line.now) }
+    /// The units of the window, and then those that a line changes beside them.
+    pub(crate) fn touched(&self, line: &Line) -> Touched
+        requires line { IsLine (shares_in self.now) (line_of line.now) }
         requires padded { IsPadded line.now }
-        requires window { HasOnlyFractional self.old }
-        ensures keeps { KeepsValues self.old self.new }
-        ensures window { HasOnlyFractional self.new }
-        ensures covers { Covers self.new.window (line_of line.now) }
+        requires short { length self.now.window ≤ 17 }
+        requires few { FitIn 17 self.now.window (line_of line.now) }
+        ensures are { AreTouched self.now.window (line_of line.now) (touched_units result) }
+        ensures number { result.number ≤ 17 }
     {
+        let mut touched = self.window_units();
         for place in 0..line.number {
-            if line.entries[place] != 0 {
-                self.take_in(line.units[place]);
+            let unit = line.units[place];
+            if line.entries[place] != 0 && !self.is_in_window(unit) {
+                touched.units[touched.number] = unit;
+                touched.number += 1;
             }
         }
+        touched
     }
 
-    /// Goes to the end of a line that changes no unit outside the window.
-    pub(crate) fn advance(&mut self, line: &Line, end: End)
+    /// The numerators of these units at the end of a line, over the denominator there.
+    fn numbers_at(&self, touched: &Touched, line: &Line, end: End) -> [u128; 17]
         requires padded { IsPadded line.now }
-        requires covers { Covers self.old.window (line_of line.now) }
+        requires number { touched.now.number ≤ 17 }
+        requires units { (j : ℕ) →
+            j < touched.now.number
+            → slice_index touched.now.units j < length (shares_in self.now).numer }
+        requires end { IsEndOf self.now.first (shares_in self.now) (line_of line.now) end }
+        ensures { let there = end_of self.now.first (shares_in self.now) (line_of line.now) in
+            (j : ℕ) →
+            j < touched.now.number
+            → slice_index result j ≡ slice_index there.numer (slice_index touched.now.units j) }
+    {
+        let mut numbers = [0; 17];
+        for place in 0..touched.number {
+            let unit = touched.units[place];
+            numbers[place] = number_at(self.numerator(unit), line, end.reach, unit) / end.common;
+        }
+        numbers
+    }
+
+    /// Goes to the end of a line, of which these units are touched. The numerator of each of them is written once, and no other.
+    pub(crate) fn advance<L: Ledger>(
+        &mut self,
+        touched: &Touched,
+        line: &Line,
+        end: End,
+        steps: &mut Steps<L>,
+    )
+        requires over { IsOver self.old.first (shares_in self.old) }
+        requires line { IsLine (shares_in self.old) (line_of line.now) }
+        requires padded { IsPadded line.now }
+        requires number { touched.now.number ≤ 17 }
+        requires touched { AreTouched
+            self.old.window
+            (line_of line.now)
+            (touched_units touched.now) }
         requires end { IsEndOf self.old.first (shares_in self.old) (line_of line.now) end }
         ensures values { shares_in self.new
             ≡ end_of self.old.first (shares_in self.old) (line_of line.now) }
-        ensures window { ChangesWindow self.old self.new }
-    {
-        for place in 0..self.window.len() {
-            let unit = self.window[place];
-            let numer = number_at(self.numer[unit], line, end.reach, unit);
-            self.numer[unit] = numer / end.common;
-        }
-        self.times = end.full / end.common / self.first;
-    }
-
-    /// Lets the unit at a place of the window go if it is settled. Its value stays, over the first denominator.
-    fn let_go(&mut self, place: usize)
-        requires place { place < length self.old.window }
-        requires each { (k : ℕ) →
-            slice_index (shares_in self.old).numer k ≤ (shares_in self.old).den }
-        ensures keeps { KeepsValues self.old self.new }
-        ensures one { length self.old.window ≤ length self.new.window + 1 }
-        ensures left { IsLeft (shares_in self.old) self.old.window self.new.window }
-        ensures from { FractionalFrom (shares_in self.old) self.old.window (place + 1)
-            → FractionalFrom (shares_in self.old) self.new.window place }
-    {
-        let unit = self.window[place];
-        let numer = self.numer[unit];
-        if numer == 0 {
-            self.window.remove(place);
-        } else if numer == self.denominator() {
-            self.numer[unit] = self.first;
-            self.window.remove(place);
-        }
-    }
-
-    /// Lets the settled units of the window go. All values stay.
-    pub(crate) fn let_settled_go(&mut self)
-        requires { (k : ℕ) →
-            slice_index (shares_in self.old).numer k ≤ (shares_in self.old).den }
-        ensures keeps { KeepsValues self.old self.new }
-        ensures left { IsLeft (shares_in self.old) self.old.window self.new.window }
+        ensures first { self.new.first ≡ self.old.first }
         ensures window { HasOnlyFractional self.new }
+        ensures left { IsLeft (shares_in self.new) (touched_units touched.now) self.new.window }
+        ensures writes { self.new.writes ≡ self.old.writes + touched.now.number }
+        ensures steps { steps.new ≡ steps.old + touched.now.number }
     {
-        let mut place = self.window.len();
-        while place > 0 {
-            place -= 1;
-            self.let_go(place);
+        let numbers = self.numbers_at(touched, line, end);
+        let den = end.full / end.common;
+        self.window.clear();
+        for place in 0..touched.number {
+            let unit = touched.units[place];
+            let number = numbers[place];
+            self.cells.set(unit, kept(number, den, self.first), steps);
+            if 0 < number && number < den {
+                self.window.push_reserved(unit);
+            }
         }
+        self.times = den / self.first;
     }
 }

@@ -1,19 +1,21 @@
 -- How the code keeps the values of a flight, so that a move writes those alone that it changes.
-use Rattle.std.specs.Prelude.{◌≡◌, ◌≢◌, ℕ, ◌*◌, ◌^◌, ◌<◌, ◌≤◌, Bool, true, false, cond, nat_eq, List, [], pos, length, map, slice_index}
+use Rattle.std.specs.Prelude.{◌≡◌, ◌≢◌, ℕ, ◌*◌, ◌^◌, ◌<◌, ◌≤◌, Bool, true, false, cond, nat_eq, List, [], pos, length, map, slice_index, take}
 use Rattle.std.specs.List.{AllPairs, list_any, range_with_len}
 use Rattle.smp_prob.specs.Shares.{Shares}
 use Rattle.smp_values.specs.Values.{is_fractional}
-use Rattle.smp_flight.specs.States.{Flight}
+use Rattle.smp_flight.specs.declared.windows.Touched.{Touched}
+use Rattle.smp_flight.specs.States.{Flight, Tracked}
 use Rattle.smp_flight.specs.Moves.{Line, entry_of}
 
 -- The numerators of the units, the first denominator, how many times it the common denominator is,
--- and the units of the window. The numerators of these are over the common denominator, and those of
--- all others over the first.
+-- the units of the window, and how often a numerator was written. The numerators of the window are
+-- over the common denominator, and those of all others over the first.
 pub record Windowed : Type 0 where
   pub numer : List ℕ
   pub first : ℕ
   pub times : ℕ
   pub window : List ℕ
+  pub writes : ℕ
 
 -- whether a unit is in the window
 abbrev pub is_in : List ℕ → ℕ → Bool
@@ -40,7 +42,10 @@ flight_of v rows = record { first = v.first; shares = shares_in v; rows = rows }
 
 -- values of which no unit is in the window
 abbrev pub unchanged : Shares → Windowed
-unchanged s = record { numer = s.numer; first = s.den; times = 1; window = [] }
+unchanged s = record { numer = s.numer; first = s.den; times = 1; window = []; writes = 0 }
+
+abbrev pub tracked_of : Windowed → ℕ → Tracked
+tracked_of v rows = record { flight = flight_of v rows; window = v.window; writes = v.writes }
 
 -- each unit of the window is in it once, all numbers fit, and there is room for all units
 pub record IsWindowed (v : Windowed) (room : ℕ) : Type 0 where
@@ -55,23 +60,24 @@ pub record IsWindowed (v : Windowed) (room : ℕ) : Type 0 where
 abbrev pub Covers : List ℕ → Line → Type 0
 Covers window line = (k : ℕ) → is_in window k ≡ false → entry_of line k ≡ pos 0
 
--- the same values
-pub record KeepsValues (before after : Windowed) : Type 0 where
-  pub values : shares_in after ≡ shares_in before
-  pub first : after.first ≡ before.first
+-- the units in the first places of an array
+abbrev pub touched_units : Touched → List ℕ
+touched_units touched = take touched.number touched.units
 
--- a unit came into the window, or was in it
-pub record IsTakenIn (before : List ℕ) (unit : ℕ) (after : List ℕ) : Type 0 where
-  pub here : is_in after unit ≡ true
-  pub others : (k : ℕ) → is_in before k ≡ true → is_in after k ≡ true
-  pub alone : (k : ℕ) → k ≢ unit → is_in after k ≡ true → is_in before k ≡ true
+-- the units of a window and those of a line are among so many units
+pub record FitIn (most : ℕ) (window : List ℕ) (line : Line) : Type 0 where
+  pub order : List ℕ
+  pub few : length order ≤ most
+  pub has_window : (k : ℕ) → is_in window k ≡ true → is_in order k ≡ true
+  pub has_line : (k : ℕ) → is_in line.units k ≡ true → is_in order k ≡ true
 
--- the window stays, and so does each numerator outside it
-pub record ChangesWindow (before after : Windowed) : Type 0 where
-  pub first : after.first ≡ before.first
-  pub window : after.window ≡ before.window
-  pub others :
-      (k : ℕ) → is_in before.window k ≡ false → slice_index after.numer k ≡ slice_index before.numer k
+-- the units of a window and those that a line changes, each once, and no other but of the line
+pub record AreTouched (window : List ℕ) (line : Line) (units : List ℕ) : Type 0 where
+  pub distinct : AllPairs (λ k l. k ≢ l) units
+  pub has_window : (k : ℕ) → is_in window k ≡ true → is_in units k ≡ true
+  pub has_line : Covers units line
+  pub alone :
+      (k : ℕ) → is_in units k ≡ true → is_in window k ≡ false → is_in line.units k ≡ true
 
 -- each unit of the window is fractional
 abbrev pub HasOnlyFractional : Windowed → Type 0
@@ -83,8 +89,3 @@ pub record IsLeft (s : Shares) (before after : List ℕ) : Type 0 where
   pub fewer : (k : ℕ) → is_in after k ≡ true → is_in before k ≡ true
   pub settled :
       (k : ℕ) → is_in before k ≡ true → is_in after k ≡ false → is_fractional s k ≡ false
-
--- those from a place on are fractional
-abbrev pub FractionalFrom : Shares → List ℕ → ℕ → Type 0
-FractionalFrom s window place =
-    (j : ℕ) → place ≤ j → j < length window → is_fractional s (slice_index window j) ≡ true
