@@ -3,13 +3,18 @@
 ghost use Rattle.std.specs.Prelude.{◌≡◌, ◌<◌, ◌≤◌, false, length};
 ghost use Rattle.smp_split.specs.Trees.{picked, weight_sum};
 ghost use Rattle.smp_values.specs.Values.{is_one, is_settled};
+ghost use Rattle.smp_flight.specs.States.{AreFirst, IsFlight};
+ghost use Rattle.smp_flight.specs.Steps.{chosen};
+ghost use Rattle.smp_flight.specs.Answers.{IsFirstMove, move_of};
 ghost use Rattle.smp_landing.specs.Cube.{Balancing, IsBalancing, cube_kind, cube_parts, landed, values_in};
 ghost use Rattle.smp_landing.specs.Kept.States.{IsKept, balancing_of};
 
-use smp_flight::{FlightState, Next, Shape, apply, step};
+use smp_flight::{FlightState, Move, Next, Shape, apply, step};
+use smp_kernel::Steps;
 use smp_split::Kind;
 use smp_values::{PivotalSteps, Values};
-use std::marker::Model;
+use std::marker::{Brand, Model};
+use std::sync::ledger::{Blank, Ledger};
 
 /// Where a selection stands.
 #[derive(Clone, Copy)]
@@ -35,15 +40,15 @@ pub struct CubeState {
 impl Model for CubeState {
     ghost Value = { Balancing };
 
-    ghost view = { λ a. balancing_of a.phase a.flight a.steps a.left };
+    ghost view = { λ a. balancing_of a.phase a.flight.flight a.steps a.left };
 
     ghost invariant = { λ a. IsKept a.phase a.flight a.room };
 }
 
 /// Sets the values to those of a flight.
 fn fill(flight: &FlightState, values: &mut Values)
-    requires { length values.old.numer ≡ length flight.now.shares.numer }
-    ensures { values.new ≡ flight.now.shares }
+    requires { length values.old.numer ≡ length flight.now.flight.shares.numer }
+    ensures { values.new ≡ flight.now.flight.shares }
 {
     for unit in 0..values.len() {
         values.set(unit, flight.numer(unit));
@@ -53,14 +58,31 @@ fn fill(flight: &FlightState, values: &mut Values)
 
 /// How many units were fractional where the landing began: here, unless it began before.
 fn landed(flight: &FlightState, left: u32) -> u32
-    requires { length flight.now.shares.numer ≤ 200000 }
-    ensures { result ≡ landed flight.now left }
+    requires { length flight.now.flight.shares.numer ≤ 200000 }
+    ensures { result ≡ landed flight.now.flight left }
 {
     if left == 0 {
         flight.fractional() as u32
     } else {
         left
     }
+}
+
+/// Goes to an end of a move of the flight, counted on a ledger that nothing was written into.
+fn fly<L: Ledger>(shape: &Shape, flight: &mut FlightState, mv: &Move, plus: bool, blank: Blank)
+    requires flight { IsFlight shape.now flight.old.flight }
+    requires first { AreFirst flight.old.flight flight.old.window }
+    requires mv { IsFirstMove shape.now flight.old mv.now }
+    requires name { blank.name ≡ L.name }
+    requires parts { blank.parts ≡ L.parts }
+    requires some { 1 ≤ blank.parts }
+    ensures is { flight.new.flight ≡ chosen shape.now flight.old.flight (move_of mv.now) plus }
+    ensures units { length flight.new.flight.shares.numer
+        ≡ length flight.old.flight.shares.numer }
+    ensures first { AreFirst flight.new.flight flight.new.window }
+{
+    let mut steps = Steps::<L>::new(blank);
+    apply(shape, flight, mv, plus, &mut steps);
 }
 
 impl CubeState {
@@ -135,7 +157,10 @@ impl CubeState {
                     self.steps.set(&mut self.room);
                     self.phase = Phase::Pairing;
                 }
-                Next::Move(mv) => apply(shape, &mut self.flight, &mv, draw < mv.plus_weight),
+                Next::Move(mv) => {
+                    let plus = draw < mv.plus_weight;
+                    fly::<Brand>(shape, &mut self.flight, &mv, plus, Blank::new(1));
+                }
             },
             Phase::Pairing => self.steps.advance(draw),
         }

@@ -1,4 +1,4 @@
-use Rattle.std.proofs.Common.{◌≡◌, false, sym}
+use Rattle.std.proofs.Common.{◌≡◌, false, arith, sym, ◌∙◌}
 use Rattle.smp_values.specs.Values.{is_settled}
 use Rattle.smp_flight.specs.States.{IsFlight}
 use Rattle.smp_landing.specs.Laws.Splits.{some_row}
@@ -6,7 +6,12 @@ use Rattle.smp_landing.proofs.state.CubeState.advance.Goals as goal
 
 pub drop_row-requires-clause-some : goal.drop_row-requires-clause-some
 drop_row-requires-clause-some c =
-    let ok : IsFlight c.args.shape.now c.self.inside.flight = rw (← c.self.view_is, c.in-Flying.is) at c.requires.state in
-    let going : is_settled c.self.inside.flight.shares ≡ false = rw (← c.self.view_is, c.in-Flying.is) at c.requires.going in
+    let ok : IsFlight c.args.shape.now c.self.inside.flight.flight = rw (← c.self.view_is, c.in-Flying.is) at c.requires.state in
+    let going : is_settled c.self.inside.flight.flight.shares ≡ false = rw (← c.self.view_is, c.in-Flying.is) at c.requires.going in
     let e = rw c.in-Independent.is at c.step.ensures.is in
-    some_row c.args.shape.now c.self.inside.flight c.self.inside.left ok (sym e) going
+    some_row c.args.shape.now c.self.inside.flight.flight c.self.inside.left ok (sym e) going
+
+pub invariant_of-self-in-Move : goal.invariant_of-self-in-Move
+invariant_of-self-in-Move c =
+    let kept = rw c.in-Flying.is at c.self.invariant in
+    rw c.in-Flying.is (record { fits = kept.fits ∙ sym c.fly.ensures.units; few = omega (arith, kept.few, c.fly.ensures.units); first = c.fly.ensures.first })

@@ -6,7 +6,7 @@ use Rattle.smp_landing.proofs.state.CubeState.bound.Goals as goal
 
 pub overflow_add-result : goal.overflow_add-result
 overflow_add-result c =
-    let ok : IsFlight c.args.shape.now c.self.inside.flight = rw (← c.self.view_is, c.in-Flying.is) at c.requires.state in
+    let ok : IsFlight c.args.shape.now c.self.inside.flight.flight = rw (← c.self.view_is, c.in-Flying.is) at c.requires.state in
     let e = rw c.in-Move.is at c.step.ensures.is in
-    let both = both_ways c.args.shape.now c.self.inside.flight c.self.inside.left ok (move_of c.in-Move.mv) (sym e) in
+    let both = both_ways c.args.shape.now c.self.inside.flight.flight c.self.inside.left ok (move_of c.in-Move.mv) (sym e) in
     omega (arith, both.bound)
