@@ -1,0 +1,4 @@
+pub mod Masks
+pub mod Values
+pub mod Ends
+pub mod Rows

@@ -1,0 +1,18 @@
+//! Worked cases of the selection methods that need no columns, and the input of the demonstration.
+//!
+//! [`run_case`] draws by a method from sizes alone, and answers the drawn units as a mask. [`CASES`] are cases that were worked
+//! by hand. [`demo_frame`] and [`demo_design`] make the frame and the design of the command `demo`.
+#![tactic(auto)]
+
+mod demo;
+mod fault;
+mod running;
+mod table;
+
+pub use demo::{demo_design, demo_frame};
+pub use fault::CaseFault;
+pub use running::{needs_columns, run_case};
+pub use table::{CASES, Case};
+
+#[cfg(test)]
+mod tests;

@@ -1,0 +1,143 @@
+//! How a case is run.
+
+ghost use Rattle.std.specs.Prelude.{◌≡◌, ◌^◌, ◌<◌, ◌≤◌, true, false, length, map, slice_index, EachIndex, IfOk, []};
+ghost use Rattle.smp_cases.specs.Cases as Cases;
+ghost use Rattle.smp_cases.specs.Cases.{Answers, design, drawn, mask, verdict};
+ghost use Rattle.smp_methods.specs.Starts.{IsStarted};
+ghost use Rattle.smp_methods.specs.Procedures.{procedure_of};
+ghost use Rattle.smp_prob.specs.Requests.{IsRequest};
+ghost use Rattle.smp_prob.specs.declared.orders.Order.TheVariants.{Frame};
+ghost use Rattle.smp_split.specs.Counts.{selected_units};
+ghost use Rattle.smp_values.specs.Starts.{IsWhole};
+
+use crate::CaseFault;
+use smp_design::{Method, Order};
+use smp_frac::NoMemory;
+use smp_frame::Numbers;
+use smp_methods::{Procedure, Started};
+use smp_prob::{ProbFault, Request, requested};
+use smp_rows::Rows;
+use smp_split::{NoTrace, Splitting, WalkFault, walk};
+use smp_tape::Tape;
+use std::alloc::Global;
+
+/// Whether a method needs columns of a frame: local pivotal the coordinates of the units, the cube their balancing values.
+pub fn needs_columns(method: Method) -> bool
+    ensures { result ≡ Cases.needs_columns method }
+{
+    matches!(method, Method::LocalPivotal | Method::Cube)
+}
+
+// How a method without columns draws, in frame order.
+fn procedure(method: Method) -> Procedure
+    requires { Cases.needs_columns method ≡ false }
+    ensures { result ≡ Cases.procedure method }
+{
+    match Procedure::of_method(method, Order::Frame, 0) {
+        Some(procedure) => procedure,
+        None => unreachable!(),
+    }
+}
+
+// No values for each free unit of a request.
+fn no_values(alloc: Global, request: &Request) -> Result<Vec<Numbers>, NoMemory>
+    ensures { IfOk result (λ values. values.items ≡ map (λ _. []) request.now.free) }
+{
+    let mut values = Vec::new(alloc);
+    for _ in request.free.as_slice() {
+        values.push(Numbers::from_slice(alloc, &[])?)?;
+    }
+    Ok(values)
+}
+
+// Starts to draw the free units of a request by a method.
+fn start(alloc: Global, method: Method, request: &Request) -> Result<Started, NoMemory>
+    requires method { Cases.needs_columns method ≡ false }
+    requires request { IsRequest request.now }
+    requires whole { IsWhole request.now }
+    ensures { IfOk result
+        (IsStarted (Cases.procedure method) request.now (map (λ _. []) request.now.free)) }
+{
+    let values = no_values(alloc, request)?;
+    Started::new(alloc, procedure(method), request, values.as_slice())
+}
+
+// The units that a done state selects, as a mask.
+fn mask_of<S: Splitting>(design: &S, state: &S::State) -> u64
+    requires few { (S.tree design.now).units ≤ 64 }
+    requires belongs { S.belongs design.now state.now }
+    requires done { (S.tree design.now).done state.now ≡ true }
+    ensures { result ≡ mask (selected_units (S.tree design.now) state.now) }
+{
+    let mut mask = 0;
+    for unit in 0..design.units() {
+        if design.selected(state, unit) {
+            mask += 1 << unit;
+        }
+    }
+    mask
+}
+
+// Draws by a design with the values of a tape, from a state on.
+fn draw<S: Splitting>(
+    alloc: Global,
+    design: &S,
+    state: &mut S::State,
+    values: &[u128],
+) -> Result<u64, CaseFault>
+    requires few { (S.tree design.now).units ≤ 64 }
+    requires belongs { S.belongs design.now state.old }
+    ensures { Answers result (drawn (S.tree design.now) state.old values.now) }
+{
+    let Ok(mut tape) = Tape::from_values(alloc, values) else {
+        return Err(CaseFault::NoMemory);
+    };
+    match walk(design, state, &mut tape, &mut NoTrace) {
+        Ok(()) => {}
+        Err(WalkFault::Draw(fault)) => return Err(CaseFault::Draw(fault)),
+        Err(WalkFault::NoMemory) => return Err(CaseFault::NoMemory),
+    }
+    let left = tape.left();
+    if left > 0 {
+        return Err(CaseFault::Long { left });
+    }
+    Ok(mask_of(design, state))
+}
+
+/// Draws `n` units, with probabilities in proportion to size, by a method and the values of a tape, and answers the mask of the
+/// drawn units: bit i stands for the unit with `sizes[i]`, and the certain units are among them. The units are taken in the order
+/// of the sizes.
+///
+/// There are at most 64 sizes, each at most 2,147,483,647, and n is at least 1. The values of the tape are whole numbers, one for
+/// each step whose bound is 2 or more.
+///
+/// `TooMany` comes exactly where `n` passes the number of sizes above 0, `Draw` exactly where a step's draw is refused, as no
+/// value is left or as the next one isn't below the bound, and `Long` exactly where values are left once the units are drawn.
+pub fn run_case(
+    alloc: Global,
+    method: Method,
+    sizes: &[u32],
+    n: u32,
+    tape: &[u128],
+) -> Result<u64, CaseFault>
+    requires method { Cases.needs_columns method ≡ false }
+    requires few { length sizes.now ≤ 64 }
+    requires small { EachIndex sizes.now (λ i. slice_index sizes.now i < 2 ^ 31) }
+    requires some { 1 ≤ n }
+    ensures { Answers result (verdict method sizes.now n tape.now) }
+{
+    let request = match requested(alloc, sizes, n) {
+        Ok(request) => request,
+        Err(ProbFault::TooMany { positive }) => return Err(CaseFault::TooMany { positive }),
+        Err(ProbFault::NoMemory) => return Err(CaseFault::NoMemory),
+    };
+    let Ok(Started { design, mut state }) = start(alloc, method, &request) else {
+        return Err(CaseFault::NoMemory);
+    };
+    let rows = Rows {
+        design,
+        request: &request,
+        rows: sizes.len(),
+    };
+    draw(alloc, &rows, &mut state, tape)
+}
