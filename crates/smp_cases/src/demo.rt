@@ -1,6 +1,6 @@
 //! The input of the demonstration.
 
-ghost use Rattle.std.specs.Prelude.{◌≡◌, ◌++◌, ◌*◌, ◌+◌, ◌/◌, ◌^◌, ◌<◌, ◌≤◌, IfOk, OnOk, string_bytes};
+ghost use Rattle.std.specs.Prelude.{◌≡◌, ◌++◌, ◌/◌, ◌^◌, ◌≤◌, IfOk, OnOk, string_bytes};
 ghost use Rattle.smp_cases.specs.Demo.{demo_design_text, demo_frame_text, next_state, row_text, state_after};
 
 use smp_frac::{Bytes, NoMemory};

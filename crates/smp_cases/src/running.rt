@@ -2,11 +2,9 @@
 
 ghost use Rattle.std.specs.Prelude.{◌≡◌, ◌^◌, ◌<◌, ◌≤◌, true, false, length, map, slice_index, EachIndex, IfOk, []};
 ghost use Rattle.smp_cases.specs.Cases as Cases;
-ghost use Rattle.smp_cases.specs.Cases.{Answers, design, drawn, mask, verdict};
+ghost use Rattle.smp_cases.specs.Cases.{Answers, drawn, mask, verdict};
 ghost use Rattle.smp_methods.specs.Starts.{IsStarted};
-ghost use Rattle.smp_methods.specs.Procedures.{procedure_of};
 ghost use Rattle.smp_prob.specs.Requests.{IsRequest};
-ghost use Rattle.smp_prob.specs.declared.orders.Order.TheVariants.{Frame};
 ghost use Rattle.smp_split.specs.Counts.{selected_units};
 ghost use Rattle.smp_values.specs.Starts.{IsWhole};
 
@@ -105,14 +103,15 @@ fn draw<S: Splitting>(
 }
 
 /// Draws `n` units, with probabilities in proportion to size, by a method and the values of a tape, and answers the mask of the
-/// drawn units: bit i stands for the unit with `sizes[i]`, and the certain units are among them. The units are taken in the order
-/// of the sizes.
+/// drawn units: bit i stands for the unit with `sizes[i]`, and the certain units are among them. The method takes the units in the
+/// order in which their sizes stand.
 ///
-/// There are at most 64 sizes, each at most 2,147,483,647, and n is at least 1. The values of the tape are whole numbers, one for
-/// each step whose bound is 2 or more.
+/// There are at most 64 sizes, each at most 2,147,483,647, and n is at least 1. The tape has a value for each step whose bound is
+/// 2 or more.
 ///
 /// `TooMany` comes exactly where `n` passes the number of sizes above 0, `Draw` exactly where a step's draw is refused, as no
 /// value is left or as the next one isn't below the bound, and `Long` exactly where values are left once the units are drawn.
+/// `NoMemory` may come in place of any answer.
 pub fn run_case(
     alloc: Global,
     method: Method,

@@ -47,9 +47,9 @@ pub const CASES: [Case; 32] = [
     // pivot 3 2, pivot 4 0, pivot 5 0
     case!(Pivotal, 2 of [1, 2, 3, 4] by [2, 0, 0] draws [1, 2]),
     // The largest sizes, on both sides of the border between the two parts.
-    case!(Pivotal, 1 of [2147483647, 2147483646] by [4294967292] draws [1]),
-    case!(Pivotal, 1 of [2147483647, 2147483646] by [2147483647] draws [1]),
-    case!(Pivotal, 1 of [2147483647, 2147483646] by [2147483646] draws [0]),
+    case!(Pivotal, 1 of [2_147_483_647, 2_147_483_646] by [4_294_967_292] draws [1]),
+    case!(Pivotal, 1 of [2_147_483_647, 2_147_483_646] by [2_147_483_647] draws [1]),
+    case!(Pivotal, 1 of [2_147_483_647, 2_147_483_646] by [2_147_483_646] draws [0]),
     // Certain units, in the first case by equality, and units without a size.
     case!(Pivotal, 3 of [2, 2, 4, 8] by [1] draws [1, 2, 3]),
     case!(Pivotal, 2 of [1, 1, 8] by [0] draws [0, 2]),
