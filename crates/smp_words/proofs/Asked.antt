@@ -5,8 +5,9 @@ use Rattle.std.specs.Str.{bytes_eq}
 use Rattle.std.proofs.lemmas.Bool.{and_parts, leb-true}
 use Rattle.smp_lines.specs.Decimals.{number_below}
 use Rattle.smp_words.specs.declared.command.DesignArguments.{DesignArguments}
-use Rattle.smp_words.specs.declared.command.Command.TheVariants.{Probs, Check, NotYet}
-use Rattle.smp_words.specs.Words.{Given, DrawFiles, IsAsked, ◌>>=◌, when, in_range, number_from, all_distinct, is_empty, none_given, is_seed, quick_words, quick, demo_words, demo, design_arguments, draw_files, draw_by, draw, replay, by_name, command_given}
+use Rattle.smp_words.specs.declared.command.Command.TheVariants.{Probs, Check}
+use Rattle.smp_words.specs.declared.command.Chance.TheVariants.{Seed}
+use Rattle.smp_words.specs.Words.{Given, DrawFiles, IsAsked, ◌>>=◌, when, in_range, number_from, all_distinct, is_empty, none_given, seed_from, have_own_names, draw_command, replay_command, quick_words, quick, demo_words, demo, design_arguments, draw_files, draw_by, draw, replay, by_name, command_given}
 
 -- ---- what holds of something that may not be there
 
@@ -45,9 +46,6 @@ number_ranged least most text = some_then (Between least most) (number_below (2 
 
 -- ---- the commands
 
-not_yet : IsAsked NotYet
-not_yet = record { distinct = refl; sized = tt }
-
 quick_asked : (words : List (List ℕ)) → IfSome (quick_words words) IsAsked
 quick_asked [] = tt
 quick_asked (frame ∷ []) = tt
@@ -62,14 +60,20 @@ demo_asked : (words : List (List ℕ)) → IfSome (demo_words words) IsAsked
 demo_asked [] = tt
 demo_asked (n ∷ []) = tt
 demo_asked (n ∷ seed ∷ []) =
-    some_then IsAsked (number_from 30 100000 n) _ (λ units. some_then IsAsked (number_from 0 18446744073709551615 seed) _ (λ start. not_yet))
+    some_after IsAsked (Between 30 100000) (number_from 30 100000 n) _ (number_ranged 30 100000 n) (λ units within.
+    some_then IsAsked (number_from 0 18446744073709551615 seed) _ (λ start. record { distinct = refl; sized = within }))
 demo_asked (n ∷ seed ∷ third ∷ more) = tt
 
 draw_asked : (files : DrawFiles) (tape seed : Option (List ℕ)) → IfSome (draw_by files tape seed) IsAsked
 draw_asked files (Some tape) None = when_some IsAsked (all_distinct (files.design ∷ files.frame ∷ tape ∷ files.log ∷ files.sample ∷ [])) _ (λ apart. record { distinct = apart; sized = tt })
-draw_asked files None (Some seed) = when_some IsAsked (is_seed seed && all_distinct (files.design ∷ files.frame ∷ files.log ∷ files.sample ∷ [])) (Some NotYet) (λ good. not_yet)
+draw_asked files None (Some seed) =
+    when_some IsAsked (have_own_names files) (seed_from seed >>= λ key. Some (draw_command files (Seed key))) (λ apart.
+    some_then IsAsked (seed_from seed) _ (λ key. record { distinct = apart; sized = tt }))
 draw_asked files None None = tt
 draw_asked files (Some tape) (Some seed) = tt
+
+replay_asked : (files : DrawFiles) → IfSome (when (have_own_names files) (Some (replay_command files))) IsAsked
+replay_asked files = when_some IsAsked (have_own_names files) (Some (replay_command files)) (λ apart. record { distinct = apart; sized = tt })
 
 -- the two files have names of their own
 abbrev Apart : DesignArguments → Type 0
@@ -97,7 +101,7 @@ named_asked : (name : List ℕ) (g : Given) → IfSome (by_name name g) IsAsked
 named_asked name g =
     either_some IsAsked (bytes_eq name (codes "quick")) (quick g) _ (when_some IsAsked (none_given (g.design ∷ g.frame ∷ g.tape ∷ g.seed ∷ g.log ∷ g.sample ∷ [])) (quick_words g.rest) (λ none. quick_asked g.rest))
     (either_some IsAsked (bytes_eq name (codes "draw")) (draw g) _ (some_then IsAsked (draw_files g) (λ files. draw_by files g.tape g.seed) (λ files. draw_asked files g.tape g.seed))
-    (either_some IsAsked (bytes_eq name (codes "replay")) (replay g) _ (some_then IsAsked (draw_files g) (λ files. when (none_given (g.tape ∷ g.seed ∷ []) && all_distinct (files.design ∷ files.frame ∷ files.log ∷ files.sample ∷ [])) (Some NotYet)) (λ files. when_some IsAsked (none_given (g.tape ∷ g.seed ∷ []) && all_distinct (files.design ∷ files.frame ∷ files.log ∷ files.sample ∷ [])) (Some NotYet) (λ good. not_yet)))
+    (either_some IsAsked (bytes_eq name (codes "replay")) (replay g) _ (when_some IsAsked (none_given (g.tape ∷ g.seed ∷ [])) _ (λ none. some_then IsAsked (draw_files g) _ (λ files. replay_asked files)))
     (either_some IsAsked (bytes_eq name (codes "probs")) (option_map Probs (design_arguments g)) _ (some_map IsAsked Probs (design_arguments g) (probs_asked g))
     (either_some IsAsked (bytes_eq name (codes "check")) (option_map Check (design_arguments g)) _ (some_map IsAsked Check (design_arguments g) (check_asked g))
     (either_some IsAsked (bytes_eq name (codes "demo")) (demo g) None (when_some IsAsked (none_given (g.design ∷ g.frame ∷ g.tape ∷ g.seed ∷ g.log ∷ g.sample ∷ [])) (demo_words g.rest) (λ none. demo_asked g.rest))

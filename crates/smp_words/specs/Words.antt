@@ -1,13 +1,17 @@
 -- What the words of a command line ask for: the table of the commands.
-use Rattle.std.specs.Prelude.{◌≡◌, ℕ, ◌^◌, ◌≤◌, List, [], ◌∷◌, ◌++◌, length, Bool, true, false, not, ◌&&◌, ◌||◌, ◌==◌, nat_le, Option, Some, None, option_map, unwrap_or, if◌then◌else◌, codes}
+use Rattle.std.specs.Prelude.{◌≡◌, ℕ, ◌^◌, ◌≤◌, List, [], ◌∷◌, ◌++◌, Bool, true, false, not, ◌&&◌, nat_le, Option, Some, None, Result, Ok, Err, option_map, unwrap_or, if◌then◌else◌, codes}
 use Rattle.std.specs.List.{list_any, list_all}
 use Rattle.std.specs.Str.{bytes_eq}
 use Rattle.clap.specs.Words.{Row, first_of, all_of}
+use Rattle.hex.specs.Hex.{decode_sized}
+use Rattle.hex.specs.declared.error.FromHexError.{FromHexError}
 use Rattle.smp_lines.specs.Decimals.{number_below}
 use Rattle.smp_words.specs.CommandLine.{words_of}
 use Rattle.smp_words.specs.declared.command.DesignArguments.{DesignArguments}
 use Rattle.smp_words.specs.declared.command.Command.{Command}
-use Rattle.smp_words.specs.declared.command.Command.TheVariants.{Quick, Draw, Probs, Check, NotYet}
+use Rattle.smp_words.specs.declared.command.Command.TheVariants.{Quick, Draw, Replay, Probs, Check, Demo}
+use Rattle.smp_words.specs.declared.command.Chance.{Chance}
+use Rattle.smp_words.specs.declared.command.Chance.TheVariants.{Tape, Seed}
 
 -- what a command line gives: the command, the words after it, and the value of each option that is there
 pub record Given : Type 0 where
@@ -66,13 +70,13 @@ in_range least most n = when (nat_le least n && nat_le n most) (Some n)
 abbrev pub number_from : ℕ → ℕ → List ℕ → Option ℕ
 number_from least most text = number_below (2 ^ 128) text >>= in_range least most
 
--- a hexadecimal digit in either case
-abbrev pub is_hex_digit : ℕ → Bool
-is_hex_digit byte = (nat_le 48 byte && nat_le byte 57) || ((nat_le 65 byte && nat_le byte 70) || (nat_le 97 byte && nat_le byte 102))
+-- the 32 bytes that 64 hexadecimal digits write, two digits a byte and in either case
+abbrev pub seed_of : Result (List ℕ) FromHexError → Option (List ℕ)
+seed_of (Ok bytes) = Some bytes
+seed_of (Err error) = None
 
--- the key of a generator in 64 hexadecimal digits
-abbrev pub is_seed : List ℕ → Bool
-is_seed text = (length text == 64) && list_all is_hex_digit text
+abbrev pub seed_from : List ℕ → Option (List ℕ)
+seed_from text = seed_of (decode_sized text 32)
 
 -- ---- the table of the commands
 
@@ -87,7 +91,10 @@ quick g = when (none_given (g.design ∷ g.frame ∷ g.tape ∷ g.seed ∷ g.log
 
 -- N SEED, with N from 30 to 100,000 and SEED below 2^64
 abbrev pub demo_words : List (List ℕ) → Option Command
-demo_words (n ∷ seed ∷ []) = number_from 30 100000 n >>= λ units. number_from 0 18446744073709551615 seed >>= λ start. Some NotYet
+demo_words (n ∷ seed ∷ []) = do
+  units ← number_from 30 100000 n
+  start ← number_from 0 18446744073709551615 seed
+  Some (Demo (record { n = units; seed = start }))
 demo_words other = None
 
 abbrev pub demo : Given → Option Command
@@ -115,21 +122,43 @@ draw_files g = when (is_empty g.rest) (do
   sample ← g.sample
   Some (record { design = design; frame = frame; log = log; sample = sample }))
 
+-- no two of these have the same name
+abbrev pub have_own_names : DrawFiles → Bool
+have_own_names files = all_distinct (files.design ∷ files.frame ∷ files.log ∷ files.sample ∷ [])
+
+abbrev pub draw_command : DrawFiles → Chance → Command
+draw_command files chance = Draw (record {
+  design = files.design;
+  frame = files.frame;
+  chance = chance;
+  log = files.log;
+  sample = files.sample;
+})
+
 -- exactly one of a tape and a seed
 abbrev pub draw_by : DrawFiles → Option (List ℕ) → Option (List ℕ) → Option Command
 draw_by files (Some tape) None =
     when (all_distinct (files.design ∷ files.frame ∷ tape ∷ files.log ∷ files.sample ∷ []))
-    (Some (Draw (record { design = files.design; frame = files.frame; tape = tape; log = files.log; sample = files.sample })))
-draw_by files None (Some seed) = when (is_seed seed && all_distinct (files.design ∷ files.frame ∷ files.log ∷ files.sample ∷ [])) (Some NotYet)
+    (Some (draw_command files (Tape tape)))
+draw_by files None (Some seed) =
+    when (have_own_names files) (seed_from seed >>= λ key. Some (draw_command files (Seed key)))
 draw_by files None None = None
 draw_by files (Some tape) (Some seed) = None
 
 abbrev pub draw : Given → Option Command
 draw g = draw_files g >>= λ files. draw_by files g.tape g.seed
 
+abbrev pub replay_command : DrawFiles → Command
+replay_command files = Replay (record {
+  design = files.design;
+  frame = files.frame;
+  log = files.log;
+  sample = files.sample;
+})
+
 abbrev pub replay : Given → Option Command
-replay g = draw_files g >>= λ files.
-    when (none_given (g.tape ∷ g.seed ∷ []) && all_distinct (files.design ∷ files.frame ∷ files.log ∷ files.sample ∷ [])) (Some NotYet)
+replay g = when (none_given (g.tape ∷ g.seed ∷ []))
+    (draw_files g >>= λ files. when (have_own_names files) (Some (replay_command files)))
 
 -- what stands beside the word of a command
 abbrev pub by_name : List ℕ → Given → Option Command
@@ -152,25 +181,33 @@ command_of words = words_of words >>= λ rows. command_given (given_of rows)
 
 -- ---- the files of a command
 
+-- the file of a tape; a seed has none
+abbrev pub tape_names : Chance → List (List ℕ)
+tape_names (Tape name) = name ∷ []
+tape_names (Seed key) = []
+
 -- the files that a command reads, and those that it writes, in the order of its work
 abbrev pub inputs_of : Command → List (List ℕ)
 inputs_of (Quick arguments) = arguments.frame ∷ arguments.tape ∷ []
-inputs_of (Draw arguments) = arguments.design ∷ arguments.frame ∷ arguments.tape ∷ []
+inputs_of (Draw arguments) = arguments.design ∷ arguments.frame ∷ tape_names arguments.chance
+inputs_of (Replay arguments) = arguments.design ∷ arguments.frame ∷ arguments.log ∷ []
 inputs_of (Probs arguments) = arguments.design ∷ arguments.frame ∷ []
 inputs_of (Check arguments) = arguments.design ∷ arguments.frame ∷ []
-inputs_of NotYet = []
+inputs_of (Demo arguments) = []
 
 abbrev pub outputs_of : Command → List (List ℕ)
 outputs_of (Quick arguments) = arguments.out ∷ []
 outputs_of (Draw arguments) = arguments.log ∷ arguments.sample ∷ []
+outputs_of (Replay arguments) = arguments.sample ∷ []
 outputs_of other = []
 
 -- how many units a command itself asks for
 abbrev pub IsSized : Command → Type 0
 IsSized (Quick arguments) = (1 ≤ arguments.n) × (arguments.n ≤ 100000)
+IsSized (Demo arguments) = (30 ≤ arguments.n) × (arguments.n ≤ 100000)
 IsSized other = Unit {0}
 
--- no two files of a command have the same name, and `quick` asks for 1 to 100,000 units
+-- No two files of a command have the same name. `quick` asks for 1 to 100,000 units, and `demo` for 30 to 100,000.
 pub record IsAsked (command : Command) : Type 0 where
   pub distinct : all_distinct (inputs_of command ++ outputs_of command) ≡ true
   pub sized : IsSized command

@@ -15,19 +15,50 @@ pub struct QuickArguments {
     pub out: Text,
 }
 
-/// What the command `draw` is to do, by a tape.
+/// Where the draws of a selection come from.
+#[derive(Drop)]
+pub enum Chance {
+    /// From the values of the tape in the file of this name.
+    Tape(Text),
+    /// From the words of the generator whose key are these bytes.
+    Seed([u8; 32]),
+}
+
+/// What the command `draw` is to do.
 #[derive(Drop)]
 pub struct DrawArguments {
     /// The name of the design's file.
     pub design: Text,
     /// The name of the frame's file.
     pub frame: Text,
-    /// The name of the tape's file.
-    pub tape: Text,
+    /// Where the draws come from.
+    pub chance: Chance,
     /// The name of the file that the log is written to.
     pub log: Text,
     /// The name of the file that the sample is written to.
     pub sample: Text,
+}
+
+/// What the command `replay` is to do.
+#[derive(Drop)]
+pub struct ReplayArguments {
+    /// The name of the design's file.
+    pub design: Text,
+    /// The name of the frame's file.
+    pub frame: Text,
+    /// The name of the file that the log is read from.
+    pub log: Text,
+    /// The name of the file that the sample is written to.
+    pub sample: Text,
+}
+
+/// What the command `demo` is to do.
+#[derive(Clone, Copy)]
+pub struct DemoArguments {
+    /// How many units the frame has, from 30 to 100,000.
+    pub n: u32,
+    /// The number that the frame and the key are made of.
+    pub seed: u64,
 }
 
 /// The files that a command reads that writes none.
@@ -46,10 +77,12 @@ pub enum Command {
     Quick(QuickArguments),
     /// Draw the sample of a design.
     Draw(DrawArguments),
+    /// Select again what a log tells.
+    Replay(ReplayArguments),
     /// List the requested probabilities.
     Probs(DesignArguments),
     /// Say whether a design and a frame are accepted.
     Check(DesignArguments),
-    /// Something that isn't built yet: `replay`, `demo`, or `draw` by a seed.
-    NotYet,
+    /// Draw from a frame and a design that the program makes.
+    Demo(DemoArguments),
 }

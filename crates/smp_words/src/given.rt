@@ -1,15 +1,16 @@
 //! What a command line gives.
 
 ghost use Rattle.std.specs.Prelude.{◌≡◌, ◌∷◌, [], map};
-ghost use Rattle.std.specs.List.{list_all, list_any};
+ghost use Rattle.std.specs.List.{list_any};
 ghost use Rattle.std.specs.Str.{bytes_eq};
 ghost use Rattle.clap.specs.Words.{rows_of, found_of};
 ghost use Rattle.smp_words.specs.Views.{given_view, option_view};
 ghost use Rattle.smp_words.specs.Words;
-ghost use Rattle.smp_words.specs.Words.{given_of, none_given, all_distinct, is_absent, number_from};
+ghost use Rattle.smp_words.specs.Words.{given_of, none_given, all_distinct, is_absent, number_from, seed_from};
 
 use crate::command_line::{value_of, values_of};
 use clap::ArgMatches;
+use hex::FromHex;
 use smp_lines::number;
 
 /// The command, the words after it, and the value of each option that is there.
@@ -111,26 +112,9 @@ pub(crate) fn number_from(least: u128, most: u128, text: &str) -> Option<u128>
     }
 }
 
-/// Whether a text is the key of a generator: 64 hexadecimal digits in either case.
-pub(crate) fn is_seed(text: &str) -> bool
-    ensures { result ≡ Words.is_seed text.now }
+/// The bytes that 64 hexadecimal digits write, in either case.
+pub(crate) fn seed_from(text: &str) -> Option<[u8; 32]>
+    ensures { result ≡ seed_from text.now }
 {
-    text.len() == 64 && are_hex_digits(text.as_bytes())
-}
-
-fn are_hex_digits(bytes: &[u8]) -> bool
-    ensures { result ≡ list_all Words.is_hex_digit bytes.now }
-{
-    for byte in bytes {
-        if !is_hex_digit(*byte) {
-            return false;
-        }
-    }
-    true
-}
-
-fn is_hex_digit(byte: u8) -> bool
-    ensures { result ≡ Words.is_hex_digit byte }
-{
-    matches!(byte, b'0'..=b'9' | b'A'..=b'F' | b'a'..=b'f')
+    <[u8; 32] as FromHex>::from_hex(text).ok()
 }

@@ -8,5 +8,7 @@ mod command_line;
 mod given;
 mod words;
 
-pub use command::{Command, DesignArguments, DrawArguments, QuickArguments};
+pub use command::{
+    Chance, Command, DemoArguments, DesignArguments, DrawArguments, QuickArguments, ReplayArguments,
+};
 pub use words::command_from;

@@ -3,11 +3,13 @@
 ghost use Rattle.std.specs.Prelude.{◌≡◌, map, IfOk, IfSome, Some, None, string_bytes, option_map};
 ghost use Rattle.smp_words.specs.Views.{given_view, files_view};
 ghost use Rattle.smp_words.specs.Words;
-ghost use Rattle.smp_words.specs.Words.{command_of, command_given, draw_by, IsAsked};
+ghost use Rattle.smp_words.specs.Words.{command_of, command_given, draw_by, have_own_names, IsAsked};
 
 use crate::command_line::matches_from;
-use crate::given::{Given, are_absent, are_distinct, is_seed, number_from};
-use crate::{Command, DesignArguments, DrawArguments, QuickArguments};
+use crate::given::{Given, are_absent, are_distinct, number_from, seed_from};
+use crate::{
+    Chance, Command, DemoArguments, DesignArguments, DrawArguments, QuickArguments, ReplayArguments,
+};
 use smp_frac::{NoMemory, Text};
 use std::alloc::Global;
 
@@ -35,12 +37,21 @@ fn command_given(alloc: Global, given: &Given) -> Result<Option<Command>, NoMemo
     ensures command { IfOk result (λ command. command ≡ command_given (given_view given.now)) }
 {
     match given.command {
-        Some("quick") => quick(alloc, given),
-        Some("draw") => draw(alloc, given),
-        Some("replay") => Ok(replay(given)),
-        Some("probs") => Ok(design_arguments(alloc, given)?.map(Command::Probs)),
-        Some("check") => Ok(design_arguments(alloc, given)?.map(Command::Check)),
-        Some("demo") => Ok(demo(given)),
+        Some(name) => by_name(alloc, name, given),
+        None => Ok(None),
+    }
+}
+
+fn by_name(alloc: Global, name: &str, given: &Given) -> Result<Option<Command>, NoMemory>
+    ensures { IfOk result (λ command. command ≡ Words.by_name name.now (given_view given.now)) }
+{
+    match name {
+        "quick" => quick(alloc, given),
+        "draw" => draw(alloc, given),
+        "replay" => replay(alloc, given),
+        "probs" => Ok(design_arguments(alloc, given)?.map(Command::Probs)),
+        "check" => Ok(design_arguments(alloc, given)?.map(Command::Check)),
+        "demo" => Ok(demo(given)),
         _ => Ok(None),
     }
 }
@@ -77,9 +88,9 @@ fn demo(given: &Given) -> Option<Command>
     let [n, seed] = rest else {
         return None;
     };
-    number_from(MIN_DEMO_UNITS, MAX_UNITS, n)?;
-    number_from(0, MAX_DEMO_SEED, seed)?;
-    Some(Command::NotYet)
+    let n = number_from(MIN_DEMO_UNITS, MAX_UNITS, n)? as u32;
+    let seed = number_from(0, MAX_DEMO_SEED, seed)? as u64;
+    Some(Command::Demo(DemoArguments { n, seed }))
 }
 
 fn design_arguments(alloc: Global, given: &Given) -> Result<Option<DesignArguments>, NoMemory>
@@ -112,6 +123,15 @@ struct DrawFiles<'a> {
     sample: &'a str,
 }
 
+impl<'a> DrawFiles<'a> {
+    // No two of the names are the same.
+    fn are_distinct(&self) -> bool
+        ensures { result ≡ have_own_names (files_view self.now) }
+    {
+        are_distinct(&[self.design, self.frame, self.log, self.sample])
+    }
+}
+
 fn draw_files<'a>(given: &Given<'_, 'a>) -> Option<DrawFiles<'a>>
     ensures { option_map files_view result ≡ Words.draw_files (given_view given.now) }
 {
@@ -134,7 +154,7 @@ fn draw(alloc: Global, given: &Given) -> Result<Option<Command>, NoMemory>
     };
     match (given.tape, given.seed) {
         (Some(tape), None) => draw_by_tape(alloc, &files, tape),
-        (None, Some(seed)) => Ok(draw_by_seed(&files, seed)),
+        (None, Some(seed)) => draw_by_seed(alloc, &files, seed),
         _ => Ok(None),
     }
 }
@@ -145,34 +165,47 @@ fn draw_by_tape(alloc: Global, files: &DrawFiles, tape: &str) -> Result<Option<C
     if !are_distinct(&[files.design, files.frame, tape, files.log, files.sample]) {
         return Ok(None);
     }
-    Ok(Some(Command::Draw(DrawArguments {
-        design: Text::from_str(alloc, files.design)?,
-        frame: Text::from_str(alloc, files.frame)?,
-        tape: Text::from_str(alloc, tape)?,
-        log: Text::from_str(alloc, files.log)?,
-        sample: Text::from_str(alloc, files.sample)?,
-    })))
+    let tape = Text::from_str(alloc, tape)?;
+    Ok(Some(draw_command(alloc, files, Chance::Tape(tape))?))
 }
 
-fn draw_by_seed(files: &DrawFiles, seed: &str) -> Option<Command>
-    ensures { result ≡ draw_by (files_view files.now) None (Some seed.now) }
+fn draw_by_seed(alloc: Global, files: &DrawFiles, seed: &str) -> Result<Option<Command>, NoMemory>
+    ensures { IfOk result (λ command. command ≡ draw_by (files_view files.now) None (Some seed.now)) }
 {
-    if is_seed(seed) && are_distinct(&[files.design, files.frame, files.log, files.sample]) {
-        Some(Command::NotYet)
-    } else {
-        None
+    if !files.are_distinct() {
+        return Ok(None);
+    }
+    match seed_from(seed) {
+        Some(seed) => Ok(Some(draw_command(alloc, files, Chance::Seed(seed))?)),
+        None => Ok(None),
     }
 }
 
-fn replay(given: &Given) -> Option<Command>
-    ensures { result ≡ Words.replay (given_view given.now) }
+fn draw_command(alloc: Global, files: &DrawFiles, chance: Chance) -> Result<Command, NoMemory>
+    ensures { IfOk result (λ command. command ≡ Words.draw_command (files_view files.now) chance) }
 {
-    let files = draw_files(given)?;
-    if are_absent(&[given.tape, given.seed])
-        && are_distinct(&[files.design, files.frame, files.log, files.sample])
-    {
-        Some(Command::NotYet)
-    } else {
-        None
+    Ok(Command::Draw(DrawArguments {
+        design: Text::from_str(alloc, files.design)?,
+        frame: Text::from_str(alloc, files.frame)?,
+        chance,
+        log: Text::from_str(alloc, files.log)?,
+        sample: Text::from_str(alloc, files.sample)?,
+    }))
+}
+
+fn replay(alloc: Global, given: &Given) -> Result<Option<Command>, NoMemory>
+    ensures { IfOk result (λ command. command ≡ Words.replay (given_view given.now)) }
+{
+    if !are_absent(&[given.tape, given.seed]) {
+        return Ok(None);
+    }
+    match draw_files(given) {
+        Some(files) if files.are_distinct() => Ok(Some(Command::Replay(ReplayArguments {
+            design: Text::from_str(alloc, files.design)?,
+            frame: Text::from_str(alloc, files.frame)?,
+            log: Text::from_str(alloc, files.log)?,
+            sample: Text::from_str(alloc, files.sample)?,
+        }))),
+        _ => Ok(None),
     }
 }

@@ -1,7 +1,0 @@
-use Rattle.std.proofs.Common.{◌≡◌, drop}
-use Rattle.std.specs.List.{list_all}
-use Rattle.smp_words.specs.Words.{is_hex_digit}
-use Rattle.smp_words.proofs.given.are_hex_digits.Given as goal
-
-abbrev pub invariant-loop-byte : goal.invariant-loop-byte
-invariant-loop-byte l = list_all is_hex_digit (drop l.byte-index l.bytes) ≡ list_all is_hex_digit l.bytes
