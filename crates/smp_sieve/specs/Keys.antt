@@ -1,11 +1,15 @@
 -- The words of a key: ChaCha with 20 rounds (Bernstein, ChaCha, a variant of Salsa20, 2008).
 use Rattle.std.specs.Prelude.{ℕ, ◌+◌, ◌%◌, ◌^◌, List}
-use Rattle.rand_chacha.specs.ChaCha.{word_at}
+use Rattle.rand_chacha.specs.ChaCha.{key_of, word_at}
 
 -- a key, and how many words of its stream 0 came before the next one
 pub record Place : Type 0 where
   pub key : List ℕ
   pub next : ℕ
+
+-- the words of a seed of 32 bytes, which are those of the key, from the first word on
+abbrev pub words_of_seed : List ℕ → Place
+words_of_seed seed = record { key = key_of seed; next = 0 }
 
 -- the word of a key at a place: twenty rounds are ten double rounds, the stream is 0, and after 2^68 words they come round
 abbrev pub key_word : List ℕ → ℕ → ℕ

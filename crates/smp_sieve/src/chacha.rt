@@ -1,6 +1,6 @@
 ghost use Rattle.std.specs.Prelude.{◌≡◌, ℕ};
 ghost use Rattle.rand_chacha.specs.ChaCha.{key_of};
-ghost use Rattle.smp_sieve.specs.Keys.{key_word};
+ghost use Rattle.smp_sieve.specs.Keys.{key_word, words_of_seed};
 ghost use Rattle.smp_sieve.specs.Laws.Keys.{key_stream};
 ghost use Rattle.smp_sieve.specs.Streams.{ahead};
 
@@ -31,7 +31,7 @@ impl Model for ChaChaWords {
 impl ChaChaWords {
     /// The words of this key, none of which is taken. The bytes of the seed are those of the key, in order.
     pub fn new(seed: [u8; 32]) -> ChaChaWords
-        ensures seen { result ≡ record { key = key_of seed; next = 0 } }
+        ensures seen { result ≡ words_of_seed seed }
         ensures words { (place : ℕ) → ahead key_stream result place ≡ key_word (key_of seed) place }
     {
         ChaChaWords {
