@@ -17,3 +17,4 @@ pub mod Replays
 pub mod Answered
 pub mod StepCounts
 pub mod OnePath
+pub mod Telling

@@ -1,25 +1,25 @@
 -- A genuine log is the log of one path, which leads to one leaf.
-use Rattle.std.proofs.Common.{◌≡◌, ℕ, ◌+◌, true, false, List, [], ◌∷◌, ◌++◌, length, Option, Some, refl, sym, ap, ◌∙◌, subst}
+use Rattle.std.proofs.Common.{◌≡◌, ℕ, ◌+◌, true, false, List, [], ◌∷◌, ◌++◌, Option, Some, refl, sym, ap, ◌∙◌, subst}
 use Rattle.std.proofs.lemmas.List.{append_cancel_left}
 use Rattle.smp_split.specs.Trees.{Tree, Lawful, weight_sum, picked}
 use Rattle.smp_split.specs.Paths.{Entry, IsStep, Leads, entry_at}
 use Rattle.smp_split.proofs.Steps.{picked_belongs, value_within}
 use Rattle.smp_log.specs.Lines.{whole_lines}
 use Rattle.smp_log.specs.Heads.{IsHead}
-use Rattle.smp_log.specs.Genuine.{IsGenuine, IsUnambiguous}
+use Rattle.smp_log.specs.Genuine.{IsGenuine}
 use Rattle.smp_log.specs.Reading.{step_line, step_value, end_line}
 use Rattle.smp_log.proofs.StepLines.{step_value-line}
 use Rattle.smp_log.proofs.Paths.{full_path_leads}
 use Rattle.smp_log.proofs.Heads.{head_lines}
 use Rattle.smp_log.proofs.Logs.{lines_after, one_longer}
-use Rattle.smp_log.proofs.StepCounts.{lines_are, log_count}
+use Rattle.smp_log.proofs.StepCounts.{lines_are}
 
 module _ {State : Type 0} (tree : Tree State) (belongs : State → Type 0) (lawful : Lawful tree belongs) where
   -- the entry of a step is the state's, and its line is read with its value
-  entry_is : (s : State) (entry : Entry) → IsStep tree s entry → ◌≡◌ {A = Entry} (entry_at tree s entry.2) entry
+  pub entry_is : (s : State) (entry : Entry) → IsStep tree s entry → ◌≡◌ {A = Entry} (entry_at tree s entry.2) entry
   entry_is s entry step = (λ i. ((sym step.kind) i, (sym step.bound) i, entry.2))
 
-  value_read : (s : State) (entry : Entry) → belongs s → IsStep tree s entry → step_value (tree.kind s) (weight_sum (tree.parts s)) (step_line entry) ≡ Some entry.2
+  pub value_read : (s : State) (entry : Entry) → belongs s → IsStep tree s entry → step_value (tree.kind s) (weight_sum (tree.parts s)) (step_line entry) ≡ Some entry.2
   value_read s entry member step =
       ap (λ (x : Entry). step_value (tree.kind s) (weight_sum (tree.parts s)) (step_line x)) (sym (entry_is s entry step))
       ∙ step_value-line (tree.kind s) (weight_sum (tree.parts s)) entry.2 (value_within tree belongs lawful s entry step) (lawful.split s member step.going).narrow
@@ -41,17 +41,10 @@ module _ {State : Type 0} (tree : Tree State) (belongs : State → Type 0) (lawf
       ((λ i. same i ∷ rest.0 i), rest.1)
 
   module _ (from : State) (member : belongs from) (head log : List ℕ) (h : IsHead head) (a b : State) (first : IsGenuine tree from head log a) (second : IsGenuine tree from head log b) where
-    both : (first.path ≡ second.path) × (a ≡ b)
+    pub both : (first.path ≡ second.path) × (a ≡ b)
     both =
         let lines : head_lines h ++ lines_after end_line 0 first.path ≡ head_lines h ++ lines_after end_line 0 second.path =
         sym (lines_are tree belongs lawful from member head h first.path) ∙ ap whole_lines (sym first.text ∙ second.text) ∙ lines_are tree belongs lawful from member head h second.path in
         let p = full_path_leads tree belongs lawful from a first.path member first.full in
         let q = full_path_leads tree belongs lawful from b second.path member second.full in
         same_paths first.path second.path 0 from a b member p.0 p.1 q.0 q.1 (append_cancel_left (head_lines h) (lines_after end_line 0 first.path) (lines_after end_line 0 second.path) lines)
-
-  pub unambiguous : (from : State) → belongs from → (head log : List ℕ) → IsHead head → IsUnambiguous tree from head log
-  unambiguous from member head log h = record {
-    one_path = λ a b first second. (both from member head log h a b first second).0;
-    one_leaf = λ a b first second. (both from member head log h a b first second).1;
-    steps = λ leaf genuine. ap (λ text. length (whole_lines text)) genuine.text ∙ log_count tree belongs lawful from member head h genuine.path;
-  }

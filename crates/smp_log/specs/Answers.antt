@@ -4,6 +4,8 @@ use Rattle.std.specs.Str.{bytes_eq}
 use Rattle.smp_split.specs.Trees.{Tree}
 use Rattle.smp_log.specs.declared.fault.LogFault.{LogFault}
 use Rattle.smp_log.specs.declared.fault.LogFault.TheVariants.{Differs}
+use Rattle.smp_log.specs.declared.fault.ReplayFault.{ReplayFault}
+use Rattle.smp_log.specs.declared.fault.ReplayFault.TheVariants as faults
 use Rattle.smp_log.specs.Genuine.{DiffersAt, IsGenuine}
 use Rattle.smp_log.specs.Lines.{whole_lines, lines_text}
 use Rattle.smp_log.specs.Reading.{Script, follows, LogPlace, heading, stepping, closed, before, end_line, log_script}
@@ -18,6 +20,13 @@ IsAnswer Genuine log (Err line) = DiffersAt Genuine log line
 abbrev pub answer_at : {State : Type 0} → Result (Unit {0}) LogFault → State → Result State ℕ
 answer_at (Ok done) state = Ok state
 answer_at (Err (Differs line)) state = Err line
+
+-- the same where the steps are told, unless memory ran out
+abbrev pub AnswersAs : {State : Type 0} → Result (Unit {0}) ReplayFault → State → Result State ℕ
+    → Type 0
+AnswersAs (Ok done) state reading = reading ≡ Ok state
+AnswersAs (Err (faults.Differs line)) state reading = reading ≡ Err line
+AnswersAs (Err faults.NoMemory) state reading = Unit {0}
 
 -- ---- the answer, computed
 

@@ -8,6 +8,7 @@ use Rattle.smp_split.specs.Paths.{Entry}
 use Rattle.smp_split.specs.Runs.{Outcome, run}
 use Rattle.smp_log.specs.Lines.{ShareLines, whole_lines}
 use Rattle.smp_log.specs.Logs.{log_text}
+use Rattle.smp_log.specs.Told.{path_told}
 
 -- the path from a state to a leaf that a full tape takes: the run over its values comes to the leaf, and none is left
 pub record IsFullPath {State : Type 0} (tree : Tree State) (from : State) (path : List Entry)
@@ -49,13 +50,21 @@ pub record DiffersAt {State : Type 0} (Genuine : List ℕ → State → Type 0) 
 
 -- ---- what a log tells
 
--- a genuine log is that of one path alone, which leads to one leaf, and it has four whole lines more than steps
+-- a genuine log, whose path is the one that it tells
+pub record IsToldGenuine {State : Type 0} (tree : Tree State) (from : State) (head log : List ℕ)
+    (leaf : State) : Type 0 where
+  pub genuine : IsGenuine tree from head log leaf
+  pub told : path_told tree from log ≡ genuine.path
+
+-- A genuine log is that of one path alone, which it tells and which leads to one leaf. It has four whole lines more than steps.
 pub record IsUnambiguous {State : Type 0} (tree : Tree State) (from : State) (head log : List ℕ)
     : Type 0 where
   pub one_path : (a b : State) (first : IsGenuine tree from head log a)
       (second : IsGenuine tree from head log b) → first.path ≡ second.path
   pub one_leaf : (a b : State) → IsGenuine tree from head log a → IsGenuine tree from head log b
       → a ≡ b
+  pub told : (leaf : State) (genuine : IsGenuine tree from head log leaf)
+      → path_told tree from log ≡ genuine.path
   pub steps : (leaf : State) (genuine : IsGenuine tree from head log leaf)
       → length (whole_lines log) ≡ length genuine.path + 4
 

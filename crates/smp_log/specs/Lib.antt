@@ -5,3 +5,4 @@ pub mod Genuine
 pub mod Fronts
 pub mod Reading
 pub mod Answers
+pub mod Told

@@ -11,11 +11,11 @@ mod lines;
 mod replaying;
 mod writing;
 
-pub use fault::LogFault;
+pub use fault::{LogFault, ReplayFault};
 pub use head::{Head, log_head};
 pub use laws::{logs_are_unambiguous, runs_are_genuine};
-pub use replaying::replay;
-pub use writing::log_bytes;
+pub use replaying::{replay, replay_into};
+pub use writing::{log_bytes, step_lines};
 
 #[cfg(test)]
 mod tests;

@@ -1,13 +1,16 @@
-ghost use Rattle.std.specs.Prelude.{◌≡◌, ◌++◌, ℕ, true, Err, IfOk, OnOk};
+ghost use Rattle.std.specs.Prelude.{◌≡◌, ◌++◌, ℕ, true, Err, IfErr, IfOk, OnOk};
+ghost use Rattle.smp_split.specs.Runs.{and_then};
 ghost use Rattle.smp_log.specs.Fronts.{IsWhole, StopsAt};
-ghost use Rattle.smp_log.specs.Answers.{answer_at, log_reading};
-ghost use Rattle.smp_log.specs.Genuine.{IsGenuine, DiffersAt};
+ghost use Rattle.smp_log.specs.Answers.{AnswersAs, answer_at, log_reading};
+ghost use Rattle.smp_log.specs.Genuine.{IsGenuine, IsToldGenuine, DiffersAt};
+ghost use Rattle.smp_log.specs.Told.{path_told};
 ghost use Rattle.smp_log.specs.declared.fault.LogFault.TheVariants as LogFault;
+ghost use Rattle.smp_log.specs.declared.fault.ReplayFault.TheVariants as ReplayFault;
 
 use crate::lines::{after_end, step_first};
-use crate::{Head, LogFault};
+use crate::{Head, LogFault, ReplayFault};
 use smp_lines::cut_before;
-use smp_split::Splitting;
+use smp_split::{NoTrace, Splitting, Trace};
 
 /// Replays a log from the state in which it began, as a design's `start` gives it. The log is read once, and no memory is
 /// taken.
@@ -34,41 +37,78 @@ pub fn replay<S: Splitting>(
     ensures reading { answer_at result state.new
         ≡ log_reading (S.tree run.now) state.old head.now log.now }
 {
-    let mut rest = after_front(log, head.as_slice())?;
+    match replay_into(run, state, head, log, &mut NoTrace) {
+        Ok(()) => Ok(()),
+        Err(ReplayFault::Differs { line }) => Err(LogFault::Differs { line }),
+        Err(ReplayFault::NoMemory) => unreachable!(),
+    }
+}
+
+/// Replays a log as [`replay`] does, and tells each of its steps to a trace, in their order.
+///
+/// Want of memory comes only where the trace may refuse a line.
+pub fn replay_into<S: Splitting, T: Trace>(
+    run: &S,
+    state: &mut S::State,
+    head: &Head,
+    log: &[u8],
+    trace: &mut T,
+) -> Result<(), ReplayFault>
+    requires { S.belongs run.now state.old }
+    ensures genuine { OnOk result
+        (IsToldGenuine (S.tree run.now) state.old head.now log.now state.new) }
+    ensures told { OnOk result (T.lines trace.new
+        ≡ and_then (T.lines trace.old) (path_told (S.tree run.now) state.old log.now)) }
+    ensures differs { (line : ℕ) → result ≡ Err (ReplayFault.Differs line)
+        → DiffersAt (IsGenuine (S.tree run.now) state.old head.now) log.now line }
+    ensures may_refuse { result ≡ Err ReplayFault.NoMemory → T.may_refuse ≡ true }
+    ensures done { OnOk result ((S.tree run.now).done state.new ≡ true) }
+    ensures belongs { S.belongs run.now state.new }
+
+    // The same as a function of the bytes.
+    ensures reading { AnswersAs result state.new
+        (log_reading (S.tree run.now) state.old head.now log.now) }
+{
+    let mut rest = match after_front(log, head.as_slice()) {
+        Ok(rest) => rest,
+        Err(line) => return Err(ReplayFault::Differs { line }),
+    };
     let mut steps = 0;
     while !run.done(state) {
-        let Some((value, after)) = step_first(rest, run.kind(state), run.bound(state)) else {
-            return Err(LogFault::Differs { line: steps + 4 });
+        let kind = run.kind(state);
+        let bound = run.bound(state);
+        let Some((value, after)) = step_first(rest, kind, bound) else {
+            return Err(ReplayFault::Differs { line: steps + 4 });
         };
+        trace.line(kind, bound, value)?;
         run.advance(state, value);
         steps += 1;
         rest = after;
     }
     let Some(after) = after_end(rest, steps) else {
-        return Err(LogFault::Differs { line: steps + 4 });
+        return Err(ReplayFault::Differs { line: steps + 4 });
     };
     if !after.is_empty() {
-        return Err(LogFault::Differs { line: steps + 5 });
+        return Err(ReplayFault::Differs { line: steps + 5 });
     }
     Ok(())
 }
 
-// What stands behind the lines of a front, or the first line that isn't the front's.
-fn after_front<'a>(text: &'a [u8], front: &[u8]) -> Result<&'a [u8], LogFault>
+// What stands behind the lines of a front, or the number of the first line that isn't the front's.
+fn after_front<'a>(text: &'a [u8], front: &[u8]) -> Result<&'a [u8], u64>
     requires { IsWhole front.now }
     ensures front { IfOk result (λ rest. text.now ≡ front.now ++ rest.now) }
-    ensures stops { (line : ℕ) → result ≡ Err (LogFault.Differs line)
-        → StopsAt front.now text.now line }
+    ensures stops { IfErr result (StopsAt front.now text.now) }
 {
     let mut rest = text;
     let mut wanted = front;
     let mut number = 1;
     while let Some((wanted_line, wanted_after)) = cut_before(wanted, b'\n') {
         let Some((line, after)) = cut_before(rest, b'\n') else {
-            return Err(LogFault::Differs { line: number });
+            return Err(number);
         };
         if line != wanted_line {
-            return Err(LogFault::Differs { line: number });
+            return Err(number);
         }
         rest = after;
         wanted = wanted_after;

@@ -18,6 +18,15 @@ pub fn log_bytes(alloc: Global, head: &Head, lines: &Lines) -> Result<Bytes, NoM
     Ok(text)
 }
 
+/// The lines of the steps of a path alone.
+pub fn step_lines(alloc: Global, lines: &Lines) -> Result<Bytes, NoMemory>
+    ensures { IfOk result (λ text. text ≡ steps_text lines.now) }
+{
+    let mut text = Bytes::new(alloc);
+    push_steps(alloc, &mut text, lines.as_slice())?;
+    Ok(text)
+}
+
 fn push_steps(alloc: Global, text: &mut Bytes, steps: &[(Kind, u128, u128)]) -> Result<(), NoMemory>
     ensures { OnOk result (text.new ≡ text.old ++ steps_text steps.now) }
 {

@@ -1,23 +1,18 @@
-use Rattle.std.proofs.Common.{◌≡◌, true, false, sym, subst, ◌∙◌, inl, inr}
+use Rattle.std.proofs.Common.{◌≡◌, true, false, sym, ◌∙◌, inl, inr}
 use Rattle.std.proofs.lemmas.Bool.{not-true, not-false}
 use Rattle.std.proofs.lemmas.Slice.Eq.{bytes_eq-Decides}
 use Rattle.std.specs.Str.{bytes_eq}
 use Rattle.smp_lines.proofs.Shorter.{shorter}
-use Rattle.smp_log.specs.Fronts.{StopsAt}
 use Rattle.smp_log.proofs.Fronts.{agrees_more, agrees_all, agrees_none}
 use Rattle.smp_log.proofs.replaying.after_front.Goals as goal
 
 pub returns-in_default-cut_before-clause-stops : goal.returns-in_default-cut_before-clause-stops
-returns-in_default-cut_before-clause-stops c line is =
-    let same : c.loop-wanted_line.number ≡ line = cc in
-    subst (StopsAt c.args.front.now c.args.text.now) same
+returns-in_default-cut_before-clause-stops c =
     (agrees_none c.args.front.now c.args.text.now c.loop-wanted_line.wanted.now c.loop-wanted_line.rest.now c.in-Some.wanted_line.now c.in-Some.wanted_after.now c.loop-wanted_line.number c.loop-wanted_line.invariant (sym c.in-Some.ensures) (inl (sym c.in_default-cut_before.ensures)))
 
 pub returns-then-ne-clause-stops : goal.returns-then-ne-clause-stops
-returns-then-ne-clause-stops c line is =
-    let same : c.loop-wanted_line.number ≡ line = cc in
+returns-then-ne-clause-stops c =
     let other : bytes_eq c.in-Some-cut_before.line.now c.in-Some.wanted_line.now ≡ false = not-true _ (sym c.ne.ensures ∙ c.if-ne.true) in
-    subst (StopsAt c.args.front.now c.args.text.now) same
     (agrees_none c.args.front.now c.args.text.now c.loop-wanted_line.wanted.now c.loop-wanted_line.rest.now c.in-Some.wanted_line.now c.in-Some.wanted_after.now c.loop-wanted_line.number c.loop-wanted_line.invariant (sym c.in-Some.ensures)
     (inr ((c.in-Some-cut_before.line.now, c.in-Some-cut_before.after.now), sym c.in-Some-cut_before.ensures, other)))
 

@@ -1,9 +1,0 @@
-use Rattle.std.proofs.Common.{length}
-use Rattle.smp_log.proofs.Replays.{IsReplaying}
-use Rattle.smp_log.proofs.replaying.replay.Given as goal
-
-abbrev pub invariant-loop-state : goal.invariant-loop-state
-invariant-loop-state g l = IsReplaying (g.S.Splitting.tree l.run) (g.S.Splitting.belongs l.run) l.fn.state l.head l.log l.state l.rest l.steps
-
-abbrev pub decreases-loop-state : goal.decreases-loop-state
-decreases-loop-state g l = length l.rest
