@@ -1,6 +1,7 @@
--- What is selected by a tape is what the verdict draws, with the requested probabilities.
-use Rattle.std.proofs.Common.{◌≡◌, ℕ, ◌<◌, List, [], ◌∷◌, length, Option, Some, None, Ok, Err, true, refl, sym, ap, subst, ◌∙◌, arith}
-use Rattle.std.specs.Prelude.{IfSome, is_some, option_map}
+-- What is selected by a tape or by a seed is what the verdict draws, with the requested probabilities.
+use Rattle.std.proofs.Common.{◌≡◌, ℕ, zero, suc, ◌<◌, ◌≤◌, List, [], ◌∷◌, length, Option, Some, None, Result, Ok, Err, true, refl, sym, ap, subst, ◌∙◌, arith, inl, inr}
+use Rattle.std.specs.Prelude.{◌==◌, IfSome, is_some, option_map}
+use Rattle.std.proofs.lemmas.Bool.{cases_Bool, eqb-true}
 use Rattle.std.specs.List.{count_by, range_with_len, slice_get}
 use Rattle.std.proofs.lemmas.List.Elements.{All-get_or}
 use Rattle.std.proofs.lemmas.Option.{slice_get_within, get_or_from_slice_get}
@@ -9,14 +10,14 @@ use Rattle.smp_split.specs.Means.{mean, inclusion_probability}
 use Rattle.smp_strata.specs.Plans.{sample_size}
 use Rattle.smp_fractions.proofs.Fractions.{same_sym, same_trans}
 use Rattle.smp_prob.specs.declared.requests.Request.{Request}
-use Rattle.smp_tape.specs.Tapes.{Values}
-use Rattle.smp_tape.specs.Laws.Tapes.{tape_source}
+use Rattle.smp_tape.specs.Sources.{Source}
 use Rattle.smp_tape.specs.declared.draws.DrawFault.{DrawFault}
-use Rattle.smp_tape.specs.declared.draws.DrawFault.TheVariants.{Rejected}
+use Rattle.smp_tape.specs.declared.draws.DrawFault.TheVariants.{Short, TooBig, Rejected}
+use Rattle.smp_log.specs.Answers.{log_reading}
+use Rattle.smp_log.specs.Told.{path_told}
 use Rattle.smp_split.specs.Paths.{Entry, Leads}
 use Rattle.smp_split.specs.Runs.{Outcome, run, leaf, stopped, IsLeaf, IsStop, IsOutcome}
 use Rattle.smp_split.proofs.Runs.{run_is}
-use Rattle.smp_split.proofs.Tapes.{never_rejected}
 use Rattle.smp_split.specs.Trees.{Tree, weight_sum}
 use Rattle.smp_design.specs.declared.design.Second as second
 use Rattle.smp_methods.specs.declared.any.AnyState.{AnyState}
@@ -33,66 +34,123 @@ use Rattle.smp_twostage.specs.Laws.Places.{place_is_seat}
 use Rattle.smp_twostage.specs.Laws.Staged.{seconds_in}
 use Rattle.smp_twostage.specs.Laws.Wholes.{whole_lawful}
 use Rattle.smp_app.specs.declared.plan.FramePlan.{FramePlan}
-use Rattle.smp_app.specs.declared.status.Status.TheVariants.{TapeLong}
-use Rattle.smp_app.specs.Stages.{IsPlanned, plan_view}
+use Rattle.smp_app.specs.declared.status.Status.TheVariants.{TapeLong, LogDiffers}
+use Rattle.smp_app.specs.declared.status.Status.{Status}
+use Rattle.smp_app.specs.declared.selection.Stopped.{Stopped}
+use Rattle.smp_app.specs.declared.selection.Stopped.TheVariants as stops
+use Rattle.smp_app.specs.Codes.{class_of}
+use Rattle.smp_app.specs.Stages.{IsPlanned, EndsAs, EndsAsTold, RefusedAt, Follows, FollowsEnd, IsOfContent, plan_view, stopped_status}
 use Rattle.smp_app.specs.Draws.{IsDrawnBy, HasProbabilities}
 use Rattle.smp_app.specs.Plans.{Plan, parts, tree_of, start_of, row_probability, Drawn}
 use Rattle.smp_app.proofs.Cubes.{keeps_balance}
-use Rattle.smp_app.specs.Verdict.{Refused, draw_status, drawn_at, drawn_of}
+use Rattle.smp_app.specs.Verdict.{Stop, Refused, draw_status, drawn_at, drawn_of, told_by_log, drawn_by_log}
 
 -- the entries that were told
 pub told_is : {path lines : List Entry} → Some lines ≡ Some path → lines ≡ path
 told_is {path} {lines} told = let same : ◌≡◌ {A = Option (List Entry)} (Some lines) (Some path) = told in cc
 
--- ---- the run of the tape
+-- ---- the run of the draws
 
 -- a run in the plan's draw tree from its start
-module _ (plan : Plan) (tree : Tree (Progress AnyState)) (tree_is : tree ≡ tree_of plan) (start : Progress AnyState) (start_is : start ≡ start_of plan) (tape : Values) where
-  ran_so : (outcome : Outcome (Progress AnyState) Values) → run tape_source tree start tape ≡ outcome → run tape_source (tree_of plan) (start_of plan) tape ≡ outcome
+module _ {Rest : Type 0} (source : Source Rest) (plan : Plan) (tree : Tree (Progress AnyState)) (tree_is : tree ≡ tree_of plan) (start : Progress AnyState) (start_is : start ≡ start_of plan) (draws : Rest) where
+  abbrev pub ran_by_plan : Outcome (Progress AnyState) Rest
+  ran_by_plan = run source (tree_of plan) (start_of plan) draws
+
+  ran_so : (outcome : Outcome (Progress AnyState) Rest) → run source tree start draws ≡ outcome → ran_by_plan ≡ outcome
   ran_so outcome ran =
-      subst (λ (t : Tree (Progress AnyState)). run tape_source t (start_of plan) tape ≡ outcome) tree_is
-      (subst (λ (s : Progress AnyState). run tape_source tree s tape ≡ outcome) start_is ran)
-
-  -- a draw was refused
-  pub drawn_refused : (state : Progress AnyState) (path : List Entry) (fault : DrawFault) (end : Values) (bound : ℕ) → bound ≡ weight_sum (tree.parts state) → run tape_source tree start tape ≡ stopped state path fault end
-      → drawn_of plan (run tape_source (tree_of plan) (start_of plan) tape) ≡ Err (Refused (draw_status fault bound (length end.taken)))
-  drawn_refused state path fault end bound bound_is ran =
-      let asked : weight_sum ((tree_of plan).parts state) ≡ bound = ap (λ (t : Tree (Progress AnyState)). weight_sum (t.parts state)) (sym tree_is) ∙ sym bound_is in
-      ap (drawn_of plan) (ran_so _ ran) ∙ ap (λ b. Err (Refused (draw_status fault b (length end.taken)))) asked
-
-  none_left : (state : Progress AnyState) (path : List Entry) (left : List ℕ) → length left ≡ 0 → drawn_at plan state path left ≡ Ok (record { plan = plan; leaf = state; path = path })
-  none_left state path [] h = refl
-  none_left state path (v ∷ left) h = absurd (omega arith)
-
-  some_left : (state : Progress AnyState) (path : List Entry) (left : List ℕ) → 0 < length left → drawn_at plan state path left ≡ Err (Refused (TapeLong (length left)))
-  some_left state path [] h = absurd (omega arith)
-  some_left state path (v ∷ left) h = refl
+      subst (λ (t : Tree (Progress AnyState)). run source t (start_of plan) draws ≡ outcome) tree_is
+      (subst (λ (s : Progress AnyState). run source tree s draws ≡ outcome) start_is ran)
 
   -- the walk came to a leaf
-  module _ (state : Progress AnyState) (lines path : List Entry) (end : Values) (ran : run tape_source tree start tape ≡ leaf state path end) where
-    pub drawn_leaf : Some lines ≡ Some path → length end.left ≡ 0 → drawn_of plan (run tape_source (tree_of plan) (start_of plan) tape) ≡ Ok (record { plan = plan; leaf = state; path = lines })
-    drawn_leaf told all_taken =
-        let same : ◌≡◌ {A = Option (List Entry)} (Some lines) (Some path) = told in
-        let path_is : path ≡ lines = cc in
-        ap (drawn_of plan) (ran_so _ ran) ∙ none_left state path end.left all_taken ∙ ap (λ (p : List Entry). Ok (record { plan = plan; leaf = state; path = p })) path_is
+  pub ends_at_leaf : (state : Progress AnyState) (lines path : List Entry) (left : Rest) → run source tree start draws ≡ leaf state path left → Some lines ≡ Some path → ran_by_plan ≡ leaf state lines left
+  ends_at_leaf state lines path left ran told = ran_so _ ran ∙ ap (λ (p : List Entry). leaf state p left) (sym (told_is told))
 
-    pub drawn_long : (count : ℕ) → count ≡ length end.left → 0 < length end.left → drawn_of plan (run tape_source (tree_of plan) (start_of plan) tape) ≡ Err (Refused (TapeLong count))
-    drawn_long count counted left = ap (drawn_of plan) (ran_so _ ran) ∙ some_left state path end.left left ∙ ap (λ n. Err (Refused (TapeLong n))) (sym counted)
+  -- a draw was refused
+  pub ends_refused : (state : Progress AnyState) (path : List Entry) (fault : DrawFault) (left : Rest) (bound : ℕ) → bound ≡ weight_sum (tree.parts state) → run source tree start draws ≡ stopped state path fault left
+      → RefusedAt plan ran_by_plan state fault bound left
+  ends_refused state path fault left bound bound_is ran = record {
+    path = path;
+    ran = ran_so _ ran;
+    bound_is = bound_is ∙ ap (λ (t : Tree (Progress AnyState)). weight_sum (t.parts state)) tree_is;
+  }
+
+-- ---- what a log tells
+
+module _ (plan : Plan) (tree : Tree (Progress AnyState)) (tree_is : tree ≡ tree_of plan) (start : Progress AnyState) (start_is : start ≡ start_of plan) (log : List ℕ) where
+  read_so : (answer : Result (Progress AnyState) ℕ) → log_reading tree start plan.head log ≡ answer → log_reading (tree_of plan) (start_of plan) plan.head log ≡ answer
+  read_so answer read =
+      subst (λ (t : Tree (Progress AnyState)). log_reading t (start_of plan) plan.head log ≡ answer) tree_is
+      (subst (λ (s : Progress AnyState). log_reading tree s plan.head log ≡ answer) start_is read)
+
+  path_so : (lines : List Entry) → lines ≡ path_told tree start log → lines ≡ path_told (tree_of plan) (start_of plan) log
+  path_so lines is =
+      subst (λ (t : Tree (Progress AnyState)). lines ≡ path_told t (start_of plan) log) tree_is
+      (subst (λ (s : Progress AnyState). lines ≡ path_told tree s log) start_is is)
+
+  -- the log was replayed to its end
+  pub told_leaf : (state : Progress AnyState) (lines : List Entry) → log_reading tree start plan.head log ≡ Ok state → lines ≡ path_told tree start log → drawn_by_log plan log ≡ Ok (record { plan = plan; leaf = state; path = lines })
+  told_leaf state lines read is = ap (told_by_log plan log) (read_so _ read) ∙ ap (λ (p : List Entry). Ok (record { plan = plan; leaf = state; path = p })) (sym (path_so lines is))
+
+  -- it differs
+  pub told_differs : (line : ℕ) → log_reading tree start plan.head log ≡ Err line → drawn_by_log plan log ≡ Err (Refused (LogDiffers line))
+  told_differs line read = ap (told_by_log plan log) (read_so _ read)
+
+-- ---- what is answered at the end of a walk
+
+-- the refusal of a draw has a line
+pub stopped_kind : (stop : Stopped) (taken : ℕ) → IsOfContent (class_of (stopped_status stop taken)) (stopped_status stop taken)
+stopped_kind (stops.Draw Short bound) taken = refl
+stopped_kind (stops.Draw (TooBig place value) bound) taken = refl
+stopped_kind (stops.Draw (Rejected rejected) bound) taken = refl
+stopped_kind (stops.Log line) taken = refl
+stopped_kind stops.NoMemory taken = tt
+
+refused_so : (fault : DrawFault) (bound taken : ℕ) (stage : Result Drawn Stop) → stage ≡ Err (Refused (draw_status fault bound taken)) → Follows {A = Drawn} (Err (draw_status fault bound taken)) stage
+refused_so Short bound taken stage is = is
+refused_so (TooBig place value) bound taken stage is = is
+refused_so (Rejected rejected) bound taken stage is = is
+
+-- what is answered at the end of a walk is what its run comes to
+pub by_run : {Rest : Type 0} (plan : Plan) (taken_by left_by : Rest → ℕ) (outcome : Outcome (Progress AnyState) Rest) (left : Rest) (state : Progress AnyState) (end : Result (List Entry) Stopped) (answer : Result Drawn Status)
+    → EndsAs plan outcome left state end → FollowsEnd plan answer state end (taken_by left) (left_by left) → Follows answer (drawn_of plan taken_by left_by outcome)
+by_run plan taken_by left_by outcome left state (Ok path) answer ends follows = rw ends follows
+by_run plan taken_by left_by outcome left state (Err (stops.Draw fault bound)) answer ends follows =
+    rw follows
+    (refused_so fault bound (taken_by left) _
+    (ap (drawn_of plan taken_by left_by) ends.ran ∙ ap (λ (b : ℕ). Err (Refused (draw_status fault b (taken_by left)))) (sym ends.bound_is)))
+by_run plan taken_by left_by outcome left state (Err (stops.Log line)) answer ends follows = absurd ends
+by_run plan taken_by left_by outcome left state (Err stops.NoMemory) answer ends follows = rw follows tt
+
+-- what is answered at the end of a replay is what the log tells
+pub by_log : (plan : Plan) (log : List ℕ) (state : Progress AnyState) (end : Result (List Entry) Stopped) (answer : Result Drawn Status)
+    → EndsAsTold plan log state end → FollowsEnd plan answer state end 0 0 → Follows answer (drawn_by_log plan log)
+by_log plan log state (Ok path) answer ends follows = subst (Follows answer) (sym ends) follows
+by_log plan log state (Err (stops.Log line)) answer ends follows = subst (λ (a : Result Drawn Status). Follows a (drawn_by_log plan log)) (sym follows) ends
+by_log plan log state (Err (stops.Draw fault bound)) answer ends follows = absurd ends
+by_log plan log state (Err stops.NoMemory) answer ends follows = subst (λ (a : Result Drawn Status). Follows a (drawn_by_log plan log)) (sym follows) tt
+
+pub all_taken : (plan : Plan) (state : Progress AnyState) (path : List Entry) (left : ℕ) → left ≤ 0 → drawn_at plan state path left ≡ Ok (record { plan = plan; leaf = state; path = path })
+all_taken plan state path zero h = refl
+all_taken plan state path (suc n) h = absurd (omega arith)
+
+pub some_left : (plan : Plan) (state : Progress AnyState) (path : List Entry) (left : ℕ) → 0 < left → drawn_at plan state path left ≡ Err (Refused (TapeLong left))
+some_left plan state path left h =
+    elim (cases_Bool (left == 0)) [
+      | inl e ↦ absurd (let none : left ≡ 0 = eqb-true left 0 e in omega (arith, h, none))
+      | inr e ↦ rw e refl
+    ]
 
 -- ---- what a run of the whole selection comes to
 
-module _ (own : Parts) (start : Progress AnyState) (here : BelongsToWhole own start) (tape : Values) where
-  comes_to : IsOutcome tape_source (whole_tree own) start tape (run tape_source (whole_tree own) start tape)
-  comes_to = run_is tape_source (whole_tree own) (BelongsToWhole own) (whole_lawful own) start tape here
+module _ {Rest : Type 0} (source : Source Rest) (own : Parts) (start : Progress AnyState) (here : BelongsToWhole own start) (draws : Rest) where
+  comes_to : IsOutcome source (whole_tree own) start draws (run source (whole_tree own) start draws)
+  comes_to = run_is source (whole_tree own) (BelongsToWhole own) (whole_lawful own) start draws here
 
-  pub leaf_is : (state : Progress AnyState) (path : List Entry) (end : Values) → run tape_source (whole_tree own) start tape ≡ leaf state path end → IsLeaf tape_source (whole_tree own) start tape state path end
-  leaf_is state path end ran = subst (IsOutcome tape_source (whole_tree own) start tape) ran comes_to
+  pub leaf_is : (state : Progress AnyState) (path : List Entry) (end : Rest) → run source (whole_tree own) start draws ≡ leaf state path end → IsLeaf source (whole_tree own) start draws state path end
+  leaf_is state path end ran = subst (IsOutcome source (whole_tree own) start draws) ran comes_to
 
-  pub stop_is : (state : Progress AnyState) (path : List Entry) (fault : DrawFault) (end : Values) → run tape_source (whole_tree own) start tape ≡ stopped state path fault end → IsStop tape_source (whole_tree own) start tape state path fault end
-  stop_is state path fault end ran = subst (IsOutcome tape_source (whole_tree own) start tape) ran comes_to
-
-  pub none_rejected : (state : Progress AnyState) (path : List Entry) (bound : ℕ) (end : Values) → run tape_source (whole_tree own) start tape ≡ stopped state path (Rejected bound) end → ⊥
-  none_rejected state path bound end ran = never_rejected (whole_tree own) (BelongsToWhole own) (whole_lawful own) start state path bound tape end here ran
+  pub stop_is : (state : Progress AnyState) (path : List Entry) (fault : DrawFault) (end : Rest) → run source (whole_tree own) start draws ≡ stopped state path fault end → IsStop source (whole_tree own) start draws state path fault end
+  stop_is state path fault end ran = subst (IsOutcome source (whole_tree own) start draws) ran comes_to
 
 -- ---- what is drawn by a plan
 
@@ -174,6 +232,7 @@ module _ (plan : FramePlan) (planned : IsPlanned plan) where
           subst (IsDrawnBy (plan_view plan)) (sym same)
           (record {
             plan_is = refl;
+            start = subst (λ (s : Progress AnyState). BelongsToWhole (parts (plan_view plan)) s) state_is (belongs plan (parts (plan_view plan)) (sym planned.parts_are) state starts);
             firsts = subst FirstsBy planned.parts_are firsts_own;
             seconds = subst SecondsBy planned.parts_are seconds_own;
             probabilities = probabilities_own;

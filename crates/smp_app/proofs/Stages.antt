@@ -6,7 +6,7 @@ use Rattle.std.specs.Str.{bytes_eq}
 use Rattle.std.proofs.lemmas.Bool.{cases_Bool, and_parts}
 use Rattle.std.proofs.lemmas.Slice.Eq.{bytes_eq-Decides}
 use Rattle.smp_io.specs.Store.{Files}
-use Rattle.smp_design.specs.declared.design.Design.{Design}
+use Rattle.smp_log.specs.Heads.{head_of}
 use Rattle.smp_words.specs.Words.{all_distinct}
 use Rattle.smp_app.specs.declared.status.Status.{Status}
 use Rattle.smp_frame.specs.declared.frame.Unit as unit
@@ -16,7 +16,7 @@ use Rattle.smp_strata.specs.declared.misfit.Misfit.TheVariants as misfits
 use Rattle.smp_app.specs.Plans.{Plan, Drawn}
 use Rattle.smp_app.specs.Commands.{DesignSource, Held, Given, DrawnFile, Job, design_names, plan_inputs, written_by}
 use Rattle.smp_app.specs.Deliveries.{names_of}
-use Rattle.smp_app.specs.Verdict.{Stop, ◌>>=◌, without, content_of, design_stage, frame_stage, plan_of, plan_stage}
+use Rattle.smp_app.specs.Verdict.{Stop, ReadDesign, ◌>>=◌, without, content_of, design_stage, frame_stage, plan_of, plan_stage}
 use Rattle.smp_app.specs.Codes.{Class, IsDone, IsUsage, IsRefusal, IsReadFault, IsWriteFault, IsNoMemory, class_of, misfit_status}
 use Rattle.smp_app.specs.Stages.{Told, GivesPlan, IsErrorOf, IsOfInputs, IsCaused, ReadCause, Reads}
 use Rattle.smp_app.proofs.Deliveries.{rose_since}
@@ -84,7 +84,7 @@ unfolding design_stage
 design_ignores (Held design) name differs fs = rw (differs design (0, omega arith, refl)) refl
 design_ignores (Given design) name differs fs = refl
 
-frame_ignores : (design : Design) (frame : List ℕ) → Ignores (frame_stage design frame) (frame ∷ [])
+frame_ignores : (design : ReadDesign) (frame : List ℕ) → Ignores (frame_stage design frame) (frame ∷ [])
 unfolding frame_stage
 frame_ignores design frame name differs fs = rw (differs frame (0, omega arith, refl)) refl
 
@@ -93,7 +93,7 @@ plan_ignores job name differs fs =
     let inputs = design_names job.design in
     let from_design = design_ignores job.design name (λ other here. differs other (contains_left inputs (job.frame ∷ []) other here)) fs in
     let from_frame : Apart name (job.frame ∷ []) = λ other here. differs other (contains_right inputs (job.frame ∷ []) other here) in
-    ap (λ (r : Result Design Stop). r >>= λ design. frame_stage design job.frame (without name fs)) from_design
+    ap (λ (r : Result ReadDesign Stop). r >>= λ design. frame_stage design job.frame (without name fs)) from_design
     ∙ bind_same (design_stage job.design fs) _ _ (λ design. frame_ignores design job.frame name from_frame fs)
 
 -- ---- a stage that goes on, and one that stops
@@ -162,12 +162,15 @@ names_written drawn (file ∷ files) = ap (λ names. file.name ∷ names) (names
 -- ---- a frame and its plan
 
 -- what was read of a frame leads to its plan
-module _ (design : Design) (frame bytes : List ℕ) (units : List unit.Unit) (before now : Told) (read : Reads (frame ∷ []) (content_of frame) (Ok bytes) before now) (framed : frame_of design.columns bytes ≡ Ok units) where
-  staged : (fs : Files) → before.files ≡ Some fs → frame_stage design frame fs ≡ plan_of design units
+module _ (design : ReadDesign) (frame bytes : List ℕ) (units : List unit.Unit) (before now : Told) (read : Reads (frame ∷ []) (content_of frame) (Ok bytes) before now) (framed : frame_of design.design.columns bytes ≡ Ok units) where
+  abbrev pub made : Plan
+  made = record { design = design.design; units = units; head = head_of design.bytes bytes }
+
+  staged : (fs : Files) → before.files ≡ Some fs → frame_stage design frame fs ≡ plan_of made
   unfolding frame_stage
   staged fs told = rw (read.follows fs told, framed) refl
 
-  pub plan_read : (plan : Plan) → plan_of design units ≡ Ok plan → Reads (frame ∷ []) (frame_stage design frame) (Ok plan) before now
+  pub plan_read : (plan : Plan) → plan_of made ≡ Ok plan → Reads (frame ∷ []) (frame_stage design frame) (Ok plan) before now
   plan_read plan is = record {
     follows = λ fs told. staged fs told ∙ is;
     kinds = tt;
@@ -191,7 +194,7 @@ module _ (design : Design) (frame bytes : List ℕ) (units : List unit.Unit) (be
     writes = read.writes;
   }
 
-  pub misfit_read : (misfit : Misfit) → GivesPlan (Err misfit) (plan_of design units) → Reads (frame ∷ []) (frame_stage design frame) (refusal_of misfit) before now
+  pub misfit_read : (misfit : Misfit) → GivesPlan (Err misfit) (plan_of made) → Reads (frame ∷ []) (frame_stage design frame) (refusal_of misfit) before now
   misfit_read misfits.NoMemory gives = refused_so misfits.NoMemory IsNoMemory refl tt (λ fs told. tt) tt
   misfit_read (misfits.UnitInTwo psu) gives = refused_so (misfits.UnitInTwo psu) IsRefusal refl refl (λ fs told. staged fs told ∙ gives) tt
   misfit_read (misfits.PsuTooLarge psu) gives = refused_so (misfits.PsuTooLarge psu) IsRefusal refl refl (λ fs told. staged fs told ∙ gives) tt

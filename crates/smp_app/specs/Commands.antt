@@ -3,10 +3,12 @@ use Rattle.std.specs.Prelude.{ℕ, List, [], ◌∷◌, ◌++◌, map, Option, S
 use Rattle.smp_design.specs.declared.design.Design.{Design}
 use Rattle.smp_words.specs.declared.command.Command.{Command}
 use Rattle.smp_words.specs.declared.command.Command.TheVariants as commands
+use Rattle.smp_words.specs.declared.command.Chance.{Chance}
+use Rattle.smp_words.specs.declared.command.Chance.TheVariants.{Tape, Seed}
 use Rattle.smp_words.specs.Words.{command_of}
 use Rattle.smp_app.specs.declared.outputs.OutputFile.{OutputFile}
 use Rattle.smp_app.specs.Plans.{Plan, Drawn, quick_design}
-use Rattle.smp_app.specs.Texts.{ids_text, log_text, sample_text, report_text, probabilities_text, accepted_text}
+use Rattle.smp_app.specs.Texts.{ids_text, steps_text, log_text, sample_text, report_text, probabilities_text, accepted_text}
 use Rattle.smp_app.specs.Deliveries.{Outputs}
 
 -- where the design of a command stands: in a file of this name, or with the command
@@ -19,10 +21,20 @@ pub record DrawnFile : Type 0 where
   pub name : List ℕ
   pub text : Drawn → List ℕ
 
--- How a command goes on from the plan. It puts a text of it; or it draws by the tape of a name, writes files, and puts a text.
+-- what leads through the draw tree: the values of the tape of a name, the words of a seed, or the steps of the log of a name
+pub data Source : Type 0 where
+  ByTape : (name : List ℕ) → Source
+  BySeed : (seed : List ℕ) → Source
+  ByLog : (name : List ℕ) → Source
+
+abbrev pub source_of : Chance → Source
+source_of (Tape name) = ByTape name
+source_of (Seed seed) = BySeed seed
+
+-- How a command goes on from the plan. It puts a text of it; or it selects by a source, writes files, and puts a text.
 pub data Work : Type 0 where
   Lists : (text : Plan → List ℕ) → Work
-  Draws : (tape : List ℕ) → (files : List DrawnFile) → (put : Drawn → List ℕ) → Work
+  Draws : (source : Source) → (files : List DrawnFile) → (put : Drawn → List ℕ) → Work
 
 pub record Job : Type 0 where
   pub design : DesignSource
@@ -36,12 +48,12 @@ abbrev pub job_of : Command → Option Job
 job_of (commands.Quick a) = Some (record {
   design = Given (quick_design a.n);
   frame = a.frame;
-  work = Draws a.tape (record { name = a.out; text = ids_text } ∷ []) log_text;
+  work = Draws (ByTape a.tape) (record { name = a.out; text = ids_text } ∷ []) steps_text;
 })
 job_of (commands.Draw a) = Some (record {
   design = Held a.design;
   frame = a.frame;
-  work = Draws a.tape
+  work = Draws (source_of a.chance)
       (record { name = a.log; text = log_text } ∷ record { name = a.sample; text = sample_text } ∷ [])
       report_text;
 })
@@ -55,7 +67,12 @@ job_of (commands.Check a) = Some (record {
   frame = a.frame;
   work = Lists accepted_text;
 })
-job_of commands.NotYet = None
+job_of (commands.Replay a) = Some (record {
+  design = Held a.design;
+  frame = a.frame;
+  work = Draws (ByLog a.log) (record { name = a.sample; text = sample_text } ∷ []) report_text;
+})
+job_of (commands.Demo a) = None
 
 -- the work that some words ask for, the program's name first
 abbrev pub job_for : List (List ℕ) → Option Job
@@ -67,21 +84,26 @@ abbrev pub design_names : DesignSource → List (List ℕ)
 design_names (Held name) = name ∷ []
 design_names (Given design) = []
 
-abbrev pub tape_names : Work → List (List ℕ)
-tape_names (Lists text) = []
-tape_names (Draws tape files put) = tape ∷ []
+abbrev pub source_names : Source → List (List ℕ)
+source_names (ByTape name) = name ∷ []
+source_names (BySeed seed) = []
+source_names (ByLog name) = name ∷ []
+
+abbrev pub drawn_names : Work → List (List ℕ)
+drawn_names (Lists text) = []
+drawn_names (Draws source files put) = source_names source
 
 -- the names of the files that are read, in the order of work
 abbrev pub plan_inputs : Job → List (List ℕ)
 plan_inputs job = design_names job.design ++ job.frame ∷ []
 
 abbrev pub inputs_of : Job → List (List ℕ)
-inputs_of job = plan_inputs job ++ tape_names job.work
+inputs_of job = plan_inputs job ++ drawn_names job.work
 
 -- the names of the files that are written, in their order
 abbrev pub written_names : Work → List (List ℕ)
 written_names (Lists text) = []
-written_names (Draws tape files put) = map (λ file. file.name) files
+written_names (Draws source files put) = map (λ file. file.name) files
 
 abbrev pub outputs_of : Job → List (List ℕ)
 outputs_of job = written_names job.work

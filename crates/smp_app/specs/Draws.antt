@@ -13,11 +13,11 @@ use Rattle.smp_strata.specs.declared.strata.First as first
 use Rattle.smp_strata.specs.declared.strata.Stratum.{Stratum}
 use Rattle.smp_stages.specs.Paths.{GoesByStages}
 use Rattle.smp_twostage.specs.Cubes.{IsDrawnByCube, balancing}
-use Rattle.smp_twostage.specs.Selections.{tree_of as stage_tree, first_number, stages_of, states_of}
+use Rattle.smp_twostage.specs.Selections.{BelongsToWhole, tree_of as stage_tree, first_number, stages_of, states_of}
 use Rattle.smp_twostage.specs.Starts.{first_selected, known, second_selected, weighted}
 use Rattle.smp_app.specs.Plans.{Plan, parts, row_probability, tree_of, start_of, Drawn}
 use Rattle.smp_app.specs.Texts.{drawn_stratum}
-use Rattle.smp_app.specs.Commands.{Work, Lists, Draws, Job}
+use Rattle.smp_app.specs.Commands.{Source, Work, Lists, Draws, Job}
 use Rattle.smp_app.specs.Verdict.{plan_stage, drawn_stage}
 
 -- ---- how many are drawn
@@ -97,22 +97,24 @@ pub record HasProbabilities (plan : Plan) : Type 0 where
 
 pub record IsDrawnBy (plan : Plan) (drawn : Drawn) : Type 0 where
   pub plan_is : drawn.plan ≡ plan
+  -- The draw starts from a state of the tree.
+  pub start : BelongsToWhole (parts plan) (start_of plan)
   pub firsts : DrawsFirsts drawn
   pub seconds : DrawsSeconds drawn
   pub probabilities : HasProbabilities plan
   pub balance : KeepsBalance drawn
 
--- what the tape of a name draws by the plan of a job
-pub record IsDraw (job : Job) (tape : List ℕ) (fs : Files) : Type 0 where
+-- what a source draws by the plan of a job
+pub record IsDraw (job : Job) (source : Source) (fs : Files) : Type 0 where
   pub plan : Plan
   pub planned : plan_stage job fs ≡ Ok plan
   pub drawn : Drawn
-  pub is_drawn : drawn_stage plan tape fs ≡ Ok drawn
+  pub is_drawn : drawn_stage plan source fs ≡ Ok drawn
   pub by_plan : IsDrawnBy plan drawn
 
 abbrev pub IsExactWork : Job → Work → Files → Type 0
 IsExactWork job (Lists text) fs = Unit {0}
-IsExactWork job (Draws tape files put) fs = IsDraw job tape fs
+IsExactWork job (Draws source files put) fs = IsDraw job source fs
 
 -- what a job draws is drawn with the requested probabilities
 abbrev pub IsExact : Job → Files → Type 0

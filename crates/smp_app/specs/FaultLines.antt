@@ -53,6 +53,8 @@ refusal_line (status.TapeShort taken) = Some (codes "error 7 tape ends after " +
 refusal_line (status.TapeValue place value bound) =
     Some (codes "error 8 tape value " ++ (decimal place ++ (codes " is " ++ (decimal value ++ (codes ", bound " ++ (decimal bound ++ codes "\n"))))))
 refusal_line (status.TapeLong left) = Some (codes "error 9 tape has " ++ (decimal left ++ codes " more\n"))
+refusal_line (status.Rejected bound) = Some (codes "error 10 rejected 256 times below " ++ (decimal bound ++ codes "\n"))
+refusal_line (status.LogDiffers line) = Some (codes "error 11 log differs at line " ++ (decimal line ++ codes "\n"))
 refusal_line status.NotYet = Some (codes "error 15 not yet\n")
 refusal_line other = None
 

@@ -39,10 +39,11 @@ quick_design n = record {
 
 -- ---- the plan
 
--- a design, and the rows of the frame of which it asks
+-- a design, the rows of the frame of which it asks, and the first lines of a log, which name the bytes that both were read from
 pub record Plan : Type 0 where
   pub design : Design
   pub units : List unit.Unit
+  pub head : List ℕ
 
 -- the strata, their first stage units, and the requests over them
 abbrev pub parts : Plan → Parts

@@ -4,7 +4,10 @@ use Rattle.smp_io.specs.Counts.{Rose, NeverFalls}
 use Rattle.smp_io.specs.Sink.{with_bytes, AppendsFront}
 use Rattle.smp_io.specs.Store.{Files}
 use Rattle.smp_frame.specs.Bounds.{IsFrame}
+use Rattle.smp_tape.specs.declared.draws.DrawFault.{DrawFault}
 use Rattle.smp_split.specs.Paths.{Entry}
+use Rattle.smp_split.specs.Runs.{Outcome, leaf, stopped}
+use Rattle.smp_split.specs.Trees.{weight_sum}
 use Rattle.smp_design.specs.Bounds.{IsDesign}
 use Rattle.smp_methods.specs.declared.any.AnyState.{AnyState}
 use Rattle.smp_stages.specs.Stages.{Progress}
@@ -18,10 +21,15 @@ use Rattle.smp_app.specs.declared.status.Status.TheVariants as status
 use Rattle.smp_strata.specs.declared.misfit.Misfit.{Misfit}
 use Rattle.smp_strata.specs.declared.misfit.Misfit.TheVariants as misfits
 use Rattle.smp_app.specs.declared.plan.FramePlan.{FramePlan}
+use Rattle.smp_app.specs.declared.plan.ReadDesign as code_design
+use Rattle.smp_app.specs.declared.selection.Stopped.{Stopped}
+use Rattle.smp_app.specs.declared.selection.Stopped.TheVariants as stops
 use Rattle.smp_app.specs.declared.selection.Walked.{Walked}
 use Rattle.smp_app.specs.declared.selection.Selection.{Selection}
 use Rattle.smp_app.specs.declared.job.DesignSource as code_source
 use Rattle.smp_app.specs.declared.job.DesignSource.TheVariants as sources
+use Rattle.smp_app.specs.declared.job.DrawSource.{DrawSource}
+use Rattle.smp_app.specs.declared.job.DrawSource.TheVariants as draw_sources
 use Rattle.smp_app.specs.declared.job.PlanText.{PlanText}
 use Rattle.smp_app.specs.declared.job.PlanText.TheVariants as plan_texts
 use Rattle.smp_app.specs.declared.job.DrawnText.{DrawnText}
@@ -33,19 +41,19 @@ use Rattle.smp_app.specs.declared.job.Job as code_job
 use Rattle.smp_app.specs.Codes.{Class, IsDone, IsUsage, IsRefusal, IsReadFault, IsWriteFault, IsNoMemory, class_of}
 use Rattle.smp_app.specs.FaultLines.{fault_line}
 use Rattle.smp_app.specs.Plans.{Plan, parts, quick_design, tree_of, Drawn, drawn_rows}
-use Rattle.smp_app.specs.Texts.{ids_text, log_text, sample_text, report_text, probabilities_text, accepted_text}
-use Rattle.smp_app.specs.Commands.{DesignSource, Held, Given, DrawnFile, Work, Lists, Draws, Job, inputs_of}
-use Rattle.smp_app.specs.Verdict.{Stop, Refused, Missing, without}
+use Rattle.smp_app.specs.Texts.{ids_text, steps_text, log_text, sample_text, report_text, probabilities_text, accepted_text}
+use Rattle.smp_app.specs.Commands.{DesignSource, Held, Given, Source, ByTape, BySeed, ByLog, DrawnFile, Work, Lists, Draws, Job, inputs_of}
+use Rattle.smp_app.specs.Verdict.{Stop, Refused, Missing, ReadDesign, without, draw_status, drawn_at, drawn_by_log}
 use Rattle.smp_app.specs.Draws.{IsDrawnBy}
 use Rattle.smp_app.specs.Answers.{Outside, Untouched, RefusesBy, Done, ReadFault, WriteFault, NoMemory}
 
 -- ---- values of the code as the definitions see them
 
 abbrev pub plan_view : FramePlan → Plan
-plan_view plan = record { design = plan.design; units = plan.frame }
+plan_view plan = record { design = plan.design; units = plan.frame; head = plan.head }
 
-abbrev pub walked_view : Plan → Progress AnyState → List Entry → Drawn
-walked_view plan state lines = record { plan = plan; leaf = state; path = lines }
+abbrev pub read_view : code_design.ReadDesign → ReadDesign
+read_view read = record { design = read.design; bytes = read.bytes }
 
 abbrev pub selection_view : Plan → Selection → Drawn
 selection_view plan selection =
@@ -65,6 +73,7 @@ plan_text plan_texts.Accepted = accepted_text
 
 abbrev pub drawn_text : DrawnText → Drawn → List ℕ
 drawn_text drawn_texts.Ids = ids_text
+drawn_text drawn_texts.Steps = steps_text
 drawn_text drawn_texts.Log = log_text
 drawn_text drawn_texts.Sample = sample_text
 drawn_text drawn_texts.Report = report_text
@@ -72,9 +81,15 @@ drawn_text drawn_texts.Report = report_text
 abbrev pub file_view : code_file.DrawnFile → DrawnFile
 file_view file = record { name = file.name.now; text = drawn_text file.text }
 
+abbrev pub draw_view : DrawSource → Source
+draw_view (draw_sources.Tape name) = ByTape name.now
+draw_view (draw_sources.Seed seed) = BySeed seed
+draw_view (draw_sources.Log name) = ByLog name.now
+
 abbrev pub work_view : code_work.Work → Work
 work_view (works.Lists text) = Lists (plan_text text)
-work_view (works.Draws tape files put) = Draws tape.now (map file_view files.items) (drawn_text put)
+work_view (works.Draws from files put) =
+    Draws (draw_view from) (map file_view files.items) (drawn_text put)
 
 abbrev pub job_view : code_job.Job → Job
 job_view job =
@@ -163,12 +178,48 @@ pub record IsPlanned (plan : FramePlan) : Type 0 where
   pub asked : AsksAsFrame plan.design plan.frame plan.plan
   pub draws : DrawsAsAsked plan.design plan.frame plan.plan
 
+-- where a run stopped: at a state whose draw was refused
+pub record RefusedAt {Rest : Type 0} (plan : Plan) (outcome : Outcome (Progress AnyState) Rest)
+    (state : Progress AnyState) (fault : DrawFault) (bound : ℕ) (left : Rest) : Type 0 where
+  pub path : List Entry
+  pub ran : outcome ≡ stopped state path fault left
+  pub bound_is : bound ≡ weight_sum ((tree_of plan).parts state)
+
+-- a walk ended as the run over its draws, unless memory ran out
+abbrev pub EndsAs : {Rest : Type 0} → Plan → Outcome (Progress AnyState) Rest → Rest
+    → Progress AnyState → Result (List Entry) Stopped → Type 0
+EndsAs plan outcome left state (Ok path) = outcome ≡ leaf state path left
+EndsAs plan outcome left state (Err (stops.Draw fault bound)) = RefusedAt plan outcome state fault bound left
+EndsAs plan outcome left state (Err (stops.Log line)) = ⊥
+EndsAs plan outcome left state (Err stops.NoMemory) = Unit {0}
+
+-- a replay ended as the log tells, unless memory ran out
+abbrev pub EndsAsTold : Plan → List ℕ → Progress AnyState → Result (List Entry) Stopped → Type 0
+EndsAsTold plan log state (Ok path) =
+    drawn_by_log plan log ≡ Ok (record { plan = plan; leaf = state; path = path })
+EndsAsTold plan log state (Err (stops.Log line)) =
+    drawn_by_log plan log ≡ Err (Refused (status.LogDiffers line))
+EndsAsTold plan log state (Err (stops.Draw fault bound)) = ⊥
+EndsAsTold plan log state (Err stops.NoMemory) = Unit {0}
+
+-- the refusal for which a walk stopped, where so many values are taken
+abbrev pub stopped_status : Stopped → ℕ → Status
+stopped_status (stops.Draw fault bound) taken = draw_status fault bound taken
+stopped_status (stops.Log line) taken = status.LogDiffers line
+stopped_status stops.NoMemory taken = status.NoMemory
+
+-- What is answered follows from the end of a walk, where so many values are taken and so many left.
+abbrev pub FollowsEnd : Plan → Result Drawn Status → Progress AnyState
+    → Result (List Entry) Stopped → (taken left : ℕ) → Type 0
+FollowsEnd plan answer state (Ok path) taken left = Follows answer (drawn_at plan state path left)
+FollowsEnd plan answer state (Err stop) taken left = answer ≡ Err (stopped_status stop taken)
+
 -- where a walk came to a leaf: a done state of the whole selection by the plan, and the path to it
-pub record IsWalked (plan : Plan) (walked : Walked) (lines : List Entry) : Type 0 where
+pub record IsWalked (plan : Plan) (walked : Walked) (path : List Entry) : Type 0 where
   pub whole : walked.whole ≡ parts plan
   pub belongs : BelongsToWhole walked.whole walked.state
   pub done : (tree_of plan).done walked.state ≡ true
-  pub drawn : IsDrawnBy plan (walked_view plan walked.state lines)
+  pub drawn : IsDrawnBy plan (record { plan = plan; leaf = walked.state; path = path })
 
 -- what is drawn by a plan: the rows of such a state
 pub record IsSelection (plan : Plan) (selection : Selection) : Type 0 where

@@ -4,8 +4,7 @@ use Rattle.std.specs.List.{filter, flat_map, range_with_len, slice_get}
 use Rattle.std.specs.Fmt.{decimal}
 use Rattle.smp_fractions.specs.Fractions.{Fraction}
 use Rattle.smp_frac.specs.Fractions.{fraction_text}
-use Rattle.smp_split.specs.Paths.{Entry}
-use Rattle.smp_split.specs.Kinds.{kind_word}
+use Rattle.smp_log.specs.Logs as logs
 use Rattle.smp_weights.specs.Rows.{row}
 use Rattle.smp_weights.specs.Sample.{sample_file}
 use Rattle.smp_design.specs.declared.method.Method.{Method}
@@ -45,16 +44,13 @@ id_row plan r = row (row_id plan r ∷ [])
 abbrev pub ids_text : Drawn → List ℕ
 ids_text drawn = row (codes "id" ∷ []) ++ flat_map (id_row drawn.plan) (drawn_rows drawn)
 
--- a step line: the word of its kind, its bound and the value drawn, with a blank (the byte 32) in between
-abbrev pub step_text : Entry → List ℕ
-step_text line = kind_word line.0 ++ (32 ∷ (decimal line.1 ++ (32 ∷ (decimal line.2 ++ 10 ∷ []))))
+-- the lines of the steps
+abbrev pub steps_text : Drawn → List ℕ
+steps_text drawn = logs.steps_text drawn.path
 
--- the log: the lines of the steps
-abbrev pub steps_text : List Entry → List ℕ
-steps_text path = flat_map step_text path
-
+-- the log: its head, the lines of the steps, and its end
 abbrev pub log_text : Drawn → List ℕ
-log_text drawn = steps_text drawn.path
+log_text drawn = logs.log_text drawn.plan.head drawn.path
 
 -- the sample: the drawn units with their design weights
 abbrev pub weighted_row : Plan → ℕ → List ℕ × Fraction

@@ -1,12 +1,19 @@
 -- What a call is to answer, by its words and the files: the first refusal in the order of work, or what it is to write and put.
-use Rattle.std.specs.Prelude.{ℕ, List, [], ◌∷◌, length, Option, Some, None, Result, Ok, Err, if◌then◌else◌}
+use Rattle.std.specs.Prelude.{ℕ, List, [], length, ◌==◌, Option, Some, None, Result, Ok, Err, if◌then◌else◌}
 use Rattle.std.specs.Str.{bytes_eq}
 use Rattle.smp_io.specs.Store.{Files}
+use Rattle.smp_tape.specs.Sources as sources
 use Rattle.smp_tape.specs.TapeText.{tape_of}
 use Rattle.smp_tape.specs.Tapes.{Values, tape_of_values}
 use Rattle.smp_tape.specs.Laws.Tapes.{tape_source}
 use Rattle.smp_tape.specs.declared.draws.DrawFault.{DrawFault}
 use Rattle.smp_tape.specs.declared.draws.DrawFault.TheVariants.{Short, TooBig, Rejected}
+use Rattle.smp_sieve.specs.Keys.{Place, words_of_seed}
+use Rattle.smp_sieve.specs.Laws.Keys.{key_stream}
+use Rattle.smp_sieve.specs.Laws.Sieves.{sieve_source}
+use Rattle.smp_log.specs.Answers.{log_reading}
+use Rattle.smp_log.specs.Heads.{head_of}
+use Rattle.smp_log.specs.Told.{path_told}
 use Rattle.smp_split.specs.Trees.{weight_sum}
 use Rattle.smp_split.specs.Paths.{Entry}
 use Rattle.smp_split.specs.Runs.{Outcome, run, leaf, stopped}
@@ -20,12 +27,12 @@ use Rattle.smp_stages.specs.Stages.{Progress}
 use Rattle.smp_strata.specs.Misfits.{misfit_of}
 use Rattle.smp_strata.specs.declared.misfit.Misfit.{Misfit}
 use Rattle.smp_app.specs.declared.status.Status.{Status}
-use Rattle.smp_app.specs.declared.status.Status.TheVariants.{Usage, TapeShort, TapeValue, TapeLong, NotYet}
+use Rattle.smp_app.specs.declared.status.Status.TheVariants.{Usage, TapeShort, TapeValue, TapeLong, LogDiffers, NotYet}
 use Rattle.smp_app.specs.declared.status.Status.TheVariants as status
 use Rattle.smp_app.specs.Codes.{design_status, frame_status, tape_status}
 use Rattle.smp_app.specs.Deliveries.{Outputs}
 use Rattle.smp_app.specs.Plans.{Plan, Drawn, tree_of, start_of}
-use Rattle.smp_app.specs.Commands.{DesignSource, Held, Given, Work, Lists, Draws, Job, job_of, outputs_by}
+use Rattle.smp_app.specs.Commands.{DesignSource, Held, Given, Source, ByTape, BySeed, ByLog, Work, Lists, Draws, Job, job_of, outputs_by}
 
 -- why a call doesn't go on to its writes
 pub data Stop : Type 0 where
@@ -61,66 +68,107 @@ without name fs = λ other. if bytes_eq name other then None else fs other
 
 -- ---- what is made of what was read
 
+-- a design, and the bytes that it was read from
+pub record ReadDesign : Type 0 where
+  pub design : Design
+  pub bytes : List ℕ
+
 -- the plan of a design and the rows of a frame, unless the frame doesn't serve the design
 abbrev pub unless_misfit : Plan → Option Misfit → Result Plan Stop
 unless_misfit plan None = Ok plan
 unless_misfit plan (Some misfit) = Err (Refused (status.Misfit misfit))
 
-abbrev pub plan_of : Design → List unit.Unit → Result Plan Stop
-plan_of design units = unless_misfit (record { design = design; units = units }) (misfit_of design units)
+abbrev pub plan_of : Plan → Result Plan Stop
+plan_of plan = unless_misfit plan (misfit_of plan.design plan.units)
 
--- at a leaf, where these values are left: what is drawn, unless there are some
-abbrev pub drawn_at : Plan → Progress AnyState → List Entry → List ℕ → Result Drawn Stop
-drawn_at plan state path [] = Ok (record { plan = plan; leaf = state; path = path })
-drawn_at plan state path (value ∷ left) = Err (Refused (TapeLong (length (value ∷ left))))
+-- at a leaf, where so many values are left: what is drawn, unless there are some
+abbrev pub drawn_at : Plan → Progress AnyState → List Entry → ℕ → Result Drawn Stop
+drawn_at plan state path left =
+    if left == 0 then Ok (record { plan = plan; leaf = state; path = path })
+    else Err (Refused (TapeLong left))
 
--- the refusal of a draw below a bound, where so many values were taken; no draw of a tape is rejected
+-- the refusal of a draw below a bound, where so many values were taken
 abbrev pub draw_status : DrawFault → ℕ → ℕ → Status
 draw_status Short bound taken = TapeShort taken
 draw_status (TooBig place value) bound taken = TapeValue place value bound
-draw_status (Rejected rejected) bound taken = NotYet
+draw_status (Rejected rejected) bound taken = status.Rejected rejected
 
-abbrev pub drawn_of : Plan → Outcome (Progress AnyState) Values → Result Drawn Stop
-drawn_of plan (leaf state path tape) = drawn_at plan state path tape.left
-drawn_of plan (stopped state path fault tape) =
-    Err (Refused (draw_status fault (weight_sum ((tree_of plan).parts state)) (length tape.taken)))
+-- what a run comes to, by how many values are taken then and how many are left
+abbrev pub drawn_of : {Rest : Type 0} → Plan → (taken left : Rest → ℕ)
+    → Outcome (Progress AnyState) Rest → Result Drawn Stop
+drawn_of plan taken left (leaf state path rest) = drawn_at plan state path (left rest)
+drawn_of plan taken left (stopped state path fault rest) =
+    Err (Refused (draw_status fault (weight_sum ((tree_of plan).parts state)) (taken rest)))
 
--- what the values of a tape draw by a plan: the leaf to which they lead in its draw tree
-abbrev pub drawn_by : Plan → List ℕ → Result Drawn Stop
-drawn_by plan values =
-    drawn_of plan (run tape_source (tree_of plan) (start_of plan) (tape_of_values [] values))
+-- what the draws of a source come to by a plan: they lead through its draw tree
+abbrev pub drawn_from : {Rest : Type 0} → sources.Source Rest → (taken left : Rest → ℕ) → Plan → Rest
+    → Result Drawn Stop
+drawn_from source taken left plan rest =
+    drawn_of plan taken left (run source (tree_of plan) (start_of plan) rest)
+
+-- what the values of a tape draw
+abbrev pub values_taken : Values → ℕ
+values_taken tape = length tape.taken
+
+abbrev pub values_left : Values → ℕ
+values_left tape = length tape.left
+
+abbrev pub drawn_by_tape : Plan → List ℕ → Result Drawn Stop
+drawn_by_tape plan values =
+    drawn_from tape_source values_taken values_left plan (tape_of_values [] values)
+
+-- what the words of a seed draw, which have no end
+abbrev pub no_words : Place → ℕ
+no_words words = 0
+
+abbrev pub drawn_by_seed : Plan → List ℕ → Result Drawn Stop
+drawn_by_seed plan seed =
+    drawn_from (sieve_source key_stream) no_words no_words plan (words_of_seed seed)
+
+-- what a log tells: the leaf and the path of the draw of which it is the log
+abbrev pub told_by_log : Plan → List ℕ → Result (Progress AnyState) ℕ → Result Drawn Stop
+told_by_log plan log (Ok state) =
+    Ok (record { plan = plan; leaf = state; path = path_told (tree_of plan) (start_of plan) log })
+told_by_log plan log (Err line) = Err (Refused (LogDiffers line))
+
+abbrev pub drawn_by_log : Plan → List ℕ → Result Drawn Stop
+drawn_by_log plan log =
+    told_by_log plan log (log_reading (tree_of plan) (start_of plan) plan.head log)
 
 -- ---- the order of work
 
 -- the design
-unfoldable pub design_stage : DesignSource → Files → Result Design Stop
-design_stage (Given design) fs = Ok design
+unfoldable pub design_stage : DesignSource → Files → Result ReadDesign Stop
+design_stage (Given design) fs = Ok (record { design = design; bytes = [] })
 design_stage (Held name) fs = do
   bytes ← content_of name fs
-  or_fault design_status (design_of bytes)
+  design ← or_fault design_status (design_of bytes)
+  Ok (record { design = design; bytes = bytes })
 
 -- the frame, and the plan
-unfoldable pub frame_stage : Design → List ℕ → Files → Result Plan Stop
-frame_stage design frame fs = do
+unfoldable pub frame_stage : ReadDesign → List ℕ → Files → Result Plan Stop
+frame_stage read frame fs = do
   bytes ← content_of frame fs
-  units ← or_fault frame_status (frame_of design.columns bytes)
-  plan_of design units
+  units ← or_fault frame_status (frame_of read.design.columns bytes)
+  plan_of (record { design = read.design; units = units; head = head_of read.bytes bytes })
 
 abbrev pub plan_stage : Job → Files → Result Plan Stop
-plan_stage job fs = design_stage job.design fs >>= λ design. frame_stage design job.frame fs
+plan_stage job fs = design_stage job.design fs >>= λ read. frame_stage read job.frame fs
 
--- the tape, and the draw
-unfoldable pub drawn_stage : Plan → List ℕ → Files → Result Drawn Stop
-drawn_stage plan tape fs = do
+-- the tape or the log where there is one, and the draw
+unfoldable pub drawn_stage : Plan → Source → Files → Result Drawn Stop
+drawn_stage plan (BySeed seed) fs = drawn_by_seed plan seed
+drawn_stage plan (ByLog log) fs = content_of log fs >>= drawn_by_log plan
+drawn_stage plan (ByTape tape) fs = do
   bytes ← content_of tape fs
   values ← or_fault tape_status (tape_of bytes)
-  drawn_by plan values
+  drawn_by_tape plan values
 
 -- what is to be written and put, from the plan on
 abbrev pub work_stage : Work → Plan → Files → Result Outputs Stop
 work_stage (Lists text) plan fs = Ok (record { files = []; put = text plan })
-work_stage (Draws tape files put) plan fs =
-    drawn_stage plan tape fs >>= λ drawn. Ok (outputs_by files put drawn)
+work_stage (Draws source files put) plan fs =
+    drawn_stage plan source fs >>= λ drawn. Ok (outputs_by files put drawn)
 
 abbrev pub outputs_stage : Job → Files → Result Outputs Stop
 outputs_stage job fs = plan_stage job fs >>= λ plan. work_stage job.work plan fs

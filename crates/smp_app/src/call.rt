@@ -15,7 +15,10 @@ use std::alloc::Global;
 /// Does what the words of a command line ask for, the program's name first, and answers how it went.
 ///
 /// - `draw --design D --frame F --tape T --log L --sample S` reads the design D, the frame F and the tape T, draws the sample of the design
-///   with the values of the tape, writes the lines of the steps to L and the drawn units with their weights to S, and puts a report.
+///   with the values of the tape, writes the log to L and the drawn units with their weights to S, and puts a report. With `--seed K` in place
+///   of `--tape T` it draws with the words of the seed K.
+/// - `replay --design D --frame F --log L --sample S` reads D, F and the log L, and writes to S and puts what the draw wrote and put whose log
+///   L is.
 /// - `probs --design D --frame F` puts the probabilities with which the units of F are to be selected.
 /// - `check --design D --frame F` puts how many units are accepted.
 /// - `quick FRAME N TAPE OUT` needs no design: it draws N units by sequential pivotal steps, writes their ids to OUT and puts the lines of

@@ -2,11 +2,11 @@
 
 ghost use Rattle.std.specs.Prelude.{◌≡◌, option_map, IfOk, IfSome};
 ghost use Rattle.smp_words.specs.Words.{IsAsked};
-ghost use Rattle.smp_app.specs.Commands.{Held, Lists, job_of};
-ghost use Rattle.smp_app.specs.Stages.{IsJob, job_view, file_view, plan_text, drawn_text};
+ghost use Rattle.smp_app.specs.Commands.{Held, Lists, job_of, source_of};
+ghost use Rattle.smp_app.specs.Stages.{IsJob, draw_view, job_view, file_view, plan_text, drawn_text};
 
 use smp_frac::{NoMemory, Text};
-use smp_words::{Command, DesignArguments};
+use smp_words::{Chance, Command, DesignArguments};
 use std::alloc::Global;
 
 /// Where the design of a command stands.
@@ -33,11 +33,35 @@ pub enum DrawnText {
     /// The ids of the drawn units.
     Ids,
     /// The lines of the steps.
+    Steps,
+    /// The log: its head, the lines of the steps, and its end.
     Log,
     /// The drawn units with their weights.
     Sample,
     /// How many units were drawn, and in how many steps.
     Report,
+}
+
+/// Where the draws of a command come from.
+#[derive(Clone, Copy)]
+pub enum DrawSource<'a> {
+    /// From the values of the tape in the file of this name.
+    Tape(&'a Text),
+    /// From the words of the generator whose key are these bytes.
+    Seed([u8; 32]),
+    /// From the steps that the log in the file of this name tells.
+    Log(&'a Text),
+}
+
+impl<'a> DrawSource<'a> {
+    fn of(chance: &'a Chance) -> DrawSource<'a>
+        ensures { draw_view result ≡ source_of chance.now }
+    {
+        match chance {
+            Chance::Tape(name) => DrawSource::Tape(name),
+            Chance::Seed(seed) => DrawSource::Seed(*seed),
+        }
+    }
 }
 
 /// A file that is written of what is drawn.
@@ -54,10 +78,10 @@ pub struct DrawnFile<'a> {
 pub enum Work<'a> {
     /// It puts a text of the plan.
     Lists(PlanText),
-    /// It draws by a tape, writes files, and puts a text.
+    /// It draws, writes files, and puts a text.
     Draws {
-        /// The name of the tape.
-        tape: &'a Text,
+        /// Where its draws come from.
+        from: DrawSource<'a>,
         /// The files in the order in which they are written.
         files: Vec<DrawnFile<'a>>,
         /// What is put after them.
@@ -91,9 +115,9 @@ impl<'a> Job<'a> {
                     design: DesignSource::Quick(arguments.n),
                     frame: &arguments.frame,
                     work: Work::Draws {
-                        tape: &arguments.tape,
+                        from: DrawSource::Tape(&arguments.tape),
                         files,
-                        put: DrawnText::Log,
+                        put: DrawnText::Steps,
                     },
                 }))
             }
@@ -105,7 +129,20 @@ impl<'a> Job<'a> {
                     design: DesignSource::Held(&arguments.design),
                     frame: &arguments.frame,
                     work: Work::Draws {
-                        tape: &arguments.tape,
+                        from: DrawSource::of(&arguments.chance),
+                        files,
+                        put: DrawnText::Report,
+                    },
+                }))
+            }
+            Command::Replay(arguments) => {
+                let mut files = Vec::new(alloc);
+                files.push(drawn_file(&arguments.sample, DrawnText::Sample))?;
+                Ok(Some(Job {
+                    design: DesignSource::Held(&arguments.design),
+                    frame: &arguments.frame,
+                    work: Work::Draws {
+                        from: DrawSource::Log(&arguments.log),
                         files,
                         put: DrawnText::Report,
                     },
@@ -113,7 +150,7 @@ impl<'a> Job<'a> {
             }
             Command::Probs(arguments) => Ok(Some(listing(arguments, PlanText::Probabilities))),
             Command::Check(arguments) => Ok(Some(listing(arguments, PlanText::Accepted))),
-            Command::NotYet => Ok(None),
+            Command::Demo(_) => Ok(None),
         }
     }
 }

@@ -3,7 +3,7 @@ ghost use Rattle.smp_frame.specs.Bounds.{HaveValues, IsFrame};
 ghost use Rattle.smp_design.specs.Bounds.{IsDesign};
 ghost use Rattle.smp_app.specs.Commands.{design_names, plan_inputs};
 ghost use Rattle.smp_app.specs.Verdict.{content_of, plan_of, design_stage, frame_stage, plan_stage};
-ghost use Rattle.smp_app.specs.Stages.{Reads, GivesPlan, IsInRanges, IsPlanned, IsJob, told, source_view, job_view, plan_view, result_view};
+ghost use Rattle.smp_app.specs.Stages.{Reads, GivesPlan, IsInRanges, IsPlanned, IsJob, told, source_view, job_view, read_view, plan_view, result_view};
 
 use crate::Status;
 use crate::job::{DesignSource, Job};
@@ -12,15 +12,25 @@ use smp_design::{Design, read_design};
 use smp_frac::Bytes;
 use smp_frame::{Frame, read_frame};
 use smp_io::{Store, StoreFault};
+use smp_log::{Head, log_head};
 use smp_strata::{Misfit, Plan, accept};
 use std::alloc::Global;
 
-/// A design, the frame that it asks of, and the plan of both.
+/// A design, and the bytes that it was read from; none for the design of a command.
+#[derive(Drop)]
+pub struct ReadDesign {
+    pub design: Design,
+    pub bytes: Bytes,
+}
+
+/// A design, the frame that it asks of, the plan of both, and the first lines of a log, which name the bytes that design and frame were read
+/// from.
 #[derive(Drop)]
 pub struct FramePlan {
     pub design: Design,
     pub frame: Frame,
     pub plan: Plan,
+    pub head: Head,
 }
 
 /// Reads an input.
@@ -42,29 +52,34 @@ fn design_from<K: Store>(
     alloc: Global,
     store: &mut K,
     source: &DesignSource,
-) -> Result<Design, Status>
+) -> Result<ReadDesign, Status>
     requires { IsInRanges (source_view source.now) }
     ensures reads { Reads (design_names (source_view source.now))
-        (design_stage (source_view source.now)) result
+        (design_stage (source_view source.now)) (result_view read_view result)
         (told K.files K.read_faults K.write_faults store.old)
         (told K.files K.read_faults K.write_faults store.new) }
-    ensures design { IfOk result IsDesign }
+    ensures design { IfOk result (λ read. IsDesign read.design) }
 {
     match source {
         DesignSource::Held(name) => {
             let bytes = read_input(alloc, store, name.as_str())?;
-            Ok(read_design(alloc, bytes.as_slice())?)
+            let design = read_design(alloc, bytes.as_slice())?;
+            Ok(ReadDesign { design, bytes })
         }
-        DesignSource::Quick(n) => Ok(quick_design(alloc, *n)?),
+        DesignSource::Quick(n) => Ok(ReadDesign {
+            design: quick_design(alloc, *n)?,
+            bytes: Bytes::new(alloc),
+        }),
     }
 }
 
 // The plan of a design and a frame.
-fn plan_for(alloc: Global, design: Design, frame: Frame) -> Result<FramePlan, Misfit>
+fn plan_for(alloc: Global, design: Design, frame: Frame, head: Head) -> Result<FramePlan, Misfit>
     requires design { IsDesign design }
     requires frame { IsFrame frame }
     requires columns { HaveValues (length design.columns.values) frame }
-    ensures follows { GivesPlan (result_view plan_view result) (plan_of design frame) }
+    ensures follows { GivesPlan (result_view plan_view result)
+        (plan_of (record { design = design; units = frame; head = head })) }
     ensures planned { IfOk result IsPlanned }
 {
     let plan = accept(alloc, &frame, &design)?;
@@ -72,6 +87,7 @@ fn plan_for(alloc: Global, design: Design, frame: Frame) -> Result<FramePlan, Mi
         design,
         frame,
         plan,
+        head,
     })
 }
 
@@ -80,19 +96,21 @@ fn plan_for(alloc: Global, design: Design, frame: Frame) -> Result<FramePlan, Mi
 fn frame_plan<K: Store>(
     alloc: Global,
     store: &mut K,
-    design: Design,
+    read: ReadDesign,
     frame: &str,
 ) -> Result<FramePlan, Status>
-    requires { IsDesign design }
-    ensures reads { Reads (frame.now ∷ []) (frame_stage design frame.now)
+    requires { IsDesign read.design }
+    ensures reads { Reads (frame.now ∷ []) (frame_stage (read_view read) frame.now)
         (result_view plan_view result)
         (told K.files K.read_faults K.write_faults store.old)
         (told K.files K.read_faults K.write_faults store.new) }
     ensures planned { IfOk result IsPlanned }
 {
     let bytes = read_input(alloc, store, frame)?;
-    let frame = read_frame(alloc, bytes.as_slice(), &design.columns)?;
-    Ok(plan_for(alloc, design, frame)?)
+    let content = bytes.as_slice();
+    let frame = read_frame(alloc, content, &read.design.columns)?;
+    let head = log_head(read.bytes.as_slice(), content);
+    Ok(plan_for(alloc, read.design, frame, head)?)
 }
 
 /// Reads the design and then the frame of a job, and plans what the design asks of the frame.
@@ -104,6 +122,6 @@ pub fn plan_from<K: Store>(alloc: Global, store: &mut K, job: &Job) -> Result<Fr
         (told K.files K.read_faults K.write_faults store.new) }
     ensures planned { IfOk result IsPlanned }
 {
-    let design = design_from(alloc, store, &job.design)?;
-    frame_plan(alloc, store, design, job.frame.as_str())
+    let read = design_from(alloc, store, &job.design)?;
+    frame_plan(alloc, store, read, job.frame.as_str())
 }

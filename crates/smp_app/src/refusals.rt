@@ -48,6 +48,12 @@ fn line_for(alloc: Global, status: &Status) -> Result<Option<String>, AllocError
             bound,
         } => Ok(Some(format!(in alloc; "error 8 tape value {place} is {value}, bound {bound}\n")?)),
         Status::TapeLong { left } => Ok(Some(format!(in alloc; "error 9 tape has {left} more\n")?)),
+        Status::Rejected { bound } => {
+            Ok(Some(format!(in alloc; "error 10 rejected 256 times below {bound}\n")?))
+        }
+        Status::LogDiffers { line } => {
+            Ok(Some(format!(in alloc; "error 11 log differs at line {line}\n")?))
+        }
         Status::NotYet => Ok(Some(String::from_str(alloc, "error 15 not yet\n")?)),
         Status::Done | Status::ReadFault | Status::WriteFault | Status::NoMemory => Ok(None),
     }

@@ -1,30 +1,44 @@
 ghost use Rattle.std.specs.Prelude.{◌≡◌, ◌∷◌, [], IfOk, IfErr};
 ghost use Rattle.smp_tape.specs.Laws.Tapes.{tape_source};
 ghost use Rattle.smp_split.specs.Runs.{run};
+ghost use Rattle.smp_app.specs.Commands.{source_names};
 ghost use Rattle.smp_twostage.specs.Selections as Selections;
 ghost use Rattle.smp_twostage.specs.Starts.{StartsWhole};
 ghost use Rattle.smp_app.specs.Plans.{tree_of, start_of};
-ghost use Rattle.smp_app.specs.Verdict.{drawn_of, drawn_stage};
+ghost use Rattle.smp_app.specs.Verdict.{drawn_by_log, drawn_by_seed, drawn_from, drawn_stage, values_left, values_taken};
 ghost use Rattle.smp_app.specs.Codes.{class_of};
-ghost use Rattle.smp_app.specs.Stages.{Follows, IsOfContent, Reads, IsPlanned, IsWalked, IsSelection, told, plan_view, walked_view, selection_view, result_view};
+ghost use Rattle.smp_app.specs.Stages.{Follows, FollowsEnd, EndsAs, EndsAsTold, IsOfContent, Reads, IsPlanned, IsWalked, IsSelection, draw_view, stopped_status, told, plan_view, selection_view, result_view};
 
 use crate::Status;
+use crate::job::DrawSource;
 use crate::plan::{FramePlan, read_input};
 use smp_io::Store;
+use smp_log::{ReplayFault, replay_into};
 use smp_methods::AnyState;
+use smp_sieve::{ChaChaWords, Sieve};
 use smp_split::{Lines, Splitting, WalkFault, selected_units, walk};
 use smp_stages::StagesState;
-use smp_tape::{DrawFault, Tape};
+use smp_tape::{DrawFault, Draws, Tape};
 use smp_twostage::{StartedWhole, Whole};
 use std::alloc::Global;
 
-/// The whole selection by a plan, the state at which a walk ended, and how it ended: at a leaf, with the lines of its steps, or by a
-/// refusal.
+/// Why a walk came to no leaf.
+#[derive(Clone, Copy)]
+pub enum Stopped {
+    /// A draw below a bound was refused.
+    Draw { fault: DrawFault, bound: u128 },
+    /// The log isn't genuine: this is the first line that isn't kept.
+    Log { line: u64 },
+    /// Memory ran out.
+    NoMemory,
+}
+
+/// The whole selection by a plan, the state at which a walk ended, and how it ended: at a leaf, with the lines of its steps, or before.
 #[derive(Drop)]
 pub struct Walked<'a> {
     pub whole: Whole<'a>,
     pub state: StagesState<AnyState>,
-    pub end: Result<Lines, Status>,
+    pub end: Result<Lines, Stopped>,
 }
 
 /// What is drawn: the whole selection, the done state at which a walk ended, the rows that it selects, in frame order, and the lines of its
@@ -37,70 +51,122 @@ pub struct Selection<'a> {
     pub lines: Lines,
 }
 
-// Walks by a plan from its start with the values of a tape. All values are taken, or it is refused.
-fn walk_by_tape<'a>(
+// Walks by a plan from its start.
+fn walk_from<'a, D: Draws>(
     alloc: Global,
     plan: &'a FramePlan,
     started: StartedWhole<'a>,
-    tape: Tape,
+    draws: &mut D,
 ) -> Walked<'a>
     requires planned { IsPlanned plan.now }
     requires whole { started.whole ≡ plan.now.plan }
     requires state { started.state ≡ Selections.start_of plan.now.plan }
     requires starts { StartsWhole plan.now.plan started.state }
-    ensures follows { Follows
-        (result_view (walked_view (plan_view plan.now) result.state) result.end)
-        (drawn_of (plan_view plan.now)
-        (run tape_source (tree_of (plan_view plan.now)) (start_of (plan_view plan.now)) tape)) }
-    ensures kinds { IfErr result.end (λ error. IsOfContent (class_of error) error) }
+    ensures ends { EndsAs (plan_view plan.now)
+        (run D.source (tree_of (plan_view plan.now)) (start_of (plan_view plan.now)) draws.old)
+        draws.new result.state result.end }
     ensures walked { IfOk result.end (IsWalked (plan_view plan.now) result) }
 {
     let StartedWhole { whole, mut state } = started;
-    let mut tape = tape;
     let mut lines = Lines::new(alloc);
-    match walk(&whole, &mut state, &mut tape, &mut lines) {
-        Ok(()) => {}
-        Err(WalkFault::Draw(DrawFault::Short)) => {
-            let taken = tape.taken();
-            let end = Err(Status::TapeShort { taken });
-            return Walked { whole, state, end };
+    match walk(&whole, &mut state, draws, &mut lines) {
+        Ok(()) => {
+            let end = Ok(lines);
+            Walked { whole, state, end }
         }
-        Err(WalkFault::Draw(DrawFault::TooBig { place, value })) => {
+        Err(WalkFault::Draw(fault)) => {
             let bound = whole.bound(&state);
-            let end = Err(Status::TapeValue {
-                place,
-                value,
-                bound,
-            });
-            return Walked { whole, state, end };
+            let end = Err(Stopped::Draw { fault, bound });
+            Walked { whole, state, end }
         }
-        Err(WalkFault::Draw(DrawFault::Rejected { .. })) => unreachable!(),
         Err(WalkFault::NoMemory) => {
-            let end = Err(Status::NoMemory);
-            return Walked { whole, state, end };
+            let end = Err(Stopped::NoMemory);
+            Walked { whole, state, end }
         }
     }
-    let left = tape.left();
-    if left > 0 {
-        let end = Err(Status::TapeLong { left });
-        return Walked { whole, state, end };
-    }
-    let end = Ok(lines);
-    Walked { whole, state, end }
 }
 
-/// Selects by a plan with the values of a tape. All values are taken, or it is refused.
-pub fn select<'a>(alloc: Global, plan: &'a FramePlan, tape: Tape) -> Result<Selection<'a>, Status>
-    requires { IsPlanned plan.now }
-    ensures follows { Follows (result_view (selection_view (plan_view plan.now)) result)
-        (drawn_of (plan_view plan.now)
-        (run tape_source (tree_of (plan_view plan.now)) (start_of (plan_view plan.now)) tape)) }
+// Goes along the steps of a log from a plan's start.
+fn walk_by_log<'a>(
+    alloc: Global,
+    plan: &'a FramePlan,
+    started: StartedWhole<'a>,
+    log: &[u8],
+) -> Walked<'a>
+    requires planned { IsPlanned plan.now }
+    requires whole { started.whole ≡ plan.now.plan }
+    requires state { started.state ≡ Selections.start_of plan.now.plan }
+    requires starts { StartsWhole plan.now.plan started.state }
+    ensures ends { EndsAsTold (plan_view plan.now) log.now result.state result.end }
+    ensures walked { IfOk result.end (IsWalked (plan_view plan.now) result) }
+{
+    let StartedWhole { whole, mut state } = started;
+    let mut lines = Lines::new(alloc);
+    match replay_into(&whole, &mut state, &plan.head, log, &mut lines) {
+        Ok(()) => {
+            let end = Ok(lines);
+            Walked { whole, state, end }
+        }
+        Err(ReplayFault::Differs { line }) => {
+            let end = Err(Stopped::Log { line });
+            Walked { whole, state, end }
+        }
+        Err(ReplayFault::NoMemory) => {
+            let end = Err(Stopped::NoMemory);
+            Walked { whole, state, end }
+        }
+    }
+}
+
+// The refusal for which a walk stopped, where so many values were taken.
+fn refusal(stopped: Stopped, taken: u64) -> Status
+    ensures status { result ≡ stopped_status stopped taken }
+{
+    match stopped {
+        Stopped::Draw {
+            fault: DrawFault::Short,
+            ..
+        } => Status::TapeShort { taken },
+        Stopped::Draw {
+            fault: DrawFault::TooBig { place, value },
+            bound,
+        } => Status::TapeValue {
+            place,
+            value,
+            bound,
+        },
+        Stopped::Draw {
+            fault: DrawFault::Rejected { bound },
+            ..
+        } => Status::Rejected { bound },
+        Stopped::Log { line } => Status::LogDiffers { line },
+        Stopped::NoMemory => Status::NoMemory,
+    }
+}
+
+// What is drawn where a walk ended with so many values taken and so many left.
+fn selection_at<'a>(
+    alloc: Global,
+    plan: &'a FramePlan,
+    walked: Walked<'a>,
+    taken: u64,
+    left: u64,
+) -> Result<Selection<'a>, Status>
+    requires { IfOk walked.end (IsWalked (plan_view plan.now) walked) }
+    ensures follows { FollowsEnd (plan_view plan.now)
+        (result_view (selection_view (plan_view plan.now)) result)
+        walked.entry.state walked.entry.end taken left }
     ensures kinds { IfErr result (λ error. IsOfContent (class_of error) error) }
     ensures selection { IfOk result (IsSelection (plan_view plan.now)) }
 {
-    let started = Whole::start(alloc, &plan.plan)?;
-    let Walked { whole, state, end } = walk_by_tape(alloc, plan, started, tape);
-    let lines = end?;
+    let Walked { whole, state, end } = walked;
+    let lines = match end {
+        Ok(lines) => lines,
+        Err(stopped) => return Err(refusal(stopped, taken)),
+    };
+    if left > 0 {
+        return Err(Status::TapeLong { left });
+    }
     let rows = selected_units(alloc, &whole, &state)?;
     Ok(Selection {
         whole,
@@ -110,22 +176,85 @@ pub fn select<'a>(alloc: Global, plan: &'a FramePlan, tape: Tape) -> Result<Sele
     })
 }
 
-/// Reads a tape, and selects by a plan with its values.
+// Selects by a plan with the values of a tape. All values are taken, or it is refused.
+fn select_by_tape<'a>(
+    alloc: Global,
+    plan: &'a FramePlan,
+    tape: Tape,
+) -> Result<Selection<'a>, Status>
+    requires { IsPlanned plan.now }
+    ensures follows { Follows (result_view (selection_view (plan_view plan.now)) result)
+        (drawn_from tape_source values_taken values_left (plan_view plan.now) tape) }
+    ensures kinds { IfErr result (λ error. IsOfContent (class_of error) error) }
+    ensures selection { IfOk result (IsSelection (plan_view plan.now)) }
+{
+    let started = Whole::start(alloc, &plan.plan)?;
+    let mut tape = tape;
+    let walked = walk_from(alloc, plan, started, &mut tape);
+    selection_at(alloc, plan, walked, tape.taken(), tape.left())
+}
+
+// Selects by a plan with the words of a seed.
+fn select_by_seed<'a>(
+    alloc: Global,
+    plan: &'a FramePlan,
+    seed: [u8; 32],
+) -> Result<Selection<'a>, Status>
+    requires { IsPlanned plan.now }
+    ensures follows { Follows (result_view (selection_view (plan_view plan.now)) result)
+        (drawn_by_seed (plan_view plan.now) seed) }
+    ensures kinds { IfErr result (λ error. IsOfContent (class_of error) error) }
+    ensures selection { IfOk result (IsSelection (plan_view plan.now)) }
+{
+    let started = Whole::start(alloc, &plan.plan)?;
+    let mut draws = Sieve::new(ChaChaWords::new(seed));
+    let walked = walk_from(alloc, plan, started, &mut draws);
+    selection_at(alloc, plan, walked, 0, 0)
+}
+
+// Selects by a plan what a log tells.
+fn select_by_log<'a>(
+    alloc: Global,
+    plan: &'a FramePlan,
+    log: &[u8],
+) -> Result<Selection<'a>, Status>
+    requires { IsPlanned plan.now }
+    ensures follows { Follows (result_view (selection_view (plan_view plan.now)) result)
+        (drawn_by_log (plan_view plan.now) log.now) }
+    ensures kinds { IfErr result (λ error. IsOfContent (class_of error) error) }
+    ensures selection { IfOk result (IsSelection (plan_view plan.now)) }
+{
+    let started = Whole::start(alloc, &plan.plan)?;
+    let walked = walk_by_log(alloc, plan, started, log);
+    selection_at(alloc, plan, walked, 0, 0)
+}
+
+/// Selects by a plan, with the values of a tape or by the steps of a log, which is read first, or with the words of a seed.
 #[tactic(auto, unfolding(crate::specs::Verdict::drawn_stage))]
 pub fn selection_from<'a, K: Store>(
     alloc: Global,
     store: &mut K,
     plan: &'a FramePlan,
-    tape: &str,
+    from: DrawSource,
 ) -> Result<Selection<'a>, Status>
     requires { IsPlanned plan.now }
-    ensures reads { Reads (tape.now ∷ []) (drawn_stage (plan_view plan.now) tape.now)
+    ensures reads { Reads (source_names (draw_view from.entry))
+        (drawn_stage (plan_view plan.now) (draw_view from.entry))
         (result_view (selection_view (plan_view plan.now)) result)
         (told K.files K.read_faults K.write_faults store.old)
         (told K.files K.read_faults K.write_faults store.new) }
     ensures selection { IfOk result (IsSelection (plan_view plan.now)) }
 {
-    let bytes = read_input(alloc, store, tape)?;
-    let tape = Tape::read(alloc, bytes.as_slice())?;
-    select(alloc, plan, tape)
+    match from {
+        DrawSource::Tape(name) => {
+            let bytes = read_input(alloc, store, name.as_str())?;
+            let tape = Tape::read(alloc, bytes.as_slice())?;
+            select_by_tape(alloc, plan, tape)
+        }
+        DrawSource::Seed(seed) => select_by_seed(alloc, plan, seed),
+        DrawSource::Log(name) => {
+            let bytes = read_input(alloc, store, name.as_str())?;
+            select_by_log(alloc, plan, bytes.as_slice())
+        }
+    }
 }

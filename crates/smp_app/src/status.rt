@@ -39,6 +39,14 @@ pub enum Status {
     TapeLong {
         left: u64,
     },
+    /// 256 candidates in a row for a draw below this bound weren't below it.
+    Rejected {
+        bound: u128,
+    },
+    /// The log isn't that of a draw of this design and this frame: this line, counted from 1, is the first that isn't kept.
+    LogDiffers {
+        line: u64,
+    },
     /// A file couldn't be read.
     ReadFault,
     /// A file couldn't be written, or the result couldn't be put.
@@ -64,6 +72,8 @@ impl Status {
             Status::TapeShort { .. } => 7,
             Status::TapeValue { .. } => 8,
             Status::TapeLong { .. } => 9,
+            Status::Rejected { .. } => 10,
+            Status::LogDiffers { .. } => 11,
             Status::ReadFault => 12,
             Status::WriteFault => 13,
             Status::NoMemory => 14,

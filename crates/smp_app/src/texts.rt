@@ -1,7 +1,7 @@
 ghost use Rattle.std.specs.Prelude.{◌≡◌, ◌++◌, ◌∷◌, [], ◌+◌, ◌^◌, ◌<◌, true, length, map, slice_index_or, IfOk, OnOk, Some, string_bytes};
 ghost use Rattle.std.specs.List.{filter, range_with_len, slice_get};
 ghost use Rattle.smp_app.specs.Texts;
-ghost use Rattle.smp_app.specs.Texts.{cube_lines, step_text, stratum_lines};
+ghost use Rattle.smp_app.specs.Texts.{cube_lines, stratum_lines};
 ghost use Rattle.smp_app.specs.Stages as Stages;
 ghost use Rattle.smp_app.specs.Stages.{IsPlanned, IsSelection, plan_view, selection_view};
 ghost use Rattle.smp_design.specs.declared.method.Method.TheVariants.{Cube};
@@ -16,10 +16,10 @@ use crate::selection::Selection;
 use smp_balance::{DrawnStratum, push_balance_lines};
 use smp_design::Method;
 use smp_frac::{Bytes, Frac, NoMemory, Text};
-use smp_split::Kind;
+use smp_log::{log_bytes, step_lines};
 use smp_strata::{First, asked};
 use smp_weights::{CsvRows, push_sample_row, sample_rows};
-use std::alloc::{AllocError, Global};
+use std::alloc::Global;
 
 impl PlanText {
     /// The text of a plan.
@@ -49,7 +49,8 @@ impl DrawnText {
     {
         match self {
             DrawnText::Ids => ids_text(alloc, plan, selection),
-            DrawnText::Log => steps_text(alloc, selection.lines.as_slice()),
+            DrawnText::Steps => step_lines(alloc, &selection.lines),
+            DrawnText::Log => log_bytes(alloc, &plan.head, &selection.lines),
             DrawnText::Sample => sample_text(alloc, plan, selection),
             DrawnText::Report => report_text(alloc, plan, selection),
         }
@@ -90,24 +91,6 @@ fn sample_text(alloc: Global, plan: &FramePlan, selection: &Selection) -> Result
         push_sample_row(alloc, &mut rows, &units[*row].id, asked(&plan.plan, *row))?;
     }
     rows.into_bytes(alloc)
-}
-
-// The lines of the steps, in order: the word of the kind, the bound and the value that was drawn.
-fn steps_text(alloc: Global, steps: &[(Kind, u128, u128)]) -> Result<Bytes, NoMemory>
-    ensures { IfOk result (λ text. text ≡ Texts.steps_text steps.now) }
-{
-    let mut text = String::new(alloc);
-    for step in steps {
-        push_step(&mut text, step)?;
-    }
-    bytes_of(alloc, &text)
-}
-
-fn push_step(text: &mut String, step: &(Kind, u128, u128)) -> Result<(), AllocError>
-    ensures { OnOk result (string_bytes text.new ≡ string_bytes text.old ++ step_text step.now) }
-{
-    let (kind, bound, value) = *step;
-    write!(text, "{} {bound} {value}\n", kind.word())
 }
 
 // The report of a draw: how many units were drawn of how many, and in how many steps; and the lines of the cube.

@@ -32,8 +32,8 @@ pub fn outputs_from<K: Store>(alloc: Global, store: &mut K, job: &Job) -> Result
             files: Vec::new(alloc),
             put: text.bytes(alloc, &plan)?,
         }),
-        Work::Draws { tape, files, put } => {
-            let selection = selection_from(alloc, store, &plan, tape.as_str())?;
+        Work::Draws { from, files, put } => {
+            let selection = selection_from(alloc, store, &plan, *from)?;
             Ok(drawn_outputs(alloc, files.as_slice(), *put, &plan, &selection)?)
         }
     }

@@ -1,9 +1,10 @@
-use Rattle.std.proofs.Common.{◌≡◌, map, Ok, Err, [], ◌∷◌, ap, ◌∙◌, arith, rules}
+use Rattle.std.proofs.Common.{◌≡◌, ℕ, List, map, Ok, Err, [], ap, subst, ◌∙◌, arith, rules}
+use Rattle.std.proofs.lemmas.List.{append-nil}
 use Rattle.smp_app.specs.declared.status.Status.TheVariants.{NoMemory}
-use Rattle.smp_app.specs.Commands.{Draws, plan_inputs, outputs_by}
+use Rattle.smp_app.specs.Commands.{source_names, Draws, plan_inputs, outputs_by}
 use Rattle.smp_app.specs.Verdict.{plan_stage, work_stage, drawn_stage}
 use Rattle.smp_app.specs.Deliveries.{Outputs, names_of}
-use Rattle.smp_app.specs.Stages.{job_view, drawn_text, file_view, plan_view, selection_view}
+use Rattle.smp_app.specs.Stages.{Reads, told, draw_view, job_view, drawn_text, file_view, plan_view, selection_view}
 use Rattle.smp_app.proofs.Stages.{goes_on, stops, plan_ignores, names_written}
 use Rattle.smp_app.proofs.work.outputs_from.Goals as goal
 
@@ -13,12 +14,15 @@ returns-in_err-selection-in-Draws-clause-reads g c =
     let error = c.in_err-selection-in-Draws.field-0.0 in
     let ends : c.from_residual-in_err-selection-in-Draws.result ≡ Err error = search (rules, c.from_residual-in_err-selection-in-Draws.ensures) in
     let plan = plan_view c.in_ok-plan.plan in
-    let tape = c.in-Draws.tape.now in
+    let source = draw_view c.in-Draws.from in
     let files = map file_view c.in-Draws.files.items in
     let put = drawn_text c.in-Draws.put in
-    let selected = stops (tape ∷ []) [] (drawn_stage plan tape) (λ drawn fs. Ok (outputs_by files put drawn)) _ _ error (rw c.as_str.ensures at c.in_err-selection-in-Draws.ensures.reads) in
+    let selected =
+    subst (λ (names : List (List ℕ)). Reads names (work_stage (Draws source files put) plan) (Err error) (told g.K.Store.files g.K.Store.read_faults g.K.Store.write_faults c.plan_from.new.store) (told g.K.Store.files g.K.Store.read_faults g.K.Store.write_faults c.selection_from.new.store))
+    (append-nil (source_names source))
+    (stops (source_names source) [] (drawn_stage plan source) (λ drawn fs. Ok (outputs_by files put drawn)) _ _ error c.in_err-selection-in-Draws.ensures.reads) in
     rw (ends, c.in-Draws.is)
-    (goes_on (plan_inputs job) (tape ∷ []) (plan_stage job) (work_stage (Draws tape files put)) _ _ _ plan _ c.in_ok-plan.ensures.reads selected
+    (goes_on (plan_inputs job) (source_names source) (plan_stage job) (work_stage (Draws source files put)) _ _ _ plan _ c.in_ok-plan.ensures.reads selected
     (rw c.in-Draws.is at c.requires.distinct) (plan_ignores job))
 
 pub returns-in_err-drawn_outputs-in-Draws-clause-reads : goal.returns-in_err-drawn_outputs-in-Draws-clause-reads

@@ -1,0 +1,53 @@
+use Rattle.std.proofs.Common.{◌≡◌, Err, refl, ap, sym, subst, true, ◌∙◌}
+use Rattle.smp_tape.specs.declared.draws.DrawFault.{DrawFault}
+use Rattle.smp_split.specs.Runs.{run}
+use Rattle.smp_split.specs.Trees.{Tree}
+use Rattle.smp_split.specs.declared.walking.WalkFault.TheVariants.{Draw}
+use Rattle.smp_methods.specs.declared.any.AnyState.{AnyState}
+use Rattle.smp_stages.specs.Stages.{Progress}
+use Rattle.smp_app.specs.Plans.{tree_of, start_of}
+use Rattle.smp_app.specs.Stages.{RefusedAt, plan_view}
+use Rattle.smp_app.proofs.Selections.{belongs, told_is, tree_is, start_is, leaf_is, stop_is, ends_at_leaf, ends_refused, drawn_from}
+use Rattle.smp_app.proofs.selection.walk_from.Goals as goal
+
+pub walk-requires : goal.walk-requires
+walk-requires g c = belongs c.args.plan.now c.args.started.whole c.requires.whole c.args.started.state c.requires.starts
+
+pub returns-in-Ok-clause-ends : goal.returns-in-Ok-clause-ends
+returns-in-Ok-clause-ends g c =
+    let plan = c.args.plan.now in
+    let walked = c.in-Ok.ensures.arrived in
+    ends_at_leaf g.D.Draws.source (plan_view plan) _ (tree_is plan c.requires.planned c.args.started.whole c.requires.whole)
+    c.args.started.state (start_is plan c.requires.planned c.args.started.state c.requires.state) c.args.draws.now
+    c.walk.new.state _ walked.path c.walk.new.draws walked.ran (rw c.new-lines.ensures at walked.told)
+
+pub returns-in-Ok-clause-walked : goal.returns-in-Ok-clause-walked
+returns-in-Ok-clause-walked g c =
+    let plan = c.args.plan.now in
+    let whole = c.args.started.whole in
+    let here = belongs plan whole c.requires.whole c.args.started.state c.requires.starts in
+    let walked = c.in-Ok.ensures.arrived in
+    let end = leaf_is g.D.Draws.source whole c.args.started.state here c.args.draws.now c.walk.new.state walked.path c.walk.new.draws walked.ran in
+    record {
+      whole = c.requires.whole ∙ c.requires.planned.parts_are;
+      belongs = c.walk.ensures.belongs;
+      done = subst (λ (t : Tree (Progress AnyState)). t.done c.walk.new.state ≡ true) (tree_is plan c.requires.planned whole c.requires.whole) end.done;
+      drawn = drawn_from plan c.requires.planned whole c.requires.whole c.args.started.state c.requires.starts (start_is plan c.requires.planned c.args.started.state c.requires.state)
+          walked.path c.walk.new.state end.leads end.done _ refl refl (told_is (rw c.new-lines.ensures at walked.told));
+    }
+
+pub bound-bound-requires-clause-going : goal.bound-bound-requires-clause-going
+bound-bound-requires-clause-going g c =
+    let r = c.in-Err-Draw.ensures.refused c.in-Err-Draw.fault (ap Err c.in-Err-Draw.field-0-is) in
+    let here = belongs c.args.plan.now c.args.started.whole c.requires.whole c.args.started.state c.requires.starts in
+    (stop_is g.D.Draws.source c.args.started.whole c.args.started.state here c.args.draws.now c.walk.new.state r.path c.in-Err-Draw.fault c.walk.new.draws r.ran).going
+
+pub returns-in-Err-Draw-clause-ends : goal.returns-in-Err-Draw-clause-ends
+returns-in-Err-Draw-clause-ends g c =
+    let plan = c.args.plan.now in
+    let r = c.in-Err-Draw.ensures.refused c.in-Err-Draw.fault (ap Err c.in-Err-Draw.field-0-is) in
+    subst (λ (fault : DrawFault). RefusedAt (plan_view plan) (run g.D.Draws.source (tree_of (plan_view plan)) (start_of (plan_view plan)) c.args.draws.now) c.walk.new.state fault c.bound-bound.result c.walk.new.draws)
+    (sym c.in-Err-Draw.fault-is)
+    (ends_refused g.D.Draws.source (plan_view plan) _ (tree_is plan c.requires.planned c.args.started.whole c.requires.whole)
+    c.args.started.state (start_is plan c.requires.planned c.args.started.state c.requires.state) c.args.draws.now
+    c.walk.new.state r.path c.in-Err-Draw.fault c.walk.new.draws c.bound-bound.result c.bound-bound.ensures r.ran)
