@@ -605,7 +605,7 @@ def by_reference(case):
     """The exit code, the output and the files that the reference gives; in place of the code its exception, where it ends with one."""
     store = Store(case.files, case.full)
     try:
-        code = sampler.sampler(["sampler", *(word.decode("utf-8", "surrogateescape") for word in case.words)], store, "steps")
+        code = sampler.sampler(["sampler", *(word.decode("utf-8", "surrogateescape") for word in case.words)], store, "replay")
     except Exception as fault:
         code = repr(fault)
     return code, store.written, store.files

@@ -12,8 +12,7 @@ sources alone, without a look at the program, and goes its own ways:
 
 It is slow: each step costs a time in proportion to the number of units. It is meant for frames of some hundred rows.
 
-A log has a head of three lines and a last line `end`, as the finished program writes it. With `--as-of steps` in front of all other words a log has
-the lines of the steps alone, and a seed, `replay` and `demo` end with code 15. That is for the program as it is until it has these.
+With `--as-of replay` in front of all other words, `demo` ends with code 15. That is for the program as it is until it has it.
 
 Designs are read by `tomllib`, which knows TOML 1.0; the few forms that only TOML 1.1 has are refused here. How deep arrays, inline tables and keys may
 be nested, 80 for the program, isn't counted.
@@ -1202,7 +1201,7 @@ def quick(given, store):
     return [(given["out"], ids)], "".join(draws.lines).encode("ascii")
 
 
-def draw(given, store, as_of):
+def draw(given, store):
     """Draws the sample of a design by a tape or by a seed."""
     design_bytes = store.read(given["design"])
     design = read_design(design_bytes)
@@ -1212,7 +1211,7 @@ def draw(given, store, as_of):
     draws = Seed(chacha_words(given["seed"])) if "seed" in given else Tape(store.read(given["tape"]))
     drawn = select(strata, design, draws)
     draws.end()
-    log = "".join(draws.lines).encode("ascii") if as_of == "steps" else log_bytes(log_head(design_bytes, frame_bytes), draws.lines)
+    log = log_bytes(log_head(design_bytes, frame_bytes), draws.lines)
     sample = sample_bytes(rows, asked(strata, len(rows)), drawn.rows)
     return [(given["log"], log), (given["sample"], sample)], report(rows, strata, design, drawn, draws.lines)
 
@@ -1280,7 +1279,7 @@ def demo(given):
     files = {"design": demo_design(given["n"]), "frame": demo_frame(given["n"], given["seed"])}
     words = {"design": "design", "frame": "frame", "log": "log", "sample": "sample"}
     key = given["seed"].to_bytes(8, "little") * 4
-    (log, sample), put = draw({**words, "seed": key}, Inside(files), None)
+    (log, sample), put = draw({**words, "seed": key}, Inside(files))
     files["log"] = log[1]
     again = replay(words, Inside(files))
     assert again == ([sample], put)
@@ -1292,13 +1291,11 @@ def demo(given):
 def perform(words, store, as_of):
     """The files that a call writes, in order, and what it puts."""
     command, given = read_words(words)
-    if as_of == "steps" and (command in ("replay", "demo") or "seed" in given):
+    if as_of == "replay" and command == "demo":
         raise Refusal(15, "error 15 not yet")
-    if command == "draw":
-        return draw(given, store, as_of)
     if command == "demo":
         return demo(given)
-    return {"quick": quick, "replay": replay, "probs": probs, "check": check}[command](given, store)
+    return {"quick": quick, "draw": draw, "replay": replay, "probs": probs, "check": check}[command](given, store)
 
 
 def sampler(words, store, as_of=None):
@@ -1327,8 +1324,8 @@ def sampler(words, store, as_of=None):
 def main():
     """The words of the command line, over the present folder."""
     words, as_of = ["sampler", *sys.argv[1:]], None
-    if words[1:3] == ["--as-of", "steps"]:
-        words, as_of = ["sampler", *words[3:]], "steps"
+    if words[1:3] == ["--as-of", "replay"]:
+        words, as_of = ["sampler", *words[3:]], "replay"
     return sampler(words, Folder(), as_of)
 
 

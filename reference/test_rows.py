@@ -42,18 +42,14 @@ class Rows(unittest.TestCase):
     def drawn(self, design_text, frame_text, tape, steps, sample, report=None):
         """A draw by a tape has these steps, this sample and this report, and its whole log replays."""
         store = store_of(design_text, frame_text, tape)
-        self.assertEqual(sampler.sampler([*DRAW, "--tape", "tape"], store, "steps"), 0, store.written)
+        self.assertEqual(sampler.sampler([*DRAW, "--tape", "tape"], store), 0, store.written)
         lines = "".join(line + "\n" for line in steps)
-        self.assertEqual(store.files["log"].decode(), lines)
+        self.assertEqual(store.files["log"].decode().split("\n", 3)[3], f"{lines}end {len(steps)}\n")
         self.assertEqual(store.files["sample"].decode(), "id,weight\n" + sample)
         if report is not None:
             self.assertEqual(store.written.decode(), report)
 
-        whole = store_of(design_text, frame_text, tape)
-        self.assertEqual(sampler.sampler([*DRAW, "--tape", "tape"], whole), 0)
-        self.assertEqual(whole.files["log"].decode().split("\n", 3)[3], f"{lines}end {len(steps)}\n")
-        self.assertEqual((whole.files["sample"], whole.written), (store.files["sample"], store.written))
-        again = Memory({name: whole.files[name] for name in ("design", "frame", "log")})
+        again = Memory({name: store.files[name] for name in ("design", "frame", "log")})
         self.assertEqual(sampler.sampler(["sampler", "replay", *FILES, "--log", "log", "--sample", "sample"], again), 0)
         self.assertEqual((again.files["sample"], again.written), (store.files["sample"], store.written))
 
@@ -382,10 +378,8 @@ class Rows(unittest.TestCase):
             with open(os.path.join(folder, "sample"), "rb") as file:
                 self.assertEqual(file.read(), b"id,weight\nc,5/3\nd,5/4\n")
             self.assertEqual(run("replay", *FILES, "--log", "log", "--sample", "again"), (0, b"selected 2 of 4\nsteps 3\n"))
-            self.assertEqual(run("--as-of", "steps", *draw), (0, b"selected 2 of 4\nsteps 3\n"))
-            with open(os.path.join(folder, "log"), "rb") as file:
-                self.assertEqual(file.read(), b"pivot 3 0\npivot 4 3\npivot 5 4\n")
-            self.assertEqual(run("--as-of", "steps", "demo", "30", "1"), (15, b"error 15 not yet\n"))
+            self.assertEqual(run("--as-of", "replay", *draw), (0, b"selected 2 of 4\nsteps 3\n"))
+            self.assertEqual(run("--as-of", "replay", "demo", "30", "1"), (15, b"error 15 not yet\n"))
             self.assertEqual(run("check", "--design", "design", "--frame", "elsewhere"), (12, b""))
             self.assertEqual(run("quick", "frame", "2", "tape", "elsewhere/out"), (13, b""))
             self.assertEqual(run("quick", "frame", "0", "tape", "out"), (2, sampler.USAGE.encode() + b"\n"))
