@@ -41,7 +41,11 @@ def main():
         tape = write(work, "tape.txt", "".join(f"{value}\n" for value in values))
         files = ["--log", os.path.join(work, "log.txt"), "--sample", os.path.join(work, "sample.csv")]
         inputs = ["--design", design, "--frame", frame]
-        calls = [("draw", ["draw", *inputs, "--tape", tape, *files]), ("probs", ["probs", *inputs])]
+        calls = [
+            ("draw", ["draw", *inputs, "--tape", tape, *files]),
+            ("seeded", ["draw", *inputs, "--seed", "0" * 64, *files]),
+            ("probs", ["probs", *inputs]),
+        ]
         for command, words in calls:
             count, code = millions([program, *words], work)
             note = "" if code == 0 else f" (ended with code {code})"
