@@ -1,0 +1,15 @@
+//! Trees of places that lie in lists, and sums of amounts at places.
+//!
+//! The places from `low` to `high` are a tree without pointers: its root is at their middle ([`middle_of`]), and its halves are
+//! the places before and behind the root. [`Amounts`] keeps a sum at each root, so that a draw is led to its place along one
+//! path.
+#![tactic(auto)]
+
+mod amounts;
+mod middle;
+mod sums;
+#[cfg(test)]
+mod tests;
+
+pub use crate::amounts::Amounts;
+pub use crate::middle::middle_of;
