@@ -1,3 +1,4 @@
 -- What the code keeps on the way. No public clause cites it.
+pub mod Orders
 pub mod Sizes
 pub mod States

@@ -1,28 +1,37 @@
 //! Sizes of units, of which 0 stands for a unit that is taken.
 
-ghost use Rattle.std.specs.Prelude.{◌≡◌, ℕ, ◌^◌, ◌<◌, List, length, sum, slice_index, slice_set, IfOk};
+ghost use Rattle.std.specs.Prelude.{◌≡◌, ◌^◌, ◌<◌, length, sum, slice_index, slice_set, IfOk};
 ghost use Rattle.smp_values.specs.Largest.{largest_of};
 ghost use Rattle.smp_brewer.specs.Sizes.{marks_taken};
-ghost use Rattle.smp_brewer.specs.Kept.Sizes.{IsSummed, passing};
+ghost use Rattle.smp_brewer.specs.Kept.Sizes.{passing};
 
+use crate::orders::{last_size, passed_over, ranking};
 use smp_frac::NoMemory;
+use smp_places::Amounts;
 use std::alloc::Global;
 use std::marker::Model;
 
-/// The sizes of the open units, and 0 for each unit that is taken. Their total and the largest one are kept.
+/// The sizes of the open units, and 0 for each unit that is taken.
+///
+/// The sizes are summed by a tree, so that a draw is led to its unit along one path. The units stand in rising order of their
+/// sizes, of which the taken ones are passed over from the end: so the largest open unit is the last that is left.
 #[derive(Drop)]
 pub(crate) struct OpenSizes {
-    sizes: Vec<u32>,
-    total: u64,
+    sizes: Amounts,
+    order: Vec<usize>,
+    left: usize,
     largest: u32,
 }
 
 impl Model for OpenSizes {
+    ghost use Rattle.std.specs.Prelude.{ℕ, List};
+    ghost use Rattle.smp_brewer.specs.Kept.Orders.{IsOrdered};
+
     ghost Value = { List ℕ };
 
-    ghost view = { λ a. a.sizes.items };
+    ghost view = { λ a. a.sizes };
 
-    ghost invariant = { λ a. IsSummed a.sizes.items a.total a.largest };
+    ghost invariant = { λ a. IsOrdered a.sizes a.order.items a.left a.largest };
 }
 
 impl OpenSizes {
@@ -31,10 +40,14 @@ impl OpenSizes {
         requires { sum sizes.now < 2 ^ 64 }
         ensures { IfOk result (λ own. own ≡ sizes.now) }
     {
+        let order = ranking(alloc, sizes)?;
+        let left = passed_over(sizes, order.as_slice(), order.len());
+        let largest = last_size(sizes, order.as_slice(), left);
         Ok(OpenSizes {
-            sizes: Vec::from_slice(alloc, sizes)?,
-            total: total_of(sizes),
-            largest: largest_of(sizes),
+            sizes: Amounts::new(alloc, sizes)?,
+            order,
+            left,
+            largest,
         })
     }
 
@@ -43,8 +56,9 @@ impl OpenSizes {
         ensures { IfOk result (λ copy. copy ≡ self.now) }
     {
         Ok(OpenSizes {
-            sizes: Vec::from_slice(alloc, self.sizes.as_slice())?,
-            total: self.total,
+            sizes: self.sizes.copy(alloc)?,
+            order: Vec::from_slice(alloc, self.order.as_slice())?,
+            left: self.left,
             largest: self.largest,
         })
     }
@@ -53,7 +67,7 @@ impl OpenSizes {
     pub(crate) fn len(&self) -> usize
         ensures { result ≡ length self.now }
     {
-        self.sizes.len()
+        self.sizes.as_slice().len()
     }
 
     /// The size of a unit.
@@ -61,7 +75,7 @@ impl OpenSizes {
         requires { unit < length self.now }
         ensures { result ≡ slice_index self.now unit }
     {
-        self.sizes[unit]
+        self.sizes.as_slice()[unit]
     }
 
     /// Whether a unit is taken.
@@ -69,14 +83,14 @@ impl OpenSizes {
         requires { unit < length self.now }
         ensures { result ≡ marks_taken (slice_index self.now unit) }
     {
-        self.sizes[unit] == 0
+        self.sizes.as_slice()[unit] == 0
     }
 
     /// The sum of the sizes.
     pub(crate) fn total(&self) -> u64
         ensures { result ≡ sum self.now }
     {
-        self.total
+        self.sizes.total()
     }
 
     /// The largest size.
@@ -86,19 +100,12 @@ impl OpenSizes {
         self.largest
     }
 
-    /// The unit that a draw below the total leads to: the first at which the cumulated sizes pass the draw.
+    /// The unit that a draw leads to: the first at which the cumulated sizes pass the draw.
     pub(crate) fn find(&self, draw: u128) -> usize
+        requires { draw < sum self.now }
         ensures { result ≡ passing self.now draw }
     {
-        let mut left = draw;
-        for unit in 0..self.sizes.len() {
-            let size = self.sizes[unit] as u128;
-            if left < size {
-                return unit;
-            }
-            left -= size;
-        }
-        self.sizes.len()
+        self.sizes.find(draw)
     }
 
     /// Takes a unit.
@@ -106,31 +113,8 @@ impl OpenSizes {
         requires { unit < length self.old }
         ensures { self.new ≡ slice_set self.old unit 0 }
     {
-        self.total -= self.sizes[unit] as u64;
-        self.sizes[unit] = 0;
-        self.largest = largest_of(self.sizes.as_slice());
+        self.sizes.take_out(unit);
+        self.left = passed_over(self.sizes.as_slice(), self.order.as_slice(), self.left);
+        self.largest = last_size(self.sizes.as_slice(), self.order.as_slice(), self.left);
     }
-}
-
-// The sum of the sizes.
-fn total_of(sizes: &[u32]) -> u64
-    requires { sum sizes.now < 2 ^ 64 }
-    ensures { result ≡ sum sizes.now }
-{
-    let mut total = 0;
-    for &size in sizes {
-        total += size as u64;
-    }
-    total
-}
-
-// The largest size, or 0 where there is none.
-fn largest_of(sizes: &[u32]) -> u32
-    ensures { result ≡ largest_of sizes.now }
-{
-    let mut largest = 0;
-    for &size in sizes {
-        largest = size.max(largest);
-    }
-    largest
 }

@@ -1,11 +1,5 @@
--- What the code keeps of sizes, and how it finds the unit that a draw offers.
-use Rattle.std.proofs.Common.{◌≡◌, ℕ, suc, ◌-◌, cond, nat_lt, List, [], ◌∷◌, sum}
-use Rattle.smp_values.specs.Largest.{largest_of}
-
--- their total and the largest one
-pub record IsSummed (sizes : List ℕ) (total largest : ℕ) : Type 0 where
-  pub total_is : total ≡ sum sizes
-  pub largest_is : largest ≡ largest_of sizes
+-- How the code finds the unit that a draw offers.
+use Rattle.std.proofs.Common.{ℕ, suc, ◌-◌, cond, nat_lt, List, [], ◌∷◌}
 
 -- the first place at which the cumulated sizes pass the draw
 abbrev pub passing : List ℕ → ℕ → ℕ
