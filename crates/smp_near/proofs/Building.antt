@@ -4,9 +4,10 @@ use Rattle.std.specs.List.Sorted.{IsPermutation}
 use Rattle.std.proofs.lemmas.List.{get_or-set_same, get_or-set_other, take-append-drop}
 use Rattle.std.proofs.lemmas.List.Sorted.{IsPermutation-append_left}
 use Rattle.smp_near.specs.Kept.Regions.{IsIn}
-use Rattle.smp_near.specs.Kept.Trees.{middle, EachRoot, IsEnclosed}
+use Rattle.smp_near.specs.Kept.Trees.{IsEnclosed}
+use Rattle.smp_places.specs.Trees.{middle, EachRoot}
 use Rattle.smp_near.specs.declared.region.Region.{Region}
-use Rattle.smp_near.proofs.Roots.{from_parts, each_root_as}
+use Rattle.smp_places.proofs.Roots.{from_parts, each_root_as}
 
 -- the first k stand in another order
 pub IsPermutation-front : (k : ℕ) (xs ys : List ℕ) → IsPermutation (take k xs) ys → IsPermutation xs (ys ++ drop k xs)

@@ -2,8 +2,9 @@
 use Rattle.std.proofs.Common.{◌≡◌, ◌≢◌, ℕ, zero, suc, ◌+◌, ◌-◌, ◌<◌, ◌≤◌, Bool, true, false, List, length, get_or, set, refl, ap, inl, inr, ◌⊎◌, add-one, arith}
 use Rattle.std.proofs.lemmas.Bool.{cases_Bool, cases_lt, both_ways}
 use Rattle.std.proofs.lemmas.List.{get_or-set_same, get_or-set_other, get_or_past}
-use Rattle.smp_near.specs.Kept.Trees.{middle, EachRoot, IsCounted, lives_at, living_before, one_if}
-use Rattle.smp_near.proofs.Roots.{from_parts, each_root_as, root_of_tree}
+use Rattle.smp_near.specs.Kept.Trees.{IsCounted, lives_at, living_before, one_if}
+use Rattle.smp_places.specs.Trees.{middle, EachRoot}
+use Rattle.smp_places.proofs.Roots.{from_parts, each_root_as, root_of_tree}
 
 module _ (living : List Bool) (order : List ℕ) where
   pub before_more : (place : ℕ) → living_before living order (place + 1) ≡ living_before living order place + one_if (lives_at living order place)

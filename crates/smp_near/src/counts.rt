@@ -2,9 +2,10 @@
 #![tactic(auto)]
 
 ghost use Rattle.std.specs.Prelude.{◌≡◌, ℕ, ◌+◌, ◌-◌, ◌≤◌, ◌<◌, true, false, length, slice_index, slice_set, IfOk};
-ghost use Rattle.smp_near.specs.Kept.Trees.{AreUnits, EachRoot, IsAlone, IsCounted, lives_at, living_before};
+ghost use Rattle.smp_near.specs.Kept.Trees.{AreUnits, IsAlone, IsCounted, lives_at, living_before};
+ghost use Rattle.smp_places.specs.Trees.{EachRoot};
 
-use crate::middle::middle_of;
+use smp_places::middle_of;
 use std::alloc::{AllocError, Global};
 
 // Sets the numbers of living points at the roots of a tree, and gives that of the whole tree.

@@ -6,7 +6,6 @@
 
 mod counts;
 mod distance;
-mod middle;
 mod near;
 mod orders;
 mod points;

@@ -2,10 +2,11 @@
 #![tactic(auto)]
 
 ghost use Rattle.std.specs.Prelude.{◌≡◌, ℕ, ◌≤◌, ◌<◌, length, slice_index_or, IfOk};
-ghost use Rattle.smp_near.specs.Kept.Trees.{AreUnits, EachRoot, IsEnclosed, LieIn};
+ghost use Rattle.smp_near.specs.Kept.Trees.{AreUnits, IsEnclosed, LieIn};
+ghost use Rattle.smp_places.specs.Trees.{EachRoot};
 
-use crate::middle::middle_of;
 use crate::region::{Region, region_at, widened};
+use smp_places::middle_of;
 use std::alloc::{AllocError, Global};
 
 // The region of the points from one place to another.

@@ -10,10 +10,10 @@ ghost use Rattle.smp_near.specs.Kept.Ranks.{IsAtMost, IsCandidate, rank};
 ghost use Rattle.smp_near.specs.Kept.Trees.{AreCounted, AreEnclosed, IsBestOf, IsCounted, IsEnclosed, IsSized, points_of};
 
 use crate::distance::squared_distance;
-use crate::middle::middle_of;
 use crate::near::{Near, comes_before};
 use crate::region::bound_of;
 use crate::tree::Tree;
+use smp_places::middle_of;
 
 // The best so far, or a point where that is another living one and comes first.
 fn with_point<const K: usize>(

@@ -1,7 +1,8 @@
 use Rattle.std.proofs.Common.{ℕ, ◌+◌, ◌-◌, ◌<◌, Bool, false, List, length, get_or, set, subst, sym, refl, inl, inr, rules, arith}
-use Rattle.smp_near.specs.Kept.Trees.{EachRoot, IsCounted}
+use Rattle.smp_near.specs.Kept.Trees.{IsCounted}
+use Rattle.smp_places.specs.Trees.{EachRoot}
 use Rattle.smp_near.proofs.Counting.{counted_apart, counted_kept, lowered, some_counted}
-use Rattle.smp_near.proofs.Roots.{first_half, second_half, root_of_tree}
+use Rattle.smp_places.proofs.Roots.{first_half, second_half, root_of_tree}
 use Rattle.smp_near.proofs.counts.+strike.Goals as goal
 
 pub strike-requires : goal.strike-requires

@@ -1,6 +1,6 @@
 use Rattle.std.proofs.Common.{◌<◌, length, arith}
 use Rattle.smp_near.proofs.Building.{enclosed_all}
-use Rattle.smp_near.proofs.Roots.{no_root}
+use Rattle.smp_places.proofs.Roots.{no_root}
 use Rattle.smp_near.proofs.regions.+enclose.Goals as goal
 
 pub returns-else-low-high-clause-enclosed : goal.returns-else-low-high-clause-enclosed

@@ -1,4 +1,4 @@
-use Rattle.smp_near.proofs.Roots.{root_of_tree, first_half, second_half}
+use Rattle.smp_places.proofs.Roots.{root_of_tree, first_half, second_half}
 use Rattle.smp_near.proofs.searches.root_of.Goals as goal
 
 pub returns-clause-enclosed : goal.returns-clause-enclosed

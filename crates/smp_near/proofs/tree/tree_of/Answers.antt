@@ -1,6 +1,7 @@
 use Rattle.std.proofs.Common.{◌≡◌, ◌<◌, ◌∙◌, ℕ, length, get_or, replicate, true, ap, subst, sym, List, Bool, arith, rules}
 use Rattle.std.proofs.lemmas.List.{length-replicate}
-use Rattle.smp_near.specs.Kept.Trees.{EachRoot, IsCounted, IsEnclosed}
+use Rattle.smp_near.specs.Kept.Trees.{IsCounted, IsEnclosed}
+use Rattle.smp_places.specs.Trees.{EachRoot}
 use Rattle.smp_near.proofs.Mirrors.{order_long, order_below}
 use Rattle.smp_near.proofs.tree.tree_of.Goals as goal
 
