@@ -1,5 +1,5 @@
 -- A selection starts from any fractional values, and in particular from those of a request.
-use Rattle.std.proofs.Common.{◌≡◌, ℕ, ◌≤◌, Bool, true, List, [], ◌∷◌, length, map, replicate, get_or, suc, ◌<◌, arith, refl, sym, ap, ◌∙◌}
+use Rattle.std.proofs.Common.{◌≡◌, ℕ, ◌≤◌, Bool, true, List, [], ◌∷◌, length, map, replicate, get_or, suc, ◌<◌, arith, refl, ap, ◌∙◌}
 use Rattle.std.specs.Prelude.{ℤ}
 use Rattle.smp_fractions.proofs.Fractions.{same_refl}
 use Rattle.smp_near.specs.Nearest.{all_living}
@@ -12,11 +12,11 @@ use Rattle.smp_split.proofs.Methods.{starts}
 use Rattle.smp_values.specs.Starts.{IsRequested}
 use Rattle.smp_values.specs.Values.{fractional, value_at}
 use Rattle.smp_values.proofs.Requests.{few_shares, requested_values, shares_fractional, shares_in_range}
-use Rattle.smp_values.proofs.Units.{all_counted}
 use Rattle.smp_localpiv.specs.Local.{IsLocal, local_tree, located_values}
 use Rattle.smp_localpiv.specs.Method.{method_of, started}
-use Rattle.smp_localpiv.specs.Kept.States.{IsKept, IsOpen}
+use Rattle.smp_localpiv.specs.Kept.States.{IsOpen, IsWeighed}
 use Rattle.smp_localpiv.proofs.Counts.{leaf_count}
+use Rattle.smp_localpiv.proofs.Weights.{all_ones}
 
 -- the points of values that are all fractional are all living
 all_alive : (den : ℕ) (xs : List ℕ) → ((k : ℕ) → k < length xs → fractional den (get_or xs k 0) ≡ true) → replicate (length xs) true ≡ map (fractional den) xs
@@ -24,10 +24,10 @@ all_alive den [] all = refl
 all_alive den (x ∷ xs) all = rw (all 0 (omega arith)) (ap (λ (rest : List Bool). true ∷ rest) (all_alive den xs (λ k h. all (suc k) (omega arith))))
 
 -- the state that the code starts with
-pub first_kept : (dimensions : ℕ) (coords : List (List ℤ)) (s : Shares) → IsOpen dimensions coords s → IsKept (all_living coords).living s (length s.numer)
-first_kept dimensions coords s is = record {
+pub first_weighed : (dimensions : ℕ) (coords : List (List ℤ)) (s : Shares) → IsOpen dimensions coords s → IsWeighed (all_living coords).living s (replicate {A = ℕ} (length s.numer) 1)
+first_weighed dimensions coords s is = record {
   alive = ap (λ units. replicate units true) is.placed ∙ all_alive s.den s.numer is.open_at;
-  counted = sym (all_counted s.den s.numer is.open_at);
+  weights_are = all_ones s.den s.numer is.open_at;
 }
 
 pub local_starts : (dimensions : ℕ) (coords : List (List ℤ)) (s : Shares) → IsOpen dimensions coords s → Starts (method_of (located_values coords s)) (located_values coords s)

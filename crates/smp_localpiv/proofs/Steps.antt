@@ -1,19 +1,20 @@
 -- What the code keeps of a state, and the steps of a state in which no unit is chosen.
-use Rattle.std.proofs.Common.{◌≡◌, ℕ, ◌+◌, ◌-◌, ◌<◌, ◌≤◌, Bool, true, false, cond, List, Option, Some, None, map, get_or, set, refl, sym, ap, ◌∙◌, subst, arith}
-use Rattle.std.specs.List.{count_by}
+use Rattle.std.specs.Prelude.{ℤ}
+use Rattle.std.proofs.Common.{◌≡◌, ℕ, ◌<◌, ◌≤◌, Bool, true, false, nat_lt, List, Option, Some, None, length, map, get_or, set, refl, sym, ap, ◌∙◌, subst, arith}
 use Rattle.std.proofs.Math.Seq.{map-set_same}
-use Rattle.std.proofs.lemmas.Bool.{lt-ltb, le-ltb}
+use Rattle.std.proofs.lemmas.Bool.{and_parts, lt-ltb, ltb-true, le-ltb}
 use Rattle.std.proofs.lemmas.List.{get_or-set_same, map-set}
-use Rattle.std.proofs.lemmas.List.Sums.{sum_by-set}
 use Rattle.smp_near.specs.Nearest.{LivingPoints, nearest}
 use Rattle.smp_prob.specs.Shares.{Shares}
 use Rattle.smp_split.specs.Trees.{Part, weight_sum, picked}
 use Rattle.smp_split.proofs.Parts.{weight_sum-equal, picked-equal}
+use Rattle.smp_values.specs.Pairs.{pair_bound}
 use Rattle.smp_values.specs.Values.{fractional, fractional_at, fractional_count, is_fractional, with_one}
 use Rattle.smp_values.proofs.Units.{fractional_within}
-use Rattle.smp_localpiv.specs.Local.{Local, MayMeet, choice, choosing, neighbour, parts_from, points_of, settling}
-use Rattle.smp_localpiv.specs.Kept.States.{IsKept}
-use Rattle.smp_localpiv.specs.Laws.Neighbours.{met}
+use Rattle.smp_localpiv.specs.Local.{IsChosen, IsLocal, Local, MayMeet, located_values, choice, choosing, neighbour, parts_from, points_of, settling}
+use Rattle.smp_localpiv.specs.Kept.States.{IsPaired, IsWeighed, chosen_unit}
+use Rattle.smp_localpiv.specs.Laws.Neighbours.{IsMet, met}
+use Rattle.smp_localpiv.proofs.Weights.{weights_open, weights_settled}
 
 -- ---- the points
 
@@ -30,41 +31,62 @@ never_alone points s unit same may none =
     let absent : None ≡ nearest (points_of s) unit = none ∙ ap (λ p. nearest p unit) same in
     cc
 
+-- ---- a chosen unit and its neighbour
+
+-- a unit that is chosen, and its neighbour
+pub record AreReady (s : Local) (unit other : ℕ) : Type 0 where
+  pub chosen_is : s.chosen ≡ Some unit
+  pub met : IsMet s unit
+  pub other_is : other ≡ neighbour s unit
+  pub other_in : other < length s.state.numer
+  pub other_open : is_fractional s.state other ≡ true
+
+pub ready : (units : ℕ) (now : Local) (coords : List (List ℤ)) (values : Shares) (chosen : Option (ℕ × ℕ)) (unit other : ℕ) → record { coords = coords; state = values; chosen = chosen_unit chosen } ≡ now → chosen ≡ Some (unit, other) → IsPaired coords values chosen → IsLocal units now → AreReady now unit other
+ready units now coords values chosen unit other view is paired ok =
+    let chosen_is : now.chosen ≡ Some unit = ap (λ (s : Local). s.chosen) (sym view) ∙ ap chosen_unit is in
+    let may : MayMeet now.state unit = subst (IsChosen now.state) chosen_is ok.meets in
+    let is_met = met now unit may in
+    let inside : other ≡ neighbour (located_values coords values) unit = subst (IsPaired coords values) is paired in
+    let same : other ≡ neighbour now unit = subst (λ (s : Local). other ≡ neighbour s unit) view inside in
+    record { chosen_is = chosen_is; met = is_met; other_is = same; other_in = rw same is_met.other_in; other_open = rw same is_met.other_open }
+
+-- the bound of their step
+pub meeting_bound : (s : Local) (unit other : ℕ) → AreReady s unit other → pair_bound (get_or s.state.numer unit 0) (get_or s.state.numer other 0) s.state.den ≡ weight_sum (parts_from s s.chosen)
+meeting_bound s unit other is = rw (is.chosen_is, ← is.other_is) (omega arith)
+
+pub between : (den a : ℕ) → fractional den a ≡ true → (1 ≤ a) × (a < den)
+between den a h = let parts = and_parts (nat_lt 0 a) (nat_lt a den) h in (ltb-true 0 a parts.0, ltb-true a den parts.1)
+
 -- ---- another value of a unit
 
-module _ (s : Shares) (left unit x : ℕ) (living : List Bool) (was : is_fractional s unit ≡ true) (kept : IsKept living s left) where
+module _ (s : Shares) (unit x : ℕ) (living : List Bool) (weights : List ℕ) (was : is_fractional s unit ≡ true) (kept : IsWeighed living s weights) where
   now_at : is_fractional (with_one s unit x) unit ≡ fractional s.den x
   now_at = ap (fractional s.den) (get_or-set_same s.numer unit x 0 (fractional_within s unit was))
 
-  -- so many units are then fractional
-  changed : fractional_count (with_one s unit x) + 1 ≡ fractional_count s + cond (fractional s.den x) 1 0
-  changed =
-      let f : ℕ → ℕ = λ a. cond (fractional s.den a) 1 0 in
-      let one : f (get_or s.numer unit 0) ≡ 1 = rw was refl in
-      let total : count_by (fractional s.den) (set s.numer unit x) + f (get_or s.numer unit 0) ≡ count_by (fractional s.den) s.numer + f x = sum_by-set f s.numer unit x 0 (fractional_within s unit was) in
-      omega arith
-
   -- a unit that is settled
-  pub kept_settled : is_fractional (with_one s unit x) unit ≡ false → IsKept (set living unit false) (with_one s unit x) (left - 1)
-  kept_settled settled =
+  pub weighed_settled : is_fractional (with_one s unit x) unit ≡ false → IsWeighed (set living unit false) (with_one s unit x) (set weights unit 0)
+  weighed_settled settled =
       let answer : fractional s.den x ≡ false = sym now_at ∙ settled in
-      let fewer : fractional_count (with_one s unit x) + 1 ≡ fractional_count s + 0 = changed ∙ ap (λ b. fractional_count s + cond b 1 0) answer in
       record {
         alive =
             ap (λ (alive : List Bool). set alive unit false) kept.alive
             ∙ ap (λ (b : Bool). set (map (fractional s.den) s.numer) unit b) (sym answer) ∙ sym (map-set (fractional s.den) s.numer unit x);
-        counted = omega (arith, kept.counted);
+        weights_are = ap (λ (ws : List ℕ). set ws unit 0) kept.weights_are ∙ weights_settled s unit x answer;
       }
 
   -- a unit that stays fractional
-  pub kept_open : is_fractional (with_one s unit x) unit ≡ true → IsKept living (with_one s unit x) left
-  kept_open stays =
+  pub weighed_open : is_fractional (with_one s unit x) unit ≡ true → IsWeighed living (with_one s unit x) weights
+  weighed_open stays =
       let answer : fractional s.den x ≡ true = sym now_at ∙ stays in
-      let same : fractional_count (with_one s unit x) + 1 ≡ fractional_count s + 1 = changed ∙ ap (λ b. fractional_count s + cond b 1 0) answer in
       record {
         alive = kept.alive ∙ sym (map-set_same (fractional s.den) s.numer unit x 0 (answer ∙ sym was));
-        counted = omega (arith, kept.counted);
+        weights_are = kept.weights_are ∙ weights_open s unit x was answer;
       }
+
+-- no unit stands with its neighbour where none is chosen
+pub none_paired : (coords : List (List ℤ)) (values : Shares) (chosen : Option (ℕ × ℕ)) → chosen_unit chosen ≡ None → IsPaired coords values chosen
+none_paired coords values None none = tt
+none_paired coords values (Some pair) none = absurd (cc none)
 
 -- ---- the steps where no unit is chosen
 

@@ -12,6 +12,7 @@ ghost use Rattle.smp_localpiv.specs.Method.{method_of, started};
 use crate::state::LocalState;
 use smp_frac::NoMemory;
 use smp_near::Points;
+use smp_places::Amounts;
 use smp_prob::Request;
 use smp_split::{Kind, Splitting};
 use smp_values::Values;
@@ -76,8 +77,9 @@ fn first_state<const K: usize>(
     requires { IsOpen K coords.now values.now }
     ensures { IfOk result (λ state. state ≡ located_values coords.now values.now) }
 {
+    let weights = Amounts::ones(alloc, values.len())?;
     let points = points_at(alloc, coords)?;
-    Ok(LocalState::new(points, values.copy(alloc)?))
+    Ok(LocalState::new(points, values.copy(alloc)?, weights))
 }
 
 // The points with these coordinates, all of them living.

@@ -1,41 +1,41 @@
-use Rattle.std.proofs.Common.{◌≡◌, ℕ, ◌≤◌, ◌∙◌, None, length, sym, ap, arith}
-use Rattle.std.proofs.lemmas.List.Sums.{count_by-le-length}
-use Rattle.smp_values.specs.Values.{fractional, fractional_at, fractional_count}
-use Rattle.smp_localpiv.specs.Local.{Local, choosing}
-use Rattle.smp_localpiv.proofs.Steps.{choice_within, choice_picked, settling_picked}
+use Rattle.std.proofs.Common.{◌≡◌, ◌<◌, ◌∙◌, List, None, lit<, sym, ap, arith}
+use Rattle.smp_split.specs.Trees.{Part, picked}
+use Rattle.smp_values.specs.Values.{fractional_count}
+use Rattle.smp_localpiv.specs.Local.{Local, choosing, neighbour, parts_from}
+use Rattle.smp_localpiv.specs.Kept.States.{chosen_unit}
+use Rattle.smp_localpiv.proofs.Steps.{choice_within, choice_picked, ready, settling_picked}
 use Rattle.smp_localpiv.proofs.state.LocalState.advance.Goals as goal
 
--- what the code keeps, told of the state
-record Seen (inside now : Local) (left : ℕ) : Type 0 where
-  pub none : now.chosen ≡ None
-  pub counted : left ≡ fractional_count now.state
+pub meet-requires : goal.meet-requires
+meet-requires g c =
+    let is = ready _ c.args.self.now c.self.inside.points.coords c.self.inside.values c.self.inside.chosen c.in-Some.unit c.in-Some.other c.self.view_is c.in-Some.is c.self.invariant.paired c.requires.state in
+    (lit< tt, (is.met, (is.other_is, (c.requires.state.values.narrow, rw is.chosen_is at c.requires.within))))
 
-seen : (inside now : Local) (left : ℕ) → inside ≡ now → inside.chosen ≡ None → left ≡ fractional_count inside.state → Seen inside now left
-seen inside now left view none counted = record {
-  none = sym (ap (λ (s : Local). s.chosen) view) ∙ none;
-  counted = counted ∙ ap (λ (s : Local). fractional_count s.state) view;
-}
+pub returns-in-Some : goal.returns-in-Some
+returns-in-Some g c =
+    let is = ready _ c.args.self.now c.self.inside.points.coords c.self.inside.values c.self.inside.chosen c.in-Some.unit c.in-Some.other c.self.view_is c.in-Some.is c.self.invariant.paired c.requires.state in
+    c.meet.ensures ∙ ap (λ (ps : List (Part Local)). picked c.args.self.now ps c.args.draw) (ap (parts_from c.args.self.now) (sym is.chosen_is))
 
-pub overflow_cast-place : goal.overflow_cast-place
-overflow_cast-place g c =
-    let now = seen _ c.args.self.now c.self.inside.left c.self.view_is c.in-None.is c.self.invariant.counted in
-    let within = choice_within c.args.self.now now.none (omega arith) c.args.draw c.requires.within in
-    let most : fractional_count c.args.self.now.state ≤ length c.args.self.now.state.numer = count_by-le-length (fractional c.args.self.now.state.den) c.args.self.now.state.numer in
-    omega arith
-
-pub fractional_at-requires : goal.fractional_at-requires
-fractional_at-requires g c =
-    let now = seen _ c.args.self.now c.self.inside.left c.self.view_is c.in-None.is c.self.invariant.counted in
-    rw (← c.self.view_is) at (choice_within c.args.self.now now.none (omega arith) c.args.draw c.requires.within)
+pub fractional_at-unit-requires : goal.fractional_at-unit-requires
+fractional_at-unit-requires g c =
+    let none : c.args.self.now.chosen ≡ None = ap (λ (s : Local). s.chosen) (sym c.self.view_is) ∙ ap chosen_unit c.in-None.is in
+    (lit< tt, choice_within c.args.self.now none (omega (arith, c.left.ensures)) c.args.draw c.requires.within)
 
 pub returns-in-None : goal.returns-in-None
 returns-in-None g c =
-    let now = seen _ c.args.self.now c.self.inside.left c.self.view_is c.in-None.is c.self.invariant.counted in
-    ap (λ (s : Local). choosing s c.fractional_at.result) c.self.view_is
-    ∙ ap (choosing c.args.self.now) (c.fractional_at.ensures.unit ∙ ap (λ (s : Local). fractional_at s.state c.args.draw) c.self.view_is)
-    ∙ sym (choice_picked c.args.self.now now.none (omega arith) c.args.draw (choice_within c.args.self.now now.none (omega arith) c.args.draw c.requires.within))
+    let none : c.args.self.now.chosen ≡ None = ap (λ (s : Local). s.chosen) (sym c.self.view_is) ∙ ap chosen_unit c.in-None.is in
+    let several : 1 < fractional_count c.args.self.now.state = omega (arith, c.left.ensures) in
+    ap (λ (s : Local). choosing s c.fractional_at-unit.result) c.self.view_is
+    ∙ ap (choosing c.args.self.now) c.fractional_at-unit.ensures.unit
+    ∙ sym (choice_picked c.args.self.now none several c.args.draw (choice_within c.args.self.now none several c.args.draw c.requires.within))
 
 pub returns-in-None-2 : goal.returns-in-None-2
 returns-in-None-2 g c =
-    let now = seen _ c.args.self.now c.self.inside.left c.self.view_is c.in-None.is c.self.invariant.counted in
-    c.settle_alone.ensures ∙ settling_picked c.args.self.now now.none (omega arith) c.args.draw
+    let none : c.args.self.now.chosen ≡ None = ap (λ (s : Local). s.chosen) (sym c.self.view_is) ∙ ap chosen_unit c.in-None-2.is in
+    c.settle_alone.ensures ∙ settling_picked c.args.self.now none (omega (arith, c.left.ensures)) c.args.draw
+
+pub invariant_of-self : goal.invariant_of-self
+invariant_of-self g c = record {
+  weighed = c.self.invariant.weighed;
+  paired = c.neighbour-other.ensures ∙ ap (λ (s : Local). neighbour s c.fractional_at-unit.result) (sym c.self.view_is);
+}
