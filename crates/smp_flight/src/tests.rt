@@ -5,6 +5,7 @@ ghost use Rattle.std.specs.List.{list_all};
 ghost use Rattle.smp_kernel.specs.Vectors.{Within};
 ghost use Rattle.smp_prob.specs.Requests.{IsRequest};
 ghost use Rattle.smp_flight.specs.States.{AreFirst, IsFlight};
+ghost use Rattle.smp_flight.specs.Answers.{Allows, IsFirstMove};
 ghost use Rattle.smp_flight.specs.Requests.{AreValues};
 
 use super::*;
@@ -127,22 +128,45 @@ fn is_at<const N: usize>(state: &FlightState, wanted: &Wanted<N>) -> bool {
     state.denom() == wanted.den && state.fractional() == wanted.fractional
 }
 
-/// Takes the next step, and says whether it is the one that is wanted and leads to the values that are wanted.
-fn takes<const N: usize, L: Ledger>(
-    shape: &Shape,
-    state: &mut FlightState,
-    wanted: &Wanted<N>,
-    steps: &mut Steps<L>,
-) -> bool
+/// Goes to an end of a move, counted on a ledger that nothing was written into.
+fn moves<L: Ledger>(shape: &Shape, state: &mut FlightState, mv: &Move, plus: bool, blank: Blank)
     requires flight { IsFlight shape.now state.old.flight }
     requires first { AreFirst state.old.flight state.old.window }
+    requires mv { IsFirstMove shape.now state.old mv.now }
+    requires name { blank.name ≡ L.name }
+    requires parts { blank.parts ≡ L.parts }
+    requires some { 1 ≤ blank.parts }
     ensures flight { IsFlight shape.now state.new.flight }
     ensures first { AreFirst state.new.flight state.new.window }
-    ensures few { steps.new ≤ steps.old + (state.old.flight.rows + 1) }
+    ensures few { state.new.writes ≤ state.old.writes + (state.old.flight.rows + 1) }
 {
-    let next = step(shape, state);
+    let mut steps = Steps::<L>::new(blank);
+    apply(shape, state, mv, plus, &mut steps);
+}
+
+/// Goes to an end of a move.
+fn move_to(shape: &Shape, state: &mut FlightState, mv: &Move, plus: bool)
+    requires flight { IsFlight shape.now state.old.flight }
+    requires first { AreFirst state.old.flight state.old.window }
+    requires mv { IsFirstMove shape.now state.old mv.now }
+    ensures flight { IsFlight shape.now state.new.flight }
+    ensures first { AreFirst state.new.flight state.new.window }
+    ensures few { state.new.writes ≤ state.old.writes + (state.old.flight.rows + 1) }
+{
+    moves::<Brand>(shape, state, mv, plus, Blank::new(1));
+}
+
+/// Makes a step, as far as it is one.
+fn makes(shape: &Shape, state: &mut FlightState, next: Next, plus: bool)
+    requires flight { IsFlight shape.now state.old.flight }
+    requires first { AreFirst state.old.flight state.old.window }
+    requires allows { Allows shape.now state.old next }
+    ensures flight { IsFlight shape.now state.new.flight }
+    ensures first { AreFirst state.new.flight state.new.window }
+    ensures few { state.new.writes ≤ state.old.writes + (state.old.flight.rows + 1) }
+{
     match next {
-        Next::Move(mv) => apply(shape, state, &mv, wanted.plus, steps),
+        Next::Move(mv) => move_to(shape, state, &mv, plus),
         Next::Independent => {
             if state.rows() > 0 {
                 state.drop_row(shape);
@@ -150,46 +174,32 @@ fn takes<const N: usize, L: Ledger>(
         }
         Next::Wide => {}
     }
+}
+
+/// Takes the next step, and says whether it is the one that is wanted and leads to the values that are wanted.
+fn takes<const N: usize>(shape: &Shape, state: &mut FlightState, wanted: &Wanted<N>) -> bool
+    requires flight { IsFlight shape.now state.old.flight }
+    requires first { AreFirst state.old.flight state.old.window }
+    ensures flight { IsFlight shape.now state.new.flight }
+    ensures first { AreFirst state.new.flight state.new.window }
+    ensures few { state.new.writes ≤ state.old.writes + (state.old.flight.rows + 1) }
+{
+    let next = step(shape, state);
+    makes(shape, state, next, wanted.plus);
     next == wanted.next && is_at(state, wanted)
 }
 
 /// Whether a state takes these steps.
-fn follows<const N: usize, L: Ledger>(
-    shape: &Shape,
-    state: &mut FlightState,
-    course: &[Wanted<N>],
-    steps: &mut Steps<L>,
-) -> bool
+fn follows<const N: usize>(shape: &Shape, state: &mut FlightState, steps: &[Wanted<N>]) -> bool
     requires flight { IsFlight shape.now state.old.flight }
     requires first { AreFirst state.old.flight state.old.window }
 {
-    for wanted in course {
-        if !takes(shape, state, wanted, steps) {
+    for wanted in steps {
+        if !takes(shape, state, wanted) {
             return false;
         }
     }
     true
-}
-
-/// Whether the flight of a request takes these steps, counted on a ledger that nothing was written into.
-fn flies_on<const N: usize, L: Ledger>(
-    alloc: Global,
-    request: &Request,
-    xs: &[Numbers],
-    course: &[Wanted<N>],
-    blank: Blank,
-) -> Result<bool, NoMemory>
-    requires request { IsRequest request.now }
-    requires values { AreValues xs.now }
-    requires one_each { length xs.now ≡ length request.now.free }
-    requires name { blank.name ≡ L.name }
-    requires parts { blank.parts ≡ L.parts }
-    requires some { 1 ≤ blank.parts }
-{
-    let shape = Shape::new(alloc, request, xs)?;
-    let mut state = start(alloc, &shape)?;
-    let mut steps = Steps::<L>::new(blank);
-    Ok(follows(&shape, &mut state, course, &mut steps))
 }
 
 /// Whether the flight of a request takes these steps.
@@ -197,13 +207,15 @@ fn flies<const N: usize>(
     alloc: Global,
     request: &Request,
     xs: &[Numbers],
-    course: &[Wanted<N>],
+    steps: &[Wanted<N>],
 ) -> Result<bool, NoMemory>
     requires request { IsRequest request.now }
     requires values { AreValues xs.now }
     requires one_each { length xs.now ≡ length request.now.free }
 {
-    flies_on::<N, Brand>(alloc, request, xs, course, Blank::new(1))
+    let shape = Shape::new(alloc, request, xs)?;
+    let mut state = start(alloc, &shape)?;
+    Ok(follows(&shape, &mut state, steps))
 }
 
 /// A wanted move to one of its ends.
@@ -261,43 +273,21 @@ fn rows_worked_by_hand(rt: HostRuntime) -> Result<(), Fail> {
 }
 
 /// Takes the wanted step of a state with two rows in force. At most three numerators are written.
-fn takes_with_two_rows<const N: usize, L: Ledger>(
+fn takes_with_two_rows<const N: usize>(
     shape: &Shape,
     state: &mut FlightState,
     wanted: &Wanted<N>,
-    steps: &mut Steps<L>,
 ) -> bool
     requires flight { IsFlight shape.now state.old.flight }
     requires first { AreFirst state.old.flight state.old.window }
     requires two { state.old.flight.rows ≡ 2 }
-    ensures { steps.new ≤ steps.old + 3 }
+    ensures { state.new.writes ≤ state.old.writes + 3 }
 {
-    takes(shape, state, wanted, steps)
-}
-
-/// Whether the flight of a request with two rows begins with this step.
-fn begins_on<const N: usize, L: Ledger>(
-    alloc: Global,
-    request: &Request,
-    xs: &[Numbers],
-    wanted: &Wanted<N>,
-    blank: Blank,
-) -> Result<bool, NoMemory>
-    requires request { IsRequest request.now }
-    requires values { AreValues xs.now }
-    requires one_each { length xs.now ≡ length request.now.free }
-    requires name { blank.name ≡ L.name }
-    requires parts { blank.parts ≡ L.parts }
-    requires some { 1 ≤ blank.parts }
-{
-    let shape = Shape::new(alloc, request, xs)?;
-    let mut state = start(alloc, &shape)?;
-    let mut steps = Steps::<L>::new(blank);
-    Ok(state.rows() == 2 && takes_with_two_rows(&shape, &mut state, wanted, &mut steps))
+    takes(shape, state, wanted)
 }
 
 #[test]
-fn the_first_move_writes_three_numerators_at_most(rt: HostRuntime) -> Result<(), Fail> {
+fn a_first_move_writes_three_numerators_at_most(rt: HostRuntime) -> Result<(), Fail> {
     let alloc = rt.alloc();
     let four = request(alloc, &[0, 1, 2, 3], &[1; 4], 2, 4)?;
     let line = balancing(alloc, &[[1], [2], [3], [4]])?;
@@ -308,7 +298,9 @@ fn the_first_move_writes_three_numerators_at_most(rt: HostRuntime) -> Result<(),
         4,
         3,
     );
-    assert!(rt; begins_on::<4, Brand>(alloc, &four, line.as_slice(), &first, Blank::new(1))?);
+    let shape = Shape::new(alloc, &four, line.as_slice())?;
+    let mut state = start(alloc, &shape)?;
+    assert!(rt; state.rows() == 2 && takes_with_two_rows(&shape, &mut state, &first));
     Ok(())
 }
 
@@ -479,13 +471,7 @@ impl Plain {
 }
 
 /// Makes the next step, in the plain program too, and says whether it is none that the plain program couldn't make.
-fn goes_on<L: Ledger>(
-    shape: &Shape,
-    state: &mut FlightState,
-    plain: &mut Plain,
-    plus: bool,
-    steps: &mut Steps<L>,
-) -> bool
+fn goes_on(shape: &Shape, state: &mut FlightState, plain: &mut Plain, plus: bool) -> bool
     requires flight { IsFlight shape.now state.old.flight }
     requires first { AreFirst state.old.flight state.old.window }
     ensures flight { IsFlight shape.now state.new.flight }
@@ -497,7 +483,7 @@ fn goes_on<L: Ledger>(
             let extent = if plus { mv.up } else { mv.down };
             let begins = plain.starts_with(&mv.direction);
             plain.advance(first, &mv.direction, plus, extent);
-            apply(shape, state, &mv, plus, steps);
+            move_to(shape, state, &mv, plus);
             begins
         }
         Next::Independent => {
@@ -512,12 +498,7 @@ fn goes_on<L: Ledger>(
 }
 
 /// Whether a flight keeps pace with the plain program until all values are settled.
-fn lands<L: Ledger>(
-    shape: &Shape,
-    state: &mut FlightState,
-    plain: &mut Plain,
-    steps: &mut Steps<L>,
-) -> bool
+fn lands(shape: &Shape, state: &mut FlightState, plain: &mut Plain) -> bool
     requires flight { IsFlight shape.now state.old.flight }
     requires first { AreFirst state.old.flight state.old.window }
 {
@@ -525,23 +506,11 @@ fn lands<L: Ledger>(
         if state.fractional() == 0 {
             return true;
         }
-        if !goes_on(shape, state, plain, number % 3 == 0, steps) || !plain.is_at(state) {
+        if !goes_on(shape, state, plain, number % 3 == 0) || !plain.is_at(state) {
             return false;
         }
     }
     false
-}
-
-/// Whether the flight of these units keeps pace with the plain program to its end, counted on a ledger that nothing was written into.
-fn lands_on<L: Ledger>(alloc: Global, shape: &Shape, blank: Blank) -> Result<bool, NoMemory>
-    requires name { blank.name ≡ L.name }
-    requires parts { blank.parts ≡ L.parts }
-    requires some { 1 ≤ blank.parts }
-{
-    let mut state = start(alloc, shape)?;
-    let mut plain = Plain::requested(alloc, shape)?;
-    let mut steps = Steps::<L>::new(blank);
-    Ok(lands(shape, &mut state, &mut plain, &mut steps))
 }
 
 /// Whether the flight of these sizes and balancing values keeps pace with the plain program to its end.
@@ -556,7 +525,9 @@ fn flies_plainly<const N: usize, const P: usize>(
 {
     let xs = balancing(alloc, lists)?;
     let shape = Shape::new(alloc, request, xs.as_slice())?;
-    lands_on::<Brand>(alloc, &shape, Blank::new(1))
+    let mut state = start(alloc, &shape)?;
+    let mut plain = Plain::requested(alloc, &shape)?;
+    Ok(lands(&shape, &mut state, &mut plain))
 }
 
 /// Small numbers in no order, `P` for each unit.
