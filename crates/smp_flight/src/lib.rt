@@ -7,7 +7,8 @@
 //!
 //! A move changes few values, and the denominator of all. So a state keeps the units that the flight has changed, as long as they are fractional, as
 //! a window over the common denominator, and all other values over the first one: a step reads the units of its prefix and of the window, and a move
-//! writes those of the window. The first fractional units are found behind a place that only grows.
+//! writes each of its units and of the window once, at most one more than there are rows in force. Each write is a step of a counter that the caller
+//! of [`apply`] hands in. The first fractional units are found behind a place that only grows.
 //!
 //! All numbers are whole, and held to stated gates, so that all arithmetic fits 128 bits. A step is refused as wide exactly where a number of the
 //! search or of the move passes its gate, whichever way they are computed: both are defined by their properties, and [`step_law`] says that these

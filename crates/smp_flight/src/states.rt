@@ -14,6 +14,8 @@ use std::alloc::Global;
 use std::marker::Model;
 
 /// The values of the units of a [`Shape`], and how many rows are in force.
+///
+/// With them it is seen as the units of its window, and as how often a numerator was written.
 #[derive(Drop)]
 pub struct FlightState {
     pub(crate) values: FlightValues,
