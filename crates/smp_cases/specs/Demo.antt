@@ -1,7 +1,8 @@
--- The input of the demonstration: a frame of farms with numbers from a linear congruential generator, and a design for it.
+-- The input of the demonstration: a frame of farms with numbers from a linear congruential generator, a design for it, and the key of its draw.
 use Rattle.std.specs.Prelude.{ℕ, ◌+◌, ◌-◌, ◌*◌, ◌/◌, ◌%◌, ◌^◌, zero, suc, List, ◌++◌, codes}
 use Rattle.std.specs.List.{flat_map, range_with_len}
 use Rattle.std.specs.Fmt.{decimal}
+use Rattle.std.specs.Int.{to_le_bytes, w64}
 
 -- ---- the generator (Knuth 1997)
 
@@ -45,3 +46,9 @@ abbrev pub demo_design_text : ℕ → List ℕ
 demo_design_text n =
     codes "version = 1\nmethod = \"cube\"\nid = \"id\"\nstratum = \"region\"\n"
     ++ (codes "balance = [\"area\", \"herd\", \"workers\"]\nn = " ++ (decimal (n / 5) ++ codes "\n"))
+
+-- ---- the draw
+
+-- the key of a seed: its 8 bytes, the lowest first, four times over
+abbrev pub demo_key : ℕ → List ℕ
+demo_key seed = let bytes = to_le_bytes w64 seed in bytes ++ (bytes ++ (bytes ++ bytes))

@@ -1,7 +1,7 @@
 //! The input of the demonstration.
 
 ghost use Rattle.std.specs.Prelude.{◌≡◌, ◌++◌, ◌/◌, ◌^◌, ◌≤◌, IfOk, OnOk, string_bytes};
-ghost use Rattle.smp_cases.specs.Demo.{demo_design_text, demo_frame_text, next_state, row_text, state_after};
+ghost use Rattle.smp_cases.specs.Demo.{demo_design_text, demo_frame_text, demo_key, next_state, row_text, state_after};
 
 use smp_frac::{Bytes, NoMemory};
 use std::alloc::{AllocError, Global};
@@ -72,4 +72,15 @@ pub fn demo_design(alloc: Global, n: u32) -> Result<Bytes, NoMemory>
          n = {drawn}\n"
     )?;
     Ok(Bytes::from_vec(text.into_bytes()))
+}
+
+/// The key of the demonstration's draw: the 8 bytes of `seed`, the lowest first, four times over.
+pub fn demo_key(seed: u64) -> [u8; 32]
+    ensures { result ≡ demo_key seed }
+{
+    let [a, b, c, d, e, f, g, h] = seed.to_le_bytes();
+    [
+        a, b, c, d, e, f, g, h, a, b, c, d, e, f, g, h, a, b, c, d, e, f, g, h, a, b, c, d, e, f,
+        g, h,
+    ]
 }
