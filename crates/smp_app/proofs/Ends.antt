@@ -1,6 +1,6 @@
 -- How a call ends, from what its parts did.
 use Rattle.std.proofs.Common.{◌≡◌, ◌≤◌, ℕ, List, Option, Some, None, option_map, Ok, Err, refl, sym, ap, subst, ◌∙◌, inl, inr, true}
-use Rattle.std.specs.Prelude.{is_some, is_ok, option_and_then}
+use Rattle.std.specs.Prelude.{is_some, is_ok}
 use Rattle.smp_io.specs.Counts.{Rose, NeverFalls}
 use Rattle.smp_io.specs.Sink.{with_bytes, AppendsFront}
 use Rattle.smp_io.specs.Store.{Files}
@@ -20,10 +20,10 @@ use Rattle.smp_app.proofs.Deliveries.{rose_since, place_since, place_rose}
 
 -- ---- the verdict of a job
 
-by_command : (told : Option Command) (job : Job) → option_and_then job_of told ≡ Some job → (fs : Files)
-    → (or_refused status.Usage told >>= λ c. or_refused status.NotYet (job_of c) >>= λ j. outputs_stage j fs) ≡ outputs_stage job fs
+by_command : (told : Option Command) (job : Job) → option_map job_of told ≡ Some job → (fs : Files)
+    → (or_refused status.Usage told >>= λ c. outputs_stage (job_of c) fs) ≡ outputs_stage job fs
 by_command None job h fs = absurd (cc)
-by_command (Some command) job h fs = rw h refl
+by_command (Some command) job h fs = let some : ◌≡◌ {A = Option Job} (Some (job_of command)) (Some job) = h in let same : job_of command ≡ job = cc in ap (λ (j : Job). outputs_stage j fs) same
 
 pub verdict_of : (words : List (List ℕ)) (job : Job) → job_for words ≡ Some job → (fs : Files) → verdict words fs ≡ outputs_stage job fs
 unfolding verdict
@@ -34,14 +34,9 @@ record Commanded (told : Option Command) : Type 0 where
   command : Command
   is : told ≡ Some command
 
-commanded : (told : Option Command) (job : Job) → option_and_then job_of told ≡ Some job → Commanded told
+commanded : (told : Option Command) (job : Job) → option_map job_of told ≡ Some job → Commanded told
 commanded None job h = absurd (cc)
 commanded (Some command) job h = record { command = command; is = refl }
-
--- a command that isn't built
-pub not_yet : (words : List (List ℕ)) (command : Command) → command_of words ≡ Some command → job_of command ≡ None → (fs : Files) → verdict words fs ≡ Err (Refused status.NotYet)
-unfolding verdict
-not_yet words command asked none fs = rw (asked, none) refl
 
 -- ---- the work
 
@@ -175,7 +170,7 @@ module _ (ended answer : Status) (words : List (List ℕ)) (before now : Outside
 -- ---- words of no command, and a call that nothing disturbs
 
 unasked : (words : List (List ℕ)) (job : Job) → command_of words ≡ None → job_for words ≡ Some job → ⊥
-unasked words job none some = let e : None ≡ Some job = ap (option_and_then job_of) (sym none) ∙ some in cc
+unasked words job none some = let e : None ≡ Some job = ap (option_map job_of) (sym none) ∙ some in cc
 
 module _ (answer : Status) (words : List (List ℕ)) (before now : Outside) where
   usage : (class : Class) → Says class answer words before now → command_of words ≡ None → UsageOnly class

@@ -1,11 +1,10 @@
 -- A draw that ended well is the one of the design, the frame and the draws that were read.
-use Rattle.std.proofs.Common.{◌≡◌, ℕ, zero, suc, List, [], ◌∷◌, Option, Some, None, Result, Ok, Err, refl, sym, ap, subst, ◌∙◌, inl, inr}
-use Rattle.std.specs.Prelude.{◌==◌, option_map, option_and_then}
+use Rattle.std.proofs.Common.{◌≡◌, ℕ, List, [], ◌∷◌, Option, Some, None, Result, Ok, Err, refl, sym, ap, subst, ◌∙◌, inl, inr}
+use Rattle.std.specs.Prelude.{◌==◌, option_map}
 use Rattle.std.proofs.lemmas.Bool.{cases_Bool}
 use Rattle.smp_io.specs.Sink.{with_bytes}
 use Rattle.smp_io.specs.Store.{Files}
 use Rattle.smp_tape.specs.TapeText.{tape_of}
-use Rattle.smp_tape.specs.Sources.{Source}
 use Rattle.smp_tape.specs.Tapes.{tape_of_values}
 use Rattle.smp_tape.specs.Laws.Tapes.{tape_source}
 use Rattle.smp_sieve.specs.Keys.{words_of_seed}
@@ -21,7 +20,6 @@ use Rattle.smp_twostage.specs.Laws.Wholes.{whole_lawful}
 use Rattle.smp_strata.specs.Misfits.{misfit_of}
 use Rattle.smp_strata.specs.declared.misfit.Misfit.{Misfit}
 use Rattle.smp_design.specs.Designs.{design_of}
-use Rattle.smp_design.specs.declared.design.Design.{Design}
 use Rattle.smp_methods.specs.declared.any.AnyState.{AnyState}
 use Rattle.smp_words.specs.declared.command.DrawArguments.{DrawArguments}
 use Rattle.smp_words.specs.declared.command.ReplayArguments.{ReplayArguments}
@@ -35,7 +33,6 @@ use Rattle.smp_log.specs.Heads.{IsHead, head_of}
 use Rattle.smp_log.specs.Told.{path_told}
 use Rattle.smp_log.proofs.Answered.{exact_reading}
 use Rattle.smp_log.proofs.Heads.{head_of-is}
-use Rattle.smp_log.proofs.Paths.{run_full_path}
 use Rattle.smp_log.proofs.Telling.{genuine_told}
 use Rattle.smp_log.specs.Logs as logs
 use Rattle.smp_app.specs.declared.status.Status.{Status}
@@ -44,9 +41,9 @@ use Rattle.smp_app.specs.declared.status.Status.TheVariants.{TapeLong}
 use Rattle.smp_app.specs.Codes.{class_of, design_status, frame_status, tape_status}
 use Rattle.smp_app.specs.Plans.{Plan, Drawn, parts, tree_of, start_of}
 use Rattle.smp_app.specs.Texts.{log_text, sample_text, report_text}
-use Rattle.smp_app.specs.Commands.{DesignSource, Held, DrawnFile, ByLog, Draws, Job, source_of, job_of, job_for, outputs_by}
+use Rattle.smp_app.specs.Commands.{Held, FrameHeld, DrawnFile, ByLog, Draws, Job, source_of, job_of, job_for, outputs_by}
 use Rattle.smp_app.specs.Commands as drawing
-use Rattle.smp_app.specs.Verdict.{Stop, Refused, ReadDesign, ◌>>=◌, content, or_fault, unless_misfit, values_taken, values_left, no_words, drawn_at, drawn_of, drawn_from, drawn_by_tape, drawn_by_seed, told_by_log, drawn_by_log, design_stage, frame_stage, plan_stage, drawn_stage, outputs_stage}
+use Rattle.smp_app.specs.Verdict.{Stop, Refused, ReadDesign, ◌>>=◌, content, or_fault, unless_misfit, values_taken, values_left, no_words, drawn_at, drawn_of, drawn_by_tape, drawn_by_seed, told_by_log, drawn_by_log, design_stage, frame_stage, plan_stage, drawn_stage, outputs_stage}
 use Rattle.smp_app.specs.Deliveries.{Outputs, with_files}
 use Rattle.smp_app.specs.Draws.{IsDraw, HasProbabilities}
 use Rattle.smp_app.specs.Answers.{Outside, Says, IsWork, Done}
@@ -106,7 +103,7 @@ record Planned (design : ReadDesign) (frame : List ℕ) (fs : Files) (plan : Pla
   served : misfit_of design.design units ≡ None
   is : record { design = design.design; units = units; head = head_of design.bytes bytes } ≡ plan
 
-planned : (design : ReadDesign) (frame : List ℕ) (fs : Files) (plan : Plan) → frame_stage design frame fs ≡ Ok plan → Planned design frame fs plan
+planned : (design : ReadDesign) (frame : List ℕ) (fs : Files) (plan : Plan) → frame_stage design (FrameHeld frame) fs ≡ Ok plan → Planned design frame fs plan
 unfolding frame_stage
 planned design frame fs plan h =
     let bytes = step (content frame (fs frame)) _ plan h in
@@ -138,19 +135,6 @@ plan_same plan taken left (stopped state path fault end) drawn h = absurd (cc)
 record ByChance (plan : Plan) (chance : Chance) (fs : Files) (drawn : Drawn) : Type 0 where
   by_plan : drawn.plan ≡ plan
   by_chance : IsDrawnByChance chance fs drawn
-  full : BelongsToWhole (parts plan) (start_of plan) → IsFullPath (tree_of plan) (start_of plan) drawn.path drawn.leaf
-
--- a run that comes to a leaf goes along a full path
-module _ {Rest : Type 0} (source : Source Rest) (plan : Plan) (taken left : Rest → ℕ) (rest : Rest) (drawn : Drawn) where
-  full_path : drawn_from source taken left plan rest ≡ Ok drawn → BelongsToWhole (parts plan) (start_of plan) → IsFullPath (tree_of plan) (start_of plan) drawn.path drawn.leaf
-  full_path h member = by_outcome (run source (tree_of plan) (start_of plan) rest) refl
-    where
-      by_outcome : (outcome : Outcome (Progress AnyState) Rest) → run source (tree_of plan) (start_of plan) rest ≡ outcome → IsFullPath (tree_of plan) (start_of plan) drawn.path drawn.leaf
-      by_outcome (leaf state path end) is =
-          let same : record { plan = plan; leaf = state; path = path } ≡ drawn = at_leaf plan state path (left end) drawn (sym (ap (drawn_of plan taken left) is) ∙ h) in
-          subst (λ (d : Drawn). IsFullPath (tree_of plan) (start_of plan) d.path d.leaf) same
-          (run_full_path (tree_of plan) (BelongsToWhole (parts plan)) (whole_lawful (parts plan)) (start_of plan) state path member source rest end is)
-      by_outcome (stopped state path fault end) is = absurd (let none : ◌≡◌ {A = Result Drawn Stop} _ (Ok drawn) = sym (ap (drawn_of plan taken left) is) ∙ h in cc)
 
 by_chance : (plan : Plan) (chance : Chance) (fs : Files) (drawn : Drawn) → drawn_stage plan (source_of chance) fs ≡ Ok drawn → ByChance plan chance fs drawn
 unfolding drawn_stage
@@ -159,7 +143,6 @@ by_chance plan (Seed seed) fs drawn h =
     record {
       by_plan = same;
       by_chance = subst (λ (p : Plan). drawn_by_seed p seed ≡ Ok drawn) (sym same) h;
-      full = full_path (sieve_source key_stream) plan no_words no_words (words_of_seed seed) drawn h;
     }
 by_chance plan (Tape tape) fs drawn h =
     let bytes = step (content tape (fs tape)) _ drawn h in
@@ -172,7 +155,6 @@ by_chance plan (Tape tape) fs drawn h =
         tape_read = ap (option_map tape_of) (content_is (fs tape) tape bytes.value bytes.first_is) ∙ ap Some (read_is tape_status (tape_of bytes.value) values.value values.first_is);
         is_drawn = subst (λ (p : Plan). drawn_by_tape p values.value ≡ Ok drawn) (sym same) values.then_is;
       };
-      full = full_path tape_source plan values_taken values_left (tape_of_values [] values.value) drawn values.then_is;
     }
 
 -- ---- what a log told
@@ -221,13 +203,13 @@ record Read (design_name frame_name : List ℕ) (fs : Files) (plan : Plan) : Typ
   designed : Designed design_name fs design
   framed : Planned design frame_name fs plan
 
-read : (job : Job) (design_name : List ℕ) → job.design ≡ Held design_name → (fs : Files) (plan : Plan) → plan_stage job fs ≡ Ok plan → Read design_name job.frame fs plan
-read job name is fs plan h =
-    let design = step (design_stage job.design fs) (λ d. frame_stage d job.frame fs) plan h in
+read : (design_name frame_name : List ℕ) (fs : Files) (plan : Plan) → design_stage (Held design_name) fs >>= (λ d. frame_stage d (FrameHeld frame_name) fs) ≡ Ok plan → Read design_name frame_name fs plan
+read design_name frame_name fs plan h =
+    let design = step (design_stage (Held design_name) fs) (λ d. frame_stage d (FrameHeld frame_name) fs) plan h in
     record {
       design = design.value;
-      designed = designed name fs design.value (ap (λ (d : DesignSource). design_stage d fs) (sym is) ∙ design.first_is);
-      framed = planned design.value job.frame fs plan design.then_is;
+      designed = designed design_name fs design.value design.first_is;
+      framed = planned design.value frame_name fs plan design.then_is;
     }
 
 ok_same : (x y : Outputs) → ◌≡◌ {A = Result Outputs Stop} (Ok x) (Ok y) → x ≡ y
@@ -248,17 +230,17 @@ module _ (a : DrawArguments) (fs : Files) (before now : Outside) (words : List (
   draw_files = record { name = a.log; text = log_text } ∷ record { name = a.sample; text = sample_text } ∷ []
 
   abbrev draw_job : Job
-  draw_job = record { design = Held a.design; frame = a.frame; work = Draws (source_of a.chance) draw_files report_text }
+  draw_job = record { design = Held a.design; frame = FrameHeld a.frame; work = Draws (source_of a.chance) draw_files report_text }
 
   draw_asked : job_for words ≡ Some draw_job
-  draw_asked = ap (option_and_then job_of) asked
+  draw_asked = ap (option_map job_of) asked
 
   drawn_work : IsWork words draw_job fs before now → IsExactDraw a fs before now
   drawn_work work =
       let exact : IsDraw draw_job (source_of a.chance) fs = work.exact in
       let plan = exact.plan in
       let drawn = exact.drawn in
-      let from = read draw_job a.design refl fs plan exact.planned in
+      let from = read a.design a.frame fs plan exact.planned in
       let chance = by_chance plan a.chance fs drawn exact.is_drawn in
       let plan_so = chance.by_plan ∙ sym from.framed.is in
       let head_so : drawn.plan.head ≡ head_of from.design.bytes from.framed.bytes = ap (λ (p : Plan). p.head) plan_so in
@@ -280,7 +262,7 @@ module _ (a : DrawArguments) (fs : Files) (before now : Outside) (words : List (
             ∙ ap (λ (h : List ℕ). Some (with_files (record { name = a.log; bytes = logs.log_text h drawn.path } ∷ record { name = a.sample; bytes = sample_text drawn } ∷ []) fs)) head_so;
         genuine = record {
           path = drawn.path;
-          full = subst (λ (p : Plan). IsFullPath (tree_of p) (start_of p) drawn.path drawn.leaf) (sym chance.by_plan) (chance.full exact.by_plan.start);
+          full = subst (λ (p : Plan). IsFullPath (tree_of p) (start_of p) drawn.path drawn.leaf) (sym chance.by_plan) exact.by_plan.full;
           text = refl;
         };
         put = work.written ∙ ap (λ (o : Outputs). with_bytes o.put before.written) outputs;
@@ -302,17 +284,17 @@ module _ (a : ReplayArguments) (fs : Files) (before now : Outside) (words : List
   replay_files = record { name = a.sample; text = sample_text } ∷ []
 
   abbrev replay_job : Job
-  replay_job = record { design = Held a.design; frame = a.frame; work = Draws (ByLog a.log) replay_files report_text }
+  replay_job = record { design = Held a.design; frame = FrameHeld a.frame; work = Draws (ByLog a.log) replay_files report_text }
 
   replay_asked : job_for words ≡ Some replay_job
-  replay_asked = ap (option_and_then job_of) asked
+  replay_asked = ap (option_map job_of) asked
 
   replayed_work : IsWork words replay_job fs before now → IsExactReplay a fs before now
   replayed_work work =
       let exact : IsDraw replay_job (ByLog a.log) fs = work.exact in
       let plan = exact.plan in
       let drawn = exact.drawn in
-      let from = read replay_job a.design refl fs plan exact.planned in
+      let from = read a.design a.frame fs plan exact.planned in
       let head_so : head_of from.design.bytes from.framed.bytes ≡ plan.head = ap (λ (p : Plan). p.head) from.framed.is in
       let told = by_log plan a.log fs drawn exact.by_plan.start (subst IsHead head_so (head_of-is from.design.bytes from.framed.bytes)) exact.is_drawn in
       let outputs = outputs_are words replay_job fs before now (ByLog a.log) replay_files report_text plan drawn replay_asked refl exact.planned exact.is_drawn work in

@@ -1,5 +1,5 @@
 -- What is selected by a tape or by a seed is what the verdict draws, with the requested probabilities.
-use Rattle.std.proofs.Common.{◌≡◌, ℕ, zero, suc, ◌<◌, ◌≤◌, List, [], ◌∷◌, length, Option, Some, None, Result, Ok, Err, true, refl, sym, ap, subst, ◌∙◌, arith, inl, inr}
+use Rattle.std.proofs.Common.{◌≡◌, ℕ, zero, suc, ◌<◌, ◌≤◌, List, length, Option, Some, None, Result, Ok, Err, true, refl, sym, ap, subst, ◌∙◌, arith, inl, inr}
 use Rattle.std.specs.Prelude.{◌==◌, IfSome, is_some, option_map}
 use Rattle.std.proofs.lemmas.Bool.{cases_Bool, eqb-true}
 use Rattle.std.specs.List.{count_by, range_with_len, slice_get}
@@ -14,7 +14,12 @@ use Rattle.smp_tape.specs.Sources.{Source}
 use Rattle.smp_tape.specs.declared.draws.DrawFault.{DrawFault}
 use Rattle.smp_tape.specs.declared.draws.DrawFault.TheVariants.{Short, TooBig, Rejected}
 use Rattle.smp_log.specs.Answers.{log_reading}
+use Rattle.smp_log.specs.Genuine.{DiffersAt, IsFullPath, IsGenuine}
+use Rattle.smp_log.specs.Logs.{log_text}
+use Rattle.smp_log.specs.declared.fault.LogFault.{LogFault}
+use Rattle.smp_log.specs.declared.fault.LogFault.TheVariants.{Differs}
 use Rattle.smp_log.specs.Told.{path_told}
+use Rattle.smp_log.proofs.Paths.{leads_full_path}
 use Rattle.smp_split.specs.Paths.{Entry, Leads}
 use Rattle.smp_split.specs.Runs.{Outcome, run, leaf, stopped, IsLeaf, IsStop, IsOutcome}
 use Rattle.smp_split.proofs.Runs.{run_is}
@@ -233,6 +238,9 @@ module _ (plan : FramePlan) (planned : IsPlanned plan) where
           (record {
             plan_is = refl;
             start = subst (λ (s : Progress AnyState). BelongsToWhole (parts (plan_view plan)) s) state_is (belongs plan (parts (plan_view plan)) (sym planned.parts_are) state starts);
+            full = subst (λ (s : Progress AnyState). IsFullPath (tree_of (plan_view plan)) s path to) state_is
+                (subst (λ (t : Tree (Progress AnyState)). IsFullPath t state path to) (tree_is plan.plan refl)
+                (leads_full_path (whole_tree plan.plan) (BelongsToWhole plan.plan) (whole_lawful plan.plan) state to path (belongs plan plan.plan refl state starts) leads done));
             firsts = subst FirstsBy planned.parts_are firsts_own;
             seconds = subst SecondsBy planned.parts_are seconds_own;
             probabilities = probabilities_own;
@@ -250,3 +258,8 @@ module _ (plan : FramePlan) (planned : IsPlanned plan) where
       → (drawn : Drawn) → drawn.plan ≡ plan_view plan → drawn.leaf ≡ to → drawn.path ≡ path → IsDrawnBy (plan_view plan) drawn
   drawn_from own is state starts state_is path to leads done =
       drawn_by state starts state_is path to (subst (λ p. Leads (whole_tree p) state path to) is leads) (subst (λ p. (whole_tree p).done to ≡ true) is done)
+
+-- the log of a full path never differs
+pub never_differs : {State : Type 0} (tree : Tree State) (from : State) (head : List ℕ) (path : List Entry) (end : State) → IsFullPath tree from path end → (log : List ℕ) → log ≡ log_text head path
+    → (fault : LogFault) → ((line : ℕ) → fault ≡ Differs line → DiffersAt (IsGenuine tree from head) log line) → ⊥
+never_differs tree from head path end full log is (Differs line) differs = (differs line refl).not_genuine end (record { path = path; full = full; text = is })

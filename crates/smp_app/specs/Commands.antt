@@ -1,5 +1,5 @@
 -- The table of the commands: what each reads, how it draws, and what it writes and puts.
-use Rattle.std.specs.Prelude.{ℕ, List, [], ◌∷◌, ◌++◌, map, Option, Some, None, option_and_then}
+use Rattle.std.specs.Prelude.{ℕ, List, [], ◌∷◌, ◌++◌, map, Option, option_map}
 use Rattle.smp_design.specs.declared.design.Design.{Design}
 use Rattle.smp_words.specs.declared.command.Command.{Command}
 use Rattle.smp_words.specs.declared.command.Command.TheVariants as commands
@@ -8,13 +8,20 @@ use Rattle.smp_words.specs.declared.command.Chance.TheVariants.{Tape, Seed}
 use Rattle.smp_words.specs.Words.{command_of}
 use Rattle.smp_app.specs.declared.outputs.OutputFile.{OutputFile}
 use Rattle.smp_app.specs.Plans.{Plan, Drawn, quick_design}
-use Rattle.smp_app.specs.Texts.{ids_text, steps_text, log_text, sample_text, report_text, probabilities_text, accepted_text}
+use Rattle.smp_app.specs.Texts.{ids_text, steps_text, log_text, sample_text, report_text, demo_text, probabilities_text, accepted_text}
 use Rattle.smp_app.specs.Deliveries.{Outputs}
+use Rattle.smp_cases.specs.Demo.{demo_design_text, demo_frame_text, demo_key}
 
--- where the design of a command stands: in a file of this name, or with the command
+-- where the design of a command stands: in a file of this name, or with the command, as a design or as the bytes of one
 pub data DesignSource : Type 0 where
   Held : List ℕ → DesignSource
   Given : Design → DesignSource
+  Made : List ℕ → DesignSource
+
+-- where its frame stands: in a file of this name, or with the command, as its bytes
+pub data FrameSource : Type 0 where
+  FrameHeld : List ℕ → FrameSource
+  FrameMade : List ℕ → FrameSource
 
 -- a file that is written, by its name: a text of what is drawn
 pub record DrawnFile : Type 0 where
@@ -38,51 +45,60 @@ pub data Work : Type 0 where
 
 pub record Job : Type 0 where
   pub design : DesignSource
-  pub frame : List ℕ
+  pub frame : FrameSource
   pub work : Work
 
 -- ---- the table
 
--- the work of each command that is built
-abbrev pub job_of : Command → Option Job
-job_of (commands.Quick a) = Some (record {
+-- the work of each command
+abbrev pub job_of : Command → Job
+job_of (commands.Quick a) = record {
   design = Given (quick_design a.n);
-  frame = a.frame;
+  frame = FrameHeld a.frame;
   work = Draws (ByTape a.tape) (record { name = a.out; text = ids_text } ∷ []) steps_text;
-})
-job_of (commands.Draw a) = Some (record {
+}
+job_of (commands.Draw a) = record {
   design = Held a.design;
-  frame = a.frame;
+  frame = FrameHeld a.frame;
   work = Draws (source_of a.chance)
       (record { name = a.log; text = log_text } ∷ record { name = a.sample; text = sample_text } ∷ [])
       report_text;
-})
-job_of (commands.Probs a) = Some (record {
+}
+job_of (commands.Probs a) = record {
   design = Held a.design;
-  frame = a.frame;
+  frame = FrameHeld a.frame;
   work = Lists probabilities_text;
-})
-job_of (commands.Check a) = Some (record {
+}
+job_of (commands.Check a) = record {
   design = Held a.design;
-  frame = a.frame;
+  frame = FrameHeld a.frame;
   work = Lists accepted_text;
-})
-job_of (commands.Replay a) = Some (record {
+}
+job_of (commands.Replay a) = record {
   design = Held a.design;
-  frame = a.frame;
+  frame = FrameHeld a.frame;
   work = Draws (ByLog a.log) (record { name = a.sample; text = sample_text } ∷ []) report_text;
-})
-job_of (commands.Demo a) = None
+}
+job_of (commands.Demo a) = record {
+  design = Made (demo_design_text a.n);
+  frame = FrameMade (demo_frame_text a.n a.seed);
+  work = Draws (BySeed (demo_key a.seed)) [] demo_text;
+}
 
 -- the work that some words ask for, the program's name first
 abbrev pub job_for : List (List ℕ) → Option Job
-job_for words = option_and_then job_of (command_of words)
+job_for words = option_map job_of (command_of words)
 
 -- ---- what a job reads and writes
 
 abbrev pub design_names : DesignSource → List (List ℕ)
 design_names (Held name) = name ∷ []
 design_names (Given design) = []
+design_names (Made bytes) = []
+
+abbrev pub frame_names : FrameSource → List (List ℕ)
+frame_names (FrameHeld name) = name ∷ []
+frame_names (FrameMade bytes) = []
 
 abbrev pub source_names : Source → List (List ℕ)
 source_names (ByTape name) = name ∷ []
@@ -95,7 +111,7 @@ drawn_names (Draws source files put) = source_names source
 
 -- the names of the files that are read, in the order of work
 abbrev pub plan_inputs : Job → List (List ℕ)
-plan_inputs job = design_names job.design ++ job.frame ∷ []
+plan_inputs job = design_names job.design ++ frame_names job.frame
 
 abbrev pub inputs_of : Job → List (List ℕ)
 inputs_of job = plan_inputs job ++ drawn_names job.work

@@ -1,5 +1,5 @@
 -- What holds of what a job draws.
-use Rattle.std.specs.Prelude.{◌≡◌, ℕ, ◌<◌, true, List, ℤ, length, Some, Ok}
+use Rattle.std.specs.Prelude.{◌≡◌, ℕ, ◌<◌, true, ℤ, length, Some, Ok}
 use Rattle.std.specs.List.{count_by, range_with_len, slice_get}
 use Rattle.smp_io.specs.Store.{Files}
 use Rattle.smp_fractions.specs.Fractions.{Fraction, Same, integer, sum_below}
@@ -8,6 +8,7 @@ use Rattle.smp_balance.specs.Balances.{IsBalanced}
 use Rattle.smp_balance.specs.Reports.{TellsColumn}
 use Rattle.smp_design.specs.declared.design.Second as second
 use Rattle.smp_design.specs.declared.method.Method.TheVariants.{Cube}
+use Rattle.smp_log.specs.Genuine.{IsFullPath}
 use Rattle.smp_strata.specs.Plans.{sample_size}
 use Rattle.smp_strata.specs.declared.strata.First as first
 use Rattle.smp_strata.specs.declared.strata.Stratum.{Stratum}
@@ -97,8 +98,9 @@ pub record HasProbabilities (plan : Plan) : Type 0 where
 
 pub record IsDrawnBy (plan : Plan) (drawn : Drawn) : Type 0 where
   pub plan_is : drawn.plan ≡ plan
-  -- The draw starts from a state of the tree.
+  -- The draw starts from a state of the tree, and its path is that of a full tape.
   pub start : BelongsToWhole (parts plan) (start_of plan)
+  pub full : IsFullPath (tree_of plan) (start_of plan) drawn.path drawn.leaf
   pub firsts : DrawsFirsts drawn
   pub seconds : DrawsSeconds drawn
   pub probabilities : HasProbabilities plan

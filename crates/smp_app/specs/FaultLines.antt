@@ -55,7 +55,6 @@ refusal_line (status.TapeValue place value bound) =
 refusal_line (status.TapeLong left) = Some (codes "error 9 tape has " ++ (decimal left ++ codes " more\n"))
 refusal_line (status.Rejected bound) = Some (codes "error 10 rejected 256 times below " ++ (decimal bound ++ codes "\n"))
 refusal_line (status.LogDiffers line) = Some (codes "error 11 log differs at line " ++ (decimal line ++ codes "\n"))
-refusal_line status.NotYet = Some (codes "error 15 not yet\n")
 refusal_line other = None
 
 -- refusals have a line, and other ends none

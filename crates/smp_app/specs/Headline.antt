@@ -19,7 +19,7 @@ use Rattle.smp_log.specs.Heads.{head_of}
 use Rattle.smp_log.specs.Logs.{log_text}
 use Rattle.smp_app.specs.declared.status.Status.{Status}
 use Rattle.smp_app.specs.declared.status.Status.TheVariants as status
-use Rattle.smp_app.specs.Plans.{Plan, Drawn, tree_of, start_of}
+use Rattle.smp_app.specs.Plans.{Drawn, tree_of, start_of}
 use Rattle.smp_app.specs.Draws.{DrawsFirsts, DrawsSeconds, HasProbabilities, KeepsBalance}
 use Rattle.smp_app.specs.Texts.{sample_text, report_text}
 use Rattle.smp_app.specs.Verdict.{drawn_by_tape, drawn_by_seed}

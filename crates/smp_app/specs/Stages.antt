@@ -1,5 +1,5 @@
 -- What the functions of the crate owe each other: they read, and hand on a result that is a stage of the verdict.
-use Rattle.std.specs.Prelude.{◌≡◌, ◌⊎◌, ℕ, List, map, Contains, Option, Some, None, is_some, true, Result, Ok, Err, IfErr}
+use Rattle.std.specs.Prelude.{◌≡◌, ◌≤◌, ◌⊎◌, ℕ, List, map, Contains, Option, Some, None, is_some, true, Result, Ok, Err, IfErr}
 use Rattle.smp_io.specs.Counts.{Rose, NeverFalls}
 use Rattle.smp_io.specs.Sink.{with_bytes, AppendsFront}
 use Rattle.smp_io.specs.Store.{Files}
@@ -28,6 +28,8 @@ use Rattle.smp_app.specs.declared.selection.Walked.{Walked}
 use Rattle.smp_app.specs.declared.selection.Selection.{Selection}
 use Rattle.smp_app.specs.declared.job.DesignSource as code_source
 use Rattle.smp_app.specs.declared.job.DesignSource.TheVariants as sources
+use Rattle.smp_app.specs.declared.job.FrameSource as code_frame
+use Rattle.smp_app.specs.declared.job.FrameSource.TheVariants as frames
 use Rattle.smp_app.specs.declared.job.DrawSource.{DrawSource}
 use Rattle.smp_app.specs.declared.job.DrawSource.TheVariants as draw_sources
 use Rattle.smp_app.specs.declared.job.PlanText.{PlanText}
@@ -40,9 +42,10 @@ use Rattle.smp_app.specs.declared.job.Work.TheVariants as works
 use Rattle.smp_app.specs.declared.job.Job as code_job
 use Rattle.smp_app.specs.Codes.{Class, IsDone, IsUsage, IsRefusal, IsReadFault, IsWriteFault, IsNoMemory, class_of}
 use Rattle.smp_app.specs.FaultLines.{fault_line}
+use Rattle.smp_cases.specs.Demo.{demo_design_text, demo_frame_text}
 use Rattle.smp_app.specs.Plans.{Plan, parts, quick_design, tree_of, Drawn, drawn_rows}
-use Rattle.smp_app.specs.Texts.{ids_text, steps_text, log_text, sample_text, report_text, probabilities_text, accepted_text}
-use Rattle.smp_app.specs.Commands.{DesignSource, Held, Given, Source, ByTape, BySeed, ByLog, DrawnFile, Work, Lists, Draws, Job, inputs_of}
+use Rattle.smp_app.specs.Texts.{ids_text, steps_text, log_text, sample_text, report_text, demo_text, probabilities_text, accepted_text}
+use Rattle.smp_app.specs.Commands.{DesignSource, Held, Given, Made, FrameSource, FrameHeld, FrameMade, Source, ByTape, BySeed, ByLog, DrawnFile, Work, Lists, Draws, Job, inputs_of}
 use Rattle.smp_app.specs.Verdict.{Stop, Refused, Missing, ReadDesign, without, draw_status, drawn_at, drawn_by_log}
 use Rattle.smp_app.specs.Draws.{IsDrawnBy}
 use Rattle.smp_app.specs.Answers.{Outside, Untouched, RefusesBy, Done, ReadFault, WriteFault, NoMemory}
@@ -66,6 +69,11 @@ result_view view (Err e) = Err e
 abbrev pub source_view : code_source.DesignSource → DesignSource
 source_view (sources.Held name) = Held name.now
 source_view (sources.Quick n) = Given (quick_design n)
+source_view (sources.Demo n) = Made (demo_design_text n)
+
+abbrev pub frame_view : code_frame.FrameSource → FrameSource
+frame_view (frames.Held name) = FrameHeld name.now
+frame_view (frames.Demo n seed) = FrameMade (demo_frame_text n seed)
 
 abbrev pub plan_text : PlanText → Plan → List ℕ
 plan_text plan_texts.Probabilities = probabilities_text
@@ -77,6 +85,7 @@ drawn_text drawn_texts.Steps = steps_text
 drawn_text drawn_texts.Log = log_text
 drawn_text drawn_texts.Sample = sample_text
 drawn_text drawn_texts.Report = report_text
+drawn_text drawn_texts.Summary = demo_text
 
 abbrev pub file_view : code_file.DrawnFile → DrawnFile
 file_view file = record { name = file.name.now; text = drawn_text file.text }
@@ -93,7 +102,7 @@ work_view (works.Draws from files put) =
 
 abbrev pub job_view : code_job.Job → Job
 job_view job =
-    record { design = source_view job.design; frame = job.frame.now; work = work_view job.work }
+    record { design = source_view job.design; frame = frame_view job.frame; work = work_view job.work }
 
 -- ---- what is read
 
@@ -231,15 +240,24 @@ pub record IsSelection (plan : Plan) (selection : Selection) : Type 0 where
 
 -- ---- jobs
 
--- a design that stands with the command is in its ranges
-abbrev pub IsInRanges : DesignSource → Type 0
-IsInRanges (Held name) = Unit {0}
-IsInRanges (Given design) = IsDesign design
+-- what stands with the command is in its ranges: the design of `quick`, and the number of units of `demo`
+abbrev pub IsDemoSize : ℕ → Type 0
+IsDemoSize n = (30 ≤ n) × (n ≤ 100000)
+
+abbrev pub IsInRanges : code_source.DesignSource → Type 0
+IsInRanges (sources.Held name) = Unit {0}
+IsInRanges (sources.Quick n) = IsDesign (quick_design n)
+IsInRanges (sources.Demo n) = IsDemoSize n
+
+abbrev pub IsFrameInRanges : code_frame.FrameSource → Type 0
+IsFrameInRanges (frames.Held name) = Unit {0}
+IsFrameInRanges (frames.Demo n seed) = IsDemoSize n
 
 -- what the words of a command are sure to have: the inputs have different names
-pub record IsJob (job : Job) : Type 0 where
-  pub distinct : all_distinct (inputs_of job) ≡ true
+pub record IsJob (job : code_job.Job) : Type 0 where
+  pub distinct : all_distinct (inputs_of (job_view job)) ≡ true
   pub design : IsInRanges job.design
+  pub frame : IsFrameInRanges job.frame
 
 -- ---- the work before the line of a refusal
 

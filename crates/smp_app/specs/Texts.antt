@@ -90,3 +90,18 @@ cube_lines other drawn = []
 
 abbrev pub report_text : Drawn → List ℕ
 report_text drawn = summary_text drawn ++ cube_lines drawn.plan.design.method drawn
+
+-- the summary of the demonstration: how many units were drawn of how many, in how many steps, and how many units were fractional in each
+-- stratum where its landing began; and that the log of the draw was replayed
+abbrev pub left_text : Drawn → ℕ → List ℕ
+left_text drawn h = codes " " ++ decimal (left_in (parts drawn.plan) drawn.leaf.states h)
+
+abbrev pub lefts_text : Drawn → List ℕ
+lefts_text drawn = flat_map (left_text drawn) (range_with_len 0 (length (parts drawn.plan).strata))
+
+abbrev pub demo_text : Drawn → List ℕ
+demo_text drawn =
+    codes "units " ++ (decimal (length drawn.plan.units)
+    ++ (codes "\nselected " ++ (decimal (length (drawn_rows drawn))
+    ++ (codes "\nsteps " ++ (decimal (length drawn.path)
+    ++ (codes "\nleft" ++ (lefts_text drawn ++ codes "\nreplay ok\n")))))))

@@ -18,7 +18,6 @@ use Rattle.smp_split.specs.Trees.{weight_sum}
 use Rattle.smp_split.specs.Paths.{Entry}
 use Rattle.smp_split.specs.Runs.{Outcome, run, leaf, stopped}
 use Rattle.smp_frame.specs.Frames.{frame_of}
-use Rattle.smp_frame.specs.declared.frame.Unit as unit
 use Rattle.smp_design.specs.Designs.{design_of}
 use Rattle.smp_design.specs.declared.design.Design.{Design}
 use Rattle.smp_methods.specs.declared.any.AnyState.{AnyState}
@@ -27,12 +26,12 @@ use Rattle.smp_stages.specs.Stages.{Progress}
 use Rattle.smp_strata.specs.Misfits.{misfit_of}
 use Rattle.smp_strata.specs.declared.misfit.Misfit.{Misfit}
 use Rattle.smp_app.specs.declared.status.Status.{Status}
-use Rattle.smp_app.specs.declared.status.Status.TheVariants.{Usage, TapeShort, TapeValue, TapeLong, LogDiffers, NotYet}
+use Rattle.smp_app.specs.declared.status.Status.TheVariants.{Usage, TapeShort, TapeValue, TapeLong, LogDiffers}
 use Rattle.smp_app.specs.declared.status.Status.TheVariants as status
 use Rattle.smp_app.specs.Codes.{design_status, frame_status, tape_status}
 use Rattle.smp_app.specs.Deliveries.{Outputs}
 use Rattle.smp_app.specs.Plans.{Plan, Drawn, tree_of, start_of}
-use Rattle.smp_app.specs.Commands.{DesignSource, Held, Given, Source, ByTape, BySeed, ByLog, Work, Lists, Draws, Job, job_of, outputs_by}
+use Rattle.smp_app.specs.Commands.{DesignSource, Held, Given, Made, FrameSource, FrameHeld, FrameMade, Source, ByTape, BySeed, ByLog, Work, Lists, Draws, Job, job_of, outputs_by}
 
 -- why a call doesn't go on to its writes
 pub data Stop : Type 0 where
@@ -140,15 +139,22 @@ drawn_by_log plan log =
 -- the design
 unfoldable pub design_stage : DesignSource → Files → Result ReadDesign Stop
 design_stage (Given design) fs = Ok (record { design = design; bytes = [] })
+design_stage (Made bytes) fs = do
+  design ← or_fault design_status (design_of bytes)
+  Ok (record { design = design; bytes = bytes })
 design_stage (Held name) fs = do
   bytes ← content_of name fs
   design ← or_fault design_status (design_of bytes)
   Ok (record { design = design; bytes = bytes })
 
 -- the frame, and the plan
-unfoldable pub frame_stage : ReadDesign → List ℕ → Files → Result Plan Stop
+abbrev pub frame_content : FrameSource → Files → Result (List ℕ) Stop
+frame_content (FrameHeld name) fs = content_of name fs
+frame_content (FrameMade bytes) fs = Ok bytes
+
+unfoldable pub frame_stage : ReadDesign → FrameSource → Files → Result Plan Stop
 frame_stage read frame fs = do
-  bytes ← content_of frame fs
+  bytes ← frame_content frame fs
   units ← or_fault frame_status (frame_of read.design.columns bytes)
   plan_of (record { design = read.design; units = units; head = head_of read.bytes bytes })
 
@@ -177,5 +183,4 @@ outputs_stage job fs = plan_stage job fs >>= λ plan. work_stage job.work plan f
 unfoldable pub verdict : List (List ℕ) → Files → Result Outputs Stop
 verdict words fs = do
   command ← or_refused Usage (command_of words)
-  job ← or_refused NotYet (job_of command)
-  outputs_stage job fs
+  outputs_stage (job_of command) fs

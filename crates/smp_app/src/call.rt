@@ -21,6 +21,8 @@ use std::alloc::Global;
 ///   L is.
 /// - `probs --design D --frame F` puts the probabilities with which the units of F are to be selected.
 /// - `check --design D --frame F` puts how many units are accepted.
+/// - `demo N SEED` makes a frame of N units and a design for it, draws by a key that is made of SEED, replays its own log and puts a summary. It
+///   reads and writes no file.
 /// - `quick FRAME N TAPE OUT` needs no design: it draws N units by sequential pivotal steps, writes their ids to OUT and puts the lines of
 ///   the steps.
 ///
@@ -58,8 +60,7 @@ fn work<K: Store, S: Sink>(alloc: Global, words: &[String], store: &mut K, out: 
         Err(_) => return Status::NoMemory,
     };
     let job = match Job::of(alloc, &command) {
-        Ok(Some(job)) => job,
-        Ok(None) => return Status::NotYet,
+        Ok(job) => job,
         Err(_) => return Status::NoMemory,
     };
     let outputs = match outputs_from(alloc, store, &job) {

@@ -1,12 +1,16 @@
 //! The table of the commands.
 
-ghost use Rattle.std.specs.Prelude.{◌≡◌, option_map, IfOk, IfSome};
+ghost use Rattle.std.specs.Prelude.{◌≡◌, IfOk};
 ghost use Rattle.smp_words.specs.Words.{IsAsked};
-ghost use Rattle.smp_app.specs.Commands.{Held, Lists, job_of, source_of};
+ghost use Rattle.smp_words.specs.declared.command.Command.TheVariants.{Demo};
+ghost use Rattle.smp_app.specs.declared.job.DesignSource.TheVariants as DesignSource;
+ghost use Rattle.smp_app.specs.declared.job.FrameSource.TheVariants as FrameSource;
+ghost use Rattle.smp_app.specs.Commands.{FrameHeld, Held, Lists, job_of, source_of};
 ghost use Rattle.smp_app.specs.Stages.{IsJob, draw_view, job_view, file_view, plan_text, drawn_text};
 
+use smp_cases::demo_key;
 use smp_frac::{NoMemory, Text};
-use smp_words::{Chance, Command, DesignArguments};
+use smp_words::{Chance, Command, DemoArguments, DesignArguments};
 use std::alloc::Global;
 
 /// Where the design of a command stands.
@@ -16,6 +20,17 @@ pub enum DesignSource<'a> {
     Held(&'a Text),
     /// With the command: the one of `quick`, for so many units.
     Quick(u32),
+    /// With the command: the bytes of the one of `demo`, for a frame of so many units.
+    Demo(u32),
+}
+
+/// Where the frame of a command stands.
+#[derive(Clone, Copy)]
+pub enum FrameSource<'a> {
+    /// In the file of this name.
+    Held(&'a Text),
+    /// With the command: the bytes of the one of `demo`, with so many units, made of a seed.
+    Demo { n: u32, seed: u64 },
 }
 
 /// A text of a plan.
@@ -40,6 +55,8 @@ pub enum DrawnText {
     Sample,
     /// How many units were drawn, and in how many steps.
     Report,
+    /// The same in the words of the demonstration, whose log is replayed first.
+    Summary,
 }
 
 /// Where the draws of a command come from.
@@ -94,64 +111,82 @@ pub enum Work<'a> {
 pub struct Job<'a> {
     /// Where its design stands.
     pub design: DesignSource<'a>,
-    /// The name of its frame.
-    pub frame: &'a Text,
+    /// Where its frame stands.
+    pub frame: FrameSource<'a>,
     /// How it goes on from the plan.
     pub work: Work<'a>,
 }
 
 impl<'a> Job<'a> {
-    /// The job of a command; `None` for one that isn't built yet.
-    pub fn of(alloc: Global, command: &'a Command) -> Result<Option<Job<'a>>, NoMemory>
+    /// The job of a command.
+    pub fn of(alloc: Global, command: &'a Command) -> Result<Job<'a>, NoMemory>
         requires { IsAsked command.now }
-        ensures job { IfOk result (λ job. option_map job_view job ≡ job_of command.now) }
-        ensures is_job { IfOk result (λ job. IfSome job (λ j. IsJob (job_view j))) }
+        ensures job { IfOk result (λ job. job_view job ≡ job_of command.now) }
+        ensures is_job { IfOk result IsJob }
     {
         match command {
             Command::Quick(arguments) => {
                 let mut files = Vec::new(alloc);
                 files.push(drawn_file(&arguments.out, DrawnText::Ids))?;
-                Ok(Some(Job {
+                Ok(Job {
                     design: DesignSource::Quick(arguments.n),
-                    frame: &arguments.frame,
+                    frame: FrameSource::Held(&arguments.frame),
                     work: Work::Draws {
                         from: DrawSource::Tape(&arguments.tape),
                         files,
                         put: DrawnText::Steps,
                     },
-                }))
+                })
             }
             Command::Draw(arguments) => {
                 let mut files = Vec::new(alloc);
                 files.push(drawn_file(&arguments.log, DrawnText::Log))?;
                 files.push(drawn_file(&arguments.sample, DrawnText::Sample))?;
-                Ok(Some(Job {
+                Ok(Job {
                     design: DesignSource::Held(&arguments.design),
-                    frame: &arguments.frame,
+                    frame: FrameSource::Held(&arguments.frame),
                     work: Work::Draws {
                         from: DrawSource::of(&arguments.chance),
                         files,
                         put: DrawnText::Report,
                     },
-                }))
+                })
             }
             Command::Replay(arguments) => {
                 let mut files = Vec::new(alloc);
                 files.push(drawn_file(&arguments.sample, DrawnText::Sample))?;
-                Ok(Some(Job {
+                Ok(Job {
                     design: DesignSource::Held(&arguments.design),
-                    frame: &arguments.frame,
+                    frame: FrameSource::Held(&arguments.frame),
                     work: Work::Draws {
                         from: DrawSource::Log(&arguments.log),
                         files,
                         put: DrawnText::Report,
                     },
-                }))
+                })
             }
-            Command::Probs(arguments) => Ok(Some(listing(arguments, PlanText::Probabilities))),
-            Command::Check(arguments) => Ok(Some(listing(arguments, PlanText::Accepted))),
-            Command::Demo(_) => Ok(None),
+            Command::Probs(arguments) => Ok(listing(arguments, PlanText::Probabilities)),
+            Command::Check(arguments) => Ok(listing(arguments, PlanText::Accepted)),
+            Command::Demo(arguments) => Ok(demo_job(alloc, arguments)),
         }
+    }
+}
+
+// A frame and a design that the command makes are drawn from by the seed's own key.
+fn demo_job<'a>(alloc: Global, arguments: &DemoArguments) -> Job<'a>
+    ensures job { job_view result ≡ job_of (Demo arguments.now) }
+    ensures design { result.design ≡ DesignSource.Demo arguments.now.n }
+    ensures frame { result.frame ≡ FrameSource.Demo arguments.now.n arguments.now.seed }
+{
+    let DemoArguments { n, seed } = *arguments;
+    Job {
+        design: DesignSource::Demo(n),
+        frame: FrameSource::Demo { n, seed },
+        work: Work::Draws {
+            from: DrawSource::Seed(demo_key(seed)),
+            files: Vec::new(alloc),
+            put: DrawnText::Summary,
+        },
     }
 }
 
@@ -164,12 +199,12 @@ fn drawn_file<'a>(name: &'a Text, text: DrawnText) -> DrawnFile<'a>
 // A text of the plan of a design and a frame is put.
 fn listing<'a>(arguments: &'a DesignArguments, text: PlanText) -> Job<'a>
     ensures design { (job_view result).design ≡ Held arguments.now.design }
-    ensures frame { (job_view result).frame ≡ arguments.now.frame }
+    ensures frame { (job_view result).frame ≡ FrameHeld arguments.now.frame }
     ensures work { (job_view result).work ≡ Lists (plan_text text) }
 {
     Job {
         design: DesignSource::Held(&arguments.design),
-        frame: &arguments.frame,
+        frame: FrameSource::Held(&arguments.frame),
         work: Work::Lists(text),
     }
 }

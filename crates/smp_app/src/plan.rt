@@ -1,13 +1,14 @@
 ghost use Rattle.std.specs.Prelude.{◌≡◌, ◌∷◌, [], IfOk, length};
 ghost use Rattle.smp_frame.specs.Bounds.{HaveValues, IsFrame};
 ghost use Rattle.smp_design.specs.Bounds.{IsDesign};
-ghost use Rattle.smp_app.specs.Commands.{design_names, plan_inputs};
-ghost use Rattle.smp_app.specs.Verdict.{content_of, plan_of, design_stage, frame_stage, plan_stage};
-ghost use Rattle.smp_app.specs.Stages.{Reads, GivesPlan, IsInRanges, IsPlanned, IsJob, told, source_view, job_view, read_view, plan_view, result_view};
+ghost use Rattle.smp_app.specs.Commands.{design_names, frame_names, plan_inputs};
+ghost use Rattle.smp_app.specs.Verdict.{content_of, frame_content, plan_of, design_stage, frame_stage, plan_stage};
+ghost use Rattle.smp_app.specs.Stages.{Reads, GivesPlan, IsFrameInRanges, IsInRanges, IsPlanned, IsJob, told, source_view, frame_view, job_view, read_view, plan_view, result_view};
 
 use crate::Status;
-use crate::job::{DesignSource, Job};
+use crate::job::{DesignSource, FrameSource, Job};
 use crate::quick::quick_design;
+use smp_cases::{demo_design, demo_frame};
 use smp_design::{Design, read_design};
 use smp_frac::Bytes;
 use smp_frame::{Frame, read_frame};
@@ -53,7 +54,7 @@ fn design_from<K: Store>(
     store: &mut K,
     source: &DesignSource,
 ) -> Result<ReadDesign, Status>
-    requires { IsInRanges (source_view source.now) }
+    requires { IsInRanges source.now }
     ensures reads { Reads (design_names (source_view source.now))
         (design_stage (source_view source.now)) (result_view read_view result)
         (told K.files K.read_faults K.write_faults store.old)
@@ -63,6 +64,11 @@ fn design_from<K: Store>(
     match source {
         DesignSource::Held(name) => {
             let bytes = read_input(alloc, store, name.as_str())?;
+            let design = read_design(alloc, bytes.as_slice())?;
+            Ok(ReadDesign { design, bytes })
+        }
+        DesignSource::Demo(n) => {
+            let bytes = demo_design(alloc, *n)?;
             let design = read_design(alloc, bytes.as_slice())?;
             Ok(ReadDesign { design, bytes })
         }
@@ -91,22 +97,37 @@ fn plan_for(alloc: Global, design: Design, frame: Frame, head: Head) -> Result<F
     })
 }
 
+// The bytes of a frame, from its file or from the command.
+fn frame_bytes<K: Store>(alloc: Global, store: &mut K, source: FrameSource) -> Result<Bytes, Status>
+    requires { IsFrameInRanges source }
+    ensures { Reads (frame_names (frame_view source.entry)) (frame_content (frame_view source.entry)) result
+        (told K.files K.read_faults K.write_faults store.old)
+        (told K.files K.read_faults K.write_faults store.new) }
+{
+    match source {
+        FrameSource::Held(name) => read_input(alloc, store, name.as_str()),
+        FrameSource::Demo { n, seed } => Ok(demo_frame(alloc, n, seed)?),
+    }
+}
+
 // Reads a frame, and plans what a design asks of it.
 #[tactic(auto, unfolding(crate::specs::Verdict::frame_stage))]
 fn frame_plan<K: Store>(
     alloc: Global,
     store: &mut K,
     read: ReadDesign,
-    frame: &str,
+    source: FrameSource,
 ) -> Result<FramePlan, Status>
-    requires { IsDesign read.design }
-    ensures reads { Reads (frame.now ∷ []) (frame_stage (read_view read) frame.now)
+    requires design { IsDesign read.design }
+    requires frame { IsFrameInRanges source }
+    ensures reads { Reads (frame_names (frame_view source.entry))
+        (frame_stage (read_view read) (frame_view source.entry))
         (result_view plan_view result)
         (told K.files K.read_faults K.write_faults store.old)
         (told K.files K.read_faults K.write_faults store.new) }
     ensures planned { IfOk result IsPlanned }
 {
-    let bytes = read_input(alloc, store, frame)?;
+    let bytes = frame_bytes(alloc, store, source)?;
     let content = bytes.as_slice();
     let frame = read_frame(alloc, content, &read.design.columns)?;
     let head = log_head(read.bytes.as_slice(), content);
@@ -115,7 +136,7 @@ fn frame_plan<K: Store>(
 
 /// Reads the design and then the frame of a job, and plans what the design asks of the frame.
 pub fn plan_from<K: Store>(alloc: Global, store: &mut K, job: &Job) -> Result<FramePlan, Status>
-    requires { IsJob (job_view job.now) }
+    requires { IsJob job.now }
     ensures reads { Reads (plan_inputs (job_view job.now)) (plan_stage (job_view job.now))
         (result_view plan_view result)
         (told K.files K.read_faults K.write_faults store.old)
@@ -123,5 +144,5 @@ pub fn plan_from<K: Store>(alloc: Global, store: &mut K, job: &Job) -> Result<Fr
     ensures planned { IfOk result IsPlanned }
 {
     let read = design_from(alloc, store, &job.design)?;
-    frame_plan(alloc, store, read, job.frame.as_str())
+    frame_plan(alloc, store, read, job.frame)
 }

@@ -54,7 +54,6 @@ fn line_for(alloc: Global, status: &Status) -> Result<Option<String>, AllocError
         Status::LogDiffers { line } => {
             Ok(Some(format!(in alloc; "error 11 log differs at line {line}\n")?))
         }
-        Status::NotYet => Ok(Some(String::from_str(alloc, "error 15 not yet\n")?)),
         Status::Done | Status::ReadFault | Status::WriteFault | Status::NoMemory => Ok(None),
     }
 }

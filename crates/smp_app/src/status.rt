@@ -53,8 +53,6 @@ pub enum Status {
     WriteFault,
     /// Memory ran out.
     NoMemory,
-    /// What is asked isn't built yet.
-    NotYet,
 }
 
 impl Status {
@@ -77,7 +75,6 @@ impl Status {
             Status::ReadFault => 12,
             Status::WriteFault => 13,
             Status::NoMemory => 14,
-            Status::NotYet => 15,
         }
     }
 }

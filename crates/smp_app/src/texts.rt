@@ -1,4 +1,5 @@
-ghost use Rattle.std.specs.Prelude.{◌≡◌, ◌++◌, ◌∷◌, [], ◌+◌, ◌^◌, ◌<◌, true, length, map, slice_index_or, IfOk, OnOk, Some, string_bytes};
+ghost use Rattle.std.specs.Prelude.{◌≡◌, ◌++◌, ◌∷◌, [], ◌+◌, ◌^◌, ◌<◌, true, length, map, slice_index_or, IfOk, OnOk, Some, codes, string_bytes};
+ghost use Rattle.std.specs.Fmt.{decimal};
 ghost use Rattle.std.specs.List.{filter, range_with_len, slice_get};
 ghost use Rattle.smp_app.specs.Texts;
 ghost use Rattle.smp_app.specs.Texts.{cube_lines, stratum_lines};
@@ -16,8 +17,9 @@ use crate::selection::Selection;
 use smp_balance::{DrawnStratum, push_balance_lines};
 use smp_design::Method;
 use smp_frac::{Bytes, Frac, NoMemory, Text};
-use smp_log::{log_bytes, step_lines};
+use smp_log::{log_bytes, replay, step_lines};
 use smp_strata::{First, asked};
+use smp_twostage::{StartedWhole, Whole};
 use smp_weights::{CsvRows, push_sample_row, sample_rows};
 use std::alloc::Global;
 
@@ -53,6 +55,7 @@ impl DrawnText {
             DrawnText::Log => log_bytes(alloc, &plan.head, &selection.lines),
             DrawnText::Sample => sample_text(alloc, plan, selection),
             DrawnText::Report => report_text(alloc, plan, selection),
+            DrawnText::Summary => demo_text(alloc, plan, selection),
         }
     }
 }
@@ -106,6 +109,59 @@ fn report_text(alloc: Global, plan: &FramePlan, selection: &Selection) -> Result
     let mut report = format!(in alloc; "selected {drawn} of {units}\nsteps {steps}\n")?;
     push_cube_lines(alloc, &mut report, plan, selection)?;
     bytes_of(alloc, &report)
+}
+
+// The summary of the demonstration, once the log of the draw was replayed.
+fn demo_text(alloc: Global, plan: &FramePlan, selection: &Selection) -> Result<Bytes, NoMemory>
+    requires planned { IsPlanned plan.now }
+    requires selection { IsSelection (plan_view plan.now) selection.now }
+    ensures { IfOk result (λ text. text
+        ≡ Texts.demo_text (selection_view (plan_view plan.now) selection.now)) }
+{
+    replay_own_log(alloc, plan, selection)?;
+    let units = plan.frame.units().len();
+    let drawn = selection.rows.as_slice().len();
+    let steps = selection.lines.as_slice().len();
+    let lefts = lefts_text(alloc, plan, selection)?;
+    let summary = format!(in alloc;
+        "units {units}\nselected {drawn}\nsteps {steps}\nleft{lefts}\nreplay ok\n"
+    )?;
+    bytes_of(alloc, &summary)
+}
+
+// Replays the log of what was drawn, as `replay` would. It is genuine, so it is accepted.
+fn replay_own_log(alloc: Global, plan: &FramePlan, selection: &Selection) -> Result<(), NoMemory>
+    requires planned { IsPlanned plan.now }
+    requires selection { IsSelection (plan_view plan.now) selection.now }
+{
+    let log = log_bytes(alloc, &plan.head, &selection.lines)?;
+    let StartedWhole { whole, mut state } = Whole::start(alloc, &plan.plan)?;
+    match replay(&whole, &mut state, &plan.head, log.as_slice()) {
+        Ok(()) => Ok(()),
+        Err(_) => unreachable!(),
+    }
+}
+
+// How many units were fractional in each stratum where its landing began, each behind a blank.
+fn lefts_text(alloc: Global, plan: &FramePlan, selection: &Selection) -> Result<String, NoMemory>
+    requires planned { IsPlanned plan.now }
+    requires selection { IsSelection (plan_view plan.now) selection.now }
+    ensures { IfOk result (λ text. string_bytes text
+        ≡ Texts.lefts_text (selection_view (plan_view plan.now) selection.now)) }
+{
+    let mut text = String::new(alloc);
+    for stratum in 0..plan.plan.strata() {
+        let left = selection.whole.left(&selection.state, stratum);
+        push_left(&mut text, left)?;
+    }
+    Ok(text)
+}
+
+fn push_left(text: &mut String, left: u32) -> Result<(), NoMemory>
+    ensures { OnOk result (string_bytes text.new ≡ string_bytes text.old ++ (codes " " ++ decimal left)) }
+{
+    write!(text, " {left}")?;
+    Ok(())
 }
 
 // What the cube kept and gave up in each stratum, where the units were drawn by it.

@@ -16,7 +16,7 @@ use std::alloc::Global;
 
 /// Reads the inputs of a job, and does all of its work but to write and put its outputs.
 pub fn outputs_from<K: Store>(alloc: Global, store: &mut K, job: &Job) -> Result<Outputs, Status>
-    requires { IsJob (job_view job.now) }
+    requires { IsJob job.now }
     ensures reads { Reads (inputs_of (job_view job.now)) (outputs_stage (job_view job.now))
         (result_view outputs_view result)
         (told K.files K.read_faults K.write_faults store.old)

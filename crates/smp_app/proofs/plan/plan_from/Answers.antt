@@ -6,5 +6,5 @@ use Rattle.smp_app.proofs.plan.plan_from.Goals as goal
 pub returns-clause-reads : goal.returns-clause-reads
 returns-clause-reads g c =
     let job = job_view c.args.job.now in
-    goes_on (design_names job.design) _ _ _ _ _ _ (read_view c.in_ok-read.read) _ c.in_ok-read.ensures.reads (rw c.as_str.ensures at c.frame_plan.ensures.reads)
+    goes_on (design_names job.design) _ _ _ _ _ _ (read_view c.in_ok-read.read) _ c.in_ok-read.ensures.reads c.frame_plan.ensures.reads
     (first_distinct (plan_inputs job) (drawn_names job.work) c.requires.distinct) (design_ignores job.design)

@@ -2,7 +2,6 @@ use Rattle.std.proofs.Common.{◌≡◌, Err, refl, ap, sym, subst, true, ◌∙
 use Rattle.smp_tape.specs.declared.draws.DrawFault.{DrawFault}
 use Rattle.smp_split.specs.Runs.{run}
 use Rattle.smp_split.specs.Trees.{Tree}
-use Rattle.smp_split.specs.declared.walking.WalkFault.TheVariants.{Draw}
 use Rattle.smp_methods.specs.declared.any.AnyState.{AnyState}
 use Rattle.smp_stages.specs.Stages.{Progress}
 use Rattle.smp_app.specs.Plans.{tree_of, start_of}

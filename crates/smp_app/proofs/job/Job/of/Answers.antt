@@ -11,4 +11,5 @@ returns-in_ok-push-in-Quick-clause-is_job c =
     record {
       distinct = first_distinct (a.frame ∷ a.tape ∷ []) (a.out ∷ []) distinct;
       design = quick_is_design a.n sized.0 sized.1;
+      frame = tt;
     }
