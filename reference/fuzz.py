@@ -9,7 +9,8 @@ the words and what differs are put, the files of the case are kept in a folder w
 
 Most frames and designs go together, so that draws are reached. Their tapes are made by the steps of the reference, with values of all sizes and at
 the borders of the parts to which they lead. Then some cases get faults: other keys, fields and words, missing files, bytes that are changed, taken
-out or doubled. A tape may be too short, too long, or have a value that its step doesn't take.
+out or doubled. A tape may be too short, too long, or have a value that its step doesn't take. A log is one of the reference's own draws by a seed, mostly
+with a line, a number or bytes changed.
 
 Python's tomllib reads TOML 1.0 but for the year 0 and the second 60, and the program reads TOML 1.1. Only this is counted apart: the reference
 alone refuses the design with 3.1, the design has a `\\e`, a `\\x`, a new line or a last comma in an inline table, a time without seconds or of
@@ -501,13 +502,49 @@ def words_of(r, command, names, n):
         words = [name["frame"], number_word(r, n).encode("utf-8"), name["tape"], name["sample"]]
         return [b"quick", *([b"--"] if any(word[:1] == b"-" for word in words) or chance(r, 0.03) else []), *words]
     if command == "demo":
-        return [b"demo", str(r.choice((29, 30, 31, 100000, 100001))).encode("ascii"), str(r.choice((0, 1, 2**64 - 1, 2**64))).encode("ascii")]
+        return [b"demo", str(r.choice((29, 30, 31, 40, 100001))).encode("ascii"), str(r.choice((0, 1, 2**64 - 1, 2**64))).encode("ascii")]
     parts = {"draw": DRAW_FILES, "replay": ("design", "frame", "log", "sample"), "seed": ("design", "frame", "log", "sample")}
     options = option_words(r, {part: name[part] for part in parts.get(command, ("design", "frame"))})
     if command == "seed":
         options += [b"--seed", "".join(r.choice("0123456789abcdefABCDEF") for _ in range(r.choice((64, 64, 64, 63, 65)))).encode("ascii")]
     front = {"seed": "draw"}.get(command, command).encode("ascii")
     return [front, *options] if chance(r, 0.9) or b"--" in options else [*options, front]
+
+
+def written_log(r, design, frame):
+    """A log of this design and frame as the reference draws it by a seed, or nothing where they don't go together. Mostly it has a fault."""
+    store = run_cases.Memory({"design": design, "frame": frame})
+    seed = "".join(r.choice("0123456789abcdef") for _ in range(64))
+    words = ["sampler", "draw", "--design", "design", "--frame", "frame", "--seed", seed, "--log", "log", "--sample", "sample"]
+    try:
+        code = sampler.sampler(words, store)
+    except Exception:
+        code = None
+    log = store.files["log"] if code == 0 else b"sampler-log 1\n"
+    if chance(r, 0.35):
+        return log
+    lines = log.splitlines(True)
+    place = r.randrange(len(lines))
+    form = r.randrange(9)
+    if form == 0:
+        return spoiled_bytes(r, log)
+    if form == 1:
+        del lines[place]
+    elif form == 2:
+        lines[place:place] = [lines[place]]
+    elif form == 3:
+        del lines[place:]
+    elif form == 4:
+        lines += r.choice((lines, [b"x"], [b"\n"], [b"end 0\n"]))
+    elif form == 5:
+        lines[-1] = lines[-1].rstrip(b"\n")
+    else:
+        parts = lines[place].split(b" ")
+        last = parts[-1].rstrip(b"\n")
+        number = int(last) if last.isdigit() else 0
+        parts[-1] = r.choice((b"%d", b"0%d", b"%d ", b"+%d", b"%d\r")) % r.choice((number, number + 1, max(number - 1, 0), 0, 2**128)) + b"\n"
+        lines[place] = b" ".join(parts)
+    return b"".join(lines)
 
 
 def names_of(r):
@@ -529,7 +566,7 @@ def faults_of(r):
 def made(seed):
     """The case of a seed."""
     r = random.Random(seed)
-    command = r.choices(COMMANDS, (70, 12, 8, 4, 1, 1, 2))[0]
+    command = r.choices(COMMANDS, (62, 11, 7, 4, 8, 1, 7))[0]
     faults, names, world = faults_of(r), names_of(r), World(r)
     n = r.randint(1, max(1, len(world.rows) // 2)) if command == "quick" else None
     if n is not None and chance(r, 0.9):
@@ -556,6 +593,8 @@ def made(seed):
     if chance(r, 0.1):
         files[names["log"]] = files[names["sample"]] = b"what stood here before, and is longer than most of what is written to its place\n" * 40
         files["sample.csv.partial1"] = b"what a stopped program left"
+    if command == "replay":
+        files[names["log"]] = written_log(r, design, frame)
     if "words" in faults:
         words = spoiled_words(r, words)
     if "file" in faults:
@@ -605,7 +644,7 @@ def by_reference(case):
     """The exit code, the output and the files that the reference gives; in place of the code its exception, where it ends with one."""
     store = Store(case.files, case.full)
     try:
-        code = sampler.sampler(["sampler", *(word.decode("utf-8", "surrogateescape") for word in case.words)], store, "replay")
+        code = sampler.sampler(["sampler", *(word.decode("utf-8", "surrogateescape") for word in case.words)], store)
     except Exception as fault:
         code = repr(fault)
     return code, store.written, store.files

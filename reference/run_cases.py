@@ -95,7 +95,7 @@ class Memory:
 def differences(case):
     """What the reference gives that the case doesn't want."""
     store = Memory(case.files, case.calls, case.puts)
-    code = sampler.sampler(case.words, store, "replay")
+    code = sampler.sampler(case.words, store)
     found = []
     if code != case.code:
         found.append(f"code {code} in place of {case.code}")

@@ -12,8 +12,6 @@ sources alone, without a look at the program, and goes its own ways:
 
 It is slow: each step costs a time in proportion to the number of units. It is meant for frames of some hundred rows.
 
-With `--as-of replay` in front of all other words, `demo` ends with code 15. That is for the program as it is until it has it.
-
 Designs are read by `tomllib`, which knows TOML 1.0; the few forms that only TOML 1.1 has are refused here. How deep arrays, inline tables and keys may
 be nested, 80 for the program, isn't counted.
 
@@ -1288,20 +1286,18 @@ def demo(given):
     return [], f"units {lines[0][3]}\nselected {lines[0][1]}\nsteps {lines[1][1]}\nleft {left}\nreplay ok\n".encode("ascii")
 
 
-def perform(words, store, as_of):
+def perform(words, store):
     """The files that a call writes, in order, and what it puts."""
     command, given = read_words(words)
-    if as_of == "replay" and command == "demo":
-        raise Refusal(15, "error 15 not yet")
     if command == "demo":
         return demo(given)
     return {"quick": quick, "draw": draw, "replay": replay, "probs": probs, "check": check}[command](given, store)
 
 
-def sampler(words, store, as_of=None):
+def sampler(words, store):
     """Serves the words of a call, the program's name first, over a store. Gives the exit code."""
     try:
-        files, put = perform(words, store, as_of)
+        files, put = perform(words, store)
     except Refusal as refusal:
         try:
             store.put((refusal.line + "\n").encode("utf-8"))
@@ -1323,10 +1319,7 @@ def sampler(words, store, as_of=None):
 
 def main():
     """The words of the command line, over the present folder."""
-    words, as_of = ["sampler", *sys.argv[1:]], None
-    if words[1:3] == ["--as-of", "replay"]:
-        words, as_of = ["sampler", *words[3:]], "replay"
-    return sampler(words, Folder(), as_of)
+    return sampler(["sampler", *sys.argv[1:]], Folder())
 
 
 if __name__ == "__main__":

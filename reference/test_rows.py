@@ -378,8 +378,6 @@ class Rows(unittest.TestCase):
             with open(os.path.join(folder, "sample"), "rb") as file:
                 self.assertEqual(file.read(), b"id,weight\nc,5/3\nd,5/4\n")
             self.assertEqual(run("replay", *FILES, "--log", "log", "--sample", "again"), (0, b"selected 2 of 4\nsteps 3\n"))
-            self.assertEqual(run("--as-of", "replay", *draw), (0, b"selected 2 of 4\nsteps 3\n"))
-            self.assertEqual(run("--as-of", "replay", "demo", "30", "1"), (15, b"error 15 not yet\n"))
             self.assertEqual(run("check", "--design", "design", "--frame", "elsewhere"), (12, b""))
             self.assertEqual(run("quick", "frame", "2", "tape", "elsewhere/out"), (13, b""))
             self.assertEqual(run("quick", "frame", "0", "tape", "out"), (2, sampler.USAGE.encode() + b"\n"))
