@@ -1,12 +1,12 @@
 //! The window of the units that a flight has changed.
 
-ghost use Rattle.std.specs.Prelude.{◌≡◌, ◌≢◌, ℕ, ◌+◌, ◌<◌, ◌≤◌, ◌&&◌, false, length, slice_index};
+ghost use Rattle.std.specs.Prelude.{◌≡◌, ◌≢◌, ℕ, ◌+◌, ◌<◌, ◌≤◌, length, slice_index};
 ghost use Rattle.std.specs.List.{AllPairs};
 ghost use Rattle.smp_flight.specs.Moves.{IsLine};
 ghost use Rattle.smp_flight.specs.Steps.{end_of};
 ghost use Rattle.smp_flight.specs.Answers.{IsPadded, line_of};
 ghost use Rattle.smp_flight.specs.Kept.Ends.{IsEndOf, IsOver};
-ghost use Rattle.smp_flight.specs.Kept.Windows.{AreTouched, FitIn, IsLeft, HasOnlyFractional, is_in, shares_in, touched_units};
+ghost use Rattle.smp_flight.specs.Kept.Windows.{AreTouched, FitIn, IsLeft, HasOnlyFractional, shares_in, touched_units};
 
 use crate::ends::{End, number_at};
 use crate::lines::Line;
