@@ -47,7 +47,7 @@ use Rattle.smp_app.specs.Verdict.{Stop, Refused, ReadDesign, ◌>>=◌, content,
 use Rattle.smp_app.specs.Deliveries.{Outputs, with_files}
 use Rattle.smp_app.specs.Draws.{IsDraw, HasProbabilities}
 use Rattle.smp_app.specs.Answers.{Outside, Says, IsWork, Done}
-use Rattle.smp_app.specs.Headline.{IsDrawnByChance, IsExactDraw, IsExactReplay, Headline}
+use Rattle.smp_app.specs.Headline.{IsDrawnByChance, IsReadPlan, IsExactDraw, IsExactReplay, Headline}
 use Rattle.smp_app.proofs.Ends.{verdict_of}
 
 -- ---- what a stage that goes on has read
@@ -212,6 +212,21 @@ read design_name frame_name fs plan h =
       framed = planned design.value frame_name fs plan design.then_is;
     }
 
+-- so the plan is what was read
+read_plan : (design_name frame_name : List ℕ) (fs : Files) (plan : Plan) → Read design_name frame_name fs plan → IsReadPlan design_name frame_name fs plan
+read_plan design_name frame_name fs plan from =
+    subst (IsReadPlan design_name frame_name fs) from.framed.is
+    (record {
+      design_bytes = from.design.bytes;
+      design_held = from.designed.held;
+      design_read = from.designed.read;
+      frame_bytes = from.framed.bytes;
+      frame_held = from.framed.held;
+      frame_read = from.framed.read;
+      served = from.framed.served;
+      head = refl;
+    })
+
 ok_same : (x y : Outputs) → ◌≡◌ {A = Result Outputs Stop} (Ok x) (Ok y) → x ≡ y
 ok_same x y h = cc
 
@@ -240,26 +255,14 @@ module _ (a : DrawArguments) (fs : Files) (before now : Outside) (words : List (
       let exact : IsDraw draw_job (source_of a.chance) fs = work.exact in
       let plan = exact.plan in
       let drawn = exact.drawn in
-      let from = read a.design a.frame fs plan exact.planned in
+      let from = read_plan a.design a.frame fs plan (read a.design a.frame fs plan exact.planned) in
       let chance = by_chance plan a.chance fs drawn exact.is_drawn in
-      let plan_so = chance.by_plan ∙ sym from.framed.is in
-      let head_so : drawn.plan.head ≡ head_of from.design.bytes from.framed.bytes = ap (λ (p : Plan). p.head) plan_so in
       let outputs = outputs_are words draw_job fs before now (source_of a.chance) draw_files report_text plan drawn draw_asked refl exact.planned exact.is_drawn work in
       record {
-        design_bytes = from.design.bytes;
-        design_held = from.designed.held;
-        design = from.design.design;
-        design_read = from.designed.read;
-        frame_bytes = from.framed.bytes;
-        frame_held = from.framed.held;
-        units = from.framed.units;
-        frame_read = from.framed.read;
-        served = from.framed.served;
         drawn = drawn;
-        plan_is = plan_so;
+        read = subst (IsReadPlan a.design a.frame fs) (sym chance.by_plan) from;
         is_drawn = chance.by_chance;
-        written = work.files ∙ ap (λ (o : Outputs). Some (with_files o.files fs)) outputs
-            ∙ ap (λ (h : List ℕ). Some (with_files (record { name = a.log; bytes = logs.log_text h drawn.path } ∷ record { name = a.sample; bytes = sample_text drawn } ∷ []) fs)) head_so;
+        written = work.files ∙ ap (λ (o : Outputs). Some (with_files o.files fs)) outputs;
         genuine = record {
           path = drawn.path;
           full = subst (λ (p : Plan). IsFullPath (tree_of p) (start_of p) drawn.path drawn.leaf) (sym chance.by_plan) exact.by_plan.full;
@@ -294,28 +297,18 @@ module _ (a : ReplayArguments) (fs : Files) (before now : Outside) (words : List
       let exact : IsDraw replay_job (ByLog a.log) fs = work.exact in
       let plan = exact.plan in
       let drawn = exact.drawn in
-      let from = read a.design a.frame fs plan exact.planned in
-      let head_so : head_of from.design.bytes from.framed.bytes ≡ plan.head = ap (λ (p : Plan). p.head) from.framed.is in
-      let told = by_log plan a.log fs drawn exact.by_plan.start (subst IsHead head_so (head_of-is from.design.bytes from.framed.bytes)) exact.is_drawn in
+      let from = read_plan a.design a.frame fs plan (read a.design a.frame fs plan exact.planned) in
+      let told = by_log plan a.log fs drawn exact.by_plan.start (subst IsHead (sym from.head) (head_of-is from.design_bytes from.frame_bytes)) exact.is_drawn in
       let outputs = outputs_are words replay_job fs before now (ByLog a.log) replay_files report_text plan drawn replay_asked refl exact.planned exact.is_drawn work in
       record {
-        design_bytes = from.design.bytes;
-        design_held = from.designed.held;
-        design = from.design.design;
-        design_read = from.designed.read;
-        frame_bytes = from.framed.bytes;
-        frame_held = from.framed.held;
-        units = from.framed.units;
-        frame_read = from.framed.read;
-        served = from.framed.served;
         drawn = drawn;
-        plan_is = told.by_plan ∙ sym from.framed.is;
+        read = subst (IsReadPlan a.design a.frame fs) (sym told.by_plan) from;
         log = told.log;
         log_held = told.held;
         genuine = record {
           path = told.genuine.path;
           full = subst (λ (p : Plan). IsFullPath (tree_of p) (start_of p) told.genuine.path drawn.leaf) (sym told.by_plan) told.genuine.full;
-          text = told.genuine.text ∙ ap (λ (h : List ℕ). logs.log_text h told.genuine.path) (sym head_so);
+          text = told.genuine.text ∙ ap (λ (p : Plan). logs.log_text p.head told.genuine.path) (sym told.by_plan);
         };
         path_is = told.path_is;
         written = work.files ∙ ap (λ (o : Outputs). Some (with_files o.files fs)) outputs;

@@ -4,10 +4,8 @@ use Rattle.smp_io.specs.Sink.{with_bytes}
 use Rattle.smp_io.specs.Store.{Files}
 use Rattle.smp_tape.specs.TapeText.{tape_of}
 use Rattle.smp_frame.specs.Frames.{frame_of}
-use Rattle.smp_frame.specs.declared.frame.Unit as unit
 use Rattle.smp_strata.specs.Misfits.{misfit_of}
 use Rattle.smp_design.specs.Designs.{design_of}
-use Rattle.smp_design.specs.declared.design.Design.{Design}
 use Rattle.smp_words.specs.declared.command.DrawArguments.{DrawArguments}
 use Rattle.smp_words.specs.declared.command.ReplayArguments.{ReplayArguments}
 use Rattle.smp_words.specs.declared.command.Command.TheVariants as commands
@@ -19,7 +17,7 @@ use Rattle.smp_log.specs.Heads.{head_of}
 use Rattle.smp_log.specs.Logs.{log_text}
 use Rattle.smp_app.specs.declared.status.Status.{Status}
 use Rattle.smp_app.specs.declared.status.Status.TheVariants as status
-use Rattle.smp_app.specs.Plans.{Drawn, tree_of, start_of}
+use Rattle.smp_app.specs.Plans.{Plan, Drawn, tree_of, start_of}
 use Rattle.smp_app.specs.Draws.{DrawsFirsts, DrawsSeconds, HasProbabilities, KeepsBalance}
 use Rattle.smp_app.specs.Texts.{sample_text, report_text}
 use Rattle.smp_app.specs.Verdict.{drawn_by_tape, drawn_by_seed}
@@ -37,34 +35,34 @@ abbrev pub IsDrawnByChance : Chance → Files → Drawn → Type 0
 IsDrawnByChance (Tape tape) fs drawn = IsDrawnByTape tape fs drawn
 IsDrawnByChance (Seed seed) fs drawn = drawn_by_seed drawn.plan seed ≡ Ok drawn
 
+-- A plan is what the bytes in the files of a design and of a frame say: the frame serves the design, and the head names these very bytes by
+-- their digests.
+pub record IsReadPlan (design frame : List ℕ) (fs : Files) (plan : Plan) : Type 0 where
+  pub design_bytes : List ℕ
+  pub design_held : fs design ≡ Some design_bytes
+  pub design_read : design_of design_bytes ≡ Ok plan.design
+  pub frame_bytes : List ℕ
+  pub frame_held : fs frame ≡ Some frame_bytes
+  pub frame_read : frame_of plan.design.columns frame_bytes ≡ Ok plan.units
+  pub served : misfit_of plan.design plan.units ≡ None
+  pub head : plan.head ≡ head_of design_bytes frame_bytes
+
 -- ---- a draw
 
 pub record IsExactDraw (a : DrawArguments) (fs : Files) (before now : Outside) : Type 0 where
-  -- The design is what the bytes in its file say.
-  pub design_bytes : List ℕ
-  pub design_held : fs a.design ≡ Some design_bytes
-  pub design : Design
-  pub design_read : design_of design_bytes ≡ Ok design
-  -- The units are the rows of the frame, which are what the bytes in its file say; and it serves the design.
-  pub frame_bytes : List ℕ
-  pub frame_held : fs a.frame ≡ Some frame_bytes
-  pub units : List unit.Unit
-  pub frame_read : frame_of design.columns frame_bytes ≡ Ok units
-  pub served : misfit_of design units ≡ None
-  -- What is drawn is the leaf to which the values of the tape, or the words of the seed, lead in the draw tree of the plan.
   pub drawn : Drawn
-  pub plan_is : drawn.plan
-      ≡ record { design = design; units = units; head = head_of design_bytes frame_bytes }
+  -- The plan is what was read.
+  pub read : IsReadPlan a.design a.frame fs drawn.plan
+  -- What is drawn is the leaf to which the values of the tape, or the words of the seed, lead in the draw tree of the plan.
   pub is_drawn : IsDrawnByChance a.chance fs drawn
-  -- The log and the sample of that leaf are written, and no other file has changed. The log names these bytes of the design and of the frame by
-  -- their digests, and has every step that leads to the leaf.
+  -- The log and the sample of that leaf are written, and no other file has changed. The log has the plan's head and every step that leads to
+  -- the leaf.
   pub written : now.files ≡ Some (with_files
-      (record { name = a.log; bytes = log_text (head_of design_bytes frame_bytes) drawn.path }
+      (record { name = a.log; bytes = log_text drawn.plan.head drawn.path }
       ∷ record { name = a.sample; bytes = sample_text drawn } ∷ []) fs)
   -- That log is genuine, so a replay accepts it and comes to the same leaf.
-  pub genuine : IsGenuine (tree_of drawn.plan) (start_of drawn.plan)
-      (head_of design_bytes frame_bytes)
-      (log_text (head_of design_bytes frame_bytes) drawn.path) drawn.leaf
+  pub genuine : IsGenuine (tree_of drawn.plan) (start_of drawn.plan) drawn.plan.head
+      (log_text drawn.plan.head drawn.path) drawn.leaf
   -- The report of that leaf was put.
   pub put : now.written ≡ with_bytes (report_text drawn) before.written
   -- As many first stage units of each stratum are drawn as the design asks for, and as many rows within each of those.
@@ -81,24 +79,13 @@ pub record IsExactDraw (a : DrawArguments) (fs : Files) (before now : Outside) :
 
 -- What a `replay` that ended well has done.
 pub record IsExactReplay (a : ReplayArguments) (fs : Files) (before now : Outside) : Type 0 where
-  -- The design and the units are what the bytes in their files say, and the frame serves the design.
-  pub design_bytes : List ℕ
-  pub design_held : fs a.design ≡ Some design_bytes
-  pub design : Design
-  pub design_read : design_of design_bytes ≡ Ok design
-  pub frame_bytes : List ℕ
-  pub frame_held : fs a.frame ≡ Some frame_bytes
-  pub units : List unit.Unit
-  pub frame_read : frame_of design.columns frame_bytes ≡ Ok units
-  pub served : misfit_of design units ≡ None
   pub drawn : Drawn
-  pub plan_is : drawn.plan
-      ≡ record { design = design; units = units; head = head_of design_bytes frame_bytes }
+  -- The plan is what was read.
+  pub read : IsReadPlan a.design a.frame fs drawn.plan
   -- The bytes of the log are those that a draw writes whose path comes to this leaf, as by the tape of its values.
   pub log : List ℕ
   pub log_held : fs a.log ≡ Some log
-  pub genuine : IsGenuine (tree_of drawn.plan) (start_of drawn.plan)
-      (head_of design_bytes frame_bytes) log drawn.leaf
+  pub genuine : IsGenuine (tree_of drawn.plan) (start_of drawn.plan) drawn.plan.head log drawn.leaf
   pub path_is : drawn.path ≡ genuine.path
   -- The sample of that leaf is written, no other file has changed, and the report of it was put.
   pub written : now.files

@@ -2,7 +2,7 @@
 
 ghost use Rattle.std.specs.Prelude.{◌≡◌, IfOk};
 ghost use Rattle.smp_words.specs.Words.{IsAsked};
-ghost use Rattle.smp_words.specs.declared.command.Command.TheVariants.{Demo};
+ghost use Rattle.smp_words.specs.declared.command.Command.TheVariants.{Demo, Draw, Quick, Replay};
 ghost use Rattle.smp_app.specs.declared.job.DesignSource.TheVariants as DesignSource;
 ghost use Rattle.smp_app.specs.declared.job.FrameSource.TheVariants as FrameSource;
 ghost use Rattle.smp_app.specs.Commands.{FrameHeld, Held, Lists, job_of, source_of};
@@ -10,7 +10,9 @@ ghost use Rattle.smp_app.specs.Stages.{IsJob, draw_view, job_view, file_view, pl
 
 use smp_cases::demo_key;
 use smp_frac::{NoMemory, Text};
-use smp_words::{Chance, Command, DemoArguments, DesignArguments};
+use smp_words::{
+    Chance, Command, DemoArguments, DesignArguments, DrawArguments, QuickArguments, ReplayArguments,
+};
 use std::alloc::Global;
 
 /// Where the design of a command stands.
@@ -125,51 +127,69 @@ impl<'a> Job<'a> {
         ensures is_job { IfOk result IsJob }
     {
         match command {
-            Command::Quick(arguments) => {
-                let mut files = Vec::new(alloc);
-                files.push(drawn_file(&arguments.out, DrawnText::Ids))?;
-                Ok(Job {
-                    design: DesignSource::Quick(arguments.n),
-                    frame: FrameSource::Held(&arguments.frame),
-                    work: Work::Draws {
-                        from: DrawSource::Tape(&arguments.tape),
-                        files,
-                        put: DrawnText::Steps,
-                    },
-                })
-            }
-            Command::Draw(arguments) => {
-                let mut files = Vec::new(alloc);
-                files.push(drawn_file(&arguments.log, DrawnText::Log))?;
-                files.push(drawn_file(&arguments.sample, DrawnText::Sample))?;
-                Ok(Job {
-                    design: DesignSource::Held(&arguments.design),
-                    frame: FrameSource::Held(&arguments.frame),
-                    work: Work::Draws {
-                        from: DrawSource::of(&arguments.chance),
-                        files,
-                        put: DrawnText::Report,
-                    },
-                })
-            }
-            Command::Replay(arguments) => {
-                let mut files = Vec::new(alloc);
-                files.push(drawn_file(&arguments.sample, DrawnText::Sample))?;
-                Ok(Job {
-                    design: DesignSource::Held(&arguments.design),
-                    frame: FrameSource::Held(&arguments.frame),
-                    work: Work::Draws {
-                        from: DrawSource::Log(&arguments.log),
-                        files,
-                        put: DrawnText::Report,
-                    },
-                })
-            }
+            Command::Quick(arguments) => quick_job(alloc, arguments),
+            Command::Draw(arguments) => draw_job(alloc, arguments),
+            Command::Replay(arguments) => replay_job(alloc, arguments),
             Command::Probs(arguments) => Ok(listing(arguments, PlanText::Probabilities)),
             Command::Check(arguments) => Ok(listing(arguments, PlanText::Accepted)),
             Command::Demo(arguments) => Ok(demo_job(alloc, arguments)),
         }
     }
+}
+
+fn quick_job<'a>(alloc: Global, arguments: &'a QuickArguments) -> Result<Job<'a>, NoMemory>
+    requires { IsAsked (Quick arguments.now) }
+    ensures job { IfOk result (λ job. job_view job ≡ job_of (Quick arguments.now)) }
+    ensures is_job { IfOk result IsJob }
+{
+    let mut files = Vec::new(alloc);
+    files.push(drawn_file(&arguments.out, DrawnText::Ids))?;
+    Ok(Job {
+        design: DesignSource::Quick(arguments.n),
+        frame: FrameSource::Held(&arguments.frame),
+        work: Work::Draws {
+            from: DrawSource::Tape(&arguments.tape),
+            files,
+            put: DrawnText::Steps,
+        },
+    })
+}
+
+fn draw_job<'a>(alloc: Global, arguments: &'a DrawArguments) -> Result<Job<'a>, NoMemory>
+    requires { IsAsked (Draw arguments.now) }
+    ensures job { IfOk result (λ job. job_view job ≡ job_of (Draw arguments.now)) }
+    ensures is_job { IfOk result IsJob }
+{
+    let mut files = Vec::new(alloc);
+    files.push(drawn_file(&arguments.log, DrawnText::Log))?;
+    files.push(drawn_file(&arguments.sample, DrawnText::Sample))?;
+    Ok(Job {
+        design: DesignSource::Held(&arguments.design),
+        frame: FrameSource::Held(&arguments.frame),
+        work: Work::Draws {
+            from: DrawSource::of(&arguments.chance),
+            files,
+            put: DrawnText::Report,
+        },
+    })
+}
+
+fn replay_job<'a>(alloc: Global, arguments: &'a ReplayArguments) -> Result<Job<'a>, NoMemory>
+    requires { IsAsked (Replay arguments.now) }
+    ensures job { IfOk result (λ job. job_view job ≡ job_of (Replay arguments.now)) }
+    ensures is_job { IfOk result IsJob }
+{
+    let mut files = Vec::new(alloc);
+    files.push(drawn_file(&arguments.sample, DrawnText::Sample))?;
+    Ok(Job {
+        design: DesignSource::Held(&arguments.design),
+        frame: FrameSource::Held(&arguments.frame),
+        work: Work::Draws {
+            from: DrawSource::Log(&arguments.log),
+            files,
+            put: DrawnText::Report,
+        },
+    })
 }
 
 // A frame and a design that the command makes are drawn from by the seed's own key.
