@@ -198,3 +198,44 @@ fn clouds(rt: HostRuntime) -> Result<(), Fail> {
     assert!(rt; agrees(alloc, four.as_slice())?);
     Ok(())
 }
+
+// The nearest point of each, while all are living.
+fn neighbours<const K: usize>(
+    alloc: Global,
+    points: &Points<K>,
+    count: usize,
+) -> Result<Vec<Option<usize>>, Fail>
+    requires all { (k : ℕ) → k < count → is_living points.now k ≡ true }
+    requires few { K ≤ 4 }
+{
+    let mut neighbours = Vec::with_capacity(alloc, count)?;
+    for k in 0..count {
+        neighbours.push(points.nearest(k))?;
+    }
+    Ok(neighbours)
+}
+
+// Whether a tree gives the same neighbours twice, the first hundred of which are those of a scan.
+fn stays<const K: usize>(alloc: Global, coords: &[[i32; K]]) -> Result<bool, Fail>
+    requires few { (1 ≤ K) × (K ≤ 4) }
+    requires some { 1 ≤ length coords.now }
+{
+    let living = vec![in alloc; true; coords.len()]?;
+    let points = Points::new(alloc, coords)?;
+    let once = neighbours(alloc, &points, coords.len())?;
+    let twice = neighbours(alloc, &points, coords.len())?;
+    for k in 0..coords.len().min(100) {
+        if once.get(k) != Some(&scan(coords, living.as_slice(), k)) {
+            return Ok(false);
+        }
+    }
+    Ok(once == twice)
+}
+
+#[test]
+fn many_points(rt: HostRuntime) -> Result<(), Fail> {
+    let alloc = rt.alloc();
+    let many = cloud::<2>(alloc, 200_000, 1_000_000)?;
+    assert!(rt; stays(alloc, many.as_slice())?);
+    Ok(())
+}
