@@ -6,8 +6,8 @@ use Rattle.smp_log.specs.Lines.{whole_lines, lines_text, AreLines}
 use Rattle.smp_log.specs.Genuine.{IsKept, DiffersAt}
 use Rattle.smp_log.specs.Reading.{Script, follows}
 use Rattle.smp_log.proofs.Texts.{whole_lines-text}
-use Rattle.smp_log.proofs.Scripts.{Accepts, Begins, Ends, follows-le, accepted_follows, most, begins}
-use Rattle.smp_log.proofs.Reached.{Reached, stuck, accepted_along}
+use Rattle.smp_log.proofs.Scripts.{Accepts, Begins, Ends, follows-le, follows-none, accepted_follows, most, begins}
+use Rattle.smp_log.proofs.Reached.{LeadsAlong, Reached, follows-append, stuck, accepted_along}
 
 -- a text of these whole lines
 pub whole_text : (lines : List (List ℕ)) → AreLines lines → whole_lines (lines_text lines) ≡ lines
@@ -120,3 +120,34 @@ module _ {Place State : Type 0} (script : Script Place) (start : Place) (closed 
       let same : s ≡ is.leaf = d.closes s is.leaf is.end in
       let text : log ≡ lines_text r.lines = r.text_is ∙ append-nil (lines_text r.lines) in
       subst (λ t. Genuine t s) (sym text) (subst (λ l. Genuine (lines_text r.lines) l) (sym same) is.genuine)
+
+  -- where a genuine text begins the bytes, it is what is followed of them
+  pub front_followed : (log front after : List ℕ) (leaf : State) → log ≡ front ++ after → Genuine front leaf → follows script start (whole_lines log) ≡ (length (whole_lines front), closed leaf)
+  front_followed log front after leaf log_is genuine =
+      let accepted = d.complete front leaf genuine in
+      let lines : whole_lines log ≡ whole_lines front ++ whole_lines after =
+      ap whole_lines (log_is ∙ ap (λ t. t ++ after) accepted.whole) ∙ whole_lines-text (whole_lines front) after (d.sound (whole_lines front) (closed leaf) accepted.accepted).are in
+      let none : length (whole_lines front) + 0 ≡ length (whole_lines front) = omega arith in
+      ap (follows script start) lines ∙ follows-append script start (closed leaf) (whole_lines front) (whole_lines after) (accepted_leads (whole_lines front) start (closed leaf) accepted.accepted)
+      ∙ ap (λ r. (length (whole_lines front) + r.0, r.1)) (stays (whole_lines after)) ∙ ap (λ n. (n, closed leaf)) none
+    where
+      stays : (lines : List (List ℕ)) → follows script (closed leaf) lines ≡ (0, closed leaf)
+      stays [] = refl
+      stays (line ∷ lines) = follows-none script (closed leaf) line lines (d.last leaf line)
+
+      accepted_leads : (lines : List (List ℕ)) (p to : Place) → Accepts script p lines to → LeadsAlong script p lines to
+      accepted_leads [] p to a = a.0
+      accepted_leads (line ∷ lines) p to a = (a.0, a.1, accepted_leads lines a.0 to a.2)
+
+  -- the lines so far, where the script is closed behind them
+  pub record HasFront (log rest : List ℕ) (s : State) : Type 0 where
+    pub front : List ℕ
+    pub log_is : log ≡ front ++ rest
+    pub is : Genuine front s
+
+  pub genuine_front : (log rest : List ℕ) (count : ℕ) (s : State) → Reached script start (closed s) log rest count → HasFront log rest s
+  genuine_front log rest count s r =
+      let accepted : Accepts script start r.lines (closed s) = accepted_along script start (closed s) r.lines r.leads (d.over s) in
+      let is = d.sound r.lines (closed s) accepted in
+      let same : s ≡ is.leaf = d.closes s is.leaf is.end in
+      record { front = lines_text r.lines; log_is = r.text_is; is = subst (λ l. Genuine (lines_text r.lines) l) (sym same) is.genuine }

@@ -1,8 +1,8 @@
 -- The paths of full tapes are the paths to leaves.
-use Rattle.std.proofs.Common.{◌≡◌, true, List, [], refl, subst}
+use Rattle.std.proofs.Common.{◌≡◌, true, List, [], ◌∷◌, refl, sym, ◌∙◌, subst}
 use Rattle.smp_tape.specs.Sources.{Source}
 use Rattle.smp_tape.specs.Tapes.{tape_of_values}
-use Rattle.smp_split.specs.Trees.{Tree, Lawful}
+use Rattle.smp_split.specs.Trees.{Tree, Lawful, picked}
 use Rattle.smp_split.specs.Paths.{Entry, Leads, values_of}
 use Rattle.smp_split.specs.Runs.{Outcome, IsLeaf, IsOutcome, run}
 use Rattle.smp_split.proofs.Runs.{run_is}
@@ -26,3 +26,14 @@ module _ {State : Type 0} (tree : Tree State) (belongs : State → Type 0) (lawf
   run_full_path source rest left ran =
       let is : IsLeaf source tree from rest leaf path left = subst (IsOutcome source tree from rest) ran (run_is source tree belongs lawful from rest member) in
       leads_full_path is.leads is.done
+
+-- a path leads to one state
+pub leads_one : {State : Type 0} (tree : Tree State) (path : List Entry) (from a b : State) → Leads tree from path a → Leads tree from path b → a ≡ b
+leads_one tree [] from a b first second = first ∙ sym second
+leads_one tree (entry ∷ path) from a b first second = leads_one tree path (picked from (tree.parts from) entry.2) a b first.1 second.1
+
+pub one_end : {State : Type 0} (tree : Tree State) (belongs : State → Type 0) (lawful : Lawful tree belongs) (from a b : State) (p q : List Entry) → belongs from → IsFullPath tree from p a → IsFullPath tree from q b → p ≡ q → a ≡ b
+one_end tree belongs lawful from a b p q member first second same =
+    let one = full_path_leads tree belongs lawful from a p member first in
+    let two = full_path_leads tree belongs lawful from b q member second in
+    leads_one tree q from a b (subst (λ (path : List Entry). Leads tree from path a) same one.0) two.0

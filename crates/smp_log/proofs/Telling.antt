@@ -1,5 +1,5 @@
 -- What a log tells of its path.
-use Rattle.std.proofs.Common.{◌≡◌, ℕ, ◌+◌, true, false, List, [], ◌∷◌, ◌++◌, length, drop, Option, Some, refl, sym, ap, ◌∙◌, subst, append_assoc}
+use Rattle.std.proofs.Common.{◌≡◌, ℕ, ◌+◌, true, false, List, [], ◌∷◌, ◌++◌, length, map, drop, Option, Some, refl, sym, ap, ◌∙◌, subst, append_assoc}
 use Rattle.std.proofs.lemmas.List.{append-nil}
 use Rattle.smp_split.specs.Trees.{Tree, Lawful, weight_sum, picked}
 use Rattle.smp_split.specs.Paths.{Entry, Leads, entry_at}
@@ -14,7 +14,6 @@ use Rattle.smp_log.proofs.FirstLines.{first_step}
 use Rattle.smp_log.proofs.Heads.{head_lines, head_lines_are}
 use Rattle.smp_log.proofs.Texts.{cut_parts, whole_lines-cons, whole_lines-text}
 use Rattle.smp_log.proofs.Paths.{full_path_leads}
-use Rattle.smp_log.proofs.Logs.{lines_after, one_longer}
 use Rattle.smp_log.proofs.OnePath.{entry_is, value_read, both}
 use Rattle.smp_log.proofs.StepCounts.{lines_are, log_count}
 
@@ -32,23 +31,18 @@ module _ {State : Type 0} (tree : Tree State) where
 -- ---- a replay that tells its steps
 
 -- the steps so far were told, and what is left tells the others of the path
-pub record IsTold {State : Type 0} (tree : Tree State) (from : State) (log : List ℕ) (old now : Option (List Entry)) (s : State) (rest : List ℕ) : Type 0 where
+pub record IsTold {State : Type 0} (tree : Tree State) (whole : List Entry) (old now : Option (List Entry)) (s : State) (rest : List ℕ) : Type 0 where
   pub path : List Entry
   pub told : now ≡ and_then old path
-  pub along : path ++ path_along tree s (whole_lines rest) ≡ path_told tree from log
+  pub along : path ++ path_along tree s (whole_lines rest) ≡ whole
 
-module _ {State : Type 0} (tree : Tree State) (from : State) (log : List ℕ) (old : Option (List Entry)) where
-  pub none_told : (head rest : List ℕ) → IsHead head → log ≡ head ++ rest → IsTold tree from log old old from rest
-  none_told head rest h is = record {
-    path = [];
-    told = and_then-nil old;
-    along = sym (ap (path_told tree from) (is ∙ ap (λ (t : List ℕ). t ++ rest) h.text)
-        ∙ ap (λ (lines : List (List ℕ)). path_along tree from (drop 3 lines)) (whole_lines-text (head_lines h) rest (head_lines_are h)));
-  }
+module _ {State : Type 0} (tree : Tree State) (whole : List Entry) (old : Option (List Entry)) where
+  pub none_told : (from : State) (rest : List ℕ) → path_along tree from (whole_lines rest) ≡ whole → IsTold tree whole old old from rest
+  none_told from rest is = record { path = []; told = and_then-nil old; along = is }
 
   -- one step more
-  pub step_told : (now new : Option (List Entry)) (s : State) (v : ℕ) (rest after : List ℕ) → IsTold tree from log old now s rest → tree.done s ≡ false
-      → step_first (tree.kind s) (weight_sum (tree.parts s)) rest ≡ Some (v, after) → new ≡ and_then now (entry_at tree s v ∷ []) → IsTold tree from log old new (picked s (tree.parts s) v) after
+  pub step_told : (now new : Option (List Entry)) (s : State) (v : ℕ) (rest after : List ℕ) → IsTold tree whole old now s rest → tree.done s ≡ false
+      → step_first (tree.kind s) (weight_sum (tree.parts s)) rest ≡ Some (v, after) → new ≡ and_then now (entry_at tree s v ∷ []) → IsTold tree whole old new (picked s (tree.parts s) v) after
   step_told now new s v rest after t e some told_now =
       let first = first_step (tree.kind s) (weight_sum (tree.parts s)) v rest after some in
       let parts = cut_parts 10 rest (first.line, after) first.cut in
@@ -62,23 +56,29 @@ module _ {State : Type 0} (tree : Tree State) (from : State) (log : List ℕ) (o
       }
 
   -- at a leaf all is told
-  pub all_told : (now : Option (List Entry)) (s : State) (rest : List ℕ) → IsTold tree from log old now s rest → tree.done s ≡ true → now ≡ and_then old (path_told tree from log)
+  pub all_told : (now : Option (List Entry)) (s : State) (rest : List ℕ) → IsTold tree whole old now s rest → tree.done s ≡ true → now ≡ and_then old whole
   all_told now s rest t e =
-      let whole : t.path ≡ path_told tree from log = sym (append-nil t.path) ∙ ap (λ (p : List Entry). t.path ++ p) (sym (none_along tree s (whole_lines rest) e)) ∙ t.along in
-      t.told ∙ ap (and_then old) whole
+      let is : t.path ≡ whole = sym (append-nil t.path) ∙ ap (λ (p : List Entry). t.path ++ p) (sym (none_along tree s (whole_lines rest) e)) ∙ t.along in
+      t.told ∙ ap (and_then old) is
+
+-- what is told behind the lines of a head
+pub told_behind : {State : Type 0} (tree : Tree State) (from : State) (log head rest : List ℕ) → IsHead head → log ≡ head ++ rest → path_along tree from (whole_lines rest) ≡ path_told tree from log
+told_behind tree from log head rest h is =
+    sym (ap (path_told tree from) (is ∙ ap (λ (t : List ℕ). t ++ rest) h.text)
+    ∙ ap (λ (lines : List (List ℕ)). path_along tree from (drop 3 lines)) (whole_lines-text (head_lines h) rest (head_lines_are h)))
 
 -- ---- what a genuine log tells
 
 module _ {State : Type 0} (tree : Tree State) (belongs : State → Type 0) (lawful : Lawful tree belongs) where
-  along : (path : List Entry) (n : ℕ) (s leaf : State) → belongs s → Leads tree s path leaf → tree.done leaf ≡ true → path_along tree s (lines_after end_line n path) ≡ path
-  along [] n s leaf b leads done = none_along tree s (lines_after end_line n []) (subst (λ t. tree.done t ≡ true) leads done)
-  along (l ∷ path) n s leaf b leads done =
+  -- the lines of a path to a leaf tell it, whatever follows
+  pub steps_along : (path : List Entry) (rest : List (List ℕ)) (s leaf : State) → belongs s → Leads tree s path leaf → tree.done leaf ≡ true → path_along tree s (map step_line path ++ rest) ≡ path
+  steps_along [] rest s leaf b leads done = none_along tree s rest (subst (λ t. tree.done t ≡ true) leads done)
+  steps_along (l ∷ path) rest s leaf b leads done =
       let t : State = picked s (tree.parts s) l.2 in
       let on = picked_belongs tree belongs lawful s t l.2 b leads.0.going (value_within tree belongs lawful s l leads.0) refl in
-      ap (path_along tree s) (one_longer end_line n l path)
-      ∙ step_along tree s (step_line l) (lines_after end_line (n + 1) path) l.2 leads.0.going (value_read tree belongs lawful s l b leads.0)
-      ∙ ap (λ (e : Entry). e ∷ path_along tree t (lines_after end_line (n + 1) path)) (entry_is tree belongs lawful s l leads.0)
-      ∙ ap (λ (p : List Entry). l ∷ p) (along path (n + 1) t leaf on leads.1 done)
+      step_along tree s (step_line l) (map step_line path ++ rest) l.2 leads.0.going (value_read tree belongs lawful s l b leads.0)
+      ∙ ap (λ (e : Entry). e ∷ path_along tree t (map step_line path ++ rest)) (entry_is tree belongs lawful s l leads.0)
+      ∙ ap (λ (p : List Entry). l ∷ p) (steps_along path rest t leaf on leads.1 done)
 
   -- a genuine log tells its own path
   pub genuine_told : (from : State) → belongs from → (head log : List ℕ) → IsHead head → (leaf : State) (genuine : IsGenuine tree from head log leaf) → path_told tree from log ≡ genuine.path
@@ -86,7 +86,7 @@ module _ {State : Type 0} (tree : Tree State) (belongs : State → Type 0) (lawf
       let full = full_path_leads tree belongs lawful from leaf genuine.path member genuine.full in
       ap (path_told tree from) genuine.text
       ∙ ap (λ (lines : List (List ℕ)). path_along tree from (drop 3 lines)) (lines_are tree belongs lawful from member head h genuine.path)
-      ∙ along genuine.path 0 from leaf member full.0 full.1
+      ∙ steps_along genuine.path (end_line (0 + length genuine.path) ∷ []) from leaf member full.0 full.1
 
   pub unambiguous : (from : State) → belongs from → (head log : List ℕ) → IsHead head → IsUnambiguous tree from head log
   unambiguous from member head log h = record {

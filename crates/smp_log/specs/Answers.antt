@@ -4,6 +4,8 @@ use Rattle.std.specs.Str.{bytes_eq}
 use Rattle.smp_split.specs.Trees.{Tree}
 use Rattle.smp_log.specs.declared.fault.LogFault.{LogFault}
 use Rattle.smp_log.specs.declared.fault.LogFault.TheVariants.{Differs}
+use Rattle.smp_log.specs.declared.fault.MigrateFault.{MigrateFault}
+use Rattle.smp_log.specs.declared.fault.MigrateFault.TheVariants as migrating
 use Rattle.smp_log.specs.declared.fault.ReplayFault.{ReplayFault}
 use Rattle.smp_log.specs.declared.fault.ReplayFault.TheVariants as faults
 use Rattle.smp_log.specs.Genuine.{DiffersAt, IsGenuine}
@@ -27,6 +29,13 @@ abbrev pub AnswersAs : {State : Type 0} → Result (Unit {0}) ReplayFault → St
 AnswersAs (Ok done) state reading = reading ≡ Ok state
 AnswersAs (Err (faults.Differs line)) state reading = reading ≡ Err line
 AnswersAs (Err faults.NoMemory) state reading = Unit {0}
+
+-- the same of a migration, whose first state came to this one
+abbrev pub MigratesAs : {State Text : Type 0} → Result Text MigrateFault → State → Result State ℕ
+    → Type 0
+MigratesAs (Ok text) state reading = reading ≡ Ok state
+MigratesAs (Err (migrating.Differs line)) state reading = reading ≡ Err line
+MigratesAs (Err migrating.NoMemory) state reading = Unit {0}
 
 -- ---- the answer, computed
 
@@ -55,9 +64,12 @@ unfoldable pub log_reading : {State : Type 0} → Tree State → State → List 
 log_reading tree from head log =
     read_by (log_script tree end_line from) (before from (whole_lines head)) log_leaf log
 
--- the function gives the one answer that is right
-pub record IsExactReading {State : Type 0} (tree : Tree State) (from : State) (head log : List ℕ)
-    : Type 0 where
-  pub right : IsAnswer (IsGenuine tree from head) log (log_reading tree from head log)
-  pub alone : (answer : Result State ℕ) → IsAnswer (IsGenuine tree from head) log answer
-      → answer ≡ log_reading tree from head log
+-- a reading is the one answer that is right
+pub record IsExactAnswer {State : Type 0} (Genuine : List ℕ → State → Type 0) (log : List ℕ)
+    (reading : Result State ℕ) : Type 0 where
+  pub right : IsAnswer Genuine log reading
+  pub alone : (answer : Result State ℕ) → IsAnswer Genuine log answer → answer ≡ reading
+
+abbrev pub IsExactReading : {State : Type 0} → Tree State → State → List ℕ → List ℕ → Type 0
+IsExactReading tree from head log =
+    IsExactAnswer (IsGenuine tree from head) log (log_reading tree from head log)

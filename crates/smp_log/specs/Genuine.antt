@@ -17,12 +17,19 @@ pub record IsFullPath {State : Type 0} (tree : Tree State) (from : State) (path 
   pub ran : run tape_source tree from (tape_of_values [] values)
       ≡ Outcome.leaf leaf path (tape_of_values values [])
 
--- the bytes are the log of the path of a full tape, which leads to this leaf
-pub record IsGenuine {State : Type 0} (tree : Tree State) (from : State) (head log : List ℕ)
-    (leaf : State) : Type 0 where
+-- the bytes are a text of the path of a full tape, which leads to this leaf, whichever texts a path has
+pub record IsLogOf {State : Type 0} (IsText : List Entry → List ℕ → Type 0) (tree : Tree State)
+    (from : State) (log : List ℕ) (leaf : State) : Type 0 where
   pub path : List Entry
   pub full : IsFullPath tree from path leaf
-  pub text : log ≡ log_text head path
+  pub text : IsText path log
+
+-- the bytes are the log of a full tape, of version 1
+abbrev pub IsLogText : List ℕ → List Entry → List ℕ → Type 0
+IsLogText head path log = log ≡ log_text head path
+
+abbrev pub IsGenuine : {State : Type 0} → Tree State → State → List ℕ → List ℕ → State → Type 0
+IsGenuine tree from head log leaf = IsLogOf (IsLogText head) tree from log leaf
 
 -- ---- how much of any bytes is the beginning of a genuine log, whichever logs are genuine
 
@@ -50,11 +57,15 @@ pub record DiffersAt {State : Type 0} (Genuine : List ℕ → State → Type 0) 
 
 -- ---- what a log tells
 
--- a genuine log, whose path is the one that it tells
-pub record IsToldGenuine {State : Type 0} (tree : Tree State) (from : State) (head log : List ℕ)
-    (leaf : State) : Type 0 where
-  pub genuine : IsGenuine tree from head log leaf
+-- such a text, whose path is the one that it tells
+pub record IsToldLogOf {State : Type 0} (IsText : List Entry → List ℕ → Type 0) (tree : Tree State)
+    (from : State) (log : List ℕ) (leaf : State) : Type 0 where
+  pub genuine : IsLogOf IsText tree from log leaf
   pub told : path_told tree from log ≡ genuine.path
+
+abbrev pub IsToldGenuine : {State : Type 0} → Tree State → State → List ℕ → List ℕ → State
+    → Type 0
+IsToldGenuine tree from head log leaf = IsToldLogOf (IsLogText head) tree from log leaf
 
 -- A genuine log is that of one path alone, which it tells and which leads to one leaf. It has four whole lines more than steps.
 pub record IsUnambiguous {State : Type 0} (tree : Tree State) (from : State) (head log : List ℕ)

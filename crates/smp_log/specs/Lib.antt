@@ -6,3 +6,8 @@ pub mod Fronts
 pub mod Reading
 pub mod Answers
 pub mod Told
+pub mod SectionLogs
+pub mod SectionReading
+pub mod LoneSections
+pub mod Lots
+pub mod Laws

@@ -5,13 +5,14 @@ use Rattle.smp_split.specs.Trees.{Tree, weight_sum, picked}
 use Rattle.smp_log.specs.Lines.{whole_lines}
 use Rattle.smp_log.specs.Reading.{step_value}
 
--- the path that lines tell from a state on, as far as each is the line of a step there, to a leaf at most
+-- The path that lines tell from a state on, to a leaf at most: of each state the first line that is the line of its step. Other
+-- lines are passed over.
 abbrev pub path_along : {State : Type 0} → Tree State → State → List (List ℕ) → List Entry
 path_along tree s [] = []
 path_along tree s (line ∷ lines) =
     if tree.done s then []
     else elim (step_value (tree.kind s) (weight_sum (tree.parts s)) line) [
-      | None ↦ []
+      | None ↦ path_along tree s lines
       | Some value ↦ entry_at tree s value ∷ path_along tree (picked s (tree.parts s) value) lines
     ]
 

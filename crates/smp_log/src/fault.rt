@@ -27,3 +27,12 @@ impl From<NoMemory> for ReplayFault {
         ReplayFault::NoMemory
     }
 }
+
+/// Why no log was migrated.
+#[derive(Clone, Copy, Debug, PartialEq, Eq)]
+pub enum MigrateFault {
+    /// The log isn't genuine of version 1, and this is the first line that isn't kept, as in [`LogFault::Differs`].
+    Differs { line: u64 },
+    /// There was no memory.
+    NoMemory,
+}

@@ -2,6 +2,7 @@ ghost use Rattle.std.specs.Prelude.{◌≡◌, ◌+◌, ◌≤◌, ◌++◌, len
 ghost use Rattle.hex.specs.Hex.{encode_lower};
 ghost use Rattle.sha2.specs.Sha256.{sha256};
 ghost use Rattle.smp_log.specs.Heads.{IsHead, head_of};
+ghost use Rattle.smp_log.specs.SectionLogs.{sectioned_head};
 
 use sha2::{Digest, Sha256};
 use std::marker::Model;
@@ -31,6 +32,16 @@ impl Head {
         ensures lines { IsHead self.now }
     {
         &self.bytes
+    }
+
+    // The first three lines of a log of version 2: the first one has the number 2 in the place of 1.
+    pub(crate) fn sectioned(&self) -> [u8; 157]
+        ensures bytes { result ≡ sectioned_head self.now }
+        ensures lines { IsHead self.now }
+    {
+        let mut bytes = self.bytes;
+        bytes[12] = b'2';
+        bytes
     }
 }
 

@@ -1,4 +1,5 @@
-ghost use Rattle.std.specs.Prelude.{◌≡◌, ◌^◌, ◌<◌, option_map};
+ghost use Rattle.std.specs.Prelude.{◌≡◌, ◌^◌, ◌<◌, ◌++◌, ◌∷◌, option_map};
+ghost use Rattle.std.specs.Fmt.{decimal};
 ghost use Rattle.std.specs.Str.{bytes_eq};
 ghost use Rattle.smp_log.specs.Reading as Reading;
 
@@ -7,7 +8,7 @@ use smp_split::Kind;
 
 // The number that a text is the decimal form of, without leading zeros, where it is below 2^128.
 #[tactic(auto, unfolding(crate::specs::Reading::written))]
-fn written(text: &[u8]) -> Option<u128>
+pub(crate) fn written(text: &[u8]) -> Option<u128>
     ensures { result ≡ Reading.written text.now }
 {
     if text.len() > 1 && text[0] == b'0' {
@@ -17,7 +18,7 @@ fn written(text: &[u8]) -> Option<u128>
 }
 
 // What stands behind a front.
-fn behind<'a>(text: &'a [u8], front: &[u8]) -> Option<&'a [u8]>
+pub(crate) fn behind<'a>(text: &'a [u8], front: &[u8]) -> Option<&'a [u8]>
     ensures { option_map (λ rest. rest.now) result ≡ Reading.behind front.now text.now }
 {
     text.strip_prefix(front)
@@ -46,6 +47,37 @@ fn is_end(line: &[u8], steps: u64) -> bool
     match behind(line, b"end ") {
         Some(count) => written(count) == Some(steps as u128),
         None => false,
+    }
+}
+
+// Whether a line is a word and two numbers with a blank in between.
+fn is_numbered(line: &[u8], word: &[u8], first: u64, second: u64) -> bool
+    ensures { result ≡ bytes_eq line.now (word.now ++ (decimal first ++ 32 ∷ decimal second)) }
+{
+    let Some(numbers) = behind(line, word) else {
+        return false;
+    };
+    let Some((left, right)) = cut_before(numbers, b' ') else {
+        return false;
+    };
+    written(left) == Some(first as u128) && written(right) == Some(second as u128)
+}
+
+// What stands behind a first line that is a word and two numbers.
+pub(crate) fn after_numbers<'a>(
+    text: &'a [u8],
+    word: &[u8],
+    first: u64,
+    second: u64,
+) -> Option<&'a [u8]>
+    ensures { option_map (λ rest. rest.now) result
+        ≡ Reading.after_line (word.now ++ (decimal first ++ 32 ∷ decimal second)) text.now }
+{
+    let (line, after) = cut_before(text, b'\n')?;
+    if is_numbered(line, word, first, second) {
+        Some(after)
+    } else {
+        None
     }
 }
 

@@ -95,7 +95,7 @@ pub fn replay_into<S: Splitting, T: Trace>(
 }
 
 // What stands behind the lines of a front, or the number of the first line that isn't the front's.
-fn after_front<'a>(text: &'a [u8], front: &[u8]) -> Result<&'a [u8], u64>
+pub(crate) fn after_front<'a>(text: &'a [u8], front: &[u8]) -> Result<&'a [u8], u64>
     requires { IsWhole front.now }
     ensures front { IfOk result (λ rest. text.now ≡ front.now ++ rest.now) }
     ensures stops { IfErr result (StopsAt front.now text.now) }

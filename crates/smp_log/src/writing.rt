@@ -36,14 +36,14 @@ fn push_steps(alloc: Global, text: &mut Bytes, steps: &[(Kind, u128, u128)]) -> 
     Ok(())
 }
 
-fn step_text(alloc: Global, step: &(Kind, u128, u128)) -> Result<String, AllocError>
+pub(crate) fn step_text(alloc: Global, step: &(Kind, u128, u128)) -> Result<String, AllocError>
     ensures { IfOk result (λ line. string_bytes line ≡ Logs.step_text step.now) }
 {
     let (kind, bound, value) = *step;
     format!(in alloc; "{} {bound} {value}\n", kind.word())
 }
 
-fn end_text(alloc: Global, steps: usize) -> Result<String, AllocError>
+pub(crate) fn end_text(alloc: Global, steps: usize) -> Result<String, AllocError>
     ensures { IfOk result (λ line. string_bytes line ≡ Logs.end_text steps) }
 {
     format!(in alloc; "end {steps}\n")

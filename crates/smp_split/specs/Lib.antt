@@ -11,3 +11,4 @@ pub mod Orders
 pub mod Counts
 pub mod Methods
 pub mod Leaves
+pub mod Sectioning

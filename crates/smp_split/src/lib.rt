@@ -5,12 +5,14 @@
 
 mod kind;
 mod order;
+mod sections;
 mod splitting;
 mod trace;
 mod walking;
 
 pub use kind::Kind;
 pub use order::UnitOrder;
+pub use sections::Sections;
 pub use splitting::{Splitting, mean_is_value, selected_units};
 pub use trace::{Lines, NoMemory, NoTrace, Trace};
 pub use walking::{WalkFault, walk};

@@ -3,10 +3,11 @@ use Rattle.smp_split.specs.Trees.{weight_sum}
 use Rattle.smp_log.specs.Fronts.{IsWhole, StopsAt}
 use Rattle.smp_log.specs.Genuine.{IsGenuine, DiffersAt}
 use Rattle.smp_log.specs.Reading.{step_first}
+use Rattle.smp_log.specs.Told.{path_told}
 use Rattle.smp_log.specs.declared.fault.ReplayFault.TheVariants as ReplayFault
 use Rattle.smp_log.proofs.Replays.{whole_head, first, stops, no_step, within, shorter, more, no_end, something_behind, replayed}
 use Rattle.smp_log.proofs.Answered.{exact_reading}
-use Rattle.smp_log.proofs.Telling.{none_told, step_told, all_told, genuine_told}
+use Rattle.smp_log.proofs.Telling.{none_told, told_behind, step_told, all_told, genuine_told}
 use Rattle.smp_log.proofs.replaying.replay_into.Goals as goal
 
 pub after_front-requires : goal.after_front-requires
@@ -38,7 +39,7 @@ loop-state-init g c =
     let lawful = g.met.S.Splitting.lawful c.args.run.now in
     let front = c.in-Ok.ensures.front ∙ ap (λ h. h ++ c.in-Ok.rest.now) c.as_slice.ensures.bytes in (
       first tree belongs lawful c.args.state.now c.requires c.args.head.now c.args.log.now c.in-Ok.rest.now c.as_slice.ensures.lines front,
-      none_told tree c.args.state.now c.args.log.now (g.T.Trace.lines c.args.trace.now) c.args.head.now c.in-Ok.rest.now c.as_slice.ensures.lines front,
+      none_told tree (path_told tree c.args.state.now c.args.log.now) (g.T.Trace.lines c.args.trace.now) c.args.state.now c.in-Ok.rest.now (told_behind tree c.args.state.now c.args.log.now c.args.head.now c.in-Ok.rest.now c.as_slice.ensures.lines front),
     )
 
 pub returns-in_default : goal.returns-in_default
@@ -84,7 +85,7 @@ loop-state-preserved g c =
     let some : step_first (tree.kind c.loop-state.state) (weight_sum (tree.parts c.loop-state.state)) c.loop-state.rest.now ≡ Some (c.in-Some.value, c.in-Some.after.now) = rw (← c.kind-kind.ensures, ← c.bound-bound.ensures) (sym c.in-Some.ensures) in
     rw c.advance.ensures (
       more tree belongs lawful c.args.state.now c.requires c.args.head.now c.args.log.now c.loop-state.state c.loop-state.rest.now c.loop-state.steps c.loop-state.invariant.0 c.in-Some.value c.in-Some.after.now some going,
-      step_told tree c.args.state.now c.args.log.now (g.T.Trace.lines c.args.trace.now) (g.T.Trace.lines c.loop-state.trace) _ c.loop-state.state c.in-Some.value c.loop-state.rest.now c.in-Some.after.now c.loop-state.invariant.1 going some
+      step_told tree (path_told tree c.args.state.now c.args.log.now) (g.T.Trace.lines c.args.trace.now) (g.T.Trace.lines c.loop-state.trace) _ c.loop-state.state c.in-Some.value c.loop-state.rest.now c.in-Some.after.now c.loop-state.invariant.1 going some
           (rw (c.kind-kind.ensures, c.bound-bound.ensures) at c.in_ok-line.ensures).ok,
     )
 
@@ -133,7 +134,7 @@ returns g c =
     let genuine : IsGenuine tree c.args.state.now c.args.head.now c.args.log.now c.loop-state.state = replayed tree belongs lawful c.args.state.now c.requires c.args.head.now c.args.log.now c.loop-state.state c.loop-state.rest.now c.loop-state.steps c.loop-state.invariant.0 c.in-Some-after_end.after.now done (sym c.in-Some-after_end.ensures) none in
     record {
       genuine = record { genuine = genuine; told = genuine_told tree belongs lawful c.args.state.now c.requires c.args.head.now c.args.log.now c.loop-state.invariant.0.is_head c.loop-state.state genuine };
-      told = all_told tree c.args.state.now c.args.log.now (g.T.Trace.lines c.args.trace.now) (g.T.Trace.lines c.loop-state.trace) c.loop-state.state c.loop-state.rest.now c.loop-state.invariant.1 done;
+      told = all_told tree (path_told tree c.args.state.now c.args.log.now) (g.T.Trace.lines c.args.trace.now) (g.T.Trace.lines c.loop-state.trace) c.loop-state.state c.loop-state.rest.now c.loop-state.invariant.1 done;
       done = done;
       differs = search rules;
       may_refuse = search rules;

@@ -1,0 +1,153 @@
+-- What a log of version 2 tells of its path.
+use Rattle.std.proofs.Common.{◌≡◌, ◌≢◌, ℕ, zero, suc, ◌+◌, ◌<◌, ◌≤◌, ◌==◌, true, false, cond, nat_lt, List, [], ◌∷◌, ◌++◌, drop, Option, Some, None, refl, sym, ap, ◌∙◌, subst, arith, codes, inl, inr}
+use Rattle.std.specs.Prelude.{option_and_then}
+use Rattle.std.specs.Fmt.{decimal}
+use Rattle.std.proofs.lemmas.Bool.{cases_Bool, eqb-true, eqb-false}
+use Rattle.smp_split.specs.declared.kind.Kind.{Kind}
+use Rattle.smp_split.specs.declared.kind.Kind.TheVariants.{Order, Pivot, Lone, System, Support, Offer, Take, Spent, Choose, Flight, Drop, Wide}
+use Rattle.smp_split.specs.Kinds.{kind_word}
+use Rattle.smp_split.specs.Trees.{Tree, Lawful, weight_sum, picked}
+use Rattle.smp_split.specs.Paths.{Entry, Leads}
+use Rattle.smp_split.specs.Sectioning.{Sectioning, IsSectioned}
+use Rattle.smp_split.proofs.Steps.{picked_belongs, value_within}
+use Rattle.smp_log.specs.Lines.{whole_lines}
+use Rattle.smp_log.specs.Heads.{IsHead}
+use Rattle.smp_log.specs.Reading.{behind, numbers_of, value_of, step_line, step_value, after_line}
+use Rattle.smp_log.specs.SectionLogs.{placed, sectioned_head, IsSectionedGenuine}
+use Rattle.smp_log.specs.SectionReading.{stratum_line, done_line}
+use Rattle.smp_log.specs.Told.{path_along, path_told}
+use Rattle.smp_log.proofs.Texts.{cut_parts, whole_lines-cons, whole_lines-text}
+use Rattle.smp_log.proofs.FirstLines.{first_is}
+use Rattle.smp_log.proofs.Described.{whole_text}
+use Rattle.smp_log.proofs.OnePath.{entry_is, value_read}
+use Rattle.smp_log.proofs.Paths.{full_path_leads}
+use Rattle.smp_log.proofs.Telling.{IsTold, none_along, step_along}
+use Rattle.smp_log.proofs.SectionLines.{open_lines, inside_lines, open_lines-enter, inside_lines-step, inside_lines-leave, placed_from, later_section, done_here}
+use Rattle.smp_log.proofs.KeptSections.{sectioned_head_lines, sectioned_head_lines_are, sectioned_head-text, log_lines, log_lines_are}
+
+-- ---- lines that are no steps
+
+-- a line is that of no step
+abbrev pub IsNoStep : List ℕ → Type 0
+IsNoStep line = (kind : Kind) → behind (kind_word kind) line ≡ None
+
+stratum_no_step : (rest : List ℕ) (kind : Kind) → behind (kind_word kind) (codes "stratum " ++ rest) ≡ None
+stratum_no_step rest Order = refl
+stratum_no_step rest Pivot = refl
+stratum_no_step rest Lone = refl
+stratum_no_step rest System = refl
+stratum_no_step rest Support = refl
+stratum_no_step rest Offer = refl
+stratum_no_step rest Take = refl
+stratum_no_step rest Spent = refl
+stratum_no_step rest Choose = refl
+stratum_no_step rest Flight = refl
+stratum_no_step rest Drop = refl
+stratum_no_step rest Wide = refl
+
+done_no_step : (rest : List ℕ) (kind : Kind) → behind (kind_word kind) (codes "done " ++ rest) ≡ None
+done_no_step rest Order = refl
+done_no_step rest Pivot = refl
+done_no_step rest Lone = refl
+done_no_step rest System = refl
+done_no_step rest Support = refl
+done_no_step rest Offer = refl
+done_no_step rest Take = refl
+done_no_step rest Spent = refl
+done_no_step rest Choose = refl
+done_no_step rest Flight = refl
+done_no_step rest Drop = refl
+done_no_step rest Wide = refl
+
+pub stratum_is_no_step : (number place : ℕ) → IsNoStep (stratum_line number place)
+stratum_is_no_step number place kind = stratum_no_step (decimal number ++ 32 ∷ decimal place) kind
+
+pub done_is_no_step : (number steps : ℕ) → IsNoStep (done_line number steps)
+done_is_no_step number steps kind = done_no_step (decimal number ++ 32 ∷ decimal steps) kind
+
+no_value : (kind : Kind) (bound : ℕ) (line : List ℕ) → behind (kind_word kind) line ≡ None → step_value kind bound line ≡ None
+unfolding step_value
+no_value kind bound line none = ap (option_and_then (λ rest. option_and_then (value_of bound) (numbers_of rest))) none
+
+module _ {State : Type 0} (tree : Tree State) where
+  -- such a line is passed over
+  pub passed_over : (s : State) (line : List ℕ) (lines : List (List ℕ)) → IsNoStep line → path_along tree s (line ∷ lines) ≡ path_along tree s lines
+  passed_over s line lines none = elim (cases_Bool (tree.done s)) [
+    | inl e ↦ none_along tree s (line ∷ lines) e ∙ sym (none_along tree s lines e)
+    | inr e ↦ (let no : step_value (tree.kind s) (weight_sum (tree.parts s)) line ≡ None = no_value (tree.kind s) (weight_sum (tree.parts s)) line (none (tree.kind s)) in rw (path_along, e, no) refl)
+  ]
+
+-- ---- a replay that tells its steps
+
+-- what is told behind the head
+pub told_behind : {State : Type 0} (tree : Tree State) (from : State) (log head rest : List ℕ) → IsHead head → log ≡ sectioned_head head ++ rest → path_along tree from (whole_lines rest) ≡ path_told tree from log
+told_behind tree from log head rest h is =
+    sym (ap (path_told tree from) (is ∙ ap (λ (t : List ℕ). t ++ rest) (sectioned_head-text head h))
+    ∙ ap (λ (lines : List (List ℕ)). path_along tree from (drop 3 lines)) (whole_lines-text (sectioned_head_lines h) rest (sectioned_head_lines_are h)))
+
+-- a line that is no step was passed over
+pub passed_told : {State : Type 0} (tree : Tree State) (whole : List Entry) (old now : Option (List Entry)) (s : State) (wanted rest after : List ℕ) → IsTold tree whole old now s rest → after_line wanted rest ≡ Some after → IsNoStep wanted → IsTold tree whole old now s after
+passed_told tree whole old now s wanted rest after t some none =
+    let parts = cut_parts 10 rest (wanted, after) (first_is wanted rest after some) in
+    let lines : whole_lines rest ≡ wanted ∷ whole_lines after = ap whole_lines parts.0 ∙ whole_lines-cons wanted after parts.1 in
+    record {
+      path = t.path;
+      told = t.told;
+      along = ap (λ (p : List Entry). t.path ++ p) (sym (ap (path_along tree s) lines ∙ passed_over tree s wanted (whole_lines after) none)) ∙ t.along;
+    }
+
+-- ---- what a genuine log tells
+
+module _ {State : Type 0} (tree : Tree State) (belongs : State → Type 0) (lawful : Lawful tree belongs) (sections : Sectioning State) (sectioned : IsSectioned tree belongs sections) (from : State) (member : belongs from) where
+  abbrev Along : ℕ → Type 0
+  Along k = (h taken n : ℕ) (path : List Entry) (s leaf : State) → h + k ≡ sections.count → h ≤ sections.of s → belongs s → Leads tree s path leaf → tree.done leaf ≡ true → path_along tree s (open_lines h k taken n (placed tree sections s path)) ≡ path
+
+  leave_along : (k : ℕ) → Along k → (h taken n own : ℕ) (path : List Entry) (s leaf : State) → h + suc k ≡ sections.count → h < sections.of s → belongs s → Leads tree s path leaf → tree.done leaf ≡ true
+      → path_along tree s (inside_lines h k taken n own (placed tree sections s path)) ≡ path
+  leave_along k opens h taken n own path s leaf at less b leads done =
+      let steps : List (ℕ × Entry) = placed tree sections s path in
+      ap (path_along tree s) (inside_lines-leave h (sections.of s) k taken n own steps less (placed_from tree belongs lawful sections sectioned from member path s leaf b leads))
+      ∙ passed_over tree s (done_line (h + 1) own) (open_lines (h + 1) k taken n steps) (done_is_no_step (h + 1) own)
+      ∙ opens (h + 1) taken n path s leaf (omega arith) (omega arith) b leads done
+
+  inside_along : (k : ℕ) → Along k → (path : List Entry) (h taken n own : ℕ) (s leaf : State) → h + suc k ≡ sections.count → h ≤ sections.of s → belongs s → Leads tree s path leaf → tree.done leaf ≡ true
+      → path_along tree s (inside_lines h k taken n own (placed tree sections s path)) ≡ path
+  inside_along k opens [] h taken n own s leaf at le b leads done = none_along tree s (inside_lines h k taken n own []) (subst (λ t. tree.done t ≡ true) leads done)
+  inside_along k opens (l ∷ path) h taken n own s leaf at le b leads done = elim (cases_Bool (sections.of s == h)) [
+    | inl e ↦
+        (let is : sections.of s ≡ h = eqb-true (sections.of s) h e in
+        let t : State = picked s (tree.parts s) l.2 in
+        let within : l.2 < weight_sum (tree.parts s) = value_within tree belongs lawful s l leads.0 in
+        let b' : belongs t = picked_belongs tree belongs lawful s t l.2 b leads.0.going within refl in
+        let later : sections.of s ≤ sections.of t = later_section tree belongs lawful sections sectioned from member s l.2 b leads.0.going within in
+        let taken' : ℕ = taken + cond (nat_lt 1 l.1) 1 0 in
+        let lines : List (List ℕ) = inside_lines h k taken' (n + 1) (own + 1) (placed tree sections t path) in
+        ap (path_along tree s) (inside_lines-step h (sections.of s) k taken n own l (placed tree sections t path) is)
+        ∙ step_along tree s (step_line l) lines l.2 leads.0.going (value_read tree belongs lawful s l b leads.0)
+        ∙ ap (λ (e : Entry). e ∷ path_along tree t lines) (entry_is tree belongs lawful s l leads.0)
+        ∙ ap (λ (p : List Entry). l ∷ p) (inside_along k opens path h taken' (n + 1) (own + 1) t leaf at (omega arith) b' leads.1 done))
+    | inr e ↦ (let no : sections.of s ≢ h = eqb-false (sections.of s) h e in leave_along k opens h taken n own (l ∷ path) s leaf at (omega arith) b leads done)
+  ]
+
+  along : (k : ℕ) → Along k
+  along zero h taken n path s leaf at le b leads done =
+      let e : tree.done s ≡ true = done_here tree belongs lawful sections sectioned from member s b (omega arith) in
+      none_along tree s (open_lines h 0 taken n (placed tree sections s path)) e ∙ sym (ends_here path leads e)
+    where
+      ends_here : (path : List Entry) → Leads tree s path leaf → tree.done s ≡ true → path ≡ []
+      ends_here [] leads e = refl
+      ends_here (l ∷ path) leads e = absurd (let no : true ≡ false = sym e ∙ leads.0.going in cc)
+  along (suc k) h taken n path s leaf at le b leads done =
+      let steps : List (ℕ × Entry) = placed tree sections s path in
+      ap (path_along tree s) (open_lines-enter h (sections.of s) k taken n steps le (placed_from tree belongs lawful sections sectioned from member path s leaf b leads))
+      ∙ passed_over tree s (stratum_line (h + 1) taken) (inside_lines h k taken n 0 steps) (stratum_is_no_step (h + 1) taken)
+      ∙ inside_along k (along k) path h taken n 0 s leaf at le b leads done
+
+  -- a genuine log tells its own path
+  pub sectioned_told : (head log : List ℕ) → IsHead head → (leaf : State) (genuine : IsSectionedGenuine tree sections from head log leaf) → path_told tree from log ≡ genuine.path
+  sectioned_told head log h leaf genuine =
+      let path : List Entry = genuine.path in
+      let full = full_path_leads tree belongs lawful from leaf path member genuine.full in
+      let lines : List (List ℕ) = sectioned_head_lines h ++ open_lines 0 sections.count 0 0 (placed tree sections from path) in
+      let whole : whole_lines log ≡ lines = ap whole_lines (genuine.text ∙ log_lines tree belongs lawful sections sectioned from member head h path) ∙ whole_text lines (log_lines_are tree belongs lawful sections sectioned from member head h path) in
+      ap (λ (ls : List (List ℕ)). path_along tree from (drop 3 ls)) whole ∙ along sections.count 0 0 0 path from leaf (omega arith) (omega arith) member full.0 full.1

@@ -1,0 +1,177 @@
+use Rattle.std.proofs.Common.{◌≡◌, ℕ, ◌+◌, ◌++◌, Bool, true, false, Option, Some, None, option_map, length, Result, Err, rules, refl, sym, ap, ◌∙◌, subst, arith, length-append}
+use Rattle.std.specs.Prelude.{is_some, not}
+use Rattle.smp_split.specs.Trees.{weight_sum}
+use Rattle.smp_log.specs.Fronts.{IsWhole, StopsAt}
+use Rattle.smp_log.specs.Reading.{after_line, step_first}
+use Rattle.smp_log.specs.SectionLogs.{sectioned_head}
+use Rattle.smp_log.specs.SectionReading.{done_line}
+use Rattle.smp_log.specs.LoneSections.{SectionDiffers, HasSection, section_told}
+use Rattle.smp_log.specs.declared.fault.ReplayFault.TheVariants as ReplayFault
+use Rattle.smp_log.proofs.SectionReplays.{whole_sectioned_head}
+use Rattle.smp_log.proofs.LoneReplays.{stops, no_opening, opened, not_opened, enters, step_none, step_within, step_shorter, step_some, end_none, end_some}
+use Rattle.smp_log.proofs.LoneAnswers.{has_reading, has_told}
+use Rattle.smp_log.proofs.Telling.{none_told, step_told, all_told}
+use Rattle.smp_log.proofs.lone_section.replay_section_into.Goals as goal
+
+at_line : (Differs : ℕ → Type 0) (here line : ℕ) → Differs here → ◌≡◌ {A = Result (Unit {0}) ReplayFault.the_data} (Err (ReplayFault.Differs here)) (Err (ReplayFault.Differs line)) → Differs line
+at_line Differs here line differs is = (let same : here ≡ line = cc in subst Differs same differs)
+
+none_from : {A : Type 0} (o : Option A) (t : Bool) → is_some o ≡ not t → t ≡ true → o ≡ None
+none_from None t is e = refl
+none_from (Some x) t is e = absurd (let f : true ≡ false = is ∙ ap not e in cc)
+
+some_from : {A : Type 0} (o : Option A) (t : Bool) → is_some o ≡ not t → t ≡ false → (v : A) × (o ≡ Some v)
+some_from None t is e = absurd (let f : false ≡ true = is ∙ ap not e in cc)
+some_from (Some x) t is e = (x, refl)
+
+pub after_front-requires : goal.after_front-requires
+after_front-requires g c = subst IsWhole (sym c.sectioned.ensures.bytes) (whole_sectioned_head c.args.head.now c.sectioned.ensures.lines)
+
+pub returns-in-Err : goal.returns-in-Err
+returns-in-Err g c =
+    let tree = g.S.Splitting.tree c.args.run.now in
+    let belongs = g.S.Splitting.belongs c.args.run.now in
+    let lawful = g.met.S.Splitting.lawful c.args.run.now in
+    let differs = stops tree belongs lawful c.args.state.now c.requires.state c.args.head.now c.args.number c.args.log.now c.in-Err.line c.sectioned.ensures.lines (subst (λ h. StopsAt h c.args.log.now c.in-Err.line) c.sectioned.ensures.bytes c.in-Err.ensures.stops) in
+    record {
+      section = search rules;
+      told = search rules;
+      done = search rules;
+      may_refuse = search rules;
+      differs = λ line is. at_line (SectionDiffers tree c.args.state.now c.args.head.now c.args.number c.args.log.now) (c.in-Err.line) line differs.differs is;
+      reading = differs.reads;
+      belongs = c.requires.state;
+    }
+
+pub opening-requires : goal.opening-requires
+opening-requires g c =
+    let size : length c.args.log.now ≡ length c.sectioned.result + length c.in-Ok.rest.now = ap length c.in-Ok.ensures.front ∙ length-append c.sectioned.result c.in-Ok.rest.now in
+    omega (arith, size)
+
+pub returns-in-Err-opening : goal.returns-in-Err-opening
+returns-in-Err-opening g c =
+    let tree = g.S.Splitting.tree c.args.run.now in
+    let belongs = g.S.Splitting.belongs c.args.run.now in
+    let lawful = g.met.S.Splitting.lawful c.args.run.now in
+    let head_is : c.args.log.now ≡ sectioned_head c.args.head.now ++ c.in-Ok.rest.now = c.in-Ok.ensures.front ∙ ap (λ h. h ++ c.in-Ok.rest.now) c.sectioned.ensures.bytes in
+    let differs = no_opening tree belongs lawful c.args.state.now c.requires.state c.args.head.now c.args.number c.args.log.now c.in-Ok.rest.now c.in-Err-opening.line c.sectioned.ensures.lines head_is c.in-Err-opening.ensures.none.0 c.in-Err-opening.ensures.none.1 in
+    record {
+      section = search rules;
+      told = search rules;
+      done = search rules;
+      may_refuse = search rules;
+      differs = λ line is. at_line (SectionDiffers tree c.args.state.now c.args.head.now c.args.number c.args.log.now) (c.in-Err-opening.line) line differs.differs is;
+      reading = differs.reads;
+      belongs = c.requires.state;
+    }
+
+pub returns-in_default : goal.returns-in_default
+returns-in_default g c =
+    let tree = g.S.Splitting.tree c.args.run.now in
+    let belongs = g.S.Splitting.belongs c.args.run.now in
+    let lawful = g.met.S.Splitting.lawful c.args.run.now in
+    let head_is : c.args.log.now ≡ sectioned_head c.args.head.now ++ c.in-Ok.rest.now = c.in-Ok.ensures.front ∙ ap (λ h. h ++ c.in-Ok.rest.now) c.sectioned.ensures.bytes in
+    let op = opened tree belongs lawful c.args.state.now c.requires.state c.args.head.now c.args.number c.args.log.now c.in-Ok.rest.now c.in-Ok-opening.found.0.now c.in-Ok-opening.found.1 c.sectioned.ensures.lines head_is c.in-Ok-opening.ensures.found in
+    let differs = not_opened tree belongs lawful c.args.state.now c.requires.state c.args.head.now c.args.number c.args.log.now c.sectioned.ensures.lines c.in-Ok.rest.now head_is c.in-Ok-opening.found.0.now c.in-Ok-opening.found.1 op (sym c.in_default.ensures) in
+    record {
+      section = search rules;
+      told = search rules;
+      done = search rules;
+      may_refuse = search rules;
+      differs = λ line is. at_line (SectionDiffers tree c.args.state.now c.args.head.now c.args.number c.args.log.now) (c.in-Ok-opening.found.1) line differs.differs is;
+      reading = differs.reads;
+      belongs = c.requires.state;
+    }
+
+pub loop-state-init : goal.loop-state-init
+loop-state-init g c =
+    let tree = g.S.Splitting.tree c.args.run.now in
+    let belongs = g.S.Splitting.belongs c.args.run.now in
+    let lawful = g.met.S.Splitting.lawful c.args.run.now in
+    let head_is : c.args.log.now ≡ sectioned_head c.args.head.now ++ c.in-Ok.rest.now = c.in-Ok.ensures.front ∙ ap (λ h. h ++ c.in-Ok.rest.now) c.sectioned.ensures.bytes in
+    let op = opened tree belongs lawful c.args.state.now c.requires.state c.args.head.now c.args.number c.args.log.now c.in-Ok.rest.now c.in-Ok-opening.found.0.now c.in-Ok-opening.found.1 c.sectioned.ensures.lines head_is c.in-Ok-opening.ensures.found in
+    let into = enters tree belongs lawful c.args.state.now c.requires.state c.args.head.now c.args.number c.args.log.now c.sectioned.ensures.lines c.in-Ok.rest.now head_is c.in-Ok-opening.found.0.now c.in-Ok-opening.found.1 op c.in-Some.rest.now (sym c.in-Some.ensures) in
+    (into.reads, none_told tree (section_told tree c.args.state.now c.args.number c.args.log.now) (g.T.Trace.lines c.args.trace.now) c.args.state.now c.in-Some.rest.now into.tells)
+
+pub returns-in_default-step_first : goal.returns-in_default-step_first
+returns-in_default-step_first g c =
+    let tree = g.S.Splitting.tree c.args.run.now in
+    let belongs = g.S.Splitting.belongs c.args.run.now in
+    let lawful = g.met.S.Splitting.lawful c.args.run.now in
+    let going : tree.done c.loop-state.state ≡ false = search rules in
+    let none : step_first (tree.kind c.loop-state.state) (weight_sum (tree.parts c.loop-state.state)) c.loop-state.rest.now ≡ None = rw (← c.kind-kind.ensures, ← c.bound-bound.ensures) (sym c.in_default-step_first.ensures) in
+    let differs = step_none tree belongs lawful c.args.state.now c.requires.state c.args.head.now c.args.number c.args.log.now c.in-Ok-opening.found.1 c.loop-state.own c.loop-state.state c.loop-state.rest.now c.loop-state.invariant.0 going none in
+    record {
+      section = search rules;
+      told = search rules;
+      done = search rules;
+      may_refuse = search rules;
+      differs = λ line is. at_line (SectionDiffers tree c.args.state.now c.args.head.now c.args.number c.args.log.now) (c.in-Ok-opening.found.1 + c.loop-state.own + 1) line differs.differs is;
+      reading = differs.reads;
+      belongs = c.loop-state.invariant.0.member;
+    }
+
+pub advance-requires-clause-within : goal.advance-requires-clause-within
+advance-requires-clause-within g c =
+    let tree = g.S.Splitting.tree c.args.run.now in
+    let belongs = g.S.Splitting.belongs c.args.run.now in
+    let lawful = g.met.S.Splitting.lawful c.args.run.now in
+    let found : step_first (tree.kind c.loop-state.state) (weight_sum (tree.parts c.loop-state.state)) c.loop-state.rest.now ≡ Some (c.in-Some-step_first.value, c.in-Some-step_first.after.now) = rw (← c.kind-kind.ensures, ← c.bound-bound.ensures) (sym c.in-Some-step_first.ensures) in
+    step_within tree belongs lawful c.args.state.now c.requires.state c.args.head.now c.args.number c.args.log.now c.in-Ok-opening.found.1 c.loop-state.own c.loop-state.state c.loop-state.rest.now c.loop-state.invariant.0 c.in-Some-step_first.value c.in-Some-step_first.after.now found
+
+pub loop-state-smaller : goal.loop-state-smaller
+loop-state-smaller g c =
+    let tree = g.S.Splitting.tree c.args.run.now in
+    let belongs = g.S.Splitting.belongs c.args.run.now in
+    let lawful = g.met.S.Splitting.lawful c.args.run.now in
+    let found : step_first (tree.kind c.loop-state.state) (weight_sum (tree.parts c.loop-state.state)) c.loop-state.rest.now ≡ Some (c.in-Some-step_first.value, c.in-Some-step_first.after.now) = rw (← c.kind-kind.ensures, ← c.bound-bound.ensures) (sym c.in-Some-step_first.ensures) in
+    step_shorter tree belongs lawful c.args.state.now c.requires.state c.args.head.now c.args.number c.args.log.now c.in-Ok-opening.found.1 c.loop-state.own c.loop-state.state c.loop-state.rest.now c.loop-state.invariant.0 c.in-Some-step_first.value c.in-Some-step_first.after.now found
+
+pub loop-state-preserved : goal.loop-state-preserved
+loop-state-preserved g c =
+    let tree = g.S.Splitting.tree c.args.run.now in
+    let belongs = g.S.Splitting.belongs c.args.run.now in
+    let lawful = g.met.S.Splitting.lawful c.args.run.now in
+    let going : tree.done c.loop-state.state ≡ false = search rules in
+    let found : step_first (tree.kind c.loop-state.state) (weight_sum (tree.parts c.loop-state.state)) c.loop-state.rest.now ≡ Some (c.in-Some-step_first.value, c.in-Some-step_first.after.now) = rw (← c.kind-kind.ensures, ← c.bound-bound.ensures) (sym c.in-Some-step_first.ensures) in
+    rw c.advance.ensures (
+      step_some tree belongs lawful c.args.state.now c.requires.state c.args.head.now c.args.number c.args.log.now c.in-Ok-opening.found.1 c.loop-state.own c.loop-state.state c.loop-state.rest.now c.loop-state.invariant.0 c.in-Some-step_first.value c.in-Some-step_first.after.now going found,
+      step_told tree (section_told tree c.args.state.now c.args.number c.args.log.now) (g.T.Trace.lines c.args.trace.now) (g.T.Trace.lines c.loop-state.trace) _ c.loop-state.state c.in-Some-step_first.value c.loop-state.rest.now c.in-Some-step_first.after.now c.loop-state.invariant.1 going found
+          (rw (c.kind-kind.ensures, c.bound-bound.ensures) at c.in_ok-line.ensures).ok,
+    )
+
+pub returns-then-is_none : goal.returns-then-is_none
+returns-then-is_none g c =
+    let tree = g.S.Splitting.tree c.args.run.now in
+    let belongs = g.S.Splitting.belongs c.args.run.now in
+    let lawful = g.met.S.Splitting.lawful c.args.run.now in
+    let done : tree.done c.loop-state.state ≡ true = search rules in
+    let none : after_line (done_line c.args.number c.loop-state.own) c.loop-state.rest.now ≡ None = sym c.after_numbers.ensures ∙ ap (option_map (λ r. r.now)) (none_from c.after_numbers.result c.is_none.result c.is_none.ensures c.if-is_none.true) in
+    let differs = end_none tree belongs lawful c.args.state.now c.requires.state c.args.head.now c.args.number c.args.log.now c.in-Ok-opening.found.1 c.loop-state.own c.loop-state.state c.loop-state.rest.now c.loop-state.invariant.0 done none in
+    record {
+      section = search rules;
+      told = search rules;
+      done = search rules;
+      may_refuse = search rules;
+      differs = λ line is. at_line (SectionDiffers tree c.args.state.now c.args.head.now c.args.number c.args.log.now) (c.in-Ok-opening.found.1 + c.loop-state.own + 1) line differs.differs is;
+      reading = differs.reads;
+      belongs = c.loop-state.invariant.0.member;
+    }
+
+pub returns : goal.returns
+returns g c =
+    let tree = g.S.Splitting.tree c.args.run.now in
+    let belongs = g.S.Splitting.belongs c.args.run.now in
+    let lawful = g.met.S.Splitting.lawful c.args.run.now in
+    let done : tree.done c.loop-state.state ≡ true = search rules in
+    let some = some_from c.after_numbers.result c.is_none.result c.is_none.ensures c.if-is_none.false in
+    let has : HasSection tree c.args.state.now c.args.head.now c.args.number c.args.log.now c.loop-state.state = end_some tree belongs lawful c.args.state.now c.requires.state c.args.head.now c.args.number c.args.log.now c.in-Ok-opening.found.1 c.loop-state.own c.loop-state.state c.loop-state.rest.now c.loop-state.invariant.0 some.0.now done (sym c.after_numbers.ensures ∙ ap (option_map (λ r. r.now)) some.1) in
+    record {
+      section = record { has = has; told = has_told tree belongs lawful c.args.state.now c.requires.state c.args.head.now c.args.number c.args.log.now c.loop-state.state has };
+      told = all_told tree (section_told tree c.args.state.now c.args.number c.args.log.now) (g.T.Trace.lines c.args.trace.now) (g.T.Trace.lines c.loop-state.trace) c.loop-state.state c.loop-state.rest.now c.loop-state.invariant.1 done;
+      done = done;
+      differs = search rules;
+      may_refuse = search rules;
+      reading = has_reading tree belongs lawful c.args.state.now c.requires.state c.args.head.now c.args.number c.args.log.now c.loop-state.invariant.0.is_head c.loop-state.state has;
+      belongs = c.loop-state.invariant.0.member;
+    }

@@ -1,0 +1,25 @@
+use Rattle.std.proofs.Common.{◌≡◌, List, ◌++◌, Option, Some, Err, ap, ◌∙◌, subst}
+use Rattle.smp_split.specs.Paths.{Entry}
+use Rattle.smp_log.specs.Genuine.{DiffersAt, IsFullPath, IsGenuine}
+use Rattle.smp_log.specs.Told.{path_told}
+use Rattle.smp_log.proofs.Paths.{one_end}
+use Rattle.smp_log.proofs.migrating.migrate.Goals as goal
+
+pub returns-in-Err-Differs-clause-differs : goal.returns-in-Err-Differs-clause-differs
+returns-in-Err-Differs-clause-differs g c line is =
+    let same : c.in-Err-Differs.line ≡ line = cc in
+    subst (DiffersAt (IsGenuine (g.S.Splitting.tree c.args.run.now) c.args.first.now c.args.head.now) c.args.log.now) same
+    (c.in-Err-Differs.ensures.differs c.in-Err-Differs.line (ap Err c.in-Err-Differs.field-0-is))
+
+same_lines : (p q : List Entry) → ◌≡◌ {A = Option (List Entry)} (Some p) (Some q) → p ≡ q
+same_lines p q h = cc
+
+pub returns-in-Ok-sectioned_log_bytes-clause-leaf : goal.returns-in-Ok-sectioned_log_bytes-clause-leaf
+returns-in-Ok-sectioned_log_bytes-clause-leaf g c =
+    let tree = g.S.Splitting.tree c.args.run.now in
+    let told = c.in-Ok.ensures.genuine in
+    let lines : c.replay_into.new.trace ≡ path_told tree c.args.first.now c.args.log.now = same_lines _ _ (c.in-Ok.ensures.told ∙ ap (λ (none : List Entry). Some (none ++ path_told tree c.args.first.now c.args.log.now)) c.new-lines.ensures) in
+    let written : IsFullPath tree c.args.first.now c.replay_into.new.trace c.sectioned_log_bytes.new.state =
+    subst (λ s. IsFullPath tree s c.replay_into.new.trace c.sectioned_log_bytes.new.state) c.requires.second c.in-Ok-sectioned_log_bytes.ensures.leaf in
+    one_end tree (g.S.Splitting.belongs c.args.run.now) (g.met.S.Splitting.lawful c.args.run.now) c.args.first.now c.sectioned_log_bytes.new.state c.replay_into.new.state c.replay_into.new.trace told.genuine.path c.requires.first
+    written told.genuine.full (lines ∙ told.told)

@@ -1,0 +1,138 @@
+-- The log of version 2, which has a part for each section of a design.
+use Rattle.std.specs.Prelude.{◌≡◌, ◌⊎◌, ℕ, ◌+◌, ◌==◌, nat_lt, if◌then◌else◌, List, [], ◌∷◌, ◌++◌, length, drop, codes}
+use Rattle.std.specs.List.{flat_map, range_with_len}
+use Rattle.std.specs.Fmt.{decimal}
+use Rattle.smp_split.specs.Trees.{Tree, picked}
+use Rattle.smp_split.specs.Paths.{Entry, values_of}
+use Rattle.smp_split.specs.Runs.{Outcome, run}
+use Rattle.smp_split.specs.Sectioning.{Sectioning}
+use Rattle.smp_tape.specs.Sources.{Source}
+use Rattle.smp_log.specs.Logs.{steps_text, end_text, log_text}
+use Rattle.smp_log.specs.Genuine.{IsFullPath, IsLogOf, IsToldLogOf}
+use Rattle.smp_log.specs.Told.{path_told}
+
+-- each step of a path, with the section of the state at which it is asked
+abbrev pub placed : {State : Type 0} → Tree State → Sectioning State → State → List Entry
+    → List (ℕ × Entry)
+placed tree sections s [] = []
+placed tree sections s (entry ∷ path) =
+    (sections.of s, entry) ∷ placed tree sections (picked s (tree.parts s) entry.2) path
+
+-- the steps of section h
+abbrev pub steps_in : ℕ → List (ℕ × Entry) → List Entry
+steps_in h [] = []
+steps_in h (step ∷ steps) = if step.0 == h then step.1 ∷ steps_in h steps else steps_in h steps
+
+-- the steps of the sections before section h
+abbrev pub steps_before : ℕ → List (ℕ × Entry) → List Entry
+steps_before h [] = []
+steps_before h (step ∷ steps) =
+    if nat_lt step.0 h then step.1 ∷ steps_before h steps else steps_before h steps
+
+-- the place on the tape behind some steps: how many of them have a bound of 2 or more
+abbrev pub tape_place : List Entry → ℕ
+tape_place path = length (values_of path)
+
+-- the line before the steps of a section: its number, and the place on the tape
+abbrev pub stratum_text : ℕ → ℕ → List ℕ
+stratum_text number place =
+    codes "stratum " ++ (decimal number ++ (codes " " ++ (decimal place ++ codes "\n")))
+
+-- the line behind them: its number, and how many steps it has
+abbrev pub done_text : ℕ → ℕ → List ℕ
+done_text number steps =
+    codes "done " ++ (decimal number ++ (codes " " ++ (decimal steps ++ codes "\n")))
+
+-- a section by its number, its place on the tape and its steps
+abbrev pub lone_text : ℕ → ℕ → List Entry → List ℕ
+lone_text number place path =
+    stratum_text number place ++ (steps_text path ++ done_text number (length path))
+
+-- section h of a path, counted from 0 here and from 1 in its lines
+abbrev pub section_text : List (ℕ × Entry) → ℕ → List ℕ
+section_text steps h =
+    lone_text (h + 1) (tape_place (steps_before h steps)) (steps_in h steps)
+
+-- the head of version 2: its first line has the number 2 in the place of 1
+abbrev pub sectioned_head : List ℕ → List ℕ
+sectioned_head head = codes "sampler-log 2\n" ++ drop 14 head
+
+-- the head, a section after the other, and the last line
+abbrev pub sections_text : List ℕ → ℕ → List (ℕ × Entry) → List ℕ
+sections_text head count steps =
+    sectioned_head head
+    ++ (flat_map (section_text steps) (range_with_len 0 count) ++ end_text (length steps))
+
+-- the log of version 2 of a path from a state
+abbrev pub sectioned_log_text : {State : Type 0} → Tree State → Sectioning State → State → List ℕ
+    → List Entry → List ℕ
+sectioned_log_text tree sections from head path =
+    sections_text head sections.count (placed tree sections from path)
+
+-- the path of a full tape from a state to some leaf
+pub record HasLeaf {State : Type 0} (tree : Tree State) (from : State) (path : List Entry)
+    : Type 0 where
+  pub leaf : State
+  pub full : IsFullPath tree from path leaf
+
+-- ---- genuine logs
+
+-- the bytes are the log of version 2 of a path
+abbrev pub IsSectionedText : {State : Type 0} → Tree State → Sectioning State → State → List ℕ
+    → List Entry → List ℕ → Type 0
+IsSectionedText tree sections from head path log =
+    log ≡ sectioned_log_text tree sections from head path
+
+-- they are its log of version 1 or of version 2
+abbrev pub IsAnyText : {State : Type 0} → Tree State → Sectioning State → State → List ℕ
+    → List Entry → List ℕ → Type 0
+IsAnyText tree sections from head path log =
+    (log ≡ log_text head path) ⊎ (log ≡ sectioned_log_text tree sections from head path)
+
+-- the bytes are the log of the path of a full tape, of version 2
+abbrev pub IsSectionedGenuine : {State : Type 0} → Tree State → Sectioning State → State → List ℕ
+    → List ℕ → State → Type 0
+IsSectionedGenuine tree sections from head log leaf =
+    IsLogOf (IsSectionedText tree sections from head) tree from log leaf
+
+-- they are its log of version 1 or of version 2
+abbrev pub IsAnyGenuine : {State : Type 0} → Tree State → Sectioning State → State → List ℕ
+    → List ℕ → State → Type 0
+IsAnyGenuine tree sections from head log leaf =
+    IsLogOf (IsAnyText tree sections from head) tree from log leaf
+
+-- so, and the path is the one that the log tells
+abbrev pub IsToldSectioned : {State : Type 0} → Tree State → Sectioning State → State → List ℕ
+    → List ℕ → State → Type 0
+IsToldSectioned tree sections from head log leaf =
+    IsToldLogOf (IsSectionedText tree sections from head) tree from log leaf
+
+abbrev pub IsToldAny : {State : Type 0} → Tree State → Sectioning State → State → List ℕ
+    → List ℕ → State → Type 0
+IsToldAny tree sections from head log leaf =
+    IsToldLogOf (IsAnyText tree sections from head) tree from log leaf
+
+-- A log that is genuine in either version is that of one path alone, which it tells and which leads to one leaf.
+pub record IsOnePathed {State : Type 0} (tree : Tree State) (sections : Sectioning State)
+    (from : State) (head log : List ℕ) : Type 0 where
+  pub one_path : (a b : State) (first : IsAnyGenuine tree sections from head log a)
+      (second : IsAnyGenuine tree sections from head log b) → first.path ≡ second.path
+  pub one_leaf : (a b : State) → IsAnyGenuine tree sections from head log a
+      → IsAnyGenuine tree sections from head log b → a ≡ b
+  pub told : (leaf : State) (genuine : IsAnyGenuine tree sections from head log leaf)
+      → path_told tree from log ≡ genuine.path
+
+-- a path has a leaf, and its log of version 2 is genuine with this leaf
+pub record IsSectionedRun {State : Type 0} (tree : Tree State) (sections : Sectioning State)
+    (from : State) (head : List ℕ) (path : List Entry) (leaf : State) : Type 0 where
+  pub has_leaf : HasLeaf tree from path
+  pub genuine : IsSectionedGenuine tree sections from head
+      (sectioned_log_text tree sections from head path) leaf
+
+-- so it is where a run over a source comes to the leaf along the path
+abbrev pub IsRunSectioned : {State Rest : Type 0} → Source Rest → Tree State → Sectioning State
+    → State → Rest → List ℕ → Type 0
+IsRunSectioned {State} {Rest} source tree sections from rest head =
+    (path : List Entry) (leaf : State) (left : Rest)
+    → run source tree from rest ≡ Outcome.leaf leaf path left
+    → IsSectionedRun tree sections from head path leaf

@@ -1,0 +1,162 @@
+ghost use Rattle.std.specs.Prelude.{◌≡◌, ◌+◌, ◌<◌, ◌^◌, ℕ, true, Err, IfOk, IfErr, OnOk, length, option_map};
+ghost use Rattle.smp_split.specs.Runs.{and_then};
+ghost use Rattle.smp_log.specs.Answers.{AnswersAs, answer_at};
+ghost use Rattle.smp_log.specs.Lines.{whole_lines};
+ghost use Rattle.smp_log.specs.LoneSections as LoneSections;
+ghost use Rattle.smp_log.specs.LoneSections.{HasSection, HasToldSection, NoneOpens, SectionDiffers, SkipsTo, opening_words, section_reading, section_told};
+ghost use Rattle.smp_log.specs.Reading as Reading;
+ghost use Rattle.smp_log.specs.declared.fault.LogFault.TheVariants as LogFault;
+ghost use Rattle.smp_log.specs.declared.fault.ReplayFault.TheVariants as ReplayFault;
+
+use crate::lines::{after_numbers, behind, step_first, written};
+use crate::replaying::after_front;
+use crate::{Head, LogFault, ReplayFault};
+use smp_lines::cut_before;
+use smp_split::{NoTrace, Sections, Trace};
+
+/// Replays one section of a log of version 2, from the state in which the design of that section alone begins. Sections
+/// are numbered from 1, as in the log. The section stands from its opening line on, the first whole line that begins with
+/// `stratum`, this number and a blank. No other section is read, and any bytes may follow. No memory is taken.
+///
+/// `Ok` comes exactly where the first three lines are those of version 2 and a genuine section stands from the opening line
+/// on. The state is then its leaf. The section's place on the tape isn't compared. Otherwise [`LogFault::Differs`] names
+/// the first of the three lines that is another; or the line behind the last whole one, where there is no opening line; or
+/// the first line from the opening line on with which no genuine section goes on.
+pub fn replay_section<S: Sections>(
+    run: &S,
+    state: &mut S::State,
+    head: &Head,
+    number: usize,
+    log: &[u8],
+) -> Result<(), LogFault>
+    requires state { S.belongs run.now state.old }
+    requires one { (S.sectioning run.now).count ≡ 1 }
+    ensures section { OnOk result
+        (HasSection (S.tree run.now) state.old head.now number log.now state.new) }
+    ensures differs { (line : ℕ) → result ≡ Err (LogFault.Differs line)
+        → SectionDiffers (S.tree run.now) state.old head.now number log.now line }
+    ensures done { OnOk result ((S.tree run.now).done state.new ≡ true) }
+    ensures belongs { S.belongs run.now state.new }
+
+    // The same as a function of the bytes.
+    ensures reading { answer_at result state.new
+        ≡ section_reading (S.tree run.now) state.old head.now number log.now }
+{
+    match replay_section_into(run, state, head, number, log, &mut NoTrace) {
+        Ok(()) => Ok(()),
+        Err(ReplayFault::Differs { line }) => Err(LogFault::Differs { line }),
+        Err(ReplayFault::NoMemory) => unreachable!(),
+    }
+}
+
+/// Replays one section as [`replay_section`] does, and tells each of its steps to a trace, in their order.
+///
+/// Want of memory comes only where the trace may refuse a line.
+pub fn replay_section_into<S: Sections, T: Trace>(
+    run: &S,
+    state: &mut S::State,
+    head: &Head,
+    number: usize,
+    log: &[u8],
+    trace: &mut T,
+) -> Result<(), ReplayFault>
+    requires state { S.belongs run.now state.old }
+    requires one { (S.sectioning run.now).count ≡ 1 }
+    ensures section { OnOk result (HasToldSection (S.tree run.now) state.old head.now number log.now
+        (section_told (S.tree run.now) state.old number log.now) state.new) }
+    ensures told { OnOk result (T.lines trace.new
+        ≡ and_then (T.lines trace.old) (section_told (S.tree run.now) state.old number log.now)) }
+    ensures differs { (line : ℕ) → result ≡ Err (ReplayFault.Differs line)
+        → SectionDiffers (S.tree run.now) state.old head.now number log.now line }
+    ensures may_refuse { result ≡ Err ReplayFault.NoMemory → T.may_refuse ≡ true }
+    ensures done { OnOk result ((S.tree run.now).done state.new ≡ true) }
+    ensures belongs { S.belongs run.now state.new }
+
+    // The same as a function of the bytes.
+    ensures reading { AnswersAs result state.new
+        (section_reading (S.tree run.now) state.old head.now number log.now) }
+{
+    let sections = match after_front(log, &head.sectioned()) {
+        Ok(rest) => rest,
+        Err(line) => return Err(ReplayFault::Differs { line }),
+    };
+    let (section, at) = match opening(sections, number, 4) {
+        Ok(found) => found,
+        Err(line) => return Err(ReplayFault::Differs { line }),
+    };
+    let Some(mut rest) = after_opening(section, number) else {
+        return Err(ReplayFault::Differs { line: at });
+    };
+    let mut own = 0;
+    while !run.done(state) {
+        let kind = run.kind(state);
+        let bound = run.bound(state);
+        let Some((value, after)) = step_first(rest, kind, bound) else {
+            return Err(ReplayFault::Differs { line: at + own + 1 });
+        };
+        trace.line(kind, bound, value)?;
+        run.advance(state, value);
+        rest = after;
+        own += 1;
+    }
+    if after_numbers(rest, b"done ", number as u64, own).is_none() {
+        return Err(ReplayFault::Differs { line: at + own + 1 });
+    }
+    Ok(())
+}
+
+// What stands from the opening line on, and its number, where the text begins with the line of this number. Otherwise the
+// number of the line behind the last whole one.
+fn opening(text: &[u8], number: usize, at: u64) -> Result<(&[u8], u64), u64>
+    requires { at + length text.now < 2 ^ 64 }
+    ensures found { IfOk result (λ p. SkipsTo number text.now at p.0.now p.1) }
+    ensures none { IfErr result (λ line. NoneOpens number (whole_lines text.now)
+        × (line ≡ at + length (whole_lines text.now))) }
+{
+    let mut rest = text;
+    let mut there = at;
+    while let Some((line, after)) = cut_before(rest, b'\n') {
+        if behind_opening(line, number).is_some() {
+            return Ok((rest, there));
+        }
+        rest = after;
+        there += 1;
+    }
+    Err(there)
+}
+
+// What stands behind the first words of the opening line of a section.
+fn behind_opening<'a>(line: &'a [u8], number: usize) -> Option<&'a [u8]>
+    ensures { option_map (λ rest. rest.now) result
+        ≡ Reading.behind (opening_words number) line.now }
+{
+    let Some(numbers) = behind(line, b"stratum ") else {
+        return None;
+    };
+    let Some((first, rest)) = cut_before(numbers, b' ') else {
+        return None;
+    };
+    if written(first) == Some(number as u128) {
+        Some(rest)
+    } else {
+        None
+    }
+}
+
+// The place on the tape of an opening line.
+fn place_of(line: &[u8], number: usize) -> Option<u128>
+    ensures { result ≡ LoneSections.place_of number line.now }
+{
+    let text = behind_opening(line, number)?;
+    let place = written(text)?;
+    if place < 1 << 64 { Some(place) } else { None }
+}
+
+// What stands behind a first line that is an opening line with a place on the tape.
+fn after_opening<'a>(text: &'a [u8], number: usize) -> Option<&'a [u8]>
+    ensures { option_map (λ rest. rest.now) result ≡ LoneSections.opening_first number text.now }
+{
+    let (line, after) = cut_before(text, b'\n')?;
+    place_of(line, number)?;
+    Some(after)
+}

@@ -1,0 +1,51 @@
+ghost use Rattle.std.specs.Prelude.{◌≡◌, ℕ, Err, IfOk, OnOk};
+ghost use Rattle.smp_log.specs.Answers.{MigratesAs, log_reading};
+ghost use Rattle.smp_log.specs.Genuine.{DiffersAt, IsGenuine, IsToldGenuine};
+ghost use Rattle.smp_log.specs.SectionLogs.{sectioned_log_text};
+ghost use Rattle.smp_log.specs.Told.{path_told};
+ghost use Rattle.smp_log.specs.declared.fault.MigrateFault.TheVariants as MigrateFault;
+
+use crate::section_writing::sectioned_log_bytes;
+use crate::{Head, MigrateFault, ReplayFault, replay_into};
+use smp_frac::Bytes;
+use smp_split::{Lines, Sections};
+use std::alloc::Global;
+
+/// The log of version 2 for a genuine log of version 1: that of the same path. Both states are the one in which the log
+/// began.
+///
+/// [`MigrateFault::Differs`] comes exactly where the log isn't genuine of version 1. After `Ok` both states are the leaf.
+pub fn migrate<S: Sections>(
+    alloc: Global,
+    run: &S,
+    first: &mut S::State,
+    second: &mut S::State,
+    head: &Head,
+    log: &[u8],
+) -> Result<Bytes, MigrateFault>
+    requires first { S.belongs run.now first.old }
+    requires second { second.old ≡ first.old }
+    ensures genuine { OnOk result
+        (IsToldGenuine (S.tree run.now) first.old head.now log.now first.new) }
+    ensures text { IfOk result (λ text. text
+        ≡ sectioned_log_text (S.tree run.now) (S.sectioning run.now) first.old head.now
+        (path_told (S.tree run.now) first.old log.now)) }
+    ensures leaf { OnOk result (second.new ≡ first.new) }
+    ensures differs { (line : ℕ) → result ≡ Err (MigrateFault.Differs line)
+        → DiffersAt (IsGenuine (S.tree run.now) first.old head.now) log.now line }
+
+    // The same as a function of the bytes.
+    ensures reading { MigratesAs result first.new
+        (log_reading (S.tree run.now) first.old head.now log.now) }
+{
+    let mut lines = Lines::new(alloc);
+    match replay_into(run, first, head, log, &mut lines) {
+        Ok(()) => {}
+        Err(ReplayFault::Differs { line }) => return Err(MigrateFault::Differs { line }),
+        Err(ReplayFault::NoMemory) => return Err(MigrateFault::NoMemory),
+    }
+    match sectioned_log_bytes(alloc, run, second, head, &lines) {
+        Ok(text) => Ok(text),
+        Err(_) => Err(MigrateFault::NoMemory),
+    }
+}

@@ -1,0 +1,69 @@
+ghost use Rattle.smp_log.specs.Answers.{IsExactAnswer};
+ghost use Rattle.smp_log.specs.LoneSections.{AreReplayedAlone, IsExactSection};
+ghost use Rattle.smp_log.specs.SectionLogs.{IsAnyGenuine, IsOnePathed, IsRunSectioned};
+ghost use Rattle.smp_log.specs.SectionReading.{any_reading};
+
+use crate::Head;
+use smp_split::{Sections, Splitting};
+use smp_tape::Draws;
+
+/// The log of version 2 of the path of a run, over whichever draws, is genuine, so
+/// [`replay_any`](crate::replay_any) accepts what was drawn. It runs nothing: its contract is the theorem.
+pub fn sectioned_runs_are_genuine<S: Sections, D: Draws>(
+    run: &S,
+    state: &S::State,
+    draws: &D,
+    head: &Head,
+)
+    requires { S.belongs run.now state.now }
+    ensures { IsRunSectioned D.source (S.tree run.now) (S.sectioning run.now) state.now
+        draws.now head.now }
+{}
+
+/// A log that is genuine in either version tells its path, and so its leaf and its steps. The answer of
+/// [`replay_any`](crate::replay_any) is a function of the bytes, and the right one. Nothing comes of the call: its
+/// contract is the theorem.
+pub fn any_logs_are_unambiguous<S: Sections>(run: &S, state: &S::State, head: &Head, log: &[u8])
+    requires { S.belongs run.now state.now }
+    ensures path { IsOnePathed (S.tree run.now) (S.sectioning run.now) state.now head.now log.now }
+    ensures reading { IsExactAnswer
+        (IsAnyGenuine (S.tree run.now) (S.sectioning run.now) state.now head.now) log.now
+        (any_reading (S.tree run.now) (S.sectioning run.now) state.now head.now log.now) }
+{
+    head.as_slice();
+}
+
+/// The answer of [`replay_section`](crate::replay_section) is a function of the bytes, and the right one. Nothing comes of
+/// the call: its contract is the theorem.
+pub fn section_answers_are_exact<S: Splitting>(
+    run: &S,
+    state: &S::State,
+    head: &Head,
+    number: usize,
+    log: &[u8],
+)
+    requires { S.belongs run.now state.now }
+    ensures { IsExactSection (S.tree run.now) state.now head.now number log.now }
+{
+    head.as_slice();
+}
+
+/// Each section of a genuine log of version 2 is replayed by the design of that section alone, which selects of its own
+/// units what the whole design does. Nothing comes of the call: its contract is the theorem.
+pub fn sections_are_replayed_alone<S: Sections, P: Splitting>(
+    run: &S,
+    state: &S::State,
+    part: &P,
+    start: &P::State,
+    head: &Head,
+    log: &[u8],
+)
+    requires whole { S.belongs run.now state.now }
+    requires part { P.belongs part.now start.now }
+    ensures { AreReplayedAlone (S.tree run.now) (S.belongs run.now) (S.sectioning run.now) state.now
+        head.now log.now (P.tree part.now) start.now }
+{
+    head.as_slice();
+    run.sections();
+    log.len();
+}
