@@ -7,3 +7,8 @@ pub mod Picks
 pub mod RequestedUnits
 pub mod Sizes
 pub mod Positions
+pub mod Multiples
+pub mod Numerators
+pub mod Draws
+pub mod Expected
+pub mod GivenUnits

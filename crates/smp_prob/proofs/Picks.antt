@@ -1,7 +1,8 @@
 -- The places and the sizes that a test picks.
 use Rattle.std.proofs.Common.{◌≡◌, ℕ, zero, suc, ◌+◌, ◌<◌, Bool, true, false, cond, not, nat_lt, ◌&&◌, List, [], ◌∷◌, length, get_or, arith, refl, sym, ap, ◌∙◌, inl, inr}
-use Rattle.std.specs.Prelude.{sum, sum_by, count_by, filter}
+use Rattle.std.specs.Prelude.{sum, sum_by, count_by, filter, All}
 use Rattle.std.proofs.lemmas.Bool.{cases_Bool, cases_eq, lt-ltb}
+use Rattle.std.proofs.lemmas.List.Elements.{All-cons, All-nil, All-weaker}
 use Rattle.std.proofs.lemmas.List.Sums.{sum_by-cons}
 use Rattle.smp_prob.specs.Requested.{places, positive_units}
 use Rattle.smp_prob.proofs.Sizes.{sum_by-plus}
@@ -74,3 +75,18 @@ positive-split p zs none = sum_by-plus (λ x. cond (p x) 1 0) (λ x. cond (nat_l
                 | inr fails ↦ rw (e, fails) refl
               ])
         ]
+
+-- the places that are picked are among those of the entries
+places_within : {A : Type 0} (test : A → Bool) (place : ℕ) (xs : List A) → All (λ unit. unit < place + length xs) (places test place xs)
+places_within test place [] = All-nil (λ unit. unit < place + 0)
+places_within test place (x ∷ xs) =
+    let rest : All (λ unit. unit < place + length (x ∷ xs)) (places test (place + 1) xs) =
+    All-weaker (λ unit. unit < place + 1 + length xs) (λ unit. unit < place + length (x ∷ xs)) (λ unit l. omega (arith, l)) (places test (place + 1) xs) (places_within test (place + 1) xs) in
+    elim (cases_Bool (test x)) [
+      | inl e ↦ rw e (All-cons (λ unit. unit < place + length (x ∷ xs)) place (places test (place + 1) xs) (omega arith) rest)
+      | inr e ↦ rw e rest
+    ]
+
+pub places_below : {A : Type 0} (test : A → Bool) (xs : List A) → All (λ unit. unit < length xs) (places test 0 xs)
+places_below test xs =
+    All-weaker (λ unit. unit < 0 + length xs) (λ unit. unit < length xs) (λ unit l. omega (arith, l)) (places test 0 xs) (places_within test 0 xs)

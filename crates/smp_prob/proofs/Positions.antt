@@ -3,6 +3,7 @@ use Rattle.std.proofs.Common.{◌≡◌, ◌≢◌, ℕ, zero, suc, ◌+◌, ◌
 use Rattle.std.specs.Prelude.{count_by, filter, position}
 use Rattle.std.specs.List.{position_or_len, range_with_len}
 use Rattle.std.proofs.Math.Seq.{take-length}
+use Rattle.std.proofs.lemmas.List.{get_or_past}
 use Rattle.std.proofs.lemmas.Bool.{cases_Bool, cases_eq, cases_lt, and_parts, and_right, and_cases, lt-ltb, le-ltb, eq-eqb, ne_eqb}
 use Rattle.std.proofs.lemmas.List.Elements.{All-get_or, filter_passes}
 use Rattle.std.specs.List.Sorted.{IsBinarySearchResult}
@@ -12,9 +13,10 @@ use Rattle.std.proofs.lemmas.List.Sums.{length-filter, sum_by-cons, position_or_
 use Rattle.smp_fractions.specs.Fractions.{Same, whole}
 use Rattle.smp_fractions.proofs.Fractions.{same_refl}
 use Rattle.smp_fractions.proofs.Over.{over_same}
+use Rattle.smp_prob.specs.declared.requests.Request.{Request}
 use Rattle.smp_prob.specs.declared.standings.Standing.TheVariants.{Certain, Free, Never}
 use Rattle.smp_prob.specs.Requested.{is_certain, is_free, certain_units, places, requested_of, requested_fraction}
-use Rattle.smp_prob.specs.Standings.{Rises, IsRising, standing, is_taken, count_taken, asked_fraction}
+use Rattle.smp_prob.specs.Standings.{Rises, AreApart, IsRising, standing, is_taken, count_taken, asked_fraction}
 use Rattle.smp_prob.specs.Kept.Cuts.{IsFeasible}
 use Rattle.smp_prob.specs.Requests.{IsRequest}
 use Rattle.smp_prob.proofs.RequestedUnits.{in_proportion}
@@ -90,11 +92,11 @@ places_rise test place (z ∷ zs) (suc i) (suc j) before l =
     ]
 
 -- a size that passes is the next one picked after those that pass before it
-record IsPicked (test : ℕ → Bool) (place : ℕ) (zs : List ℕ) (k : ℕ) : Type 0 where
-  within : count_by test (take k zs) < length (places test place zs)
-  at : get_or (places test place zs) (count_by test (take k zs)) 0 ≡ place + k
+pub record IsPicked (test : ℕ → Bool) (place : ℕ) (zs : List ℕ) (k : ℕ) : Type 0 where
+  pub within : count_by test (take k zs) < length (places test place zs)
+  pub at : get_or (places test place zs) (count_by test (take k zs)) 0 ≡ place + k
 
-picked : (test : ℕ → Bool) (place : ℕ) (zs : List ℕ) (k : ℕ) → k < length zs → test (get_or zs k 0) ≡ true → IsPicked test place zs k
+pub picked : (test : ℕ → Bool) (place : ℕ) (zs : List ℕ) (k : ℕ) → k < length zs → test (get_or zs k 0) ≡ true → IsPicked test place zs k
 picked test place [] k l h = absurd (omega (arith, l))
 picked test place (z ∷ zs) zero l h = record { within = rw h (omega arith); at = rw h (omega arith) }
 picked test place (z ∷ zs) (suc k) l h =
@@ -126,10 +128,7 @@ module _ (test : ℕ → Bool) (zs : List ℕ) (k : ℕ) (here : k < length zs) 
       let now : test (get_or zs k 0) ≡ true = ap test (sym same) ∙ holds in
       true≢false (sym now ∙ fails)))
 
--- ---- the units of a request in proportion to size
-
-pub is_ordered : (n : ℕ) (sizes : List ℕ) → IsRising (requested_of sizes n)
-is_ordered n sizes = record { certain = places_rise (is_certain n sizes) 0 sizes; free = places_rise (is_free n sizes) 0 sizes }
+-- ---- the units of a request that tests pick
 
 -- how many of the numbers below n pass a test
 abbrev count_below : ℕ → (ℕ → Bool) → ℕ
@@ -147,21 +146,90 @@ count_by-range test from (suc n) =
 count_range : (test : ℕ → Bool) (n : ℕ) → count_by test (range_with_len 0 n) ≡ count_below n test
 count_range test n = let all = count_by-range test 0 n in let none : 0 + n ≡ n = omega arith in omega (arith, all, ap (λ m. count_below m test) none)
 
+-- the certain units and the free ones are those that two tests pick
+pub record IsPickedBy (p q : ℕ → Bool) (zs : List ℕ) (request : Request) : Type 0 where
+  pub certain : request.certain ≡ places p 0 zs
+  pub free : request.free ≡ places q 0 zs
+  pub apart : (z : ℕ) → p z ≡ true → q z ≡ false
+
+module _ (p q : ℕ → Bool) (zs : List ℕ) (request : Request) (is : IsPickedBy p q zs request) where
+  module _ (k : ℕ) (here : k < length zs) where
+    pub stands_certain : p (get_or zs k 0) ≡ true → standing request k ≡ Certain
+    stands_certain certain = rw (is.certain, position-picked p zs k here certain) refl
+
+    pub stands_free : p (get_or zs k 0) ≡ false → q (get_or zs k 0) ≡ true → standing request k ≡ Free (count_by q (take k zs))
+    stands_free open_ free = rw (is.certain, is.free, position-left p zs k here open_, position-picked q zs k here free) refl
+
+    pub stands_never : p (get_or zs k 0) ≡ false → q (get_or zs k 0) ≡ false → standing request k ≡ Never
+    stands_never open_ none = rw (is.certain, is.free, position-left p zs k here open_, position-left q zs k here none) refl
+
+  -- a free unit stands as such
+  pub are_apart : q 0 ≡ false → AreApart request
+  are_apart none u l =
+      let there : u < length (places q 0 zs) = rw is.free at l in
+      let k : ℕ = get_or (places q 0 zs) u 0 in
+      let size : get_or (filter q zs) u 0 ≡ get_or zs k 0 = size_at_place q (λ j. get_or zs j 0) 0 zs (λ j. ap (λ (m : ℕ). get_or zs m 0) (omega arith)) u there in
+      let within : u < length (filter q zs) = omega (arith, there, length-places q 0 zs, length-filter q zs) in
+      let passes : q (get_or zs k 0) ≡ true = ap q (sym size) ∙ All-get_or (λ z. q z ≡ true) (filter q zs) u 0 within (filter_passes q zs) in
+      let here : k < length zs = elim (cases_lt k (length zs)) [
+        | inl before ↦ before
+        | inr past ↦ absurd (true≢false (sym passes ∙ ap q (get_or_past zs k 0 past) ∙ none))
+      ] in
+      let open_ : p (get_or zs k 0) ≡ false = elim (cases_Bool (p (get_or zs k 0))) [
+        | inl certain ↦ absurd (true≢false (sym passes ∙ is.apart (get_or zs k 0) certain))
+        | inr not_certain ↦ not_certain
+      ] in
+      rw (is.certain, is.free, position-left p zs k here open_, position-found (places q 0 zs) u k (places_rise q 0 zs) there refl) refl
+
+  -- the units that are selected are the certain ones, and those of the free ones that are drawn
+  count-taken : (drawn : ℕ → Bool) (k : ℕ) → k ≤ length zs → count_below k (λ unit. is_taken drawn (standing request unit)) ≡ count_by p (take k zs) + count_below (count_by q (take k zs)) drawn
+  count-taken drawn zero le = refl
+  count-taken drawn (suc k) le =
+      let here : k < length zs = omega (arith, le) in
+      let before = count-taken drawn k (omega arith) in
+      elim (cases_Bool (p (get_or zs k 0))) [
+        | inl certain ↦
+            (let more = rw add-one at (count_by_more_yes p zs k 0 here certain) in
+            let same = rw add-one at (count_by_more_no q zs k 0 here (is.apart (get_or zs k 0) certain)) in
+            rw (stands_certain k here certain, more, same) (omega (arith, before)))
+        | inr open_ ↦
+            (let same = rw add-one at (count_by_more_no p zs k 0 here open_) in
+            elim (cases_Bool (q (get_or zs k 0))) [
+              | inl free ↦
+                  (let more : count_by q (take (suc k) zs) ≡ suc (count_by q (take k zs)) = (rw add-one at (count_by_more_yes q zs k 0 here free)) ∙ omega arith in
+                  rw (stands_free k here open_ free, same, more) (omega (arith, before)))
+              | inr none ↦
+                  (let same' = rw add-one at (count_by_more_no q zs k 0 here none) in
+                  rw (stands_never k here open_ none, same, same') (omega (arith, before)))
+            ])
+      ]
+
+  pub count-selected : (drawn : ℕ → Bool) → count_taken request drawn (length zs) ≡ count_by p zs + count_by drawn (range_with_len 0 (length request.free))
+  count-selected drawn =
+      let all = count-taken drawn (length zs) (omega arith) in
+      let each : take (length zs) zs ≡ zs = take-length zs in
+      let total : count_below (length zs) (λ unit. is_taken drawn (standing request unit)) ≡ count_by p zs + count_below (count_by q zs) drawn =
+      all ∙ ap (λ (ys : List ℕ). count_by p ys + count_below (count_by q ys) drawn) each in
+      let free : count_by q zs ≡ length request.free = rw is.free (sym (length-places q 0 zs)) in
+      count_range (λ unit. is_taken drawn (standing request unit)) (length zs) ∙ total
+      ∙ ap (λ (m : ℕ). count_by p zs + count_below m drawn) free
+      ∙ ap (λ (m : ℕ). count_by p zs + m) (sym (count_range drawn (length request.free)))
+
+-- ---- the units of a request in proportion to size
+
+pub is_ordered : (n : ℕ) (sizes : List ℕ) → IsRising (requested_of sizes n)
+is_ordered n sizes = record { certain = places_rise (is_certain n sizes) 0 sizes; free = places_rise (is_free n sizes) 0 sizes }
+
 module _ (n : ℕ) (sizes : List ℕ) where
+  -- a unit that is certain isn't free
+  picked_by : IsPickedBy (is_certain n sizes) (is_free n sizes) sizes (requested_of sizes n)
+  picked_by = record { certain = refl; free = refl; apart = λ z certain. rw certain (and_right (nat_lt 0 z) false refl) }
+
+  pub apart_requested : AreApart (requested_of sizes n)
+  apart_requested = are_apart (is_certain n sizes) (is_free n sizes) sizes (requested_of sizes n) picked_by refl
+
   module _ (k : ℕ) (here : k < length sizes) where
-    stands_certain : is_certain n sizes (get_or sizes k 0) ≡ true → standing (requested_of sizes n) k ≡ Certain
-    stands_certain certain = rw (position-picked (is_certain n sizes) sizes k here certain) refl
-
-    stands_free : is_certain n sizes (get_or sizes k 0) ≡ false → is_free n sizes (get_or sizes k 0) ≡ true → standing (requested_of sizes n) k ≡ Free (count_by (is_free n sizes) (take k sizes))
-    stands_free open_ free = rw (position-left (is_certain n sizes) sizes k here open_, position-picked (is_free n sizes) sizes k here free) refl
-
-    stands_never : is_certain n sizes (get_or sizes k 0) ≡ false → is_free n sizes (get_or sizes k 0) ≡ false → standing (requested_of sizes n) k ≡ Never
-    stands_never open_ none = rw (position-left (is_certain n sizes) sizes k here open_, position-left (is_free n sizes) sizes k here none) refl
-
-    -- a unit that is certain isn't free, and one that is neither has no size
-    certain_not_free : is_certain n sizes (get_or sizes k 0) ≡ true → is_free n sizes (get_or sizes k 0) ≡ false
-    certain_not_free certain = rw certain (and_right (nat_lt 0 (get_or sizes k 0)) false refl)
-
+    -- and one that is neither has no size
     no_size : is_certain n sizes (get_or sizes k 0) ≡ false → is_free n sizes (get_or sizes k 0) ≡ false → nat_lt 0 (get_or sizes k 0) ≡ false
     no_size open_ none = elim (and_cases (nat_lt 0 (get_or sizes k 0)) (not (is_certain n sizes (get_or sizes k 0))) none) [
       | inl e ↦ e
@@ -172,7 +240,7 @@ module _ (n : ℕ) (sizes : List ℕ) where
     pub asked_is : IsRequest (requested_of sizes n) → IsFeasible n sizes → Same (asked_fraction (requested_of sizes n) k) (requested_fraction n sizes (get_or sizes k 0))
     asked_is is feasible =
         elim (cases_Bool (is_certain n sizes (get_or sizes k 0))) [
-          | inl certain ↦ rw (stands_certain certain, certain) (same_refl (whole 1))
+          | inl certain ↦ rw (stands_certain (is_certain n sizes) (is_free n sizes) sizes (requested_of sizes n) picked_by k here certain, certain) (same_refl (whole 1))
           | inr open_ ↦ elim (cases_Bool (is_free n sizes (get_or sizes k 0))) [
             | inl free ↦
                 (let some : nat_lt 0 (get_or sizes k 0) ≡ true = (and_parts _ _ free).0 in
@@ -181,42 +249,14 @@ module _ (n : ℕ) (sizes : List ℕ) where
                 let below = is.below_one (count_by (is_free n sizes) (take k sizes)) (omega (arith, is_picked.within, is.paired)) in
                 let share = feasible.below_one k free in
                 let cross = in_proportion n sizes (count_by (is_free n sizes) (take k sizes)) is_picked.within in
-                rw (stands_free open_ free, open_, some)
+                rw (stands_free (is_certain n sizes) (is_free n sizes) sizes (requested_of sizes n) picked_by k here open_ free, open_, some)
                 (over_same _ _ _ _ (omega (arith, below)) (omega (arith, share))
                 (cross ∙ ap (λ (u : ℕ). (n - certain_units n sizes) * get_or sizes u 0 * (requested_of sizes n).total) (is_picked.at ∙ omega arith))))
-            | inr none ↦ rw (stands_never open_ none, open_, no_size open_ none) (same_refl (whole 0))
+            | inr none ↦ rw (stands_never (is_certain n sizes) (is_free n sizes) sizes (requested_of sizes n) picked_by k here open_ none, open_, no_size open_ none) (same_refl (whole 0))
           ]
         ]
 
-  -- the units that are selected are the certain ones, and those of the free ones that are drawn
-  count-taken : (drawn : ℕ → Bool) (k : ℕ) → k ≤ length sizes → count_below k (λ unit. is_taken drawn (standing (requested_of sizes n) unit)) ≡ count_by (is_certain n sizes) (take k sizes) + count_below (count_by (is_free n sizes) (take k sizes)) drawn
-  count-taken drawn zero le = refl
-  count-taken drawn (suc k) le =
-      let here : k < length sizes = omega (arith, le) in
-      let before = count-taken drawn k (omega arith) in
-      elim (cases_Bool (is_certain n sizes (get_or sizes k 0))) [
-        | inl certain ↦
-            (let more = rw add-one at (count_by_more_yes (is_certain n sizes) sizes k 0 here certain) in
-            let same = rw add-one at (count_by_more_no (is_free n sizes) sizes k 0 here (certain_not_free k here certain)) in
-            rw (stands_certain k here certain, more, same) (omega (arith, before)))
-        | inr open_ ↦
-            (let same = rw add-one at (count_by_more_no (is_certain n sizes) sizes k 0 here open_) in
-            elim (cases_Bool (is_free n sizes (get_or sizes k 0))) [
-              | inl free ↦
-                  (let more : count_by (is_free n sizes) (take (suc k) sizes) ≡ suc (count_by (is_free n sizes) (take k sizes)) = (rw add-one at (count_by_more_yes (is_free n sizes) sizes k 0 here free)) ∙ omega arith in
-                  rw (stands_free k here open_ free, same, more) (omega (arith, before)))
-              | inr none ↦
-                  (let same' = rw add-one at (count_by_more_no (is_free n sizes) sizes k 0 here none) in
-                  rw (stands_never k here open_ none, same, same') (omega (arith, before)))
-            ])
-      ]
-
   pub count-drawn : IsFeasible n sizes → (drawn : ℕ → Bool) → count_by drawn (range_with_len 0 (length (requested_of sizes n).free)) ≡ (requested_of sizes n).r → count_taken (requested_of sizes n) drawn (length sizes) ≡ n
   count-drawn feasible drawn drawn_is =
-      let all = count-taken drawn (length sizes) (omega arith) in
-      let whole : take (length sizes) sizes ≡ sizes = take-length sizes in
-      let total : count_below (length sizes) (λ unit. is_taken drawn (standing (requested_of sizes n) unit)) ≡ certain_units n sizes + count_below (count_by (is_free n sizes) sizes) drawn =
-      all ∙ ap (λ (zs : List ℕ). count_by (is_certain n sizes) zs + count_below (count_by (is_free n sizes) zs) drawn) whole in
-      let free : count_below (count_by (is_free n sizes) sizes) drawn ≡ n - certain_units n sizes =
-      ap (λ (m : ℕ). count_below m drawn) (sym (length-places (is_free n sizes) 0 sizes)) ∙ sym (count_range drawn (length (places (is_free n sizes) 0 sizes))) ∙ drawn_is in
-      count_range (λ unit. is_taken drawn (standing (requested_of sizes n) unit)) (length sizes) ∙ total ∙ omega (arith, free, feasible.within)
+      count-selected (is_certain n sizes) (is_free n sizes) sizes (requested_of sizes n) picked_by drawn
+      ∙ omega (arith, drawn_is, feasible.within)

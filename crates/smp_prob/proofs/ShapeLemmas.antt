@@ -18,7 +18,7 @@ divides_first d (size ∷ sizes) =
     dvd_trans _ (divides_first (greatest_common_divisor d size) sizes) (IsGcd-greatest_common_divisor d size).0
 
 -- and each size
-divides_each : (d : ℕ) (sizes : List ℕ) (i : ℕ) → i < length sizes → fold greatest_common_divisor d sizes ∣ slice_index sizes i
+pub divides_each : (d : ℕ) (sizes : List ℕ) (i : ℕ) → i < length sizes → fold greatest_common_divisor d sizes ∣ slice_index sizes i
 divides_each d [] i h = absurd (omega (arith, h))
 divides_each d (size ∷ sizes) zero h =
     dvd_trans _ (divides_first (greatest_common_divisor d size) sizes) (IsGcd-greatest_common_divisor d size).1
@@ -33,7 +33,7 @@ sum-quotients g (size ∷ sizes) h =
     rw (sum_by-cons (λ (x : ℕ). x) (size / g) (map (λ size. size / g) sizes), sum_by-cons (λ (x : ℕ). x) size sizes) (omega (arith, rest, first))
 
 module _ (sizes : List ℕ) where
-  total-divisor : sum (shape_of sizes) * size_divisor sizes ≡ sum sizes
+  pub total-divisor : sum (shape_of sizes) * size_divisor sizes ≡ sum sizes
   total-divisor = sum-quotients (size_divisor sizes) sizes (divides_each 0 sizes)
 
   pub length-shape_of : length (shape_of sizes) ≡ length sizes
@@ -46,7 +46,7 @@ module _ (sizes : List ℕ) where
     shape-quotient : slice_index (shape_of sizes) i ≡ slice_index sizes i / size_divisor sizes
     shape-quotient = get_or-map (λ size. size / size_divisor sizes) sizes i 0 0 here
 
-    shape-divisor : slice_index (shape_of sizes) i * size_divisor sizes ≡ slice_index sizes i
+    pub shape-divisor : slice_index (shape_of sizes) i * size_divisor sizes ≡ slice_index sizes i
     shape-divisor = rw shape-quotient (div-mul_cancel (size_divisor sizes) (divides_each 0 sizes i here))
 
     shape-le-size : slice_index (shape_of sizes) i ≤ slice_index sizes i

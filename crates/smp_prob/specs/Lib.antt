@@ -1,6 +1,7 @@
 pub mod Shapes
 pub mod Requested
 pub mod Requests
+pub mod Given
 pub mod Shares
 pub mod Standings
 pub mod Kept

@@ -30,10 +30,10 @@ certain_units n sizes = count_by (is_certain n sizes) sizes
 abbrev pub open_total : ℕ → List ℕ → ℕ
 open_total n sizes = sum_by (λ x. if is_certain n sizes x then 0 else x) sizes
 
--- the places of the sizes that pass a test, where the first size has the given place
-abbrev pub places : (ℕ → Bool) → ℕ → List ℕ → List ℕ
+-- the places of the entries that pass a test, where the first entry has the given place
+abbrev pub places : {A : Type 0} → (A → Bool) → ℕ → List A → List ℕ
 places test place [] = []
-places test place (z ∷ zs) = if test z then place ∷ places test (place + 1) zs else places test (place + 1) zs
+places test place (x ∷ xs) = if test x then place ∷ places test (place + 1) xs else places test (place + 1) xs
 
 -- the sizes of the free units
 abbrev pub free_sizes : ℕ → List ℕ → List ℕ

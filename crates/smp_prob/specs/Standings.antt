@@ -1,5 +1,5 @@
 -- Where the units stand in a request, and the probability that it gives each of them.
-use Rattle.std.specs.Prelude.{ℕ, ◌*◌, ◌<◌, Bool, true, false, nat_eq, List, length, slice_index, position, is_some, Option, Some, None, if◌then◌else◌}
+use Rattle.std.specs.Prelude.{◌≡◌, ℕ, ◌*◌, ◌<◌, Bool, true, false, nat_eq, List, length, slice_index, position, is_some, Option, Some, None, if◌then◌else◌, All}
 use Rattle.std.specs.List.{count_by, range_with_len}
 use Rattle.smp_prob.specs.declared.requests.Request.{Request}
 use Rattle.smp_prob.specs.declared.standings.Standing.{Standing}
@@ -14,6 +14,11 @@ Rises units = (i j : ℕ) → i < j → j < length units → slice_index units i
 pub record IsRising (request : Request) : Type 0 where
   pub certain : Rises request.certain
   pub free : Rises request.free
+
+-- the certain units and the free ones are among so many units
+pub record AreBelow (units : ℕ) (request : Request) : Type 0 where
+  pub certain : All (λ unit. unit < units) request.certain
+  pub free : All (λ unit. unit < units) request.free
 
 -- a unit that isn't certain is one of the free units, or is never selected
 abbrev pub free_or_never : Option ℕ → Standing
@@ -34,6 +39,11 @@ is_taken drawn Never = false
 -- how many of the units below a number are selected
 abbrev pub count_taken : Request → (ℕ → Bool) → ℕ → ℕ
 count_taken request drawn units = count_by (λ unit. is_taken drawn (standing request unit)) (range_with_len 0 units)
+
+-- each free unit stands as such: none is certain too
+abbrev pub AreApart : Request → Type 0
+AreApart request = (place : ℕ) → place < length request.free
+    → standing request (slice_index request.free place) ≡ Free place
 
 -- the probability of the free unit at a place: shape * r / total
 abbrev pub free_fraction : Request → ℕ → Fraction

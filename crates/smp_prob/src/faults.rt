@@ -1,4 +1,5 @@
 ghost use Rattle.std.specs.Prelude.{◌≡◌};
+ghost use Rattle.smp_prob.specs.declared.faults.GivenFault.{GivenFault};
 ghost use Rattle.smp_prob.specs.declared.faults.ProbFault.{ProbFault};
 
 use smp_frac::NoMemory;
@@ -20,5 +21,22 @@ impl From<NoMemory> for ProbFault {
 
     fn from(_: NoMemory) -> Self {
         ProbFault::NoMemory
+    }
+}
+
+/// Why there is no request for given probabilities.
+#[derive(Clone, Copy, Debug, PartialEq, Eq)]
+pub enum GivenFault {
+    /// The least common multiple of their denominators passes 2,147,483,647.
+    Denominator,
+    /// Memory ran out.
+    NoMemory,
+}
+
+impl From<NoMemory> for GivenFault {
+    ghost from_gives = { λ _ fault. fault ≡ GivenFault.NoMemory };
+
+    fn from(_: NoMemory) -> Self {
+        GivenFault::NoMemory
     }
 }

@@ -4,6 +4,8 @@
 mod faults;
 mod lists;
 mod orders;
+mod picked;
+mod probabilities;
 mod proportional;
 mod requests;
 mod shapes;
@@ -11,9 +13,10 @@ mod standings;
 #[cfg(test)]
 mod tests;
 
-pub use faults::ProbFault;
+pub use faults::{GivenFault, ProbFault};
 pub use lists::{Places, Shapes};
 pub use orders::Order;
+pub use probabilities::{expected_size, given};
 pub use proportional::requested;
 pub use requests::Request;
 pub use standings::Standing;

@@ -7,9 +7,10 @@ ghost use Rattle.smp_prob.specs.Kept.Cuts as Cuts;
 ghost use Rattle.smp_prob.specs.Kept.Cuts.{IsFeasible, border};
 ghost use Rattle.smp_prob.specs.Requested.{is_certain, is_free, positive_units, places, free_sizes, requested_of, requested_fraction, IsFalling, IsLeastCut, FirstAreCertain};
 ghost use Rattle.smp_prob.specs.Requests.{IsRequest};
-ghost use Rattle.smp_prob.specs.Standings.{IsRising, count_taken, asked_fraction};
+ghost use Rattle.smp_prob.specs.Standings.{AreApart, IsRising, count_taken, asked_fraction};
 ghost use Rattle.smp_fractions.specs.Fractions.{Same};
 
+use crate::picked::{Picked, pick};
 use crate::shapes::{shape_of, sum_of};
 use crate::{Places, ProbFault, Request, Shapes};
 use smp_frac::NoMemory;
@@ -65,40 +66,6 @@ fn border_of(falling: &[u32], cut: usize) -> u32
     } else {
         falling[0] + 1
     }
-}
-
-#[derive(Drop)]
-struct Picked {
-    certain: Vec<usize>,
-    free: Vec<usize>,
-    free_sizes: Vec<u32>,
-}
-
-// The places of the sizes from the border on, and those of the other sizes above 0.
-fn pick(alloc: Global, sizes: &[u32], border: u32) -> Result<Picked, NoMemory>
-    ensures certain { IfOk result (λ picked.
-        picked.certain.items ≡ places (λ z. not (nat_lt z border)) 0 sizes.now) }
-    ensures free { IfOk result (λ picked.
-        picked.free.items ≡ places (λ z. nat_lt 0 z && nat_lt z border) 0 sizes.now) }
-    ensures free_sizes { IfOk result (λ picked.
-        picked.free_sizes.items ≡ filter (λ z. nat_lt 0 z && nat_lt z border) sizes.now) }
-{
-    let mut certain = Vec::new(alloc);
-    let mut free = Vec::new(alloc);
-    let mut free_sizes = Vec::new(alloc);
-    for (place, &size) in sizes.iter().enumerate() {
-        if size >= border {
-            certain.push(place)?;
-        } else if size > 0 {
-            free.push(place)?;
-            free_sizes.push(size)?;
-        }
-    }
-    Ok(Picked {
-        certain,
-        free,
-        free_sizes,
-    })
 }
 
 // The units that are certain, and those that are free.
@@ -178,6 +145,7 @@ pub fn requested(alloc: Global, sizes: &[u32], n: u32) -> Result<Request, ProbFa
         → count_by drawn (range_with_len 0 (length request.free)) ≡ request.r
         → count_taken request drawn (length sizes.now) ≡ n) }
     ensures ordered { IfOk result IsRising }
+    ensures apart { IfOk result AreApart }
     ensures none_free { IfOk result (λ request.
         length request.free ≡ 0 → (request.r ≡ 0) × (request.total ≡ 0)) }
 {

@@ -10,7 +10,10 @@ use std::alloc::{AllocError, Global};
 
 /// Requested inclusion probabilities: which units are certain, and which are free.
 ///
-/// The i-th free unit is selected with the probability `shape[i] * r / total`, in proportion to its size.
+/// The i-th free unit is selected with the probability `shape[i] * r / total`, in proportion to its shape. Where the
+/// probabilities of the free units have a whole sum, [`requested`](crate::requested) and [`given`](crate::given) set
+/// `r` to it, and `total` to the sum of the shapes. Where the sum isn't whole, `given` sets `total` to the least common
+/// multiple of the denominators, and `r` to the greatest common divisor of the numerators over it.
 #[derive(Debug, Drop)]
 pub struct Request {
     /// The units that are taken for sure.
@@ -19,9 +22,9 @@ pub struct Request {
     pub free: Places,
     /// A number for each free unit.
     pub shape: Shapes,
-    /// How many draws the free units share.
+    /// How many draws the free units share, where the shapes add up to the total; 0 where no unit is free.
     pub r: u32,
-    /// What the shapes are out of.
+    /// What `shape * r` is out of; 0 where no unit is free.
     pub total: u64,
 }
 

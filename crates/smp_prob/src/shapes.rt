@@ -13,7 +13,7 @@ pub(crate) fn sum_of(sizes: &[u32]) -> u64
 }
 
 // The greatest common divisor of all sizes; 0 where there are none.
-fn size_divisor(sizes: &[u32]) -> u128
+pub(crate) fn size_divisor(sizes: &[u32]) -> u128
     ensures { result ≡ Shapes.size_divisor sizes.now }
 {
     sizes

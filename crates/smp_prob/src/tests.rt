@@ -1,8 +1,10 @@
 ghost use Rattle.std.specs.Prelude.{◌≡◌, ◌^◌, ◌≤◌, ◌<◌, nat_lt, length, slice_index, EachIndex, IsTrue};
 ghost use Rattle.std.specs.List.{list_all};
 
-use crate::{ProbFault, Request, requested};
+use crate::{GivenFault, ProbFault, Request, expected_size, given, requested};
+use smp_frac::{Frac, NoMemory};
 use std::alloc::Global;
+use std::process::Abort;
 use std::test::Fail;
 
 #[test]
@@ -132,5 +134,66 @@ fn many_units_share_the_draws(rt: HostRuntime) -> Result<(), Fail> {
     assert!(rt; all.free.as_slice().is_empty());
     assert_eq!(rt; all.r, 0);
     assert_eq!(rt; all.total, 0);
+    Ok(())
+}
+
+// The request for units with these fractions, and how many of them are expected.
+fn given_numbers(
+    rt: &impl Abort,
+    alloc: Global,
+    numbers: &[(u128, u128)],
+) -> Result<(Request, Option<Frac>), GivenFault> {
+    let probs = fractions(alloc, numbers)?;
+    assert!(rt; probs.len() <= 200_000 && probs.iter().all(|prob| prob.num <= prob.den));
+    Ok((given(alloc, &probs)?, expected_size(&probs)))
+}
+
+fn fractions(alloc: Global, numbers: &[(u128, u128)]) -> Result<Vec<Frac>, NoMemory> {
+    let mut probs = Vec::new(alloc);
+    for &(num, den) in numbers {
+        if let Some(prob) = Frac::new(num, den) {
+            probs.push(prob)?;
+        }
+    }
+    Ok(probs)
+}
+
+#[test]
+fn a_whole_sum_is_drawn(rt: HostRuntime) -> Result<(), Fail> {
+    let alloc = rt.alloc();
+
+    let (equal, size) = given_numbers(&rt, alloc, &[(2, 3), (4, 6), (2, 3)])?;
+    assert!(rt; has(&equal, &[], &[0, 1, 2], &[1, 1, 1], 2, 3));
+    assert_eq!(rt; size, Frac::new(2, 1));
+    let numbers = [(3, 4), (1, 4), (1, 1), (0, 1), (1, 2), (1, 2)];
+    let (mixed, size) = given_numbers(&rt, alloc, &numbers)?;
+    assert!(rt; has(&mixed, &[2], &[0, 1, 4, 5], &[3, 1, 2, 2], 2, 8));
+    assert_eq!(rt; size, Frac::new(3, 1));
+    let (none_free, _) = given_numbers(&rt, alloc, &[(0, 7), (3, 3)])?;
+    assert!(rt; has(&none_free, &[1], &[], &[], 0, 0));
+    Ok(())
+}
+
+#[test]
+fn a_sum_that_is_not_whole_has_the_least_denominator(rt: HostRuntime) -> Result<(), Fail> {
+    let alloc = rt.alloc();
+
+    let (apart, size) = given_numbers(&rt, alloc, &[(1, 2), (1, 2), (1, 3)])?;
+    assert!(rt; has(&apart, &[], &[0, 1, 2], &[3, 3, 2], 1, 6));
+    assert_eq!(rt; size, Frac::new(4, 3));
+    let (divided, _) = given_numbers(&rt, alloc, &[(4, 9), (2, 3)])?;
+    assert!(rt; has(&divided, &[], &[0, 1], &[2, 3], 2, 9));
+    Ok(())
+}
+
+#[test]
+fn denominators_have_a_limit(rt: HostRuntime) -> Result<(), Fail> {
+    let alloc = rt.alloc();
+    let wide = given_numbers(&rt, alloc, &[(1, 65_536), (1, 65_535)]);
+    assert_eq!(rt; wide.err(), Some(GivenFault::Denominator));
+    let above = given_numbers(&rt, alloc, &[(1, 2_147_483_648)]);
+    assert_eq!(rt; above.err(), Some(GivenFault::Denominator));
+    let (last, _) = given_numbers(&rt, alloc, &[(1, 2_147_483_647)])?;
+    assert!(rt; has(&last, &[], &[0], &[1], 1, 2_147_483_647));
     Ok(())
 }

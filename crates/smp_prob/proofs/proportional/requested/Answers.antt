@@ -1,7 +1,7 @@
 use Rattle.std.proofs.Common.{refl, arith}
 use Rattle.smp_prob.proofs.FallingOrders.{first_are_certain}
 use Rattle.smp_prob.proofs.RequestedUnits.{length-certain, few_free, free_positive, free_small, nothing_left, IsRequest-requested_of}
-use Rattle.smp_prob.proofs.Positions.{is_ordered, asked_is, count-drawn}
+use Rattle.smp_prob.proofs.Positions.{is_ordered, apart_requested, asked_is, count-drawn}
 use Rattle.smp_prob.proofs.proportional.requested.Goals as goal
 
 pub request_of-requires-clause-few : goal.request_of-requires-clause-few
@@ -28,6 +28,9 @@ returns-clause-request c =
 
 pub returns-clause-ordered : goal.returns-clause-ordered
 returns-clause-ordered c = rw (returns-clause-value c) (is_ordered c.args.n c.args.sizes.now)
+
+pub returns-clause-apart : goal.returns-clause-apart
+returns-clause-apart c = rw (returns-clause-value c) (apart_requested c.args.n c.args.sizes.now)
 
 pub returns-clause-probabilities : goal.returns-clause-probabilities
 returns-clause-probabilities c =

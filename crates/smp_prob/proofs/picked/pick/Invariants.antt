@@ -1,7 +1,7 @@
 use Rattle.std.proofs.Common.{◌≡◌, ◌++◌, drop, not, nat_lt, ◌&&◌}
 use Rattle.std.specs.Prelude.{filter}
 use Rattle.smp_prob.specs.Requested.{places}
-use Rattle.smp_prob.proofs.proportional.pick.Given as goal
+use Rattle.smp_prob.proofs.picked.pick.Given as goal
 
 abbrev pub invariant-loop-place : goal.invariant-loop-place
 invariant-loop-place l = record {
