@@ -7,10 +7,10 @@ A case is one call: its words, the files that stand before it, and whether stand
 without `--program`, and the reference run it, and have to give the same exit code, the same output and the same files. Where they don't, the seed,
 the words and what differs are put, the files of the case are kept in a folder whose name is put, and the exit code is 1.
 
-Most frames and designs go together, so that draws are reached. Their tapes are made by the steps of the reference, with values of all sizes and at
-the borders of the parts to which they lead. Then some cases get faults: other keys, fields and words, missing files, bytes that are changed, taken
-out or doubled. A tape may be too short, too long, or have a value that its step doesn't take. A log is one of the reference's own draws by a seed, mostly
-with a line, a number or bytes changed.
+Most frames and designs go together, so that draws are reached. Nearly a third of the designs of one stage have a column of probabilities, whose sums
+are often whole. The tapes are made by the steps of the reference, with values of all sizes and at the borders of the parts to which they lead. Then some
+cases get faults: other keys, fields and words, missing files, bytes that are changed, taken out or doubled. A tape may be too short, too long, or have a
+value that its step doesn't take. A log is one of the reference's own draws by a seed, mostly with a line, a number or bytes changed.
 
 Python's tomllib reads TOML 1.0 but for the year 0 and the second 60, and the program reads TOML 1.1. Only this is counted apart: the reference
 alone refuses the design with 3.1, the design has a `\\e`, a `\\x`, a new line or a last comma in an inline table, a time without seconds or of
@@ -25,6 +25,7 @@ import shutil
 import subprocess
 import sys
 import tempfile
+from fractions import Fraction
 from unittest import mock
 
 sys.dont_write_bytecode = True
@@ -42,7 +43,11 @@ ODD_TEXTS = ("", " ", "a,b", 'say "so"', "größe", "two\nlines", "two\r\nlines"
              "é\u0301", "\ufeffid")
 ODD_NUMBERS = ("", " ", "-", "+1", "1 ", " 1", "1.0", "1e3", "0x1", "-0", "-1", "--1", "00", "0001", "٣", "²", "2147483647", "2147483648",
                "-2147483647", "-2147483648", "4294967297", "9" * 30, "0" * 30 + "5", "\ufeff1", "1_0", "one", '"1"')
-ODD_VALUES = ("true", "false", "0", "1", "-1", "+1", "2", "1.0", "1e2", "1e400", "-1e400", "1e-400", "nan", "inf", "100000", "100001", "9223372036854775807",
+ODD_FRACTIONS = ("", " ", "/", "1/", "/2", "0.5", "50%", " 1/2", "1/2 ", "1 /2", "1/2/3", "1//2", "-1/2", "1/-2", "+1/2", "0x1/2", "1e0", "\u0661/2", "\u00bd",
+                 "0", "1", "00", "01", "0/1", "1/1", "007/8", "3/6", "2/2", "0" * 40 + "1/2", "1/" + "0" * 40 + "3", "1/2147483647", "2147483646/2147483647",
+                 "2147483647/2147483647", "1/65536", "1/65535", "1/0", "0/0", "3/2", "2", "2147483647", "2147483647/2147483646", "1/2147483648", "2147483648",
+                 "2147483648/0", "2147483648/x", "1/" + "9" * 30, "9" * 30)
+ODD_VALUES = ("true", "false", "0", "1", "-1", "+1", "2", "1.0", "1e2", "1e400", "-1e400", "1e-400", "nan", "inf", "200000", "200001", "9223372036854775807",
               "9223372036854775808", "-9223372036854775808", "-9223372036854775809", "0b1", "0o1", "0x1", "1_0", "01", "1__0", "_1", "1.", ".1",
               '""', '"cube"', '"pivotal"', '"random"', '"frame"', "'id'", '"""id"""', "'''\nid'''", '"a\nb"', "'a\nb'", '"\\u0069d"',
               '"\\U00000069d"', '"\\uD800"', '"\\t"', '"\\q"', "[]", "{}", "[[]]", "[1]", '["x"]', '["x", 1]', '["x", "x"]', '["x",]',
@@ -51,7 +56,7 @@ ODD_VALUES = ("true", "false", "0", "1", "-1", "+1", "2", "1.0", "1e2", "1e400",
               "1979-05-27T07:32:00Z", "1979-05-27 07:32:00+25:00", "1979-05-27T07:32:00.123456789123-07:00",
               # Forms that tomllib doesn't read.
               "{a = 1,}", "{a = 1,\nb = 2}", '"\\x69d"', '"\\e"', "07:32", "07:32:60", "0000-01-01")
-ODD_LINES = ("n = 1", "n = 2", "version = 1", "version = 2", '"version" = 1', 'near = ["x"]', 'balance = ["x"]', 'stratum = "id"', 'size = "id"',
+ODD_LINES = ("n = 1", "n = 2", "version = 1", "version = 2", '"version" = 1', 'prob = "prob"', "prob = 1", 'near = ["x"]', 'balance = ["x"]', 'stratum = "id"', 'size = "id"',
              'order = "frame"', 'order = "random"', "second.n = 1", "second.extra = 1", "sizes.a = 1", "[sizes]", "[sizes.a]", "[second]",
              "[[second]]", "[second.psu]", "[a.b]\n[a]", "[a]\n[a]", "[a]\n[a.b]\n[a]", "[a.b]\n[a]\nb.c = 1", "[a]\nb.c = 1\n[a.b]", "[a]]",
              "[[a]]\n[[a]]", "[[a]]\n[a]", "a = []\n[[a]]", "a = {}\n[a.b]", "a = {}\na.b = 1", "[ a . b ]", "a.b = 1\na.c = 2", "a = 1\na.b = 2",
@@ -64,7 +69,7 @@ ODD_WORDS = (b"", b"-", b"--", b"---", b"-h", b"--help", b"-V", b"--version", b"
              b"--seed=" + b"0" * 64, b"--log=--log", b"--sample==", b"--size=1", b"--=x", b"\xff", b"--design=\xff", b"--\xff", b"\xef\xbb\xbf")
 COMMANDS = ("draw", "quick", "probs", "check", "replay", "demo", "seed")
 DRAW_FILES = ("design", "frame", "tape", "log", "sample")
-KINDS_OF_FAULTS = ("keys", "table", "tape", "words", "design bytes", "frame bytes", "tape bytes", "file")
+KINDS_OF_FAULTS = ("keys", "table", "fractions", "tape", "words", "design bytes", "frame bytes", "tape bytes", "file")
 
 
 class Case:
@@ -117,6 +122,37 @@ def maker_of_values(r):
     ))
 
 
+def share_of(r, most):
+    """A fraction from 0 to 1 with a denominator up to `most`, seldom one of the two ends."""
+    denominator = r.randint(2, most)
+    return Fraction(r.randint(0, denominator) if chance(r, 0.1) else r.randint(1, denominator - 1), denominator)
+
+
+def maker_of_fractions(r):
+    """A way of making probabilities."""
+    common = r.choice((2, 3, 4, 6, 10, 12, 20, 60, 100, 100, 1000, 10000, 65536, 2**20, 10**6, 2**31 - 1, 2**31 - 2))
+    same = share_of(r, 12)
+    return r.choice((
+        lambda: same,
+        lambda: Fraction(r.randint(1, common - 1), common),
+        lambda: Fraction(r.randint(0, common), common),
+        lambda: Fraction(r.randint(1, max(1, common // 10)), common),
+        lambda: share_of(r, 6),
+        lambda: share_of(r, 12),
+        lambda: share_of(r, 30),
+        lambda: Fraction(r.randint(0, 1)),
+        lambda: Fraction(1, r.choice((65535, 65536))),
+        lambda: Fraction(r.choice((1, 1, 1, 0)), r.choice((2, 3, 32768, 65535))),
+    ))
+
+
+def made_whole(r, fractions):
+    """Fractions whose sum is whole: one of them is made what the others leave of it."""
+    place = r.randrange(len(fractions))
+    rest = -sum(fractions[:place] + fractions[place + 1 :]) % 1
+    return fractions[:place] + [rest] + fractions[place + 1 :]
+
+
 def texts(r, front, count):
     """Different texts, mostly plain ones."""
     found = [f"{front}{place}" for place in range(count)]
@@ -133,8 +169,11 @@ class World:
         self.method = r.choice((*sampler.METHODS, "cube"))
         count = r.choice((1, 2, 3, 4, 5, 6, 7, 8, 10, 12, 14, 16, 20, 30, 60))
         self.two = self.method != "local_pivotal" and chance(r, 0.4)
+        self.version = r.randint(1, 2)
+        self.given = self.version == 2 and not self.two and chance(r, 0.6)
         self.columns = self.column_count(r, count)
         self.layout(r, count)
+        self.fractions = self.probabilities(r, count)
         self.fill(r, count)
         self.describe(r)
 
@@ -156,12 +195,23 @@ class World:
         if chance(r, 0.1):
             self.stratum_of[r.randrange(count)] = r.randrange(max(1, self.strata))
 
+    def probabilities(self, r, count):
+        """The probability of each row. Most strata have a whole sum where the method needs one, and half of them elsewhere."""
+        fractions = [None] * count
+        often = 0.9 if self.method in ("minimum_support", "brewer") else 0.5
+        for stratum in set(self.stratum_of):
+            maker, places = maker_of_fractions(r), [place for place in range(count) if self.stratum_of[place] == stratum]
+            own = [maker() for _ in places]
+            for place, fraction in zip(places, made_whole(r, own) if chance(r, often) else own):
+                fractions[place] = fraction
+        return fractions
+
     def fill(self, r, count):
         """The header and the rows."""
-        kinds = ["id", "stratum", "psu", "size", "second", "more"]
-        names = texts(r, "c", 6 + self.columns) if chance(r, 0.3) else kinds + [f"x{place}" for place in range(self.columns)]
+        kinds = ["id", "stratum", "psu", "size", "second", "more", "prob"]
+        names = texts(r, "c", 7 + self.columns) if chance(r, 0.3) else kinds + [f"x{place}" for place in range(self.columns)]
         self.names = dict(zip(kinds, names))
-        self.values = names[6:]
+        self.values = names[7:]
         self.unit_names, self.stratum_names = texts(r, "p", count), texts(r, "s", max(1, self.strata))
         size, second, values = maker_of_sizes(r), maker_of_sizes(r), [maker_of_values(r) for _ in range(self.columns)]
         self.sizes, self.second_sizes = [size() for _ in range(count)], [second() for _ in range(count)]
@@ -171,14 +221,14 @@ class World:
         rows = []
         for number, identity in enumerate(texts(r, "u", count)):
             whole = [identity, self.stratum_names[self.stratum_of[number]], self.unit_names[self.unit_of[number]], str(self.sizes[number]),
-                     str(self.second_sizes[number]), str(r.randrange(100))] + [str(value(self.sizes[number])) for value in values]
+                     str(self.second_sizes[number]), str(r.randrange(100)), written_fraction(r, self.fractions[number])] + [str(value(self.sizes[number])) for value in values]
             rows.append([whole[place] for place in places])
         self.header, self.rows = [names[place] for place in places], rows
 
     def describe(self, r):
         """The keys of the design."""
-        sized = chance(r, 0.6)
-        self.keys = {"version": "1", "method": written_text(r, self.method), "id": written_text(r, self.names["id"])}
+        sized = not self.given and chance(r, 0.6)
+        self.keys = {"version": str(self.version), "method": written_text(r, self.method), "id": written_text(r, self.names["id"])}
         self.tables = {}
         positive = collections.defaultdict(set)
         units = collections.defaultdict(set)
@@ -190,7 +240,9 @@ class World:
             self.keys["size"] = written_text(r, self.names["size"])
         if self.strata:
             self.keys["stratum"] = written_text(r, self.names["stratum"])
-        if self.strata and chance(r, 0.5):
+        if self.given:
+            self.keys["prob"] = written_text(r, self.names["prob"])
+        elif self.strata and chance(r, 0.5):
             self.tables["sizes"] = {}
             for place in units:
                 if not chance(r, 0.02):
@@ -232,6 +284,18 @@ def written_number(r, number):
     if chance(r, 0.8):
         return str(number)
     return r.choice((f"+{number}", f"{number:#x}", f"{number:#o}", f"{number:#b}", "_".join(str(number))))
+
+
+def written_fraction(r, fraction):
+    """A probability as a field of a frame, not always in lowest terms."""
+    times = r.choice((1, 1, 1, 1, 2, 3, 10))
+    numerator, denominator = fraction.numerator * times, fraction.denominator * times
+    if denominator > sampler.MOST_OF_A_SIZE:
+        numerator, denominator = fraction.numerator, fraction.denominator
+    if fraction.denominator == 1 and chance(r, 0.5):
+        return str(fraction.numerator)
+    zeros = "0" * r.randint(1, 3) if chance(r, 0.05) else ""
+    return f"{zeros}{numerator}/{zeros}{denominator}"
 
 
 def written_key(r, key):
@@ -431,20 +495,30 @@ def spoil_table(r, world):
         del rows[r.randrange(len(rows)) :]
 
 
+def spoil_fractions(r, world):
+    """Changes a few probabilities of a frame to others and to what is none."""
+    place = next((place for place, name in enumerate(world.header) if name == world.names["prob"]), None)
+    for row in r.choices(world.rows, k=r.choice((1, 1, 2, 5))):
+        if place is not None and place < len(row):
+            row[place] = r.choice(ODD_FRACTIONS)
+
+
 def spoil_keys(r, world):
     """Changes keys of a design. Gives lines that have to stand in it too."""
     tables = [world.keys, *world.tables.values()]
     table = r.choice(tables)
-    form = r.randrange(7)
-    if form == 0 and table:
+    form = r.randrange(8)
+    if form == 7:
+        world.keys["version"] = r.choice(("1", "2", "3", "0", "0x2", '"2"', "2.0", "true"))
+    elif form == 0 and table:
         del table[r.choice(list(table))]
     elif form <= 2 and table:
         table[r.choice(list(table))] = r.choice(ODD_VALUES)
     elif form == 3:
-        table[r.choice(("extra", "Extra", "psu", "near", "balance", "order", "n", "size", "stratum", "sizes", *ODD_TEXTS))] = r.choice(ODD_VALUES)
+        table[r.choice(("extra", "Extra", "psu", "near", "balance", "order", "n", "size", "stratum", "sizes", "prob", *ODD_TEXTS))] = r.choice(ODD_VALUES)
     elif form == 4:
-        key = r.choice(("n", "order", "balance", "near", "sizes", "second"))
-        value = {"n": "1", "order": '"random"', "sizes": "{s0 = 1}", "second": '{psu = "psu", method = "brewer", n = 1}'}.get(key, '["size"]')
+        key = r.choice(("n", "order", "balance", "near", "sizes", "second", "prob", "size"))
+        value = {"n": "1", "order": '"random"', "prob": '"prob"', "size": '"size"', "sizes": "{s0 = 1}", "second": '{psu = "psu", method = "brewer", n = 1}'}.get(key, '["size"]')
         if key not in world.tables:
             world.keys.setdefault(key, value)
     elif form == 5:
@@ -492,7 +566,7 @@ def number_word(r, n):
     """The N of `quick` as a word, mostly this one."""
     if chance(r, 0.9):
         return str(n)
-    return r.choice((f"00{n}", "0", "100000", "100001", "18446744073709551617", "+1", "-1", "", "x", "1.0", " 1", "٣"))
+    return r.choice((f"00{n}", "0", "200000", "200001", "18446744073709551617", "+1", "-1", "", "x", "1.0", " 1", "٣"))
 
 
 def words_of(r, command, names, n):
@@ -502,7 +576,7 @@ def words_of(r, command, names, n):
         words = [name["frame"], number_word(r, n).encode("utf-8"), name["tape"], name["sample"]]
         return [b"quick", *([b"--"] if any(word[:1] == b"-" for word in words) or chance(r, 0.03) else []), *words]
     if command == "demo":
-        return [b"demo", str(r.choice((29, 30, 31, 40, 100001))).encode("ascii"), str(r.choice((0, 1, 2**64 - 1, 2**64))).encode("ascii")]
+        return [b"demo", str(r.choice((29, 30, 31, 40, 100001, 200000))).encode("ascii"), str(r.choice((0, 1, 2**64 - 1, 2**64))).encode("ascii")]
     parts = {"draw": DRAW_FILES, "replay": ("design", "frame", "log", "sample"), "seed": ("design", "frame", "log", "sample")}
     options = option_words(r, {part: name[part] for part in parts.get(command, ("design", "frame"))})
     if command == "seed":
@@ -560,7 +634,7 @@ def faults_of(r):
     """The parts of a case that are spoiled."""
     if chance(r, 0.55):
         return set()
-    return set(r.choices(KINDS_OF_FAULTS, (5, 4, 4, 3, 3, 4, 2, 1), k=r.choice((1, 1, 1, 2))))
+    return set(r.choices(KINDS_OF_FAULTS, (5, 4, 4, 4, 3, 3, 4, 2, 1), k=r.choice((1, 1, 1, 2))))
 
 
 def made(seed):
@@ -575,6 +649,8 @@ def made(seed):
         world.names = {**world.names, "id": "id"}
     more = spoil_keys(r, world) if "keys" in faults else []
     design = written_design(r, world, more)
+    if "fractions" in faults:
+        spoil_fractions(r, world)
     if "table" in faults:
         spoil_table(r, world)
     frame = written_frame(r, world.header, world.rows)

@@ -8,7 +8,8 @@ sources alone, without a look at the program, and goes its own ways:
 - all numbers are whole numbers and fractions of any size, so that no limit of a machine's word can hide a fault;
 - a step makes the whole list of its parts, each a weight and the state that follows, and a number of the tape goes to the first part at which the
   cumulated weights pass it;
-- circuits and elimination tables are found from an inverse matrix in fractions, requested probabilities by the rule of the falling sizes itself.
+- circuits and elimination tables are found from an inverse matrix in fractions, requested probabilities by the rule of the falling sizes itself, and
+  given ones are kept as they are.
 
 It is slow: each step costs a time in proportion to the number of units. It is meant for frames of some hundred rows.
 
@@ -27,9 +28,11 @@ from collections import namedtuple
 from fractions import Fraction
 from math import gcd, lcm
 
-MOST_ROWS = 100_000
+MOST_ROWS = 200_000
+LEAST_OF_A_DEMONSTRATION, MOST_OF_A_DEMONSTRATION = 30, 100_000
 MOST_OF_A_SIZE = 2_147_483_647
-MOST_OF_A_FILE = 1_073_741_824
+MOST_OF_A_MULTIPLE = 2_147_483_647
+MOST_OF_A_FILE = 2_147_483_648
 MOST_OF_A_VECTOR = 2**44
 MOST_OF_A_DENOMINATOR = 2**80
 MOST_OF_AN_ESTIMATE = 2**126
@@ -141,8 +144,8 @@ def read_words(words):
         if len(alone) != 2 or options or not all(is_digits(word) for word in alone):
             raise usage
         names = []
-        given = {"n": number_up_to(alone[0], MOST_ROWS), "seed": number_up_to(alone[1], 2**64 - 1)}
-        if given["n"] is None or given["n"] < 30 or given["seed"] is None:
+        given = {"n": number_up_to(alone[0], MOST_OF_A_DEMONSTRATION), "seed": number_up_to(alone[1], 2**64 - 1)}
+        if given["n"] is None or given["n"] < LEAST_OF_A_DEMONSTRATION or given["seed"] is None:
             raise usage
     elif command in FILES:
         if alone or not any(set(options) == set(needed) for needed in FILES[command]):
@@ -165,12 +168,16 @@ def read_words(words):
 
 METHODS = ("pivotal", "systematic", "minimum_support", "brewer", "local_pivotal", "cube")
 SECOND_METHODS = ("pivotal", "systematic", "minimum_support", "brewer")
-KEYS = ("version", "method", "id", "stratum", "size", "n", "sizes", "order", "balance", "near", "second")
+KEYS = {
+    1: ("version", "method", "id", "stratum", "size", "n", "sizes", "order", "balance", "near", "second"),
+    2: ("version", "method", "id", "stratum", "size", "n", "sizes", "prob", "order", "balance", "near", "second"),
+}
 SECOND_KEYS = ("psu", "method", "n", "size")
+HOW_MANY = ("n", "sizes", "prob")
 
-Design = namedtuple("Design", "method order id stratum psu size second_size values n sizes second_method second_n")
+Design = namedtuple("Design", "method order id stratum psu size second_size prob values n sizes second_method second_n")
 
-QUICK = Design("pivotal", "frame", "id", None, None, "size", None, (), None, None, None, None)
+QUICK = Design("pivotal", "frame", "id", None, None, "size", None, None, (), None, None, None, None)
 
 
 def is_integer(value):
@@ -231,12 +238,13 @@ def is_sizes(value):
 def read_design(content):
     """The design that these bytes say, or its first fault."""
     document = read_document(content)
-    if not is_integer(document.get("version")) or document["version"] != 1:
+    version = document.get("version")
+    if not is_integer(version) or version not in KEYS:
         raise Refusal(3, "error 3.2 version")
     second = document.get("second")
     inner = second if isinstance(second, dict) else {}
 
-    unknown = in_byte_order(set(document) - set(KEYS)) + ["second." + key for key in in_byte_order(set(inner) - set(SECOND_KEYS))]
+    unknown = in_byte_order(set(document) - set(KEYS[version])) + ["second." + key for key in in_byte_order(set(inner) - set(SECOND_KEYS))]
     if unknown:
         raise Refusal(3, f"error 3.3 unknown key {unknown[0]}")
 
@@ -244,7 +252,7 @@ def read_design(content):
     needed = [
         ("method", "method" in document),
         ("id", "id" in document),
-        ("n", "n" in document or "sizes" in document),
+        ("n", any(key in document for key in HOW_MANY)),
         ("balance", method != "cube" or "balance" in document),
         ("near", method != "local_pivotal" or "near" in document),
     ] + [("second." + key, not isinstance(second, dict) or key in second) for key in ("psu", "method", "n")]
@@ -262,6 +270,7 @@ def read_design(content):
         ("size", document, text(document.get("size"))),
         ("n", document, is_size(document.get("n"))),
         ("sizes", document, is_sizes(document.get("sizes"))),
+        ("prob", document, text(document.get("prob"))),
         ("order", document, document.get("order") in ("frame", "random")),
         ("balance", document, is_names(document.get("balance"), 15)),
         ("near", document, is_names(document.get("near"), 4)),
@@ -277,6 +286,10 @@ def read_design(content):
 
     clashes = [
         ("n", "sizes", "n" in document and "sizes" in document),
+        ("n", "prob", "n" in document and "prob" in document),
+        ("sizes", "prob", "sizes" in document and "prob" in document),
+        ("size", "prob", "size" in document and "prob" in document),
+        ("prob", "second", "prob" in document and "second" in document),
         ("sizes", "stratum", "sizes" in document and "stratum" not in document),
         ("order", "method", "order" in document and method not in ("pivotal", "systematic")),
         ("balance", "method", "balance" in document and method != "cube"),
@@ -295,6 +308,7 @@ def read_design(content):
         psu=inner.get("psu"),
         size=document.get("size"),
         second_size=inner.get("size"),
+        prob=document.get("prob"),
         values=tuple(document.get("balance", document.get("near", ()))),
         n=document.get("n"),
         sizes=document.get("sizes"),
@@ -306,7 +320,7 @@ def read_design(content):
 # ---------------------------------------------------------------------------------------------------------------------------------------------
 # CSV and the frame. docs/formats.md, "Frame" and "Outputs"
 
-Row = namedtuple("Row", "id stratum psu size second_size values")
+Row = namedtuple("Row", "id stratum psu size second_size prob values")
 
 
 def records(content):
@@ -370,6 +384,20 @@ def read_number(text, row, column, signed):
     return -value if digits != text else value
 
 
+def read_fraction(text, row, column):
+    """A probability, `A/B`, or `A` for A/1."""
+    parts = text.split("/")
+    if len(parts) > 2 or not all(map(is_digits, parts)):
+        raise Refusal(4, f"error 4.11 no fraction in row {row} column {column}")
+    numbers = [number_up_to(digits, MOST_OF_A_SIZE) for digits in parts]
+    if None in numbers:
+        raise Refusal(4, f"error 4.6 number too large in row {row} column {column}")
+    numerator, denominator = numbers if len(numbers) == 2 else (*numbers, 1)
+    if denominator == 0 or numerator > denominator:
+        raise Refusal(4, f"error 4.12 no probability in row {row} column {column}")
+    return Fraction(numerator, denominator)
+
+
 def read_frame(content, design):
     """The rows of a frame, or its first fault."""
     while content.startswith(b"\xef\xbb\xbf"):
@@ -382,7 +410,7 @@ def read_frame(content, design):
         raise Refusal(4, "error 4.9 row 0 isn't UTF-8")
 
     places = {}
-    for column in (design.id, design.stratum, design.psu, design.size, design.second_size, *design.values):
+    for column in (design.id, design.stratum, design.psu, design.size, design.second_size, design.prob, *design.values):
         if column is not None:
             if names.count(column) == 0:
                 raise Refusal(4, f"error 4.2 missing column {column}")
@@ -410,8 +438,9 @@ def read_frame(content, design):
             raise Refusal(4, f"error 4.7 repeated id in row {number}")
         ids.add(text(design.id))
         first_size, second_size = size(design.size), size(design.second_size)
+        prob = None if design.prob is None else read_fraction(text(design.prob), number, design.prob)
         values = tuple(read_number(text(column), number, column, signed=True) for column in design.values)
-        rows.append(Row(text(design.id), text(design.stratum), text(design.psu), first_size, second_size, values))
+        rows.append(Row(text(design.id), text(design.stratum), text(design.psu), first_size, second_size, prob, values))
     if not rows:
         raise Refusal(4, "error 4.10 no rows")
     return rows
@@ -466,6 +495,32 @@ def requested(sizes, n):
     r = n - c if free else 0
     total = sum(shape)
     return Request(fractions, free, shape, r, total, total // gcd(total, r) if free else 1)
+
+
+class TooFine(Exception):
+    """The least common multiple of denominators is too large."""
+
+
+def common_multiple(fractions):
+    """The least common multiple of the denominators. It is looked at as it grows, so that its numbers stay small."""
+    multiple = 1
+    for fraction in fractions:
+        multiple = lcm(multiple, fraction.denominator)
+        if multiple > MOST_OF_A_MULTIPLE:
+            raise TooFine
+    return multiple
+
+
+def given_request(fractions):
+    """The request of units with these probabilities. Where those of the free units have a whole sum, r is that sum, and else it is only a factor."""
+    free = [unit for unit, value in enumerate(fractions) if 0 < value < 1]
+    denominator = common_multiple(fractions[unit] for unit in free)
+    numerators = [int(fractions[unit] * denominator) for unit in free]
+    divisor = gcd(*numerators)
+    shape = [numerator // divisor for numerator in numerators]
+    whole, rest = divmod(sum(numerators), denominator)
+    r, total = (divisor, denominator) if rest else (whole, sum(shape))
+    return Request(fractions, free, shape, r, total, denominator)
 
 
 # ---------------------------------------------------------------------------------------------------------------------------------------------
@@ -859,6 +914,38 @@ def first_stage_units(rows, design):
     return [(psu, stratum, members) for psu, (stratum, members) in units.items()]
 
 
+def requests_of_sizes(sizes, design):
+    """The request of each stratum by the sizes of its units, or the first misfit."""
+    numbers = design.sizes
+    if design.n is not None:
+        numbers = dict(zip(sizes, allocate(design.n, [len(own) for own in sizes.values()])))
+    for name in sizes:
+        if not numbers.get(name):
+            raise Refusal(5, f"error 5.3 no sample size: {name}")
+    requests = {}
+    for name, own in sizes.items():
+        try:
+            requests[name] = requested(own, numbers[name])
+        except TooMany as many:
+            raise Refusal(5, f"error 5.4 {numbers[name]} asked of {many.positive}: {name}") from None
+    return requests
+
+
+def requests_of_probabilities(fractions, method):
+    """The request of each stratum by the probabilities of its units, or the first misfit."""
+    requests = {}
+    for name, own in fractions.items():
+        try:
+            requests[name] = given_request(own)
+        except TooFine:
+            raise Refusal(5, f"error 5.6 denominator too large: {name}") from None
+    for name, own in fractions.items():
+        whole = sum(own)
+        if method in ("minimum_support", "brewer") and whole.denominator != 1:
+            raise Refusal(5, f"error 5.7 sum {written(whole)} isn't whole: {name}")
+    return requests
+
+
 def plan(rows, design):
     """The strata of a frame with their units and requests, or the first misfit of frame and design."""
     listed = first_stage_units(rows, design)
@@ -872,20 +959,10 @@ def plan(rows, design):
 
     names = list(dict.fromkeys(row.stratum for row in rows))
     members = {name: [place for place, unit in enumerate(listed) if unit[1] == name] for name in names}
-    if design.n is not None:
-        numbers = dict(zip(names, allocate(design.n, [len(members[name]) for name in names])))
+    if design.prob is not None:
+        requests = requests_of_probabilities({name: [rows[place].prob for place in members[name]] for name in names}, design.method)
     else:
-        numbers = design.sizes
-    for name in names:
-        if not numbers.get(name):
-            raise Refusal(5, f"error 5.3 no sample size: {name}")
-
-    requests = {}
-    for name in names:
-        try:
-            requests[name] = requested([totals[place][0] for place in members[name]], numbers[name])
-        except TooMany as many:
-            raise Refusal(5, f"error 5.4 {numbers[name]} asked of {many.positive}: {name}") from None
+        requests = requests_of_sizes({name: [totals[place][0] for place in members[name]] for name in names}, design)
 
     seconds = []
     for psu, _, inside in listed:

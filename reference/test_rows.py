@@ -16,6 +16,7 @@ from run_cases import Memory
 
 HERE = os.path.dirname(os.path.abspath(__file__))
 FOUR = "id,size\na,1\nb,2\nc,3\nd,4\n"
+HALVES = "id,p\na,1/2\nb,1/2\nc,1/3\n"
 ZEROS = "0" * 64
 FILES = ["--design", "design", "--frame", "frame"]
 DRAW = ["sampler", "draw", *FILES, "--log", "log", "--sample", "sample"]
@@ -24,6 +25,11 @@ DRAW = ["sampler", "draw", *FILES, "--log", "log", "--sample", "sample"]
 def design(method, n=2, more="", size='size = "size"\n'):
     """A design for the frame of four, or another."""
     return f'version = 1\nmethod = "{method}"\nid = "id"\n{size}n = {n}\n{more}'
+
+
+def given(method, more="", prob="p"):
+    """A design with a column of probabilities."""
+    return f'version = 2\nmethod = "{method}"\nid = "id"\nprob = "{prob}"\n{more}'
 
 
 def store_of(design_text, frame_text, tape=None):
@@ -181,6 +187,89 @@ class Rows(unittest.TestCase):
         frame = "id,village,z\na1,A,2147483647\na2,A,1\n"
         self.refused_draw(self.two_stages(1, 'size = "z"\n'), frame, [], 5, "error 5.2 first stage unit too large: A")
 
+    # Given probabilities
+
+    def test_sum_that_is_not_whole(self):
+        self.put("probs", given("pivotal"), HALVES, "id,probability\na,1/2\nb,1/2\nc,1/3\n")
+        self.put("check", given("pivotal"), HALVES, "accepted 3 units in 1 strata\n")
+        self.drawn(given("pivotal"), HALVES, [0, 2], ["pivot 6 0", "lone 6 2"], "a,2/1\n", "selected 1 of 3\nsteps 2\n")
+        self.drawn(given("pivotal"), HALVES, [0, 1], ["pivot 6 0", "lone 6 1"], "a,2/1\nc,3/1\n", "selected 2 of 3\nsteps 2\n")
+        weights = {"a": "2/1", "b": "2/1", "c": "3/1"}
+        for value, ids in enumerate(["ac", "ac", "a", "b", "b", "b"]):
+            self.drawn(given("systematic"), HALVES, [value], [f"system 6 {value}"], "".join(f"{name},{weights[name]}\n" for name in ids))
+        for method in ("minimum_support", "brewer"):
+            self.refused_draw(given(method), HALVES, [], 5, "error 5.7 sum 4/3 isn't whole: ")
+            self.refused_draw(given(method), HALVES + "d,1\n", [], 5, "error 5.7 sum 7/3 isn't whole: ")
+        frame = "id,p,x\na,1/2,0\nb,1/2,3\nc,1/3,5\n"
+        steps = ["choose 3 2", "pivot 5 1", "choose 2 1", "pivot 4 0", "lone 6 1"]
+        self.drawn(given("local_pivotal", 'near = ["x"]\n'), frame, [2, 1, 1, 0, 1], steps, "a,2/1\nc,3/1\n")
+        steps = ["flight 2 0", "drop 1 0", "flight 10 0", "drop 1 0", "flight 3 0"]
+        report = "selected 2 of 3\nsteps 5\nleft 1 2\nbalance 1 1 15/1 8\n"
+        self.drawn(given("cube", 'balance = ["x"]\n'), frame, [0, 0, 0], steps, "a,2/1\nc,3/1\n", report)
+
+    def test_sum_that_is_whole(self):
+        frame = "id,p,x\na,2/3,1\nb,4/6,2\nc,02/03,4\n"
+        rows = [
+            (given("pivotal"), [0, 0], ["pivot 2 0", "pivot 3 0"], "ab"),
+            (given("pivotal", 'order = "random"\n'), [2, 0, 1, 0], ["order 3 2", "order 2 0", "pivot 2 1", "pivot 3 0"], "bc"),
+            (given("systematic"), [0], ["system 3 0"], "ab"),
+            (given("systematic"), [1], ["system 3 1"], "ac"),
+            (given("minimum_support"), [0], ["support 3 0"], "bc"),
+            (given("brewer"), [1, 0, 1], ["offer 3 1", "take 2 0", "offer 2 1", "take 1 0"], "bc"),
+            (given("local_pivotal", 'near = ["x"]\n'), [0, 0, 0, 0], ["choose 3 0", "pivot 2 0", "choose 2 0", "pivot 3 0"], "ab"),
+            (given("cube", 'balance = ["x"]\n'), [0, 0], ["flight 5 0", "drop 1 0", "flight 6 0"], "ac"),
+        ]
+        for text, tape, steps, drawn in rows:
+            self.drawn(text, frame, tape, steps, "".join(f"{name},3/2\n" for name in drawn))
+
+    def test_certain_and_never(self):
+        frame = "id,p\na,1\nb,0\nc,3/6\nd,5/5\ne,007/14\nf,0/9\n"
+        self.put("probs", given("brewer"), frame, "id,probability\na,1/1\nb,0/1\nc,1/2\nd,1/1\ne,1/2\nf,0/1\n")
+        self.drawn(given("pivotal"), frame, [1], ["pivot 2 1"], "a,1/1\nd,1/1\ne,2/1\n", "selected 3 of 6\nsteps 1\n")
+        for method in ("pivotal", "systematic", "minimum_support", "brewer"):
+            self.drawn(given(method), "id,p\na,0\nb,0/3\n", [], [], "", "selected 0 of 2\nsteps 0\n")
+
+    def test_refused_fractions(self):
+        rows = {
+            "no fraction": ["", "0.5", "1/", "/2", "/", "1/2/3", "-1/2", "1/-2", "+1", " 1/2", "1 /2", "50%", "\u0661/2", "1//2", "x"],
+            "number too large": ["1/2147483648", "2147483648", "2147483648/0", "1/" + "9" * 5000],
+            "no probability": ["1/0", "0/0", "3/2", "2", "2147483647/2147483646"],
+        }
+        numbers = {"no fraction": 11, "number too large": 6, "no probability": 12}
+        for fault, fields in rows.items():
+            for field in fields:
+                self.refused_draw(given("pivotal"), f"id,p\na,{field}\n", [], 4, f"error 4.{numbers[fault]} {fault} in row 1 column p")
+        for field in ("0", "1", "00", "01/1", "2147483647/2147483647", "0" * 5000 + "1/2"):
+            self.assertIn(sampler.read_fraction(field, 1, "p"), (0, 1, Fraction(1, 2)))
+        text = given("cube", 'balance = ["x"]\n')
+        self.refused_draw(text, "id,p,x\na,2,x\n", [], 4, "error 4.12 no probability in row 1 column p")
+        self.refused_draw(text, "id,p,x\na,1/2,x\n", [], 4, "error 4.5 no number in row 1 column x")
+
+    def test_misfits_of_probabilities(self):
+        fine = "id,p\na,1/65536\nb,1/65535\n"
+        self.refused_draw(given("pivotal"), fine, [], 5, "error 5.6 denominator too large: ")
+        self.refused_draw(given("brewer"), fine, [], 5, "error 5.6 denominator too large: ")
+        self.put("check", given("pivotal"), "id,p\na,2/65536\nb,1/65535\n", "accepted 2 units in 1 strata\n")
+        frame = "id,s,p\na,A,1/2\nb,B,1/65536\nc,B,1/65535\n"
+        self.refused_draw(given("brewer", 'stratum = "s"\n'), frame, [], 5, "error 5.6 denominator too large: B")
+        frame = "id,s,p\na,A,1/2\nc,B,1/65535\n"
+        self.refused_draw(given("brewer", 'stratum = "s"\n'), frame, [], 5, "error 5.7 sum 1/2 isn't whole: A")
+        self.put("check", given("pivotal", 'stratum = "s"\n'), frame, "accepted 2 units in 2 strata\n")
+
+    def test_requests_of_probabilities(self):
+        def of(*texts):
+            request = sampler.given_request([Fraction(text) for text in texts])
+            self.assertTrue(all(request.fractions[unit] == Fraction(z * request.r, request.total) for unit, z in zip(request.free, request.shape)))
+            return request[1:]
+
+        self.assertEqual(of("1/2", "1/2", "1/3"), ([0, 1, 2], [3, 3, 2], 1, 6, 6))
+        self.assertEqual(of("1/2", "1/2"), ([0, 1], [1, 1], 1, 2, 2))
+        self.assertEqual(of("2/3", "2/3", "2/3"), ([0, 1, 2], [1, 1, 1], 2, 3, 3))
+        self.assertEqual(of("3/4", "3/4", "1/2"), ([0, 1, 2], [3, 3, 2], 2, 8, 4))
+        self.assertEqual(of("3/4", "1/4", "1", "0", "1/2", "1/2"), ([0, 1, 4, 5], [3, 1, 2, 2], 2, 8, 4))
+        self.assertEqual(of("2/5", "4/5"), ([0, 1], [1, 2], 2, 5, 5))
+        self.assertEqual(of("0", "1"), ([], [], 0, 0, 1))
+
     # Refusals
 
     def test_tapes_that_are_not_full(self):
@@ -240,7 +329,7 @@ class Rows(unittest.TestCase):
             "id,size\na,-1\n": "4.5 no number in row 1 column size",
             "id,size\na,2147483648\n": "4.6 number too large in row 1 column size",
             "id,size\na," + "9" * 5000 + "\n": "4.6 number too large in row 1 column size",
-            "id,size\n" + "".join(f"u{i},1\n" for i in range(100_001)): "4.8 too many rows",
+            "id,size\n" + "".join(f"u{i},1\n" for i in range(200_001)): "4.8 too many rows",
         }
         for frame, line in rows.items():
             self.refused_draw(design("pivotal"), frame, [], 4, "error " + line)
@@ -284,6 +373,19 @@ class Rows(unittest.TestCase):
             design("pivotal", more="colour = 1_0e400\n"): "3.1 design isn't TOML",
             design("pivotal", more="colour = -inf\n"): "3.3 unknown key colour",
             design("pivotal", more=".".join("a" * 2000) + " = 1\n"): "3.1 design isn't TOML",
+            "version = 3\n": "3.2 version",
+            "version = 2.0\n": "3.2 version",
+            "version = 2\n": "3.4 missing key method",
+            given("pivotal").replace("version = 2", "version = 1"): "3.3 unknown key prob",
+            given("pivotal").replace('prob = "p"\n', ""): "3.4 missing key n",
+            given("pivotal", "near = 1\n").replace('"p"', "1"): "3.5 bad value of prob",
+            given("pivotal", "sizes = {}\nn = 1\n"): "3.6 n clashes with sizes",
+            given("pivotal", "second = 1\nsize = 1\nn = 1\n"): "3.5 bad value of size",
+            given("pivotal", 'size = "p"\nn = 1\n'): "3.6 n clashes with prob",
+            given("pivotal", 'size = "p"\nsizes = {}\n'): "3.6 sizes clashes with prob",
+            given("brewer", 'order = "frame"\nsize = "p"\n'): "3.6 size clashes with prob",
+            given("local_pivotal", 'near = ["p"]\nsecond = {psu = "s", method = "pivotal", n = 1}\n'): "3.6 prob clashes with second",
+            design("pivotal", 200_001): "3.5 bad value of n",
         }
         for text, line in rows.items():
             self.refused_draw(text, FOUR, [], 3, "error " + line)
@@ -298,11 +400,13 @@ class Rows(unittest.TestCase):
             ["sampler", "draw", *FILES, "--log", "log", "--sample", "log", *tape],
             [*DRAW, "--seed", ZEROS[1:]],
             ["sampler", "quick", "frame", "0", "tape", "out"],
+            ["sampler", "quick", "frame", "200001", "tape", "out"],
             ["sampler", "check", *FILES, "--frame", "frame2"],
             ["sampler", "check", "--design", "design", "--frame"],
             ["sampler", "check", "--design", "design", "--frame", "--", "frame"],
             ["sampler", "quick", "\udcff", "2", "tape", "out"],
             ["sampler", "demo", "29", "1"],
+            ["sampler", "demo", "100001", "1"],
         ]
         for words in rows:
             self.refused(words, store_of(design("pivotal"), FOUR, [0, 3, 4]), 2, sampler.USAGE)
@@ -434,10 +538,25 @@ class Probabilities(unittest.TestCase):
 
     SIZES = [[1, 2, 3, 4], [1, 1, 1, 1, 1], [3, 3, 2, 5, 1], [5, 1, 1, 1, 1, 1], [7, 0, 2, 2, 9]]
 
-    def of_request(self, method, order, sizes, n, columns):
-        request = sampler.requested(sizes, n)
+    GIVEN = [["1/2", "1/2", "1/3"], ["2/3", "2/3", "2/3"], ["1", "1/6", "0", "3/4", "2/5"], ["1/2", "1/3", "1/6", "1"], ["1/7"], ["3/5", "4/5", "3/5"]]
+
+    def over_tree(self, method, order, request, columns):
         found = mean(sampler.start(method, order, request, columns), len(request.free), {})
-        self.assertEqual(found, [request.fractions[unit] for unit in request.free], (method, sizes, n))
+        self.assertEqual(found, [request.fractions[unit] for unit in request.free], (method, request))
+
+    def of_request(self, method, order, sizes, n, columns):
+        self.over_tree(method, order, sampler.requested(sizes, n), columns)
+
+    def test_given_probabilities(self):
+        for texts in self.GIVEN:
+            fractions = [Fraction(text) for text in texts]
+            request, whole = sampler.given_request(fractions), sum(fractions).denominator == 1
+            columns = [(place * place, 3 - place) for place in range(len(texts))]
+            for method in sampler.METHODS:
+                if whole and method == "minimum_support" or method not in ("minimum_support", "brewer"):
+                    self.over_tree(method, "frame", request, columns)
+                if method in ("pivotal", "systematic"):
+                    self.over_tree(method, "random", request, columns)
 
     def test_methods(self):
         for sizes in self.SIZES:
@@ -455,6 +574,9 @@ class Probabilities(unittest.TestCase):
             for sizes in self.SIZES:
                 for n in range(1, sum(size > 0 for size in sizes) + 1):
                     self.of_request("brewer", "frame", sizes, n, [()] * len(sizes))
+            for fractions in ([Fraction(text) for text in texts] for texts in self.GIVEN):
+                if sum(fractions).denominator == 1:
+                    self.over_tree("brewer", "frame", sampler.given_request(fractions), [()] * len(fractions))
         finally:
             sampler.OFFERS_PER_UNIT = limit
 

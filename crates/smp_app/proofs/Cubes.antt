@@ -16,7 +16,6 @@ use Rattle.smp_kernel.specs.Vectors.{Within}
 use Rattle.smp_prob.specs.declared.requests.Request.{Request}
 use Rattle.smp_prob.specs.declared.standings.Standing.{Standing}
 use Rattle.smp_prob.specs.declared.standings.Standing.TheVariants.{Certain, Free, Never}
-use Rattle.smp_prob.specs.Requested.{requested_of}
 use Rattle.smp_prob.specs.Requests.{IsRequest}
 use Rattle.smp_prob.specs.Standings.{standing, is_taken}
 use Rattle.smp_split.specs.Paths.{Entry}
@@ -30,7 +29,6 @@ use Rattle.smp_balance.specs.Lines as lines
 use Rattle.smp_balance.specs.Lines.{IsTold}
 use Rattle.smp_balance.proofs.Balances.{each_is_balanced}
 use Rattle.smp_balance.proofs.Reports.{each_line_tells}
-use Rattle.smp_balance.proofs.Requested.{requested_stratum}
 use Rattle.smp_design.specs.declared.design.Design.{Design}
 use Rattle.smp_design.specs.declared.method.Method.{Method}
 use Rattle.smp_design.specs.declared.method.Method.TheVariants.{Cube}
@@ -43,7 +41,7 @@ use Rattle.smp_stages.specs.Paths.{GoesByStages}
 use Rattle.smp_stages.specs.Stages.{Progress}
 use Rattle.smp_strata.specs.Bounds.{IsFirst}
 use Rattle.smp_strata.specs.Clusters.{clusters as clusters_of, clusters_in, first_row, strata_numbers, stratum_name, stratum_names}
-use Rattle.smp_strata.specs.Plans.{Parts, parts_of, first_of, first_sizes, sample_size, stratum_of}
+use Rattle.smp_strata.specs.Plans.{Parts, parts_of, first_of, stratum_of}
 use Rattle.smp_strata.specs.Rows.{size_of, stratum_at}
 use Rattle.smp_strata.proofs.Members.{count_all}
 use Rattle.smp_strata.specs.declared.strata.First.{First}
@@ -123,18 +121,15 @@ module _ (plan : FramePlan) (planned : IsPlanned plan) (cube : plan.design.metho
   is_here : s ≡ stratum_of plan.design plan.frame h
   is_here = stratum_here plan.design plan.frame h s is
 
-  abbrev stratum_by : Stratum → balance.Stratum
-  stratum_by t = record { request = requested_of (first_sizes plan.design plan.frame h) (sample_size plan.design plan.frame h); values = map (λ u. u.values) t.units }
-
   -- the stratum, as the cube draws from it
   pub is_stratum : IsStratum (balancing s)
-  is_stratum =
-      let request_is : s.request ≡ requested_of (first_sizes plan.design plan.frame h) (sample_size plan.design plan.frame h) = ap (λ (t : Stratum). t.request) is_here in
-      let clusters = clusters_in plan.design plan.frame h in
-      let long : length s.units ≡ length clusters = ap (λ (t : Stratum). length t.units) is_here ∙ length-map clusters (first_of plan.design plan.frame) in
-      let paired : length (map (λ u. u.values) s.units) ≡ length (first_sizes plan.design plan.frame h) = omega (arith, long, length-map s.units (λ u. u.values), length-map clusters (size_of plan.frame)) in
-      subst (λ (r : Request). IsStratum (record { request = r; values = map (λ u. u.values) s.units })) (sym request_is)
-      (requested_stratum (sample_size plan.design plan.frame h) (first_sizes plan.design plan.frame h) (subst IsRequest request_is own.stratum.over.sound) (map (λ u. u.values) s.units) paired values_are)
+  is_stratum = record {
+    request = own.stratum.over.sound;
+    rising = own.stratum.over.rising;
+    inside = λ u l. (let inside = own.stratum.over.free u 0 l in omega (arith, inside, length-map s.units (λ u. u.values)));
+    stands = own.stratum.over.apart;
+    values = values_are;
+  }
 
   few_units : length (map (λ u. u.values) s.units) ≤ 200000
   few_units =

@@ -7,7 +7,6 @@ use Rattle.std.proofs.lemmas.List.Elements.{All-get_or}
 use Rattle.std.proofs.lemmas.Option.{slice_get_within, get_or_from_slice_get}
 use Rattle.smp_fractions.specs.Fractions.{Same, integer, sum_below}
 use Rattle.smp_split.specs.Means.{mean, inclusion_probability}
-use Rattle.smp_strata.specs.Plans.{sample_size}
 use Rattle.smp_fractions.proofs.Fractions.{same_sym, same_trans}
 use Rattle.smp_prob.specs.declared.requests.Request.{Request}
 use Rattle.smp_tape.specs.Sources.{Source}
@@ -26,9 +25,8 @@ use Rattle.smp_split.proofs.Runs.{run_is}
 use Rattle.smp_split.specs.Trees.{Tree, weight_sum}
 use Rattle.smp_design.specs.declared.design.Second as second
 use Rattle.smp_methods.specs.declared.any.AnyState.{AnyState}
-use Rattle.smp_rows.specs.Rows.{Fills}
 use Rattle.smp_stages.specs.Stages.{Progress}
-use Rattle.smp_strata.specs.Draws.{SecondDraws}
+use Rattle.smp_strata.specs.Draws.{AreAsked, IsFor, SecondDraws}
 use Rattle.smp_strata.specs.Plans.{Parts}
 use Rattle.smp_strata.specs.declared.strata.First.{First}
 use Rattle.smp_strata.specs.declared.strata.Stratum.{Stratum}
@@ -203,11 +201,11 @@ module _ (plan : FramePlan) (planned : IsPlanned plan) where
 
       abbrev FirstsBy : Parts → Type 0
       FirstsBy p =
-          (h : ℕ) (s : Stratum) → slice_get p.strata h ≡ Some s
-          → count_by (first_selected p to.states h) (range_with_len 0 (length s.units)) ≡ sample_size plan.design plan.frame h
+          (h n : ℕ) (s : Stratum) → slice_get p.strata h ≡ Some s → AreAsked plan.design plan.frame h n
+          → count_by (first_selected p to.states h) (range_with_len 0 (length s.units)) ≡ n
 
       firsts_own : FirstsBy plan.plan
-      firsts_own h s is = starts.firsts h (sample_size plan.design plan.frame h) s is (planned.draws h s is).firsts path to leads done
+      firsts_own h n s is asked = starts.firsts h n s is ((planned.draws h s is).firsts n asked) path to leads done
 
       abbrev SecondsBy : Parts → Type 0
       SecondsBy p =
@@ -218,7 +216,7 @@ module _ (plan : FramePlan) (planned : IsPlanned plan) where
       second_is = ap (λ (p : Parts). p.second) planned.parts_are
 
       seconds_by : (h k : ℕ) (s : Stratum) (u : First) (asked : second.Second) → slice_get plan.plan.strata h ≡ Some s → slice_get s.units k ≡ Some u
-          → (request : Option Request) → u.second ≡ request → is_some request ≡ true → IfSome request (λ r. Fills r (length u.rows) asked.n)
+          → (request : Option Request) → u.second ≡ request → is_some request ≡ true → IfSome request (λ r. IsFor r (length u.rows) asked.n)
           → first_selected plan.plan to.states h k ≡ true → count_by (second_selected plan.plan to.states h k) (range_with_len 0 (length u.rows)) ≡ asked.n
       seconds_by h k s u asked is_s is_u (Some request) asks some fills first = starts.seconds h k asked.n s u request is_s is_u asks fills path to leads done first
       seconds_by h k s u asked is_s is_u None asks some fills first = absurd (cc)

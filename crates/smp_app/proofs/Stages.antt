@@ -207,6 +207,8 @@ module _ (design : ReadDesign) (frame : FrameSource) (bytes : List ℕ) (units :
   misfit_read (misfits.PsuTooLarge psu) gives = refused_so (misfits.PsuTooLarge psu) IsRefusal refl refl (λ fs told. staged fs told ∙ gives) tt
   misfit_read (misfits.NoSize stratum) gives = refused_so (misfits.NoSize stratum) IsRefusal refl refl (λ fs told. staged fs told ∙ gives) tt
   misfit_read (misfits.TooMany stratum n positive) gives = refused_so (misfits.TooMany stratum n positive) IsRefusal refl refl (λ fs told. staged fs told ∙ gives) tt
+  misfit_read (misfits.Denominator stratum) gives = refused_so (misfits.Denominator stratum) IsRefusal refl refl (λ fs told. staged fs told ∙ gives) tt
+  misfit_read (misfits.NotWhole stratum sum) gives = refused_so (misfits.NotWhole stratum sum) IsRefusal refl refl (λ fs told. staged fs told ∙ gives) tt
   misfit_read (misfits.SecondTooMany psu n positive) gives = refused_so (misfits.SecondTooMany psu n positive) IsRefusal refl refl (λ fs told. staged fs told ∙ gives) tt
 
 -- ---- a design that is made of bytes with the command

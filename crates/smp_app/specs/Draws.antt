@@ -9,7 +9,7 @@ use Rattle.smp_balance.specs.Reports.{TellsColumn}
 use Rattle.smp_design.specs.declared.design.Second as second
 use Rattle.smp_design.specs.declared.method.Method.TheVariants.{Cube}
 use Rattle.smp_log.specs.Genuine.{IsFullPath}
-use Rattle.smp_strata.specs.Plans.{sample_size}
+use Rattle.smp_strata.specs.Draws.{AreAsked}
 use Rattle.smp_strata.specs.declared.strata.First as first
 use Rattle.smp_strata.specs.declared.strata.Stratum.{Stratum}
 use Rattle.smp_stages.specs.Paths.{GoesByStages}
@@ -34,11 +34,12 @@ rows_drawn drawn h k u =
     let selected = second_selected (parts drawn.plan) drawn.leaf.states h k in
     count_by selected (range_with_len 0 (length u.rows))
 
--- as many first stage units of each stratum are drawn as the design asks for
+-- As many first stage units of each stratum are drawn as the design asks for: its sample size, or with given probabilities what they add up
+-- to, where that is a whole number.
 abbrev pub DrawsFirsts : Drawn → Type 0
 DrawsFirsts drawn =
-    (h : ℕ) (s : Stratum) → slice_get (parts drawn.plan).strata h ≡ Some s
-    → firsts_drawn drawn h s ≡ sample_size drawn.plan.design drawn.plan.units h
+    (h n : ℕ) (s : Stratum) → slice_get (parts drawn.plan).strata h ≡ Some s
+    → AreAsked drawn.plan.design drawn.plan.units h n → firsts_drawn drawn h s ≡ n
 
 -- with a second stage, as many rows of each of these as it asks for
 abbrev pub DrawsSeconds : Drawn → Type 0

@@ -31,6 +31,8 @@ frame_line (frame_fault.RepeatedId row) = Some (codes "error 4.7 repeated id in 
 frame_line frame_fault.TooManyRows = Some (codes "error 4.8 too many rows\n")
 frame_line (frame_fault.NotText row) = Some (codes "error 4.9 row " ++ (decimal row ++ codes " isn't UTF-8\n"))
 frame_line frame_fault.NoRows = Some (codes "error 4.10 no rows\n")
+frame_line (frame_fault.NotFraction row column) = Some (codes "error 4.11 no fraction in row " ++ (decimal row ++ (codes " column " ++ (column ++ codes "\n"))))
+frame_line (frame_fault.NotProbability row column) = Some (codes "error 4.12 no probability in row " ++ (decimal row ++ (codes " column " ++ (column ++ codes "\n"))))
 frame_line frame_fault.NoMemory = None
 
 abbrev pub misfit_line : Misfit → Option (List ℕ)
@@ -39,6 +41,8 @@ misfit_line (misfits.PsuTooLarge psu) = Some (codes "error 5.2 first stage unit 
 misfit_line (misfits.NoSize stratum) = Some (codes "error 5.3 no sample size: " ++ (stratum ++ codes "\n"))
 misfit_line (misfits.TooMany stratum n positive) = Some (codes "error 5.4 " ++ (decimal n ++ (codes " asked of " ++ (decimal positive ++ (codes ": " ++ (stratum ++ codes "\n"))))))
 misfit_line (misfits.SecondTooMany psu n positive) = Some (codes "error 5.5 second stage " ++ (decimal n ++ (codes " asked of " ++ (decimal positive ++ (codes ": " ++ (psu ++ codes "\n"))))))
+misfit_line (misfits.Denominator stratum) = Some (codes "error 5.6 denominator too large: " ++ (stratum ++ codes "\n"))
+misfit_line (misfits.NotWhole stratum sum) = Some (codes "error 5.7 sum " ++ (decimal sum.num ++ (codes "/" ++ (decimal sum.den ++ (codes " isn't whole: " ++ (stratum ++ codes "\n"))))))
 misfit_line misfits.NoMemory = None
 
 abbrev pub usage_line : List ℕ

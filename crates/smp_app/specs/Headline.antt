@@ -65,7 +65,8 @@ pub record IsExactDraw (a : DrawArguments) (fs : Files) (before now : Outside) :
       (log_text drawn.plan.head drawn.path) drawn.leaf
   -- The report of that leaf was put.
   pub put : now.written ≡ with_bytes (report_text drawn) before.written
-  -- As many first stage units of each stratum are drawn as the design asks for, and as many rows within each of those.
+  -- As many first stage units of each stratum are drawn as the design asks for, where it asks for a whole number, and as many rows within
+  -- each of those.
   pub firsts : DrawsFirsts drawn
   pub seconds : DrawsSeconds drawn
   -- Over draws that are uniform below each bound that is asked for, the probability that a row is selected is exactly the one that is

@@ -24,11 +24,13 @@ quick_columns = record {
   psu = None;
   size = Some (codes "size");
   second_size = None;
+  prob = None;
   values = [];
 }
 
 abbrev pub quick_design : ℕ → Design
 quick_design n = record {
+  version = 1;
   method = Pivotal;
   order = Frame;
   columns = quick_columns;

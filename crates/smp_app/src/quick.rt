@@ -13,6 +13,7 @@ pub(crate) fn quick_design(alloc: Global, n: u32) -> Result<Design, NoMemory>
     ensures { IfOk result (λ design. design ≡ quick_design n) }
 {
     Ok(Design {
+        version: 1,
         method: Method::Pivotal,
         order: Order::Frame,
         columns: quick_columns(alloc)?,
@@ -31,6 +32,7 @@ fn quick_columns(alloc: Global) -> Result<Columns, NoMemory>
         psu: None,
         size: Some(Text::from_str(alloc, "size")?),
         second_size: None,
+        prob: None,
         values: Names::from_vec(Vec::new(alloc)),
     })
 }

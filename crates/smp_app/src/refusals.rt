@@ -123,6 +123,14 @@ fn frame_line(alloc: Global, fault: &FrameFault) -> Result<Option<String>, Alloc
             Ok(Some(format!(in alloc; "error 4.9 row {row} isn't UTF-8\n")?))
         }
         FrameFault::NoRows => Ok(Some(String::from_str(alloc, "error 4.10 no rows\n")?)),
+        FrameFault::NotFraction { row, column } => Ok(Some(format!(in alloc;
+            "error 4.11 no fraction in row {row} column {}\n",
+            column.as_str()
+        )?)),
+        FrameFault::NotProbability { row, column } => Ok(Some(format!(in alloc;
+            "error 4.12 no probability in row {row} column {}\n",
+            column.as_str()
+        )?)),
         FrameFault::NoMemory => Ok(None),
     }
 }
@@ -154,6 +162,16 @@ fn misfit_line(alloc: Global, misfit: &Misfit) -> Result<Option<String>, AllocEr
         Misfit::SecondTooMany { psu, n, positive } => Ok(Some(format!(in alloc;
             "error 5.5 second stage {n} asked of {positive}: {}\n",
             psu.as_str()
+        )?)),
+        Misfit::Denominator { stratum } => Ok(Some(format!(in alloc;
+            "error 5.6 denominator too large: {}\n",
+            stratum.as_str()
+        )?)),
+        Misfit::NotWhole { stratum, sum } => Ok(Some(format!(in alloc;
+            "error 5.7 sum {}/{} isn't whole: {}\n",
+            sum.num,
+            sum.den,
+            stratum.as_str()
         )?)),
         Misfit::NoMemory => Ok(None),
     }

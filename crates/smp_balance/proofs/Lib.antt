@@ -2,6 +2,5 @@ pub mod Sums
 pub mod Absolute
 pub mod Terms
 pub mod Balances
-pub mod Requested
 pub mod Told
 pub mod Reports

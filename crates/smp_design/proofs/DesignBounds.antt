@@ -14,16 +14,17 @@ use Rattle.smp_design.specs.declared.fault.DesignFault.TheVariants.{Version, Unk
 use Rattle.smp_design.specs.declared.reading.UnitColumns.{UnitColumns}
 use Rattle.smp_design.specs.declared.reading.SampleSize.{SampleSize}
 use Rattle.smp_design.specs.declared.reading.SecondStage.{SecondStage}
-use Rattle.smp_design.specs.Bounds.{IsDesign, Ascend, least_values, most_values}
-use Rattle.smp_design.specs.Designs.{document, unit_columns, sample_size, value_columns, second_stage, values, design_of, is_version_1}
+use Rattle.smp_design.specs.Bounds.{IsDesign, HasOnlyProbabilities, From1To, Ascend, least_values, most_values}
+use Rattle.smp_design.specs.Designs.{document, unit_columns, sample_size, value_columns, second_stage, values, design_of}
 use Rattle.smp_design.specs.Keys
-use Rattle.smp_design.specs.Keys.{has, unknown_key, missing_key}
-use Rattle.smp_design.specs.Reads.{Reads, good, holds, none_found}
-use Rattle.smp_design.specs.Values.{method}
+use Rattle.smp_design.specs.Keys.{has, version_of, unknown_key, missing_key}
+use Rattle.smp_design.specs.Reads.{Reads, good, or_fault, none_found}
+use Rattle.smp_design.specs.Values.{last_version, version, method}
 use Rattle.smp_design.specs.Words.{row, is_balance, is_near}
-use Rattle.smp_design.proofs.Went.{went, is_good, found_none}
-use Rattle.smp_design.proofs.ValueBounds.{Few}
-use Rattle.smp_design.proofs.Stages.{NoneMissing, none_missing, NoClash, no_clash, stratum_there, SampleFacts, sample_facts, ValueFacts, value_facts, SecondFacts, second_facts, needs-is}
+use Rattle.smp_design.proofs.Went.{went, is_there, is_good, found_none, goes_on}
+use Rattle.smp_design.proofs.ValueBounds.{Few, version-range}
+use Rattle.smp_design.proofs.KnownKeys.{prob_in_2}
+use Rattle.smp_design.proofs.Stages.{NoneMissing, none_missing, NoClash, no_clash, UnitFacts, unit_facts, SampleFacts, sample_facts, ValueFacts, value_facts, SecondFacts, second_facts, needs-is}
 
 -- the number of columns that a method with these needs takes
 record Fits (needs : Needs) (columns : List (List ℕ)) : Type 0 where
@@ -47,14 +48,19 @@ both true true h k = refl
 both true false h k = absurd (cc)
 both false b h k = absurd (cc)
 
-one_of : (a b : Bool) → (not a && not b) ≡ false → a ≡ false → b ≡ true
-one_of true b h k = absurd (cc)
-one_of false true h k = refl
-one_of false false h k = absurd (cc)
+one_of : (a b c : Bool) → (not a && not b && not c) ≡ false → a ≡ false → c ≡ false → b ≡ true
+one_of true b c h k l = absurd (cc)
+one_of false true c h k l = refl
+one_of false false true h k l = absurd (cc)
+one_of false false false h k l = absurd (cc)
 
 not_both : (a b : Bool) → (a && b) ≡ false → a ≡ true → b ≡ false
 not_both true b h k = h
 not_both false b h k = absurd (cc)
+
+not_first : (a b : Bool) → (a && b) ≡ false → b ≡ true → a ≡ false
+not_first true b h k = absurd (cc)
+not_first false b h k = refl
 
 on_some : {A : Type 0} (o : Option A) (P : Type 0) → (is_some o ≡ true → P) → OnSome o P
 on_some None P h = tt
@@ -64,24 +70,45 @@ if_none : {A : Type 0} (o : Option A) (P : Type 0) → (is_some o ≡ false → 
 if_none None P h = h refl
 if_none (Some x) P h = tt
 
+is_none : {A : Type 0} (o : Option A) → is_some o ≡ false → o ≡ None
+is_none None h = refl
+is_none (Some x) h = absurd (cc)
+
 not_random : (o : Order) → o ≡ the_order.Frame → o ≡ the_order.Random → ⊥
 not_random o h k = absurd (cc)
 
 -- the design of its parts
-abbrev parts : Method → UnitColumns → SampleSize → List (List ℕ) → SecondStage → Design
-parts m unit sample columns second = record {
+abbrev parts : ℕ → Method → UnitColumns → SampleSize → List (List ℕ) → SecondStage → Design
+parts version m unit sample columns second = record {
+  version = version;
   method = m;
   order = sample.order;
-  columns = record { id = unit.id; stratum = unit.stratum; psu = second.psu; size = unit.size; second_size = second.size; values = columns };
+  columns = record { id = unit.id; stratum = unit.stratum; psu = second.psu; size = unit.size; second_size = second.size; prob = sample.prob; values = columns };
   n = sample.n;
   sizes = sample.sizes;
   second = second.second;
 }
 
-parts_are_design : (t : Members) (m : Method) (unit : UnitColumns) (sample : SampleSize) (columns : List (List ℕ)) (second : SecondStage) → NoneMissing t
-    → option_and_then method (get_member (codes "method") t) ≡ Some m → is_some unit.stratum ≡ has (codes "stratum") t → SampleFacts t sample → ValueFacts t columns → SecondFacts (get_member (codes "second") t) second
-    → NoClash t m → Ascend sample.sizes → IsDesign (parts m unit sample columns second)
-parts_are_design t m unit sample columns second missing method_is stratum s v w clash ascend =
+-- what is known of the version and of the keys of a design
+record IsVersionOf (version : ℕ) (t : Members) : Type 0 where
+  within : From1To last_version version
+  known : unknown_key version t ≡ None
+
+-- the keys beside that of the probabilities
+only_probabilities : (version : ℕ) (t : Members) (m : Method) (unit : UnitColumns) (sample : SampleSize) (columns : List (List ℕ)) (second : SecondStage) → IsVersionOf version t → UnitFacts t unit → SampleFacts t sample
+    → SecondFacts (get_member (codes "second") t) second → NoClash t m → has (codes "prob") t ≡ true → HasOnlyProbabilities (parts version m unit sample columns second)
+only_probabilities version t m unit sample columns second is u s w clash there = record {
+  version = prob_in_2 version t is.within is.known there;
+  no_number = is_none sample.n (s.n_there ∙ not_first (has (codes "n") t) (has (codes "prob") t) clash.rivals.no_number there);
+  no_quotas = s.no_sizes (not_first (has (codes "sizes") t) (has (codes "prob") t) clash.rivals.no_quotas there);
+  no_size = is_none unit.size (u.size_there ∙ not_first (has (codes "size") t) (has (codes "prob") t) clash.rivals.no_size there);
+  one_stage = is_none second.second (w.there ∙ not_both (has (codes "prob") t) (has (codes "second") t) clash.rivals.one_stage there);
+}
+
+parts_are_design : (version : ℕ) (t : Members) (m : Method) (unit : UnitColumns) (sample : SampleSize) (columns : List (List ℕ)) (second : SecondStage) → IsVersionOf version t → NoneMissing t
+    → option_and_then method (get_member (codes "method") t) ≡ Some m → UnitFacts t unit → SampleFacts t sample → ValueFacts t columns → SecondFacts (get_member (codes "second") t) second
+    → NoClash t m → Ascend sample.sizes → IsDesign (parts version m unit sample columns second)
+parts_are_design version t m unit sample columns second is missing method_is u s v w clash ascend =
     let needs_is = needs-is t m method_is in
     let f = subst (λ (xs : List (List ℕ)). Fits (row m).needs xs) v.is (fits (row m).needs v.balance v.near v.balance_few v.near_few
     (ap (λ b. b && not (is_balance (row m).needs)) v.balance_there ∙ clash.balance)
@@ -89,11 +116,14 @@ parts_are_design t m unit sample columns second missing method_is stratum s v w 
     (λ balance. v.balance_there ∙ both _ (has (codes "balance") t) missing.balance (ap is_balance needs_is ∙ balance))
     (λ near. v.near_there ∙ both _ (has (codes "near") t) missing.near (ap is_near needs_is ∙ near))) in
     record {
+      version = is.within;
       size = s.size;
       quotas = s.quotas;
       ascending = ascend;
-      one_size = on_some sample.n _ (λ there. s.no_sizes (not_both (has (codes "n") t) (has (codes "sizes") t) clash.one_size (sym s.n_there ∙ there)));
-      strata = if_none sample.n _ (λ none. stratum ∙ both (has (codes "sizes") t) (has (codes "stratum") t) clash.strata (one_of (has (codes "n") t) (has (codes "sizes") t) missing.sized (sym s.n_there ∙ none)));
+      one_size = on_some sample.n _ (λ there. s.no_sizes (not_both (has (codes "n") t) (has (codes "sizes") t) clash.rivals.one_size (sym s.n_there ∙ there)));
+      prob = on_some sample.prob _ (λ there. only_probabilities version t m unit sample columns second is u s w clash (sym s.prob_there ∙ there));
+      strata = if_none sample.n _ (λ no_n. if_none sample.prob _ (λ no_prob.
+          u.stratum_there ∙ both (has (codes "sizes") t) (has (codes "stratum") t) clash.strata (one_of (has (codes "n") t) (has (codes "sizes") t) (has (codes "prob") t) missing.sized (sym s.n_there ∙ no_n) (sym s.prob_there ∙ no_prob))));
       order = λ random. elim (cases_Bool (has (codes "order") t)) [
         | inl there ↦ both (has (codes "order") t) (row m).takes_order clash.order there
         | inr none ↦ absurd (not_random sample.order (s.no_order none) random)
@@ -107,9 +137,9 @@ parts_are_design t m unit sample columns second missing method_is stratum s v w 
       second_sizes = w.sizes;
     }
 
-values_are_design : (t : Members) (d : Design) → NoneMissing t → values t ≡ Ok d → NoClash t d.method → Ascend d.sizes → IsDesign d
+values_are_design : (version : ℕ) (t : Members) (d : Design) → IsVersionOf version t → NoneMissing t → values version t ≡ Ok d → NoClash t d.method → Ascend d.sizes → IsDesign d
 unfolding values
-values_are_design t d missing h clash ascend =
+values_are_design version t d is_version missing h clash ascend =
     let m = went (good (codes "method") (option_and_then method (get_member (codes "method") t))) _ d h in
     let unit = went (unit_columns t) _ d m.gives in
     let sample = went (sample_size t) _ d unit.gives in
@@ -118,22 +148,24 @@ values_are_design t d missing h clash ascend =
     let s = sample_facts t sample.value sample.is in
     let v = value_facts t columns.value columns.is in
     let w = second_facts (get_member (codes "second") t) second.value second.is in
-    let is : parts m.value unit.value sample.value columns.value second.value ≡ d = (let same : ◌≡◌ {A = Result Design _} (Ok (parts m.value unit.value sample.value columns.value second.value)) (Ok d) = second.gives in cc) in
+    let is : parts version m.value unit.value sample.value columns.value second.value ≡ d = (let same : ◌≡◌ {A = Result Design _} (Ok (parts version m.value unit.value sample.value columns.value second.value)) (Ok d) = second.gives in cc) in
     subst (λ (e : Design). NoClash t e.method → Ascend e.sizes → IsDesign e) is
-    (parts_are_design t m.value unit.value sample.value columns.value second.value missing (is_good (codes "method") (option_and_then method (get_member (codes "method") t)) m.value m.is) (stratum_there t unit.value unit.is) s v w) clash ascend
+    (parts_are_design version t m.value unit.value sample.value columns.value second.value is_version missing (is_good (codes "method") (option_and_then method (get_member (codes "method") t)) m.value m.is) (unit_facts t unit.value unit.is) s v w) clash ascend
 
 pub is_design : (bytes : List ℕ) (d : Design) → design_of bytes ≡ Ok d → Ascend d.sizes → IsDesign d
 unfolding design_of
 is_design bytes d h ascend =
     let t = went (document bytes) _ d h in
-    let version = went (holds (is_version_1 t.value) Version) _ d t.gives in
-    let unknown = went (none_found UnknownKey (unknown_key t.value)) _ d version.gives in
+    let v = went (or_fault Version (version_of t.value)) _ d t.gives in
+    let unknown = went (none_found UnknownKey (unknown_key v.value t.value)) _ d v.gives in
     let missing = went (none_found MissingKey (missing_key t.value)) _ d unknown.gives in
-    let design = went (values t.value) _ d missing.gives in
+    let design = went (values v.value t.value) _ d missing.gives in
     let clash = went (none_found (λ keys. Clash keys.0 keys.1) (Keys.clash t.value design.value.method)) _ d design.gives in
     let is : design.value ≡ d = (let same : ◌≡◌ {A = Result Design _} (Ok design.value) (Ok d) = clash.gives in cc) in
+    let number = goes_on version (get_member (codes "version") t.value) v.value (is_there Version (version_of t.value) v.value v.is) in
+    let is_version : IsVersionOf v.value t.value = record { within = version-range number.value v.value number.gives; known = found_none UnknownKey (unknown_key v.value t.value) unknown.value unknown.is } in
     subst (λ (e : Design). Ascend e.sizes → IsDesign e) is
-    (values_are_design t.value design.value (none_missing t.value (found_none MissingKey (missing_key t.value) missing.value missing.is)) design.is (no_clash t.value design.value.method (found_none (λ keys. Clash keys.0 keys.1) (Keys.clash t.value design.value.method) clash.value clash.is))) ascend
+    (values_are_design v.value t.value design.value is_version (none_missing t.value (found_none MissingKey (missing_key t.value) missing.value missing.is)) design.is (no_clash t.value design.value.method (found_none (λ keys. Clash keys.0 keys.1) (Keys.clash t.value design.value.method) clash.value clash.is))) ascend
 
 -- what was read is a design
 pub read_is_design : (bytes : List ℕ) (result : Result Design DesignFault) → Reads result (design_of bytes) → IfOk result (λ d. Ascend d.sizes) → IfOk result IsDesign

@@ -4,5 +4,6 @@ pub mod Documents
 pub mod QuotasOf
 pub mod Went
 pub mod ValueBounds
+pub mod KnownKeys
 pub mod Stages
 pub mod DesignBounds

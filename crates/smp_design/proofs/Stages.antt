@@ -12,16 +12,16 @@ use Rattle.smp_design.specs.declared.reading.SampleSize.{SampleSize}
 use Rattle.smp_design.specs.declared.reading.SecondStage.{SecondStage}
 use Rattle.smp_design.specs.Bounds.{InRange}
 use Rattle.smp_design.specs.Designs.{unit_columns, sample_size, value_columns, second_stage_of, second_stage}
-use Rattle.smp_design.specs.Keys.{has, lacks, needs, missing_key, clash}
+use Rattle.smp_design.specs.Keys.{has, lacks, needs, missing_key, rival_keys, clash}
 use Rattle.smp_design.specs.Reads.{good}
 use Rattle.smp_design.specs.Values.{number, method, second_method, order, names, quotas, optional}
 use Rattle.smp_design.specs.Words.{row, is_balance, is_near}
-use Rattle.smp_design.proofs.Went.{went, is_good, first_fails, goes_on}
+use Rattle.smp_design.proofs.Went.{went, is_good, neither, first_fails, goes_on}
 use Rattle.smp_design.proofs.ValueBounds.{Few, number-range, quotas-range, names-few, second_method-is, optional-holds, optional-there}
 
 -- no needed key is missing
 pub record NoneMissing (t : Members) : Type 0 where
-  pub sized : (lacks (codes "n") t && lacks (codes "sizes") t) ≡ false
+  pub sized : (lacks (codes "n") t && lacks (codes "sizes") t && lacks (codes "prob") t) ≡ false
   pub balance : (is_balance (needs t) && lacks (codes "balance") t) ≡ false
   pub near : (is_near (needs t) && lacks (codes "near") t) ≡ false
 
@@ -30,14 +30,32 @@ unfolding missing_key
 none_missing t h =
     let a = first_fails (lacks (codes "method") t) (codes "method") _ h in
     let b = first_fails (lacks (codes "id") t) (codes "id") _ a.others in
-    let c = first_fails (lacks (codes "n") t && lacks (codes "sizes") t) (codes "n") _ b.others in
+    let c = first_fails (lacks (codes "n") t && lacks (codes "sizes") t && lacks (codes "prob") t) (codes "n") _ b.others in
     let d = first_fails (is_balance (needs t) && lacks (codes "balance") t) (codes "balance") _ c.others in
     let e = first_fails (is_near (needs t) && lacks (codes "near") t) (codes "near") _ d.others in
     record { sized = c.fails; balance = d.fails; near = e.fails }
 
+-- no two rival keys are both there
+pub record NoRivals (t : Members) : Type 0 where
+  pub one_size : (has (codes "n") t && has (codes "sizes") t) ≡ false
+  pub no_number : (has (codes "n") t && has (codes "prob") t) ≡ false
+  pub no_quotas : (has (codes "sizes") t && has (codes "prob") t) ≡ false
+  pub no_size : (has (codes "size") t && has (codes "prob") t) ≡ false
+  pub one_stage : (has (codes "prob") t && has (codes "second") t) ≡ false
+
+no_rivals : (t : Members) → rival_keys t ≡ None → NoRivals t
+unfolding rival_keys
+no_rivals t h =
+    let a = first_fails (has (codes "n") t && has (codes "sizes") t) (codes "n", codes "sizes") _ h in
+    let b = first_fails (has (codes "n") t && has (codes "prob") t) (codes "n", codes "prob") _ a.others in
+    let c = first_fails (has (codes "sizes") t && has (codes "prob") t) (codes "sizes", codes "prob") _ b.others in
+    let d = first_fails (has (codes "size") t && has (codes "prob") t) (codes "size", codes "prob") _ c.others in
+    let e = first_fails (has (codes "prob") t && has (codes "second") t) (codes "prob", codes "second") _ d.others in
+    record { one_size = a.fails; no_number = b.fails; no_quotas = c.fails; no_size = d.fails; one_stage = e.fails }
+
 -- no two keys clash
 pub record NoClash (t : Members) (m : Method) : Type 0 where
-  pub one_size : (has (codes "n") t && has (codes "sizes") t) ≡ false
+  pub rivals : NoRivals t
   pub strata : (has (codes "sizes") t && lacks (codes "stratum") t) ≡ false
   pub order : (has (codes "order") t && not (row m).takes_order) ≡ false
   pub balance : (has (codes "balance") t && not (is_balance (row m).needs)) ≡ false
@@ -47,29 +65,38 @@ pub record NoClash (t : Members) (m : Method) : Type 0 where
 pub no_clash : (t : Members) (m : Method) → clash t m ≡ None → NoClash t m
 unfolding clash
 no_clash t m h =
-    let a = first_fails (has (codes "n") t && has (codes "sizes") t) (codes "n", codes "sizes") _ h in
-    let b = first_fails (has (codes "sizes") t && lacks (codes "stratum") t) (codes "sizes", codes "stratum") _ a.others in
-    let c = first_fails (has (codes "order") t && not (row m).takes_order) (codes "order", codes "method") _ b.others in
-    let d = first_fails (has (codes "balance") t && not (is_balance (row m).needs)) (codes "balance", codes "method") _ c.others in
-    let e = first_fails (has (codes "near") t && not (is_near (row m).needs)) (codes "near", codes "method") _ d.others in
-    let f = first_fails (has (codes "second") t && is_near (row m).needs) (codes "second", codes "method") _ e.others in
-    record { one_size = a.fails; strata = b.fails; order = c.fails; balance = d.fails; near = e.fails; second = f.fails }
+    let both = neither (rival_keys t) _ h in
+    let a = first_fails (has (codes "sizes") t && lacks (codes "stratum") t) (codes "sizes", codes "stratum") _ both.second in
+    let b = first_fails (has (codes "order") t && not (row m).takes_order) (codes "order", codes "method") _ a.others in
+    let c = first_fails (has (codes "balance") t && not (is_balance (row m).needs)) (codes "balance", codes "method") _ b.others in
+    let d = first_fails (has (codes "near") t && not (is_near (row m).needs)) (codes "near", codes "method") _ c.others in
+    let e = first_fails (has (codes "second") t && is_near (row m).needs) (codes "second", codes "method") _ d.others in
+    record { rivals = no_rivals t both.first; strata = a.fails; order = b.fails; balance = c.fails; near = d.fails; second = e.fails }
 
-pub stratum_there : (t : Members) (u : UnitColumns) → unit_columns t ≡ Ok u → is_some u.stratum ≡ has (codes "stratum") t
+-- the columns of the units
+pub record UnitFacts (t : Members) (u : UnitColumns) : Type 0 where
+  pub stratum_there : is_some u.stratum ≡ has (codes "stratum") t
+  pub size_there : is_some u.size ≡ has (codes "size") t
+
+pub unit_facts : (t : Members) (u : UnitColumns) → unit_columns t ≡ Ok u → UnitFacts t u
 unfolding unit_columns
-stratum_there t u h =
+unit_facts t u h =
     let id = went (good (codes "id") (option_and_then as_str (get_member (codes "id") t))) _ u h in
     let stratum = went (good (codes "stratum") (optional as_str (get_member (codes "stratum") t))) _ u id.gives in
     let size = went (good (codes "size") (optional as_str (get_member (codes "size") t))) _ u stratum.gives in
     let is : record { id = id.value; stratum = stratum.value; size = size.value } ≡ u = (let same : ◌≡◌ {A = Result UnitColumns _} (Ok (record { id = id.value; stratum = stratum.value; size = size.value })) (Ok u) = size.gives in cc) in
-    subst (λ (v : UnitColumns). is_some v.stratum ≡ has (codes "stratum") t) is (optional-there as_str (get_member (codes "stratum") t) stratum.value (is_good (codes "stratum") (optional as_str (get_member (codes "stratum") t)) stratum.value stratum.is))
+    subst (λ (v : UnitColumns). UnitFacts t v) is record {
+      stratum_there = optional-there as_str (get_member (codes "stratum") t) stratum.value (is_good (codes "stratum") (optional as_str (get_member (codes "stratum") t)) stratum.value stratum.is);
+      size_there = optional-there as_str (get_member (codes "size") t) size.value (is_good (codes "size") (optional as_str (get_member (codes "size") t)) size.value size.is);
+    }
 
--- the numbers of units and the order
+-- the numbers of units, the probabilities and the order
 pub record SampleFacts (t : Members) (s : SampleSize) : Type 0 where
   pub size : IfSome s.n InRange
   pub quotas : All (λ q. InRange q.n) s.sizes
   pub n_there : is_some s.n ≡ has (codes "n") t
   pub no_sizes : has (codes "sizes") t ≡ false → s.sizes ≡ []
+  pub prob_there : is_some s.prob ≡ has (codes "prob") t
   pub no_order : has (codes "order") t ≡ false → s.order ≡ the_order.Frame
 
 nothing_there : {A : Type 0} (o : Option A) (default : A) → is_some o ≡ false → unwrap_or o default ≡ default
@@ -85,16 +112,19 @@ unfolding sample_size
 sample_facts t s h =
     let n = went (good (codes "n") (optional number (get_member (codes "n") t))) _ s h in
     let sizes = went (good (codes "sizes") (optional quotas (get_member (codes "sizes") t))) _ s n.gives in
-    let o = went (good (codes "order") (optional order (get_member (codes "order") t))) _ s sizes.gives in
+    let prob = went (good (codes "prob") (optional as_str (get_member (codes "prob") t))) _ s sizes.gives in
+    let o = went (good (codes "order") (optional order (get_member (codes "order") t))) _ s prob.gives in
     let n_is = is_good (codes "n") (optional number (get_member (codes "n") t)) n.value n.is in
     let sizes_is = is_good (codes "sizes") (optional quotas (get_member (codes "sizes") t)) sizes.value sizes.is in
+    let prob_is = is_good (codes "prob") (optional as_str (get_member (codes "prob") t)) prob.value prob.is in
     let o_is = is_good (codes "order") (optional order (get_member (codes "order") t)) o.value o.is in
-    let is : record { n = n.value; sizes = unwrap_or sizes.value []; order = unwrap_or o.value the_order.Frame } ≡ s = (let same : ◌≡◌ {A = Result SampleSize _} (Ok (record { n = n.value; sizes = unwrap_or sizes.value []; order = unwrap_or o.value the_order.Frame })) (Ok s) = o.gives in cc) in
+    let is : record { n = n.value; sizes = unwrap_or sizes.value []; prob = prob.value; order = unwrap_or o.value the_order.Frame } ≡ s = (let same : ◌≡◌ {A = Result SampleSize _} (Ok (record { n = n.value; sizes = unwrap_or sizes.value []; prob = prob.value; order = unwrap_or o.value the_order.Frame })) (Ok s) = o.gives in cc) in
     subst (λ (v : SampleSize). SampleFacts t v) is record {
       size = optional-holds InRange number number-range (get_member (codes "n") t) n.value n_is;
       quotas = all_or_none (λ (qs : List quota.Quota). All (λ q. InRange q.n) qs) (λ k d within. absurd (omega arith)) sizes.value (optional-holds (λ (qs : List quota.Quota). All (λ q. InRange q.n) qs) quotas quotas-range (get_member (codes "sizes") t) sizes.value sizes_is);
       n_there = optional-there number (get_member (codes "n") t) n.value n_is;
       no_sizes = λ none. nothing_there sizes.value [] (optional-there quotas (get_member (codes "sizes") t) sizes.value sizes_is ∙ none);
+      prob_there = optional-there as_str (get_member (codes "prob") t) prob.value prob_is;
       no_order = λ none. nothing_there o.value the_order.Frame (optional-there order (get_member (codes "order") t) o.value o_is ∙ none);
     }
 

@@ -6,23 +6,29 @@ use Rattle.std.proofs.lemmas.List.Elements.{All-nil, All-cons}
 use Rattle.toml.specs.Data.{Data, Members, no_members, member, as_integer, as_array, as_table}
 use Rattle.smp_design.specs.declared.design.Quota as quota
 use Rattle.smp_design.specs.declared.method.Method.{Method}
-use Rattle.smp_design.specs.Bounds.{InRange}
-use Rattle.smp_design.specs.Values.{number_of, number, method, if_second, second_method, few, names, strings, quotas_of, quotas, optional}
+use Rattle.smp_design.specs.Bounds.{From1To, InRange}
+use Rattle.smp_design.specs.Values.{last_version, most_units, from_1_to, integer_to, version, number, method, if_second, second_method, few, names, strings, quotas_of, quotas, optional}
 use Rattle.smp_design.specs.Words.{row}
 use Rattle.smp_design.proofs.Went.{goes_on, mapped, passes}
 
-number_of-range : (z : ℤ) (n : ℕ) → number_of z ≡ Some n → InRange n
-number_of-range (pos m) n h =
-    let test = passes (nat_le 1 m && nat_le m 100000) (Some m) n h in
-    let parts = and_parts (nat_le 1 m) (nat_le m 100000) test.holds in
+from_1_to-range : (most : ℕ) (z : ℤ) (n : ℕ) → from_1_to most z ≡ Some n → From1To most n
+from_1_to-range most (pos m) n h =
+    let test = passes (nat_le 1 m && nat_le m most) (Some m) n h in
+    let parts = and_parts (nat_le 1 m) (nat_le m most) test.holds in
     let is : m ≡ n = (let same : ◌≡◌ {A = Option ℕ} (Some m) (Some n) = test.gives in cc) in
-    subst (λ (k : ℕ). InRange k) is (leb-true 1 m parts.0, leb-true m 100000 parts.1)
-number_of-range (negsuc m) n h = absurd (cc)
+    subst (λ (k : ℕ). From1To most k) is (leb-true 1 m parts.0, leb-true m most parts.1)
+from_1_to-range most (negsuc m) n h = absurd (cc)
+
+integer-range : (most : ℕ) (value : Data) (n : ℕ) → integer_to most value ≡ Some n → From1To most n
+integer-range most value n h =
+    let step = goes_on (from_1_to most) (as_integer value) n h in
+    from_1_to-range most step.value n step.gives
+
+pub version-range : (value : Data) (n : ℕ) → version value ≡ Some n → From1To last_version n
+version-range value n h = integer-range last_version value n h
 
 pub number-range : (value : Data) (n : ℕ) → number value ≡ Some n → InRange n
-number-range value n h =
-    let step = goes_on number_of (as_integer value) n h in
-    number_of-range step.value n step.gives
+number-range value n h = integer-range most_units value n h
 
 quotas_of-range : (t : Members) (qs : List quota.Quota) → quotas_of t ≡ Some qs → All (λ q. InRange q.n) qs
 quotas_of-range no_members qs h =

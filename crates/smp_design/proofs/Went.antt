@@ -1,8 +1,10 @@
 -- Readings that had no fault, and tests of which none held.
 use Rattle.std.proofs.Common.{◌≡◌, ℕ, Bool, true, false, cond, List, Option, Some, None, option_map, Result, Ok, Err, refl}
 use Rattle.std.specs.Prelude.{option_and_then}
-use Rattle.smp_design.specs.Reads.{◌>>=◌, none_found, good}
+use Rattle.smp_design.specs.Keys.{or_else}
+use Rattle.smp_design.specs.Reads.{◌>>=◌, none_found, or_fault, good}
 use Rattle.smp_design.specs.declared.fault.DesignFault.{DesignFault}
+use Rattle.smp_design.specs.declared.fault.DesignFault.TheVariants.{BadValue}
 
 -- a reading that went on to an answer had a value
 pub record Went {A B : Type 0} (read : Result A DesignFault) (next : A → Result B DesignFault) (y : B) : Type 0 where
@@ -14,13 +16,25 @@ pub went : {A B : Type 0} (read : Result A DesignFault) (next : A → Result B D
 went (Ok x) next y h = record { value = x; is = refl; gives = h }
 went (Err fault) next y h = absurd (cc)
 
+pub is_there : {A : Type 0} (fault : DesignFault) (o : Option A) (x : A) → or_fault fault o ≡ Ok x → o ≡ Some x
+is_there fault None x h = absurd (cc)
+is_there fault (Some y) x h = cc
+
 pub is_good : {A : Type 0} (key : List ℕ) (o : Option A) (x : A) → good key o ≡ Ok x → o ≡ Some x
-is_good key None x h = absurd (cc)
-is_good key (Some y) x h = cc
+is_good key o x h = is_there (BadValue key) o x h
 
 pub found_none : {A : Type 0} (fault : A → DesignFault) (o : Option A) (u : Unit {0}) → none_found fault o ≡ Ok u → o ≡ None
 found_none fault None u h = refl
 found_none fault (Some x) u h = absurd (cc)
+
+-- neither of two was there
+pub record Neither {A : Type 0} (o other : Option A) : Type 0 where
+  pub first : o ≡ None
+  pub second : other ≡ None
+
+pub neither : {A : Type 0} (o other : Option A) → or_else o other ≡ None → Neither o other
+neither None other h = record { first = refl; second = h }
+neither (Some x) other h = absurd (cc)
 
 -- a first test that didn't hold, and the others
 pub record FirstFails {A : Type 0} (test : Bool) (rest : Option A) : Type 0 where

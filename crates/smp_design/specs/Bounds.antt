@@ -8,11 +8,16 @@ use Rattle.smp_design.specs.declared.method.Needs.{Needs}
 use Rattle.smp_design.specs.declared.method.Needs.TheVariants.{Nothing, Balance, Near}
 use Rattle.smp_design.specs.declared.design.Design.{Design}
 use Rattle.smp_design.specs.declared.design.Quota as quota
+use Rattle.smp_design.specs.Values.{last_version, most_units}
 use Rattle.smp_design.specs.Words.{row, is_near}
 
--- a number of units from 1 to 100,000
+-- a whole number from 1 to `most`
+abbrev pub From1To : ℕ → ℕ → Type 0
+From1To most n = (1 ≤ n) × (n ≤ most)
+
+-- a number of units
 abbrev pub InRange : ℕ → Type 0
-InRange n = (1 ≤ n) × (n ≤ 100000)
+InRange n = From1To most_units n
 
 -- the least number of columns of values, by what a method needs
 abbrev pub least_values : Needs → ℕ
@@ -30,15 +35,25 @@ most_values Near = 4
 abbrev pub Ascend : List quota.Quota → Type 0
 Ascend quotas = IsStrictlySortedBy (slice_cmp nat_cmp) (map (λ q. q.stratum) quotas)
 
+-- a design that says nothing of numbers or sizes of first stage units, as probabilities stand in a column
+pub record HasOnlyProbabilities (d : Design) : Type 0 where
+  pub version : d.version ≡ 2
+  pub no_number : d.n ≡ None
+  pub no_quotas : d.sizes ≡ []
+  pub no_size : d.columns.size ≡ None
+  pub one_stage : d.second ≡ None
+
 -- the ranges of a design, and which of its parts go together
 pub record IsDesign (d : Design) : Type 0 where
+  pub version : From1To last_version d.version
   -- numbers of units
   pub size : IfSome d.n InRange
   pub quotas : All (λ q. InRange q.n) d.sizes
   pub ascending : Ascend d.sizes
-  -- a number for all strata, or else quotas for those of a column
+  -- a number for all strata, or else a column of probabilities, or else quotas for the strata of a column
   pub one_size : OnSome d.n (d.sizes ≡ [])
-  pub strata : IfNone d.n (IsSome d.columns.stratum)
+  pub prob : OnSome d.columns.prob (HasOnlyProbabilities d)
+  pub strata : IfNone d.n (IfNone d.columns.prob (IsSome d.columns.stratum))
   -- what the method takes
   pub order : d.order ≡ the_order.Random → IsTrue (row d.method).takes_order
   pub some_values : least_values (row d.method).needs ≤ length d.columns.values

@@ -1,8 +1,7 @@
 -- Which bytes are a design, and which fault comes first where they aren't.
-use Rattle.std.specs.Prelude.{ℕ, ℤ, pos, negsuc, List, [], Bool, false, ◌==◌, Option, Some, None, option_and_then, unwrap_or, Result, Ok, Err, if◌then◌else◌, codes}
-use Rattle.std.specs.Option.{option_map_or}
+use Rattle.std.specs.Prelude.{ℕ, List, [], Option, Some, None, option_and_then, unwrap_or, Result, Ok, if◌then◌else◌, codes}
 use Rattle.std.specs.Str.{is_utf8}
-use Rattle.toml.specs.Data.{Data, Members, get_member, as_integer, as_str, as_table}
+use Rattle.toml.specs.Data.{Data, Members, get_member, as_str, as_table}
 use Rattle.toml.specs.Parse.{parse_document}
 use Rattle.smp_prob.specs.declared.orders.Order.TheVariants as the_order
 use Rattle.smp_design.specs.declared.design.Design.{Design}
@@ -11,27 +10,13 @@ use Rattle.smp_design.specs.declared.reading.SampleSize.{SampleSize}
 use Rattle.smp_design.specs.declared.reading.SecondStage.{SecondStage}
 use Rattle.smp_design.specs.declared.fault.DesignFault.{DesignFault}
 use Rattle.smp_design.specs.declared.fault.DesignFault.TheVariants.{Syntax, Version, UnknownKey, MissingKey, Clash}
-use Rattle.smp_design.specs.Keys.{unknown_key, missing_key, clash}
+use Rattle.smp_design.specs.Keys.{version_of, unknown_key, missing_key, clash}
 use Rattle.smp_design.specs.Values.{number, method, second_method, order, names, quotas, optional}
-use Rattle.smp_design.specs.Reads.{◌>>=◌, holds, none_found, good}
-
--- the table of a document, where it is one
-abbrev pub or_syntax : Option Members → Result Members DesignFault
-or_syntax None = Err Syntax
-or_syntax (Some t) = Ok t
+use Rattle.smp_design.specs.Reads.{◌>>=◌, or_fault, none_found, good}
 
 -- the table of UTF-8 bytes that are a TOML document
 unfoldable pub document : List ℕ → Result Members DesignFault
-document bytes = or_syntax (if is_utf8 bytes then parse_document bytes else None)
-
--- the number 1
-abbrev pub is_one : ℤ → Bool
-is_one (pos n) = n == 1
-is_one (negsuc n) = false
-
--- `version` is the integer 1
-abbrev pub is_version_1 : Members → Bool
-is_version_1 t = option_map_or is_one (option_and_then as_integer (get_member (codes "version") t)) false
+document bytes = or_fault Syntax (if is_utf8 bytes then parse_document bytes else None)
 
 -- the columns of the units' ids, strata and sizes
 unfoldable pub unit_columns : Members → Result UnitColumns DesignFault
@@ -41,13 +26,14 @@ unit_columns t = do
   size ← good (codes "size") (optional as_str (get_member (codes "size") t))
   Ok (record { id = id; stratum = stratum; size = size })
 
--- how many units are drawn, and in which order they are taken
+-- how many units are drawn or with which probabilities, and in which order they are taken
 unfoldable pub sample_size : Members → Result SampleSize DesignFault
 sample_size t = do
   n ← good (codes "n") (optional number (get_member (codes "n") t))
   sizes ← good (codes "sizes") (optional quotas (get_member (codes "sizes") t))
+  prob ← good (codes "prob") (optional as_str (get_member (codes "prob") t))
   order ← good (codes "order") (optional order (get_member (codes "order") t))
-  Ok (record { n = n; sizes = unwrap_or sizes []; order = unwrap_or order the_order.Frame })
+  Ok (record { n = n; sizes = unwrap_or sizes []; prob = prob; order = unwrap_or order the_order.Frame })
 
 -- the columns of `balance` or of `near`
 unfoldable pub value_columns : Members → Result (List (List ℕ)) DesignFault
@@ -70,18 +56,19 @@ abbrev pub second_stage : Option Data → Result SecondStage DesignFault
 second_stage None = Ok (record { psu = None; size = None; second = None })
 second_stage (Some value) = good (codes "second") (as_table value) >>= second_stage_of
 
--- what the values of a design say, or the first bad one
-unfoldable pub values : Members → Result Design DesignFault
-values t = do
+-- what the values of a design of this version say, or the first bad one
+unfoldable pub values : ℕ → Members → Result Design DesignFault
+values version t = do
   method ← good (codes "method") (option_and_then method (get_member (codes "method") t))
   unit ← unit_columns t
   sample ← sample_size t
   columns ← value_columns t
   second ← second_stage (get_member (codes "second") t)
   Ok (record {
+    version = version;
     method = method;
     order = sample.order;
-    columns = record { id = unit.id; stratum = unit.stratum; psu = second.psu; size = unit.size; second_size = second.size; values = columns };
+    columns = record { id = unit.id; stratum = unit.stratum; psu = second.psu; size = unit.size; second_size = second.size; prob = sample.prob; values = columns };
     n = sample.n;
     sizes = sample.sizes;
     second = second.second;
@@ -91,9 +78,9 @@ values t = do
 unfoldable pub design_of : List ℕ → Result Design DesignFault
 design_of bytes = do
   t ← document bytes
-  _ ← holds (is_version_1 t) Version
-  _ ← none_found UnknownKey (unknown_key t)
+  version ← or_fault Version (version_of t)
+  _ ← none_found UnknownKey (unknown_key version t)
   _ ← none_found MissingKey (missing_key t)
-  design ← values t
+  design ← values version t
   _ ← none_found (λ keys. Clash keys.0 keys.1) (clash t design.method)
   Ok design

@@ -1,5 +1,5 @@
 -- The keys of a design: which there can be, which have to be there, and which don't go together.
-use Rattle.std.specs.Prelude.{ℕ, List, [], ◌∷◌, ◌++◌, Bool, false, ◌&&◌, not, Option, Some, None, is_some, option_map, option_and_then, if◌then◌else◌, codes, filter}
+use Rattle.std.specs.Prelude.{ℕ, List, [], ◌∷◌, ◌++◌, Bool, false, ◌&&◌, not, ◌==◌, Option, Some, None, is_some, option_map, option_and_then, if◌then◌else◌, codes, filter}
 use Rattle.std.specs.Ordering.{nat_cmp, is_lt}
 use Rattle.std.specs.Cmp.Lexicographic.{slice_cmp}
 use Rattle.std.specs.Str.{bytes_eq}
@@ -12,9 +12,19 @@ use Rattle.smp_design.specs.declared.method.Needs.TheVariants.{Nothing}
 use Rattle.smp_design.specs.Values
 use Rattle.smp_design.specs.Words.{row, is_balance, is_near}
 
--- the keys of a design
-abbrev pub known_keys : List (List ℕ)
-known_keys = codes "version" ∷ codes "method" ∷ codes "id" ∷ codes "stratum" ∷ codes "size" ∷ codes "n" ∷ codes "sizes" ∷ codes "order" ∷ codes "balance" ∷ codes "near" ∷ codes "second" ∷ []
+-- the version of a design
+abbrev pub version_of : Members → Option ℕ
+version_of t = option_and_then Values.version (get_member (codes "version") t)
+
+-- the key that came with version 2
+abbrev pub prob_key : ℕ → List (List ℕ)
+prob_key version = if version == 1 then [] else codes "prob" ∷ []
+
+-- the keys of a design of this version
+abbrev pub known_keys : ℕ → List (List ℕ)
+known_keys version =
+    codes "version" ∷ codes "method" ∷ codes "id" ∷ codes "stratum" ∷ codes "size" ∷ codes "n" ∷ codes "sizes" ∷ prob_key version
+    ++ codes "order" ∷ codes "balance" ∷ codes "near" ∷ codes "second" ∷ []
 
 -- the keys of its table `second`
 abbrev pub second_keys : List (List ℕ)
@@ -52,9 +62,9 @@ abbrev pub or_else : {A : Type 0} → Option A → Option A → Option A
 or_else (Some x) other = Some x
 or_else None other = other
 
--- the first unknown key of a design; one of the table `second` comes after those of the design itself
-unfoldable pub unknown_key : Members → Option (List ℕ)
-unknown_key t = or_else (first_unknown known_keys t) (option_map (λ key. codes "second." ++ key) (option_and_then (first_unknown second_keys) (second_table t)))
+-- the first unknown key of a design of this version; one of the table `second` comes after those of the design itself
+unfoldable pub unknown_key : ℕ → Members → Option (List ℕ)
+unknown_key version t = or_else (first_unknown (known_keys version) t) (option_map (λ key. codes "second." ++ key) (option_and_then (first_unknown second_keys) (second_table t)))
 
 -- a key is there
 abbrev pub has : List ℕ → Members → Bool
@@ -83,7 +93,7 @@ unfoldable pub missing_key : Members → Option (List ℕ)
 missing_key t = first_where (
     (lacks (codes "method") t, codes "method")
     ∷ (lacks (codes "id") t, codes "id")
-    ∷ (lacks (codes "n") t && lacks (codes "sizes") t, codes "n")
+    ∷ (lacks (codes "n") t && lacks (codes "sizes") t && lacks (codes "prob") t, codes "n")
     ∷ (is_balance (needs t) && lacks (codes "balance") t, codes "balance")
     ∷ (is_near (needs t) && lacks (codes "near") t, codes "near")
     ∷ (table_lacks (codes "psu") (second_table t), codes "second.psu")
@@ -91,13 +101,22 @@ missing_key t = first_where (
     ∷ (table_lacks (codes "n") (second_table t), codes "second.n")
     ∷ [])
 
+-- the first two rival keys that are both there
+unfoldable pub rival_keys : Members → Option (List ℕ × List ℕ)
+rival_keys t = first_where (
+    (has (codes "n") t && has (codes "sizes") t, (codes "n", codes "sizes"))
+    ∷ (has (codes "n") t && has (codes "prob") t, (codes "n", codes "prob"))
+    ∷ (has (codes "sizes") t && has (codes "prob") t, (codes "sizes", codes "prob"))
+    ∷ (has (codes "size") t && has (codes "prob") t, (codes "size", codes "prob"))
+    ∷ (has (codes "prob") t && has (codes "second") t, (codes "prob", codes "second"))
+    ∷ [])
+
 -- the first two keys of a design with this method that don't go together
 unfoldable pub clash : Members → Method → Option (List ℕ × List ℕ)
-clash t method = first_where (
-    (has (codes "n") t && has (codes "sizes") t, (codes "n", codes "sizes"))
-    ∷ (has (codes "sizes") t && lacks (codes "stratum") t, (codes "sizes", codes "stratum"))
+clash t method = or_else (rival_keys t) (first_where (
+    (has (codes "sizes") t && lacks (codes "stratum") t, (codes "sizes", codes "stratum"))
     ∷ (has (codes "order") t && not (row method).takes_order, (codes "order", codes "method"))
     ∷ (has (codes "balance") t && not (is_balance (row method).needs), (codes "balance", codes "method"))
     ∷ (has (codes "near") t && not (is_near (row method).needs), (codes "near", codes "method"))
     ∷ (has (codes "second") t && is_near (row method).needs, (codes "second", codes "method"))
-    ∷ [])
+    ∷ []))

@@ -1,5 +1,5 @@
 -- What a reading of a design answers.
-use Rattle.std.specs.Prelude.{◌≡◌, ℕ, List, Option, Some, None, Bool, true, false, Result, Ok, Err, ⊤}
+use Rattle.std.specs.Prelude.{◌≡◌, ℕ, List, Option, Some, None, Result, Ok, Err, ⊤}
 use Rattle.smp_design.specs.declared.fault.DesignFault.{DesignFault}
 use Rattle.smp_design.specs.declared.fault.DesignFault.TheVariants.{NoMemory, BadValue}
 
@@ -21,17 +21,16 @@ abbrev pub ◌>>=◌ : {A B : Type 0} → Result A DesignFault → (A → Result
 (Ok x) >>= next = next x
 (Err fault) >>= next = Err fault
 
--- nothing, where a test holds
-abbrev pub holds : Bool → DesignFault → Result (Unit {0}) DesignFault
-holds true fault = Ok tt
-holds false fault = Err fault
-
 -- a fault where something was found
 abbrev pub none_found : {A : Type 0} → (A → DesignFault) → Option A → Result (Unit {0}) DesignFault
 none_found fault None = Ok tt
 none_found fault (Some x) = Err (fault x)
 
+-- what there is, or else a fault
+abbrev pub or_fault : {A : Type 0} → DesignFault → Option A → Result A DesignFault
+or_fault fault None = Err fault
+or_fault fault (Some x) = Ok x
+
 -- the value of a key, where it is a good one
 abbrev pub good : {A : Type 0} → List ℕ → Option A → Result A DesignFault
-good key None = Err (BadValue key)
-good key (Some x) = Ok x
+good key value = or_fault (BadValue key) value

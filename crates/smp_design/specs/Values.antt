@@ -6,14 +6,30 @@ use Rattle.smp_design.specs.declared.method.Method.{Method}
 use Rattle.smp_design.specs.declared.design.Quota as quota
 use Rattle.smp_design.specs.Words.{row, method_of, order_of}
 
--- a whole number from 1 to 100,000
-abbrev pub number_of : ℤ → Option ℕ
-number_of (pos n) = if nat_le 1 n && nat_le n 100000 then Some n else None
-number_of (negsuc n) = None
+-- the versions of a design go from 1 to this one
+abbrev pub last_version : ℕ
+last_version = 2
 
--- an integer from 1 to 100,000
+-- the most units that a design draws from all strata, from one of them, or from a first stage unit
+abbrev pub most_units : ℕ
+most_units = 200000
+
+-- a whole number from 1 to `most`
+abbrev pub from_1_to : ℕ → ℤ → Option ℕ
+from_1_to most (pos n) = if nat_le 1 n && nat_le n most then Some n else None
+from_1_to most (negsuc n) = None
+
+-- an integer from 1 to `most`
+abbrev pub integer_to : ℕ → Data → Option ℕ
+integer_to most value = option_and_then (from_1_to most) (as_integer value)
+
+-- a version
+abbrev pub version : Data → Option ℕ
+version value = integer_to last_version value
+
+-- a number of units
 abbrev pub number : Data → Option ℕ
-number value = option_and_then number_of (as_integer value)
+number value = integer_to most_units value
 
 -- the word of a method
 abbrev pub method : Data → Option Method
@@ -49,7 +65,7 @@ abbrev pub quotas_of : Members → Option (List quota.Quota)
 quotas_of no_members = Some []
 quotas_of (member stratum value rest) = option_and_then (λ n. option_map (λ more. record { stratum = stratum; n = n } ∷ more) (quotas_of rest)) (number value)
 
--- a table of strata's names and integers from 1 to 100,000
+-- a table of strata's names and numbers of units
 abbrev pub quotas : Data → Option (List quota.Quota)
 quotas value = option_and_then quotas_of (as_table value)
 

@@ -18,15 +18,17 @@ pub record Row : Type 0 where
   pub takes_order : Bool
   -- whether a second stage may have the method
   pub in_second : Bool
+  -- whether it draws a whole number of units alone, so that their probabilities have to add up to one
+  pub draws_whole : Bool
 
 -- the table of the methods, a row for each
 unfoldable pub row : Method → Row
-row Pivotal = record { word = codes "pivotal"; needs = Nothing; takes_order = true; in_second = true }
-row Systematic = record { word = codes "systematic"; needs = Nothing; takes_order = true; in_second = true }
-row MinimumSupport = record { word = codes "minimum_support"; needs = Nothing; takes_order = false; in_second = true }
-row Brewer = record { word = codes "brewer"; needs = Nothing; takes_order = false; in_second = true }
-row LocalPivotal = record { word = codes "local_pivotal"; needs = Near; takes_order = false; in_second = false }
-row Cube = record { word = codes "cube"; needs = Balance; takes_order = false; in_second = false }
+row Pivotal = record { word = codes "pivotal"; needs = Nothing; takes_order = true; in_second = true; draws_whole = false }
+row Systematic = record { word = codes "systematic"; needs = Nothing; takes_order = true; in_second = true; draws_whole = false }
+row MinimumSupport = record { word = codes "minimum_support"; needs = Nothing; takes_order = false; in_second = true; draws_whole = true }
+row Brewer = record { word = codes "brewer"; needs = Nothing; takes_order = false; in_second = true; draws_whole = true }
+row LocalPivotal = record { word = codes "local_pivotal"; needs = Near; takes_order = false; in_second = false; draws_whole = false }
+row Cube = record { word = codes "cube"; needs = Balance; takes_order = false; in_second = false; draws_whole = false }
 
 -- all methods
 abbrev pub methods : List Method

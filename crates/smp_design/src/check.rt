@@ -2,48 +2,43 @@
 
 ghost use Rattle.std.specs.Prelude.{◌≡◌, ◌++◌, IfOk, option_map, codes};
 ghost use Rattle.toml.specs.View.{table_view};
-ghost use Rattle.smp_design.specs.Designs;
 ghost use Rattle.smp_design.specs.Keys;
-ghost use Rattle.smp_design.specs.Reads.{Reads, holds, none_found};
+ghost use Rattle.smp_design.specs.Reads.{Reads, or_fault, none_found};
 ghost use Rattle.smp_design.specs.declared.fault.DesignFault.TheVariants as fault;
 
-use crate::keys::{KNOWN_KEYS, SECOND_KEYS, has, needs, second_table, unknown_key, value_at};
+use crate::keys::{SECOND_KEYS, has, known_keys, needs, second_table, unknown_key, value_at};
+use crate::values::version;
 use crate::{DesignFault, Method};
 use smp_frac::{NoMemory, Text};
 use std::alloc::Global;
-use toml::{Table, Value};
+use toml::Table;
 
-pub(crate) fn check_version(table: &Table) -> Result<(), DesignFault>
-    ensures { Reads result (holds (Designs.is_version_1 (table_view table.now)) fault.Version) }
+// The version of the design.
+pub(crate) fn version_of(table: &Table) -> Result<u32, DesignFault>
+    ensures { Reads result (or_fault fault.Version (Keys.version_of (table_view table.now))) }
 {
-    if is_version_1(table) {
-        Ok(())
-    } else {
-        Err(DesignFault::Version)
+    match value_at(table, "version").and_then(version) {
+        Some(version) => Ok(version),
+        None => Err(DesignFault::Version),
     }
 }
 
-fn is_version_1(table: &Table) -> bool
-    ensures { result ≡ Designs.is_version_1 (table_view table.now) }
+// Every key of a design of this version, and of its table `second`, is a known one.
+pub(crate) fn check_known(alloc: Global, table: &Table, version: u32) -> Result<(), DesignFault>
+    ensures { Reads result (none_found fault.UnknownKey
+        (Keys.unknown_key version (table_view table.now))) }
 {
-    value_at(table, "version").and_then(Value::as_integer) == Some(1)
-}
-
-// Every key of the design, and of its table `second`, is a known one.
-pub(crate) fn check_known(alloc: Global, table: &Table) -> Result<(), DesignFault>
-    ensures { Reads result (none_found fault.UnknownKey (Keys.unknown_key (table_view table.now))) }
-{
-    match unknown_name(alloc, table)? {
+    match unknown_name(alloc, table, version)? {
         Some(name) => Err(DesignFault::UnknownKey { name }),
         None => Ok(()),
     }
 }
 
 #[tactic(auto, unfolding(crate::specs::Keys::unknown_key))]
-fn unknown_name(alloc: Global, table: &Table) -> Result<Option<Text>, NoMemory>
-    ensures { IfOk result (λ o. o ≡ Keys.unknown_key (table_view table.now)) }
+fn unknown_name(alloc: Global, table: &Table, version: u32) -> Result<Option<Text>, NoMemory>
+    ensures { IfOk result (λ o. o ≡ Keys.unknown_key version (table_view table.now)) }
 {
-    if let Some(key) = unknown_key(table, KNOWN_KEYS) {
+    if let Some(key) = unknown_key(table, known_keys(version)) {
         return Ok(Some(Text::from_str(alloc, key.as_str())?));
     }
     let Some(second) = second_table(table) else {
@@ -86,7 +81,7 @@ fn missing_key(table: &Table) -> Option<&'static str>
         Some("method")
     } else if !has(table, "id") {
         Some("id")
-    } else if !has(table, "n") && !has(table, "sizes") {
+    } else if !has(table, "n") && !has(table, "sizes") && !has(table, "prob") {
         Some("n")
     } else if needs.is_balance() && !has(table, "balance") {
         Some("balance")
@@ -123,14 +118,35 @@ pub(crate) fn check_clash(alloc: Global, table: &Table, method: Method) -> Resul
     }
 }
 
+// The first two rival keys that are both there.
+#[tactic(auto, unfolding(crate::specs::Keys::rival_keys))]
+fn rival_keys(table: &Table) -> Option<(&'static str, &'static str)>
+    ensures { option_map (λ k. (k.0.now, k.1.now)) result ≡ Keys.rival_keys (table_view table.now) }
+{
+    if has(table, "n") && has(table, "sizes") {
+        Some(("n", "sizes"))
+    } else if has(table, "n") && has(table, "prob") {
+        Some(("n", "prob"))
+    } else if has(table, "sizes") && has(table, "prob") {
+        Some(("sizes", "prob"))
+    } else if has(table, "size") && has(table, "prob") {
+        Some(("size", "prob"))
+    } else if has(table, "prob") && has(table, "second") {
+        Some(("prob", "second"))
+    } else {
+        None
+    }
+}
+
 #[tactic(auto, unfolding(crate::specs::Keys::clash))]
 fn clash(table: &Table, method: Method) -> Option<(&'static str, &'static str)>
     ensures { option_map (λ k. (k.0.now, k.1.now)) result ≡ Keys.clash (table_view table.now) method }
 {
+    if let Some(keys) = rival_keys(table) {
+        return Some(keys);
+    }
     let row = method.row();
-    if has(table, "n") && has(table, "sizes") {
-        Some(("n", "sizes"))
-    } else if has(table, "sizes") && !has(table, "stratum") {
+    if has(table, "sizes") && !has(table, "stratum") {
         Some(("sizes", "stratum"))
     } else if has(table, "order") && !row.takes_order {
         Some(("order", "method"))

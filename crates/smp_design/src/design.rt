@@ -11,6 +11,8 @@ use std::marker::Model;
 /// The design of a sample.
 #[derive(Drop)]
 pub struct Design {
+    /// The version, 1 or 2.
+    pub version: u32,
     /// How the first stage units of each stratum are drawn.
     pub method: Method,
     /// In which order the method takes the units.
@@ -18,9 +20,11 @@ pub struct Design {
     /// The columns of the frame. The values are those to balance with the cube method, and the coordinates with
     /// the local pivotal method.
     pub columns: Columns,
-    /// How many first stage units are drawn from all strata together, where it isn't said for each stratum.
+    /// How many first stage units are drawn from all strata together, from 1 to 200,000; `None` where it is said for
+    /// each stratum, or where the columns name one of probabilities.
     pub n: Option<u32>,
-    /// How many first stage units are drawn from each stratum, in byte order of the strata's names.
+    /// How many first stage units are drawn from each stratum, in byte order of the strata's names; none where there
+    /// is `n` or a column of probabilities.
     pub sizes: Quotas,
     /// How units are drawn from each first stage unit that was drawn.
     pub second: Option<Second>,
@@ -31,7 +35,7 @@ pub struct Design {
 pub struct Second {
     /// How units are drawn from a first stage unit.
     pub method: Method,
-    /// How many units are drawn from a first stage unit.
+    /// How many units are drawn from a first stage unit, from 1 to 200,000.
     pub n: u32,
 }
 
@@ -40,7 +44,7 @@ pub struct Second {
 pub struct Quota {
     /// The stratum's name.
     pub stratum: Text,
-    /// The number of units.
+    /// The number of units, from 1 to 200,000.
     pub n: u32,
 }
 

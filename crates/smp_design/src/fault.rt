@@ -11,9 +11,9 @@ use std::alloc::AllocError;
 pub enum DesignFault {
     /// The bytes aren't UTF-8, or aren't a TOML document.
     Syntax,
-    /// The key `version` is missing, or isn't the integer 1.
+    /// The key `version` is missing, or isn't the integer 1 or 2.
     Version,
-    /// A design has no such key. A key of the table `second` is written `second.` and its name.
+    /// A design of this version has no such key. A key of the table `second` is written `second.` and its name.
     UnknownKey { name: Text },
     /// A key that is needed isn't there.
     MissingKey { name: Text },

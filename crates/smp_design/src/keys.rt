@@ -14,14 +14,31 @@ use crate::method::Needs;
 use crate::values::method;
 use toml::{Table, Value};
 
-// The keys of a design.
-pub(crate) const KNOWN_KEYS: &[&str] = &[
+// The keys of a design of version 1.
+const KEYS_OF_VERSION_1: &[&str] = &[
     "version", "method", "id", "stratum", "size", "n", "sizes", "order", "balance", "near",
+    "second",
+];
+
+// The keys of a design of version 2.
+const KEYS_OF_VERSION_2: &[&str] = &[
+    "version", "method", "id", "stratum", "size", "n", "sizes", "prob", "order", "balance", "near",
     "second",
 ];
 
 // The keys of its table `second`.
 pub(crate) const SECOND_KEYS: &[&str] = &["psu", "method", "n", "size"];
+
+// The keys of a design of this version.
+pub(crate) fn known_keys(version: u32) -> &'static [&'static str]
+    ensures { map (λ k. k.now) result.now ≡ Keys.known_keys version }
+{
+    if version == 1 {
+        KEYS_OF_VERSION_1
+    } else {
+        KEYS_OF_VERSION_2
+    }
+}
 
 // The value at a key.
 pub(crate) fn value_at<'a>(table: &'a Table, key: &str) -> Option<&'a Value>

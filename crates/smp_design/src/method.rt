@@ -96,6 +96,15 @@ impl Method {
             .find(|method| method.row().word == word)
     }
 
+    /// Whether the method draws a whole number of units alone, so that their inclusion probabilities have to add up to
+    /// one: minimum support and Brewer's method do.
+    #[tactic(auto, unfolding(crate::specs::Words::row))]
+    pub fn draws_whole(self) -> bool
+        ensures { result ≡ (row self).draws_whole }
+    {
+        matches!(self, Method::MinimumSupport | Method::Brewer)
+    }
+
     // The row of the method, whose word means no other method.
     #[tactic(auto, unfolding(crate::specs::Words::row), using(crate::proofs::ReadBack::method_read_back))]
     pub(crate) fn row(self) -> Row

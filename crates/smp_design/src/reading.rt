@@ -9,7 +9,7 @@ ghost use Rattle.smp_design.specs.Designs.{design_of};
 ghost use Rattle.smp_design.specs.Reads;
 ghost use Rattle.smp_design.specs.Reads.{Reads, ReadsBy};
 
-use crate::check::{check_clash, check_known, check_needed, check_version};
+use crate::check::{check_clash, check_known, check_needed, version_of};
 use crate::entries::{
     optional_names_at, optional_number_at, optional_order_at, optional_quotas_at, optional_text_at,
     text_at,
@@ -46,10 +46,10 @@ fn checked_design(alloc: Global, bytes: &[u8]) -> Result<Design, DesignFault>
     ensures ascending { IfOk result (λ d. Ascend d.sizes) }
 {
     let table = document(alloc, bytes)?;
-    check_version(&table)?;
-    check_known(alloc, &table)?;
+    let version = version_of(&table)?;
+    check_known(alloc, &table, version)?;
     check_needed(alloc, &table)?;
-    let design = values(alloc, &table)?;
+    let design = values(alloc, &table, version)?;
     check_clash(alloc, &table, design.method)?;
     Ok(design)
 }
@@ -71,10 +71,10 @@ fn document(alloc: Global, bytes: &[u8]) -> Result<Table, DesignFault>
     }
 }
 
-// What the values of a design say.
+// What the values of a design of this version say.
 #[tactic(auto, unfolding(crate::specs::Designs::values))]
-fn values(alloc: Global, table: &Table) -> Result<Design, DesignFault>
-    ensures reads { Reads result (Designs.values (table_view table.now)) }
+fn values(alloc: Global, table: &Table, version: u32) -> Result<Design, DesignFault>
+    ensures reads { Reads result (Designs.values version (table_view table.now)) }
     ensures ascending { IfOk result (λ d. Ascend d.sizes) }
 {
     let method = good(alloc, "method", value_at(table, "method").and_then(method))?;
@@ -83,6 +83,7 @@ fn values(alloc: Global, table: &Table) -> Result<Design, DesignFault>
     let values = value_columns(alloc, table)?;
     let second = second_stage(alloc, table)?;
     Ok(Design {
+        version,
         method,
         order: sample.order,
         columns: Columns {
@@ -91,6 +92,7 @@ fn values(alloc: Global, table: &Table) -> Result<Design, DesignFault>
             psu: second.psu,
             size: unit.size,
             second_size: second.size,
+            prob: sample.prob,
             values,
         },
         n: sample.n,
@@ -117,11 +119,12 @@ fn unit_columns(alloc: Global, table: &Table) -> Result<UnitColumns, DesignFault
     Ok(UnitColumns { id, stratum, size })
 }
 
-/// How many units are drawn, and in which order they are taken.
+/// How many units are drawn or with which probabilities, and in which order they are taken.
 #[derive(Drop)]
 struct SampleSize {
     n: Option<u32>,
     sizes: Quotas,
+    prob: Option<Text>,
     order: Order,
 }
 
@@ -132,10 +135,12 @@ fn sample_size(alloc: Global, table: &Table) -> Result<SampleSize, DesignFault>
 {
     let n = good(alloc, "n", optional_number_at(table, "n"))?;
     let sizes = good(alloc, "sizes", optional_quotas_at(alloc, table, "sizes")?)?;
+    let prob = good(alloc, "prob", optional_text_at(alloc, table, "prob")?)?;
     let order = good(alloc, "order", optional_order_at(table, "order"))?;
     Ok(SampleSize {
         n,
         sizes: quotas_or_none(alloc, sizes),
+        prob,
         order: order.unwrap_or(Order::Frame),
     })
 }

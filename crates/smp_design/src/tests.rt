@@ -24,7 +24,10 @@ fn fault_line(alloc: Global, fault: &DesignFault) -> Result<String, AllocError> 
 
 // The parts of a design in a line.
 fn design_line(alloc: Global, design: &Design) -> Result<String, AllocError> {
-    let mut line = format!(in alloc; "{:?} {:?} {:?}", design.method, design.order, design.n)?;
+    let mut line = format!(in alloc;
+        "{} {:?} {:?} {:?}",
+        design.version, design.method, design.order, design.n
+    )?;
     push_columns(&mut line, &design.columns)?;
     for quota in design.sizes.as_slice() {
         write!(line, " {}:{}", quota.stratum.as_str(), quota.n)?;
@@ -41,6 +44,7 @@ fn push_columns(line: &mut String, columns: &Columns) -> Result<(), AllocError> 
     push_column(line, "psu", &columns.psu)?;
     push_column(line, "size", &columns.size)?;
     push_column(line, "second size", &columns.second_size)?;
+    push_column(line, "prob", &columns.prob)?;
     for name in columns.values.as_slice() {
         write!(line, " +{}", name.as_str())?;
     }
@@ -68,6 +72,8 @@ const START: &str = "version = 1\n";
 
 const WITH_ID: &str = "version = 1\nid = \"i\"\n";
 
+const SECOND_VERSION: &str = "version = 2\nid = \"i\"\n";
+
 #[test]
 fn names_the_first_fault(rt: HostRuntime) -> Result<(), Fail> {
     let cases = [
@@ -93,18 +99,24 @@ fn names_the_first_fault(rt: HostRuntime) -> Result<(), Fail> {
         // A document, and its version.
         ("version = 1\nversion = 1\n", "syntax"),
         (
-            "version = 2\nmethod = \"pivotal\"\nid = \"id\"\nn = 2\n",
+            "version = 3\nmethod = \"pivotal\"\nid = \"id\"\nn = 2\n",
             "version",
         ),
         ("version = \"1\"\ncolour = 1\n", "version"),
         ("version = 1.0\n", "version"),
-        ("version = -1\n", "version"),
+        ("version = 0\n", "version"),
+        ("version = -2\n", "version"),
         ("colour = 1\n", "version"),
         // Unknown keys.
         ("version = 1\nzebra = 1\napple = 2\n", "unknown apple"),
         ("version = 1\nMethod = 1\nid = 3\n", "unknown Method"),
         ("version = 1\n\"\" = 1\n", "unknown "),
         ("version = 1\npsu = \"u\"\n", "unknown psu"),
+        ("version = 1\nprob = \"p\"\n", "unknown prob"),
+        (
+            "version = 2\nprob = \"p\"\nweight = \"w\"\n",
+            "unknown weight",
+        ),
         (
             "version = 1\nzebra = 1\n[second]\napple = 1\n",
             "unknown zebra",
@@ -186,7 +198,7 @@ fn names_missing_keys_and_bad_values(rt: HostRuntime) -> Result<(), Fail> {
             "method = \"brewer\"\nid = \"i\"\nn = 0\nsizes = 0\n",
             "bad n",
         ),
-        ("method = \"brewer\"\nid = \"i\"\nn = 100001\n", "bad n"),
+        ("method = \"brewer\"\nid = \"i\"\nn = 200001\n", "bad n"),
         ("method = \"brewer\"\nid = \"i\"\nn = -1\n", "bad n"),
         ("method = \"brewer\"\nid = \"i\"\nn = 4294967297\n", "bad n"),
         ("method = \"brewer\"\nid = \"i\"\nn = 2.0\n", "bad n"),
@@ -199,7 +211,7 @@ fn names_missing_keys_and_bad_values(rt: HostRuntime) -> Result<(), Fail> {
             "bad sizes",
         ),
         (
-            "method = \"brewer\"\nid = \"i\"\nsizes = { a = 100001 }\n",
+            "method = \"brewer\"\nid = \"i\"\nsizes = { a = 200001 }\n",
             "bad sizes",
         ),
         (
@@ -300,43 +312,43 @@ fn reads_designs(rt: HostRuntime) -> Result<(), Fail> {
     let cases = [
         (
             "method = \"pivotal\"\nn = 2\n",
-            "Pivotal Frame Some(2) id i",
+            "1 Pivotal Frame Some(2) id i",
         ),
         (
-            "method = \"pivotal\"\norder = \"random\"\nn = 100000\n",
-            "Pivotal Random Some(100000) id i",
+            "method = \"pivotal\"\norder = \"random\"\nn = 200000\n",
+            "1 Pivotal Random Some(200000) id i",
         ),
         (
             "method = \"systematic\"\norder = \"frame\"\nn = 1\nsize = \"\"\n",
-            "Systematic Frame Some(1) id i size ",
+            "1 Systematic Frame Some(1) id i size ",
         ),
         (
             "method = \"minimum_support\"\nn = 0x10\n",
-            "MinimumSupport Frame Some(16) id i",
+            "1 MinimumSupport Frame Some(16) id i",
         ),
         (
             "method = \"brewer\"\nstratum = \"s\"\nsizes = {}\n",
-            "Brewer Frame None id i stratum s",
+            "1 Brewer Frame None id i stratum s",
         ),
         (
             "method = \"local_pivotal\"\nnear = [\"b\", \"\", \"a\", \"b\"]\nn = 1\n",
-            "LocalPivotal Frame Some(1) id i +b + +a +b",
+            "1 LocalPivotal Frame Some(1) id i +b + +a +b",
         ),
         (
             "method = \"cube\"\nbalance = [\"\",\"\",\"\",\"\",\"\",\"\",\"\",\"\",\"\",\"\",\"\",\"\",\"\",\"\",\"\"]\nn = 1\n",
-            "Cube Frame Some(1) id i + + + + + + + + + + + + + + +",
+            "1 Cube Frame Some(1) id i + + + + + + + + + + + + + + +",
         ),
         (
-            "method = \"brewer\"\nstratum = \"s\"\n[sizes]\nb = 100000\n\"\" = 7\na = 1\n\"a.b\" = 2\nB = 3\n\"ä\" = 4\n",
-            "Brewer Frame None id i stratum s :7 B:3 a:1 a.b:2 b:100000 ä:4",
+            "method = \"brewer\"\nstratum = \"s\"\n[sizes]\nb = 200000\n\"\" = 7\na = 1\n\"a.b\" = 2\nB = 3\n\"ä\" = 4\n",
+            "1 Brewer Frame None id i stratum s :7 B:3 a:1 a.b:2 b:200000 ä:4",
         ),
         (
             "method = \"cube\"\nbalance = [\"y\"]\nn = 1\n[second]\nn = 3\nmethod = \"systematic\"\npsu = \"u\"\nsize = \"w\"\n",
-            "Cube Frame Some(1) id i psu u second size w +y second Systematic 3",
+            "1 Cube Frame Some(1) id i psu u second size w +y second Systematic 3",
         ),
         (
             "method = \"pivotal\"\nn = 1\nsecond = { psu = \"\", n = 1, method = \"minimum_support\" }\n",
-            "Pivotal Frame Some(1) id i psu  second MinimumSupport 1",
+            "1 Pivotal Frame Some(1) id i psu  second MinimumSupport 1",
         ),
     ];
     for (text, line) in cases {
@@ -347,8 +359,62 @@ fn reads_designs(rt: HostRuntime) -> Result<(), Fail> {
         "\u{feff}",
         "version = 1\nid = \"\"\nmethod = \"brewer\"\nn = 1\n",
     )?;
-    assert_eq!(rt; marked.as_str(), "Brewer Frame Some(1) id ");
+    assert_eq!(rt; marked.as_str(), "1 Brewer Frame Some(1) id ");
     let twice_marked = answer(rt.alloc(), "\u{feff}\u{feff}", START)?;
     assert_eq!(rt; twice_marked.as_str(), "syntax");
+    Ok(())
+}
+
+#[test]
+fn reads_designs_of_version_2(rt: HostRuntime) -> Result<(), Fail> {
+    let cases = [
+        ("method = \"brewer\"\n", "missing n"),
+        ("method = \"cube\"\nprob = 1\n", "missing balance"),
+        (
+            "method = \"brewer\"\nn = 1\nsizes = 0\nprob = 1\n",
+            "bad sizes",
+        ),
+        ("method = \"brewer\"\nprob = 1\norder = \"\"\n", "bad prob"),
+        (
+            "method = \"brewer\"\nn = 1\nsizes = {}\nprob = \"p\"\n",
+            "clash n sizes",
+        ),
+        (
+            "method = \"brewer\"\nn = 1\nsize = \"s\"\nprob = \"p\"\n",
+            "clash n prob",
+        ),
+        (
+            "method = \"brewer\"\nsizes = {}\nsize = \"s\"\nprob = \"p\"\n",
+            "clash sizes prob",
+        ),
+        (
+            "method = \"brewer\"\nsize = \"s\"\nprob = \"p\"\n[second]\npsu = \"u\"\nmethod = \"pivotal\"\nn = 1\n",
+            "clash size prob",
+        ),
+        (
+            "method = \"brewer\"\nprob = \"p\"\norder = \"frame\"\n[second]\npsu = \"u\"\nmethod = \"pivotal\"\nn = 1\n",
+            "clash prob second",
+        ),
+        ("method = \"brewer\"\nsizes = {}\n", "clash sizes stratum"),
+        (
+            "method = \"brewer\"\nstratum = \"s\"\nprob = \"\"\n",
+            "2 Brewer Frame None id i stratum s prob ",
+        ),
+        (
+            "method = \"cube\"\nprob = \"p\"\nbalance = [\"x\"]\n",
+            "2 Cube Frame None id i prob p +x",
+        ),
+        (
+            "method = \"pivotal\"\nn = 2\nsize = \"s\"\n",
+            "2 Pivotal Frame Some(2) id i size s",
+        ),
+    ];
+    for (text, line) in cases {
+        assert_eq!(rt;
+            answer(rt.alloc(), SECOND_VERSION, text)?.as_str(),
+            line,
+            "{text}"
+        );
+    }
     Ok(())
 }

@@ -14,7 +14,11 @@ use smp_prob::Order;
 use std::alloc::Global;
 use toml::{Table, Value};
 
-const MAX_NUMBER: i64 = 100_000;
+// The versions of a design go from 1 to this one.
+const LAST_VERSION: u32 = 2;
+
+// The most units that a design draws from all strata, from one of them, or from a first stage unit.
+const MAX_UNITS: u32 = 200_000;
 
 pub(crate) fn text(alloc: Global, value: &Value) -> Result<Option<Text>, NoMemory>
     ensures { IfOk result (λ o. o ≡ as_str (view value.now)) }
@@ -25,14 +29,28 @@ pub(crate) fn text(alloc: Global, value: &Value) -> Result<Option<Text>, NoMemor
     }
 }
 
-// An integer from 1 to 100,000.
+// An integer from 1 to `most`.
+fn integer_to(most: u32, value: &Value) -> Option<u32>
+    ensures { result ≡ Values.integer_to most (view value.now) }
+{
+    match value.as_integer() {
+        Some(number) if number >= 1 && number <= most as i64 => Some(number as u32),
+        _ => None,
+    }
+}
+
+// A version of designs.
+pub(crate) fn version(value: &Value) -> Option<u32>
+    ensures { result ≡ Values.version (view value.now) }
+{
+    integer_to(LAST_VERSION, value)
+}
+
+// A number of units.
 pub(crate) fn number(value: &Value) -> Option<u32>
     ensures { result ≡ Values.number (view value.now) }
 {
-    match value.as_integer() {
-        Some(number) if number >= 1 && number <= MAX_NUMBER => Some(number as u32),
-        _ => None,
-    }
+    integer_to(MAX_UNITS, value)
 }
 
 pub(crate) fn method(value: &Value) -> Option<Method>
@@ -80,7 +98,7 @@ fn strings(alloc: Global, values: &[Value]) -> Result<Option<Vec<Text>>, NoMemor
     Ok(Some(names))
 }
 
-// A table of strata's names and integers from 1 to 100,000.
+// A table of strata's names and numbers of units.
 pub(crate) fn quotas(alloc: Global, value: &Value) -> Result<Option<Quotas>, NoMemory>
     ensures value { IfOk result (λ o. o ≡ Values.quotas (view value.now)) }
     ensures ascending { IfOk result (λ o. IfSome o Ascend) }

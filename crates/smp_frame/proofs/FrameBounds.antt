@@ -1,25 +1,29 @@
--- Every frame that is read has few units, with small sizes and values, and a value for each asked column.
-use Rattle.std.proofs.Common.{◌≡◌, ℕ, zero, suc, ◌+◌, ◌^◌, ◌<◌, ◌≤◌, ℤ, pos, neg_ℤ, nat_abs, Bool, true, false, cond, not, ◌==◌, nat_lt, nat_le, List, [], ◌∷◌, length, Option, Some, None, Result, Ok, Err, IfOk, All, refl, ap, subst, arith}
+-- Every frame that is read has few units, with small sizes and values, probabilities, and a value for each asked column.
+use Rattle.std.proofs.Common.{◌≡◌, ℕ, zero, suc, ◌+◌, ◌<◌, ◌≤◌, ℤ, pos, neg_ℤ, nat_abs, Bool, true, false, cond, not, ◌&&◌, ◌==◌, nat_lt, nat_le, List, [], ◌∷◌, length, Option, Some, None, Result, Ok, Err, IfOk, All, refl, ap, subst, arith}
 use Rattle.std.specs.List.{list_all, list_any}
 use Rattle.std.specs.Str.{bytes_eq, is_utf8}
 use Rattle.std.specs.Str.Parse.{digits_value}
-use Rattle.std.proofs.lemmas.Bool.{ltb-true, leb-true}
+use Rattle.std.proofs.lemmas.Bool.{ltb-true, leb-true, and_parts}
 use Rattle.std.proofs.lemmas.List.{get_or-map}
-use Rattle.std.proofs.lemmas.List.Elements.{All-cons}
+use Rattle.std.proofs.lemmas.List.Elements.{All-cons, All-map}
 use Rattle.smp_lines.specs.Decimals.{is_decimal}
+use Rattle.smp_frame.specs.Limits.{max_rows, number_limit}
+use Rattle.smp_frame.specs.LowestTerms.{lowest_terms}
 use Rattle.smp_frame.specs.Steps.{◌>>=◌, guard}
 use Rattle.smp_frame.specs.Records.{field, records_of}
-use Rattle.smp_frame.specs.Fields.{size_of, size_in, is_minus, without_minus, field_value, values_in}
+use Rattle.smp_frame.specs.Fields.{size_of, size_in, sides_of, prob_of, prob_in, is_minus, without_minus, field_value, values_in}
 use Rattle.smp_frame.specs.Layouts.{column_in, asked_in, columns_in, layout_of}
 use Rattle.smp_frame.specs.Frames.{unit_of, units_from, units_of, frame_of}
-use Rattle.smp_frame.specs.Bounds.{AreNear, HaveValues, IsFrame}
+use Rattle.smp_frame.specs.Bounds.{AreNear, HaveValues, IsFrame, IsProbability}
 use Rattle.smp_frame.specs.Reads.{Reads}
+use Rattle.smp_frac.specs.declared.fractions.Frac.{Frac}
 use Rattle.smp_frame.specs.declared.columns.Columns.{Columns}
 use Rattle.smp_frame.specs.declared.layout.Column.{Column}
 use Rattle.smp_frame.specs.declared.layout.Layout.{Layout}
 use Rattle.smp_frame.specs.declared.frame.Unit as unit
 use Rattle.smp_frame.specs.declared.fault.FrameFault.{FrameFault}
 use Rattle.smp_frame.specs.declared.fault.FrameFault.TheVariants.{RowLength, NotText, RepeatedId}
+use Rattle.smp_frame.proofs.LowestTerms.{lowest_terms-at_most_one, lowest_terms-den}
 
 -- a reading that has no fault, and the reading before it
 record GoesOn {A B : Type 0} (next : A → Result B FrameFault) (reading : Result A FrameFault) (y : B) : Type 0 where
@@ -42,36 +46,57 @@ passes false fault next y h = absurd (cc h)
 ok_is : {A : Type 0} (x y : A) → ◌≡◌ {A = Result A FrameFault} (Ok x) (Ok y) → x ≡ y
 ok_is x y h = cc h
 
-size_is_small : (number : ℕ) (name text : List ℕ) (size : ℕ) → size_of number name text ≡ Ok size → size < 2 ^ 31
+terms_are_probability : (n d : ℕ) → 0 < d → n ≤ d → d < number_limit → IsProbability (lowest_terms n d)
+terms_are_probability n d some le small =
+    record { at_most_one = lowest_terms-at_most_one n d le; small = omega (arith, small, lowest_terms-den n d some) }
+
+size_is_small : (number : ℕ) (name text : List ℕ) (size : ℕ) → size_of number name text ≡ Ok size → size < number_limit
 unfolding size_of
 size_is_small number name text size h =
     let digits = passes (is_decimal text) _ _ size h in
-    let small = passes (nat_lt (digits_value 10 text) (2 ^ 31)) _ _ size digits.gives in
-    subst (λ (n : ℕ). n < 2 ^ 31) (ok_is _ _ small.gives) (ltb-true (digits_value 10 text) (2 ^ 31) small.holds)
+    let small = passes (nat_lt (digits_value 10 text) number_limit) _ _ size digits.gives in
+    subst (λ (n : ℕ). n < number_limit) (ok_is _ _ small.gives) (ltb-true (digits_value 10 text) number_limit small.holds)
 
-asked_size_is_small : (number : ℕ) (row : List (List ℕ)) (column : Option Column) (size : ℕ) → size_in number row column ≡ Ok size → size < 2 ^ 31
-asked_size_is_small number row None size h = subst (λ (n : ℕ). n < 2 ^ 31) (ok_is _ _ h) (omega arith)
+asked_size_is_small : (number : ℕ) (row : List (List ℕ)) (column : Option Column) (size : ℕ) → size_in number row column ≡ Ok size → size < number_limit
+asked_size_is_small number row None size h = subst (λ (n : ℕ). n < number_limit) (ok_is _ _ h) (omega arith)
 asked_size_is_small number row (Some column) size h = size_is_small number column.name (field row column.place) size h
+
+prob_is_probability : (number : ℕ) (name text : List ℕ) (prob : Frac) → prob_of number name text ≡ Ok prob → IsProbability prob
+unfolding prob_of
+prob_is_probability number name text prob h =
+    let num : ℕ = digits_value 10 (sides_of text).0 in
+    let den : ℕ = digits_value 10 (sides_of text).1 in
+    let digits = passes (is_decimal (sides_of text).0 && is_decimal (sides_of text).1) _ _ prob h in
+    let small = passes (nat_lt num number_limit && nat_lt den number_limit) _ _ prob digits.gives in
+    let within = passes (nat_lt 0 den && nat_le num den) _ _ prob small.gives in
+    let below = (and_parts _ _ small.holds).1 in
+    let ordered = and_parts _ _ within.holds in
+    subst IsProbability (ok_is _ _ within.gives)
+    (terms_are_probability num den (ltb-true 0 den ordered.0) (leb-true num den ordered.1) (ltb-true den number_limit below))
+
+asked_prob_is_probability : (number : ℕ) (row : List (List ℕ)) (column : Option Column) (prob : Frac) → prob_in number row column ≡ Ok prob → IsProbability prob
+asked_prob_is_probability number row None prob h = subst IsProbability (ok_is _ _ h) (terms_are_probability 1 1 (omega arith) (omega arith) (omega arith))
+asked_prob_is_probability number row (Some column) prob h = prob_is_probability number column.name (field row column.place) prob h
 
 abs_neg : (n : ℕ) → nat_abs (neg_ℤ (pos n)) ≡ n
 abs_neg zero = refl
 abs_neg (suc n) = refl
 
-either_sign : (minus : Bool) (n : ℕ) → n < 2 ^ 31 → nat_abs (cond minus (neg_ℤ (pos n)) (pos n)) < 2 ^ 31
+either_sign : (minus : Bool) (n : ℕ) → n < number_limit → nat_abs (cond minus (neg_ℤ (pos n)) (pos n)) < number_limit
 either_sign true n h = rw (abs_neg n) h
 either_sign false n h = h
 
-value_is_near : (number : ℕ) (name text : List ℕ) (value : ℤ) → field_value number name text ≡ Ok value → nat_abs value < 2 ^ 31
+value_is_near : (number : ℕ) (name text : List ℕ) (value : ℤ) → field_value number name text ≡ Ok value → nat_abs value < number_limit
 value_is_near number name text value h =
     let size = goes_on _ (size_of number name (without_minus text)) value h in
-    subst (λ (z : ℤ). nat_abs z < 2 ^ 31) (ok_is _ _ size.gives) (either_sign (is_minus text) size.value (size_is_small number name (without_minus text) size.value size.is))
+    subst (λ (z : ℤ). nat_abs z < number_limit) (ok_is _ _ size.gives) (either_sign (is_minus text) size.value (size_is_small number name (without_minus text) size.value size.is))
 
 values_are_near : (number : ℕ) (row : List (List ℕ)) (columns : List Column) (values : List ℤ) → values_in number row columns ≡ Ok values → AreNear values
 values_are_near number row [] values h = subst AreNear (ok_is _ _ h) (λ k d within. absurd (omega arith))
 values_are_near number row (column ∷ columns) values h =
     let first = goes_on _ (field_value number column.name (field row column.place)) values h in
     let more = goes_on _ (values_in number row columns) values first.gives in
-    subst AreNear (ok_is _ _ more.gives) (All-cons (λ (z : ℤ). nat_abs z < 2 ^ 31) first.value more.value (value_is_near number column.name (field row column.place) first.value first.is) (values_are_near number row columns more.value more.is))
+    subst AreNear (ok_is _ _ more.gives) (All-cons (λ (z : ℤ). nat_abs z < number_limit) first.value more.value (value_is_near number column.name (field row column.place) first.value first.is) (values_are_near number row columns more.value more.is))
 
 one_more : (m n : ℕ) → m ≡ n → suc m ≡ suc n
 one_more m n h = ap suc h
@@ -100,14 +125,16 @@ layout_is_counted columns header layout h =
     let psu = goes_on _ (asked_in header columns.psu) layout stratum.gives in
     let size = goes_on _ (asked_in header columns.size) layout psu.gives in
     let second = goes_on _ (asked_in header columns.second_size) layout size.gives in
-    let values = goes_on _ (columns_in header columns.values) layout second.gives in
+    let prob = goes_on _ (asked_in header columns.prob) layout second.gives in
+    let values = goes_on _ (columns_in header columns.values) layout prob.gives in
     subst (λ (found : Layout). length found.values ≡ length columns.values) (ok_is _ _ values.gives)
     (columns_are_counted header columns.values values.value values.is)
 
--- a unit with small sizes, and with so many values, which are small too
+-- a unit with small sizes, a probability, and so many values, which are small too
 record IsSmall (count : ℕ) (u : unit.Unit) : Type 0 where
-  size : u.size < 2 ^ 31
-  second : u.second_size < 2 ^ 31
+  size : u.size < number_limit
+  second : u.second_size < number_limit
+  prob : IsProbability u.prob
   near : AreNear u.values
   counted : length u.values ≡ count
 
@@ -119,24 +146,26 @@ unit_is_small layout number ids row u h =
     let new = passes (not (list_any (bytes_eq (field row layout.id.place)) ids)) (RepeatedId number) _ u text.gives in
     let size = goes_on _ (size_in number row layout.size) u new.gives in
     let second = goes_on _ (size_in number row layout.second_size) u size.gives in
-    let values = goes_on _ (values_in number row layout.values) u second.gives in
+    let prob = goes_on _ (prob_in number row layout.prob) u second.gives in
+    let values = goes_on _ (values_in number row layout.values) u prob.gives in
     subst (IsSmall (length layout.values)) (ok_is _ _ values.gives) (record {
       size = asked_size_is_small number row layout.size size.value size.is;
       second = asked_size_is_small number row layout.second_size second.value second.is;
+      prob = asked_prob_is_probability number row layout.prob prob.value prob.is;
       near = values_are_near number row layout.values values.value values.is;
       counted = values_are_counted number row layout.values values.value values.is;
     })
 
 -- units behind a row with this number
 record AreUnits (count number : ℕ) (units : List unit.Unit) : Type 0 where
-  few : length units + number ≤ 100001
+  few : length units + number ≤ max_rows + 1
   small : All (IsSmall count) units
 
-units_are_small : (layout : Layout) (number : ℕ) (ids : List (List ℕ)) (rows : List (List (List ℕ))) (units : List unit.Unit) → number ≤ 100001 → units_from layout number ids rows ≡ Ok units → AreUnits (length layout.values) number units
+units_are_small : (layout : Layout) (number : ℕ) (ids : List (List ℕ)) (rows : List (List (List ℕ))) (units : List unit.Unit) → number ≤ max_rows + 1 → units_from layout number ids rows ≡ Ok units → AreUnits (length layout.values) number units
 units_are_small layout number ids [] units within h = subst (AreUnits (length layout.values) number) (ok_is _ _ h) (record { few = omega (arith, within); small = λ k d beyond. absurd (omega arith) })
 units_are_small layout number ids (row ∷ rows) units within h =
-    let limit = passes (nat_le number 100000) _ _ units h in
-    let here : number ≤ 100000 = leb-true number 100000 limit.holds in
+    let limit = passes (nat_le number max_rows) _ _ units h in
+    let here : number ≤ max_rows = leb-true number max_rows limit.holds in
     let first = goes_on _ (unit_of layout number ids row) units limit.gives in
     let more = goes_on _ (units_from layout (number + 1) _ rows) units first.gives in
     let rest = units_are_small layout (number + 1) _ rows more.value (omega (arith, here)) more.is in
@@ -146,7 +175,7 @@ units_are_small layout number ids (row ∷ rows) units within h =
     })
 
 no_unit : unit.Unit
-no_unit = record { id = []; stratum = []; psu = []; size = 0; second_size = 0; values = [] }
+no_unit = record { id = []; stratum = []; psu = []; size = 0; second_size = 0; prob = lowest_terms 0 1; values = [] }
 
 -- a frame, with so many values for each unit
 record IsCounted (count : ℕ) (units : List unit.Unit) : Type 0 where
@@ -162,6 +191,7 @@ small_units_are_frame count units some are =
         few = omega arith;
         small = λ i within. rw (get_or-map (λ (u : unit.Unit). u.size) units i no_unit 0 within) (are.small i no_unit within).size;
         second_small = λ i within. rw (get_or-map (λ (u : unit.Unit). u.second_size) units i no_unit 0 within) (are.small i no_unit within).second;
+        probabilities = All-map IsProbability (λ (u : unit.Unit). u.prob) units (λ k d within. (are.small k d within).prob);
         near = λ k d within. (are.small k d within).near;
       };
       values = λ k d within. (are.small k d within).counted;

@@ -2,10 +2,11 @@
 use Rattle.std.specs.Prelude.{ℕ, ◌+◌, List, [], ◌∷◌, ◌++◌, ◌==◌, not, nat_lt, nat_le, length, Result, Ok, Err}
 use Rattle.std.specs.List.{list_all, list_any}
 use Rattle.std.specs.Str.{bytes_eq, is_utf8}
+use Rattle.smp_frame.specs.Limits.{max_rows}
 use Rattle.smp_frame.specs.Steps.{◌>>=◌, guard}
 use Rattle.smp_frame.specs.Records.{records_of, field}
 use Rattle.smp_frame.specs.Layouts.{layout_of}
-use Rattle.smp_frame.specs.Fields.{text_in, size_in, values_in}
+use Rattle.smp_frame.specs.Fields.{text_in, size_in, prob_in, values_in}
 use Rattle.smp_frame.specs.declared.columns.Columns.{Columns}
 use Rattle.smp_frame.specs.declared.layout.Layout.{Layout}
 use Rattle.smp_frame.specs.declared.frame.Unit as unit
@@ -20,14 +21,15 @@ unit_of layout number ids row = do
   _ ← guard (not (list_any (bytes_eq (field row layout.id.place)) ids)) (RepeatedId number)
   size ← size_in number row layout.size
   second_size ← size_in number row layout.second_size
+  prob ← prob_in number row layout.prob
   values ← values_in number row layout.values
-  Ok (record { id = field row layout.id.place; stratum = text_in row layout.stratum; psu = text_in row layout.psu; size = size; second_size = second_size; values = values })
+  Ok (record { id = field row layout.id.place; stratum = text_in row layout.stratum; psu = text_in row layout.psu; size = size; second_size = second_size; prob = prob; values = values })
 
 -- the units of rows, of which the first has this number, where earlier rows have these ids
 abbrev pub units_from : Layout → ℕ → List (List ℕ) → List (List (List ℕ)) → Result (List unit.Unit) FrameFault
 units_from layout number ids [] = Ok []
 units_from layout number ids (row ∷ rows) = do
-  _ ← guard (nat_le number 100000) TooManyRows
+  _ ← guard (nat_le number max_rows) TooManyRows
   first ← unit_of layout number ids row
   units ← units_from layout (number + 1) (ids ++ first.id ∷ []) rows
   Ok (first ∷ units)

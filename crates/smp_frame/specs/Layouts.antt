@@ -44,5 +44,6 @@ layout_of columns header = do
   psu ← asked_in header columns.psu
   size ← asked_in header columns.size
   second_size ← asked_in header columns.second_size
+  prob ← asked_in header columns.prob
   values ← columns_in header columns.values
-  Ok (record { width = length header; id = id; stratum = stratum; psu = psu; size = size; second_size = second_size; values = values })
+  Ok (record { width = length header; id = id; stratum = stratum; psu = psu; size = size; second_size = second_size; prob = prob; values = values })

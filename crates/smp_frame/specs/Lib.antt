@@ -2,6 +2,8 @@ pub mod Bounds
 pub mod Fields
 pub mod Frames
 pub mod Layouts
+pub mod Limits
+pub mod LowestTerms
 pub mod Reads
 pub mod Records
 pub mod Steps

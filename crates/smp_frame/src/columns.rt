@@ -48,6 +48,8 @@ pub struct Columns {
     pub size: Option<Text>,
     /// The column of the sizes in the second stage. Without it each unit has second size 1.
     pub second_size: Option<Text>,
+    /// The column of the probabilities. Without it each unit has probability 1/1.
+    pub prob: Option<Text>,
     /// The columns of the balancing values, or of the coordinates.
     pub values: Names,
 }

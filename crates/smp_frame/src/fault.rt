@@ -18,16 +18,20 @@ pub enum FrameFault {
     /// A field in a column of numbers isn't one or more decimal digits, or in a column of values such digits behind
     /// one minus.
     NotNumber { row: u64, column: Text },
-    /// The absolute value of a number is above 2,147,483,647.
+    /// The absolute value of a number, or a side of a fraction, is above 2,147,483,647.
     TooLarge { row: u64, column: Text },
     /// An earlier row has the same id.
     RepeatedId { row: u64 },
-    /// There are more than 100,000 rows.
+    /// There are more than 200,000 rows.
     TooManyRows,
     /// A field of the row isn't UTF-8.
     NotText { row: u64 },
     /// The header is the only record.
     NoRows,
+    /// A field in a column of probabilities isn't one or more decimal digits, or such digits on both sides of a slash.
+    NotFraction { row: u64, column: Text },
+    /// A fraction in a column of probabilities has denominator 0, or is above 1.
+    NotProbability { row: u64, column: Text },
     /// Memory ran out.
     NoMemory,
 }

@@ -1,21 +1,24 @@
 //! What the fields of a row write.
 
-ghost use Rattle.std.specs.Prelude.{◌≡◌, ◌<◌, ◌^◌, IfOk, true};
+ghost use Rattle.std.specs.Prelude.{◌≡◌, ◌<◌, ◌≤◌, IfOk, true};
 ghost use Rattle.std.specs.List.{list_all};
 ghost use Rattle.std.specs.Str.{is_utf8};
 ghost use Rattle.csv.specs.Records.{fields_of};
+ghost use Rattle.smp_lines.specs.Decimals.{number_below};
 ghost use Rattle.smp_frame.specs.Fields;
+ghost use Rattle.smp_frame.specs.Limits.{number_limit};
+ghost use Rattle.smp_frame.specs.LowestTerms.{lowest_terms};
 ghost use Rattle.smp_frame.specs.Reads.{Reads};
 
 use crate::layout::Column;
 use crate::records::{field, text};
 use crate::{FrameFault, Numbers};
 use csv::ByteRecord;
-use smp_frac::{NoMemory, Text};
-use smp_lines::{is_decimal, number};
+use smp_frac::{Frac, NoMemory, Text};
+use smp_lines::{cut_before, is_decimal, number};
 use std::alloc::Global;
 
-const MAX_SIZE: u128 = 2_147_483_647;
+const MAX_NUMBER: u128 = 2_147_483_647;
 
 /// The text in an asked column, or the empty text.
 pub(crate) fn text_in(
@@ -47,6 +50,21 @@ pub(crate) fn size_in(
     }
 }
 
+/// The probability in an asked column, or 1. The row has this number.
+pub(crate) fn prob_in(
+    alloc: Global,
+    number: u64,
+    row: &ByteRecord,
+    column: &Option<Column>,
+) -> Result<Frac, FrameFault>
+    ensures { Reads result (Fields.prob_in number (fields_of row.now) column.now) }
+{
+    match column {
+        Some(column) => prob_of(alloc, number, &column.name, field(row, column.place)),
+        None => Ok(lowest(1, 1)),
+    }
+}
+
 /// The values in asked columns. The row has this number.
 pub(crate) fn values_in(
     alloc: Global,
@@ -66,7 +84,7 @@ pub(crate) fn values_in(
 #[tactic(auto, unfolding(crate::specs::Fields::size_of))]
 fn size_of(alloc: Global, row: u64, name: &Text, text: &[u8]) -> Result<u32, FrameFault>
     ensures reads { Reads result (Fields.size_of row name.now text.now) }
-    ensures small { IfOk result (λ size. size < 2 ^ 31) }
+    ensures small { IfOk result (λ size. size < number_limit) }
 {
     if !is_decimal(text) {
         return Err(FrameFault::NotNumber {
@@ -74,12 +92,69 @@ fn size_of(alloc: Global, row: u64, name: &Text, text: &[u8]) -> Result<u32, Fra
             column: name.copy(alloc)?,
         });
     }
-    match number(text) {
-        Some(size) if size <= MAX_SIZE => Ok(size as u32),
-        _ => Err(FrameFault::TooLarge {
+    match small_number(text) {
+        Some(size) => Ok(size as u32),
+        None => Err(FrameFault::TooLarge {
             row,
             column: name.copy(alloc)?,
         }),
+    }
+}
+
+#[tactic(auto, unfolding(crate::specs::Fields::prob_of))]
+fn prob_of(alloc: Global, row: u64, name: &Text, text: &[u8]) -> Result<Frac, FrameFault>
+    ensures { Reads result (Fields.prob_of row name.now text.now) }
+{
+    let (num, den) = sides_of(text);
+    if !is_decimal(num) || !is_decimal(den) {
+        return Err(FrameFault::NotFraction {
+            row,
+            column: name.copy(alloc)?,
+        });
+    }
+    let (Some(num), Some(den)) = (small_number(num), small_number(den)) else {
+        return Err(FrameFault::TooLarge {
+            row,
+            column: name.copy(alloc)?,
+        });
+    };
+    if den == 0 || den < num {
+        return Err(FrameFault::NotProbability {
+            row,
+            column: name.copy(alloc)?,
+        });
+    }
+    Ok(lowest(num, den))
+}
+
+// The texts on both sides of the first slash. A text without a slash stands over 1.
+fn sides_of(text: &[u8]) -> (&[u8], &[u8])
+    ensures { (result.0.now, result.1.now) ≡ Fields.sides_of text.now }
+{
+    match cut_before(text, b'/') {
+        Some(sides) => sides,
+        None => (text, b"1"),
+    }
+}
+
+// The number that decimal digits write, where it is within the limit.
+fn small_number(text: &[u8]) -> Option<u128>
+    ensures { result ≡ number_below number_limit text.now }
+{
+    match number(text) {
+        Some(value) if value <= MAX_NUMBER => Some(value),
+        _ => None,
+    }
+}
+
+// The fraction in lowest terms.
+fn lowest(num: u128, den: u128) -> Frac
+    requires { 1 ≤ den }
+    ensures { result ≡ lowest_terms num den }
+{
+    match Frac::new(num, den) {
+        Some(fraction) => fraction,
+        None => unreachable!(),
     }
 }
 

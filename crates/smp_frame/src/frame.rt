@@ -1,7 +1,7 @@
 ghost use Rattle.std.specs.Prelude.{◌≡◌};
 
 use crate::Numbers;
-use smp_frac::Text;
+use smp_frac::{Frac, Text};
 use std::marker::Model;
 
 /// A unit of a frame: what its row says in the columns that were asked for.
@@ -18,6 +18,9 @@ pub struct Unit {
     pub size: u32,
     /// The measure of size in the second stage, from 0 to 2,147,483,647; 1 where no column of those was asked for.
     pub second_size: u32,
+    /// The probability, from 0 to 1, with a numerator and a denominator up to 2,147,483,647; 1/1 where no column of
+    /// those was asked for.
+    pub prob: Frac,
     /// The balancing values or coordinates in the order of their columns, each from -2,147,483,647 to 2,147,483,647.
     pub values: Numbers,
 }

@@ -52,6 +52,7 @@ pub(crate) struct Layout {
     pub psu: Option<Column>,
     pub size: Option<Column>,
     pub second_size: Option<Column>,
+    pub prob: Option<Column>,
     pub values: ColumnList,
 }
 
@@ -71,6 +72,7 @@ pub(crate) fn layout_of(
         psu: asked_in(alloc, header, &columns.psu)?,
         size: asked_in(alloc, header, &columns.size)?,
         second_size: asked_in(alloc, header, &columns.second_size)?,
+        prob: asked_in(alloc, header, &columns.prob)?,
         values: columns_in(alloc, header, columns.values.as_slice())?,
     })
 }

@@ -11,18 +11,20 @@ use csv::ByteRecord;
 use std::alloc::Global;
 
 /// Reads the asked columns of a frame: a text of CSV, with commas and double quotes, in which a header names the
-/// columns and 1 to 100,000 rows follow. Byte order marks in front are dropped.
+/// columns and 1 to 200,000 rows follow. Byte order marks in front are dropped.
 ///
 /// A name matches a column of the header by equal bytes. A size is one or more decimal digits with a value up to
-/// 2,147,483,647, and a balancing value or coordinate may have a minus in front of those. Leading zeros are allowed;
-/// blanks, a plus sign, points and exponents aren't.
+/// 2,147,483,647, and a balancing value or coordinate may have a minus in front of those. A probability is `A` or
+/// `A/B`, where `A` and `B` are written as sizes are, `B` isn't 0 and `A` is at most `B`; `A` alone is `A/1`. Leading
+/// zeros are allowed; blanks, a plus sign, points and exponents aren't.
 ///
 /// The answer is the first fault in this order: [`FrameFault::NoHeader`]; [`FrameFault::NotText`] of the header; each
-/// asked column, id, stratum, psu, size, second size and then the values, with [`FrameFault::MissingColumn`] or
+/// asked column, id, stratum, psu, size, second size, prob and then the values, with [`FrameFault::MissingColumn`] or
 /// [`FrameFault::RepeatedColumn`]; the rows in their order; [`FrameFault::NoRows`]. Within one row it is
 /// [`FrameFault::TooManyRows`], [`FrameFault::RowLength`], [`FrameFault::NotText`], [`FrameFault::RepeatedId`], and
-/// then each column of numbers, as above, with [`FrameFault::NotNumber`] or [`FrameFault::TooLarge`]. Where memory
-/// runs out it is [`FrameFault::NoMemory`].
+/// then each column of numbers, as above, with [`FrameFault::NotNumber`] or [`FrameFault::TooLarge`]. In the column of
+/// probabilities it is [`FrameFault::NotFraction`], [`FrameFault::TooLarge`] or [`FrameFault::NotProbability`]. Where
+/// memory runs out it is [`FrameFault::NoMemory`].
 pub fn read_frame(alloc: Global, bytes: &[u8], columns: &Columns) -> Result<Frame, FrameFault>
     ensures reads { Reads result (frame_of columns.now bytes.now) }
     ensures bounds { IfOk result IsFrame }

@@ -17,6 +17,7 @@ fn two_columns(alloc: Global) -> Result<Columns, NoMemory> {
         psu: None,
         size: Some(text(alloc, "size")?),
         second_size: None,
+        prob: None,
         values: Names::from_vec(Vec::new(alloc)),
     })
 }
@@ -32,6 +33,22 @@ fn all_columns(alloc: Global) -> Result<Columns, NoMemory> {
         psu: Some(text(alloc, "village")?),
         size: Some(text(alloc, "size")?),
         second_size: Some(text(alloc, "farms")?),
+        prob: None,
+        values: Names::from_vec(values),
+    })
+}
+
+// The columns id, farms, p and x, which are read in this order.
+fn prob_columns(alloc: Global) -> Result<Columns, NoMemory> {
+    let mut values = Vec::new(alloc);
+    values.push(text(alloc, "x")?)?;
+    Ok(Columns {
+        id: text(alloc, "id")?,
+        stratum: None,
+        psu: None,
+        size: None,
+        second_size: Some(text(alloc, "farms")?),
+        prob: Some(text(alloc, "p")?),
         values: Names::from_vec(values),
     })
 }
@@ -68,6 +85,11 @@ fn check(
         assert_eq!(rt; told.as_str(), *wanted, "{bytes:?}");
     }
     Ok(())
+}
+
+// A frame of one unit, with this text in its column of probabilities.
+fn one_prob(alloc: Global, text: &str) -> Result<String, AllocError> {
+    format!(in alloc; "id,farms,p,x\na,1,{text},0\n")
 }
 
 // 400 times the same digit, between a front and an end.
@@ -304,18 +326,81 @@ fn the_first_fault_is_told(rt: HostRuntime) -> Result<(), Fail> {
 }
 
 #[test]
-fn a_frame_has_at_most_100000_rows(rt: HostRuntime) -> Result<(), Fail> {
+fn units_have_probabilities(rt: HostRuntime) -> Result<(), Fail> {
+    let alloc = rt.alloc();
+    let columns = prob_columns(alloc)?;
+    for (text, num, den) in [
+        ("1/2", 1, 2),
+        ("3/6", 1, 2),
+        ("1", 1, 1),
+        ("0", 0, 1),
+        ("0/7", 0, 1),
+        ("007/8", 7, 8),
+        ("2147483646/2147483647", 2_147_483_646, 2_147_483_647),
+    ] {
+        let frame = read_frame(alloc, one_prob(alloc, text)?.as_bytes(), &columns)?;
+        let prob = frame.units()[0].prob;
+        assert_eq!(rt; (prob.num, prob.den), (num, den), "{text}");
+    }
+    let without = read_frame(alloc, b"id,size\na,3\n", &two_columns(alloc)?)?;
+    let prob = without.units()[0].prob;
+    assert_eq!(rt; (prob.num, prob.den), (1, 1));
+    Ok(())
+}
+
+#[test]
+fn faults_of_probabilities(rt: HostRuntime) -> Result<(), Fail> {
+    let alloc = rt.alloc();
+    let columns = prob_columns(alloc)?;
+    for (text, fault) in [
+        ("0.5", "NotFraction"),
+        ("1/", "NotFraction"),
+        ("/2", "NotFraction"),
+        ("1/2/3", "NotFraction"),
+        ("-1/2", "NotFraction"),
+        (" 1/2", "NotFraction"),
+        ("", "NotFraction"),
+        ("2147483648/x", "NotFraction"),
+        ("1/2147483648", "TooLarge"),
+        ("2147483648/0", "TooLarge"),
+        ("1/0", "NotProbability"),
+        ("3/2", "NotProbability"),
+        ("2", "NotProbability"),
+    ] {
+        let frame = one_prob(alloc, text)?;
+        let wanted = format!(in alloc; "{fault} {{ row: 1, column: Text {{ text: \"p\" }} }}")?;
+        check(&rt, alloc, &columns, &[(frame.as_bytes(), wanted.as_str())])?;
+    }
+    // The column stands behind the second sizes, and before the values.
+    let frames: [(&[u8], &str); 4] = [
+        (
+            b"id,x\n",
+            "MissingColumn { name: Text { text: \"farms\" } }",
+        ),
+        (
+            b"id,farms,p,p\n",
+            "RepeatedColumn { name: Text { text: \"p\" } }",
+        ),
+        (
+            b"id,farms,p,x\na,-,2,0\n",
+            "NotNumber { row: 1, column: Text { text: \"farms\" } }",
+        ),
+        (
+            b"id,farms,p,x\na,1,2,-\n",
+            "NotProbability { row: 1, column: Text { text: \"p\" } }",
+        ),
+    ];
+    check(&rt, alloc, &columns, frames.as_slice())
+}
+
+#[test]
+fn a_frame_has_at_most_200000_rows(rt: HostRuntime) -> Result<(), Fail> {
     let alloc = rt.alloc();
     let columns = two_columns(alloc)?;
-    let most = read_frame(alloc, rows(alloc, 100_000)?.as_bytes(), &columns)?;
-    assert_eq!(rt; most.units().len(), 100_000);
-    let mut more = rows(alloc, 100_000)?;
-    more.push_str("U0\n")?;
-    let mut earlier = rows(alloc, 99_999)?;
-    earlier.push_str("U0\nV,1\n")?;
-    let frames = [
-        (more.as_bytes(), "TooManyRows"),
-        (earlier.as_bytes(), "RowLength { row: 100000 }"),
-    ];
+    let mut text = rows(alloc, 200_000)?;
+    let most = read_frame(alloc, text.as_bytes(), &columns)?;
+    assert_eq!(rt; most.units().len(), 200_000);
+    text.push_str("U0\n")?;
+    let frames = [(text.as_bytes(), "TooManyRows")];
     check(&rt, alloc, &columns, frames.as_slice())
 }

@@ -9,7 +9,7 @@ ghost use Rattle.smp_frame.specs.Frames.{units_from};
 ghost use Rattle.smp_frame.specs.Kept.Readers.{IsReading, rows_left};
 ghost use Rattle.smp_frame.specs.Reads.{Gives, Reads};
 
-use crate::fields::{size_in, text_in, values_in};
+use crate::fields::{prob_in, size_in, text_in, values_in};
 use crate::layout::Layout;
 use crate::records::{is_text, next_record, text};
 use crate::{FrameFault, Unit};
@@ -18,7 +18,7 @@ use indexmap::IndexSet;
 use smp_frac::{NoMemory, Text};
 use std::alloc::Global;
 
-const MAX_ROWS: u64 = 100_000;
+const MAX_ROWS: u64 = 200_000;
 
 /// The units of the rows that a reader has left, of which the first is row 1.
 pub(crate) fn units_left(
@@ -69,6 +69,7 @@ fn unit_of(
     }
     let size = size_in(alloc, number, row, &layout.size)?;
     let second_size = size_in(alloc, number, row, &layout.second_size)?;
+    let prob = prob_in(alloc, number, row, &layout.prob)?;
     let values = values_in(alloc, number, row, layout.values.as_slice())?;
     Ok(Unit {
         id,
@@ -76,6 +77,7 @@ fn unit_of(
         psu: text_in(alloc, row, &layout.psu)?,
         size,
         second_size,
+        prob,
         values,
     })
 }

@@ -12,7 +12,7 @@ use std::rt::Files;
 use std::{fs, io};
 
 /// The longest file that is read, in bytes.
-pub const MAX_FILE_LEN: u32 = 1_073_741_824;
+pub const MAX_FILE_LEN: u32 = 2_147_483_648;
 
 /// The files of the present folder. It tells no content, and a file longer than `MAX_FILE_LEN` can't be read.
 ///

@@ -1,3 +1,4 @@
 pub mod Starts
 pub mod Moved
 pub mod Columns
+pub mod Wholes

@@ -1,6 +1,6 @@
 -- The plan of a frame that serves a design: it is sound, and gives each row the probability that is asked for it.
 use Rattle.std.proofs.Common.{◌≡◌, ℕ, ◌+◌, ◌<◌, List, [], ◌∷◌, length, map, get_or, Option, Some, None, arith, refl, sym, ap, ◌∙◌}
-use Rattle.std.specs.Prelude.{All, slice_get, option_map}
+use Rattle.std.specs.Prelude.{All, IsTrue, slice_get, option_map}
 use Rattle.std.specs.List.{range_with_len, position_or_len}
 use Rattle.std.specs.Str.{bytes_eq}
 use Rattle.std.proofs.lemmas.List.{get_or-map, length-map, same_lists}
@@ -9,17 +9,18 @@ use Rattle.std.proofs.lemmas.List.FromFn.{length-range_with_len, get_or-range_wi
 use Rattle.std.proofs.lemmas.Option.{slice_get-map, slice_get_within, get_or_from_slice_get}
 use Rattle.smp_fractions.specs.Fractions.{Same}
 use Rattle.smp_fractions.proofs.Fractions.{times_same}
+use Rattle.smp_values.specs.Starts.{IsWhole}
 use Rattle.smp_design.specs.declared.design.Design.{Design}
+use Rattle.smp_design.specs.Words.{row}
 use Rattle.smp_design.specs.declared.design.Second as second
 use Rattle.smp_frame.specs.declared.frame.Unit as unit
-use Rattle.smp_prob.specs.Requested.{requested_fraction}
 use Rattle.smp_prob.specs.Standings.{asked_fraction}
-use Rattle.smp_strata.specs.Asked.{cluster_of, fraction_in_psu, fraction_in_stratum, row_fraction}
+use Rattle.smp_strata.specs.Asked.{cluster_of, fraction_by, fraction_in_psu, fraction_in_stratum, row_fraction}
 use Rattle.smp_strata.specs.Bounds.{AreSeated, IsStratum}
 use Rattle.smp_strata.specs.Draws.{DrawsInStratum}
 use Rattle.smp_strata.specs.Clusters.{clusters, clusters_in, first_row, stratum_names, stratum_number}
 use Rattle.smp_strata.specs.Misfits.{unit_in_two}
-use Rattle.smp_strata.specs.Plans.{first_of, first_sizes, sample_size, second_request, second_sizes, stratum_of}
+use Rattle.smp_strata.specs.Plans.{first_of, second_request, second_sizes, stratum_of}
 use Rattle.smp_strata.specs.Rows.{second_size_at, size_of, stratum_at, value_of}
 use Rattle.smp_strata.specs.Seats.{IsSeat, seat_fraction, stage_fraction}
 use Rattle.smp_strata.specs.declared.strata.First as first
@@ -72,6 +73,9 @@ module _ (design : Design) (units : List unit.Unit) (rows : All (AreRows (length
   pub are_strata : All (IsStratum (second_method design)) strata
   are_strata k d l = (each k d (omega (arith, l, long))).stratum
 
+  pub are_whole : IsTrue (row design.method).draws_whole → All (λ s. IsWhole s.request) strata
+  are_whole needed k d l = (each k d (omega (arith, l, long))).request.whole needed
+
   pub draws_as_asked : (k : ℕ) (s : stratum.Stratum) → slice_get strata k ≡ Some s → DrawsInStratum design units k s
   draws_as_asked k s e =
       rw (get_or_from_slice_get strata k s s e) at ((each k s (omega (arith, slice_get_within strata k s e, long))).draws)
@@ -114,10 +118,8 @@ module _ (design : Design) (units : List unit.Unit) (rows : All (AreRows (length
         let in_stratum : slice_get (clusters_in design units k) u ≡ Some g =
         ap (λ gs. slice_get gs u) (sym (members_are design units rows k here)) ∙ slice_get-map (λ j. get_or all j []) (places_of (homes design units rows) k) u ∙ ap (option_map (λ j. get_or all j [])) chosen in
         let within : u < length (clusters_in design units k) = slice_get_within (clusters_in design units k) u g in_stratum in
-        let size : get_or (first_sizes design units k) u 0 ≡ size_of units g =
-        get_or-map (size_of units) (clusters_in design units k) u [] 0 within ∙ ap (size_of units) (get_or_from_slice_get (clusters_in design units k) u g [] in_stratum) in
-        let first : Same (asked_fraction (stratum_of design units k).request u) (requested_fraction (sample_size design units k) (first_sizes design units k) (size_of units g)) =
-        rw size at ((built k here).asks u (omega (arith, within, length-map (clusters_in design units k) (size_of units)))) in
+        let first : Same (asked_fraction (stratum_of design units k).request u) (fraction_by design.columns.prob design units k g) =
+        rw (get_or_from_slice_get (clusters_in design units k) u g [] in_stratum) at ((built k here).request.asks u within) in
         let in_its_stratum : Same (asked_fraction (stratum_of design units k).request u) (fraction_in_stratum design units row) = rw (number, ← cluster) first in
         let second : Same (stage_fraction (second_request design.second units g) (by row).place) (fraction_in_psu design.second units row) =
         second_same units design.second g row (by row).place

@@ -19,5 +19,6 @@ pub mod Members
 pub mod MisfitOrder
 pub mod Pushes
 pub mod Serving
+pub mod FirstRequests
 pub mod Seating
 pub mod Asking

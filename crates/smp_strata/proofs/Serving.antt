@@ -6,14 +6,14 @@ use Rattle.std.proofs.lemmas.Bool.{eqb-false, ltb-false}
 use Rattle.std.proofs.lemmas.List.{get_or-map, length-map, same_lists}
 use Rattle.std.proofs.lemmas.List.Elements.{All-filter, All-map}
 use Rattle.std.proofs.lemmas.List.Sums.{length-filter, count_by-le-length}
+use Rattle.smp_design.specs.Bounds.{IsDesign}
 use Rattle.smp_design.specs.declared.design.Design.{Design}
 use Rattle.smp_design.specs.declared.design.Second as second
 use Rattle.smp_frame.specs.declared.frame.Unit as unit
 use Rattle.smp_frame.specs.Bounds.{IsFrame}
+use Rattle.smp_frame.specs.Limits.{max_rows}
 use Rattle.smp_prob.specs.Requested.{positive_units}
 use Rattle.smp_prob.specs.declared.requests.Request.{Request}
-use Rattle.smp_rows.specs.Rows.{Fills}
-use Rattle.smp_strata.specs.Bounds.{IsOver}
 use Rattle.smp_strata.specs.Clusters.{clusters, clusters_in, stratum_names, stratum_name, first_row}
 use Rattle.smp_strata.specs.Misfits.{psu_short, second_too_many, short, when}
 use Rattle.smp_strata.specs.Plans.{first_of, first_sizes, sample_size, second_sizes, stratum_of}
@@ -21,12 +21,12 @@ use Rattle.smp_strata.specs.Rows.{size_of, second_size_at, psu_at, stratum_at}
 use Rattle.smp_strata.specs.declared.misfit.Misfit.TheVariants.{NoSize, TooMany, SecondTooMany}
 use Rattle.smp_strata.specs.declared.strata.First as first
 use Rattle.smp_strata.specs.declared.strata.Stratum as stratum
-use Rattle.smp_strata.specs.Kept.Built.{Asks, CanBuild, IsBuilt, IsBuiltFirst}
+use Rattle.smp_strata.specs.Kept.Built.{CanBuild, IsBuilt, IsBuiltFirst, IsFirstRequest}
 use Rattle.smp_strata.specs.Kept.Groups.{places_of}
 use Rattle.smp_strata.specs.Kept.Layouts.{AreRows}
 use Rattle.smp_strata.proofs.Founds.{none_at, none_each, when_false}
 use Rattle.smp_strata.proofs.Members.{homes, members_are, none_large, sizes_small}
-use Rattle.smp_strata.proofs.MisfitOrder.{IsServed}
+use Rattle.smp_strata.proofs.MisfitOrder.{IsServed, IsSized, seconds_enough}
 
 pub second_small : (units : List unit.Unit) (rows : List ℕ) → IsFrame units → All (λ row. row < length units) rows
     → (i : ℕ) → i < length (second_sizes units rows) → get_or (second_sizes units rows) i 0 < 2 ^ 31
@@ -34,19 +34,20 @@ second_small units rows frame within i l =
     let here : i < length rows = omega (arith, l, length-map rows (second_size_at units)) in
     rw (get_or-map (second_size_at units) rows i 0 0 here) (frame.second_small (get_or rows i 0) (within i 0 here))
 
-module _ (design : Design) (units : List unit.Unit) (rows : All (AreRows (length units)) (clusters design.second units)) (served : IsServed design units) where
+module _ (design : Design) (units : List unit.Unit) (is_sized : IsSized design units) where
   pub sized : (k : ℕ) → k < length (stratum_names units) → 1 ≤ sample_size design units k
   sized k l =
       let none = when_false (nat_eq (sample_size design units k) 0) (NoSize (stratum_name units k))
-      (none_at (λ j. when (nat_eq (sample_size design units j) 0) (NoSize (stratum_name units j))) (length (stratum_names units)) served.sized k l) in
+      (none_at (λ j. when (nat_eq (sample_size design units j) 0) (NoSize (stratum_name units j))) (length (stratum_names units)) is_sized.sized k l) in
       omega (arith, eqb-false (sample_size design units k) 0 none)
 
   pub enough : (k : ℕ) → k < length (stratum_names units) → sample_size design units k ≤ positive_units (first_sizes design units k)
   enough k l =
       ltb-false (positive_units (first_sizes design units k)) (sample_size design units k)
       (when_false _ (TooMany (stratum_name units k) (sample_size design units k) (positive_units (first_sizes design units k)))
-      (none_at (λ j. short (stratum_name units j) (first_sizes design units j) (sample_size design units j)) (length (stratum_names units)) served.enough k l))
+      (none_at (λ j. short (stratum_name units j) (first_sizes design units j) (sample_size design units j)) (length (stratum_names units)) is_sized.enough k l))
 
+module _ (design : Design) (units : List unit.Unit) (rows : All (AreRows (length units)) (clusters design.second units)) (served : IsServed design units) where
   second_enough : (second : Option second.Second) → second_too_many second units ≡ None → (k : ℕ) (d : List ℕ) → k < length (clusters second units)
       → IfSome second (λ s. s.n ≤ positive_units (second_sizes units (get_or (clusters second units) k d)))
   second_enough None e k d l = tt
@@ -55,11 +56,11 @@ module _ (design : Design) (units : List unit.Unit) (rows : All (AreRows (length
       ltb-false (positive_units (second_sizes units g)) s.n
       (when_false _ (SecondTooMany (psu_at units (first_row g)) s.n (positive_units (second_sizes units g))) (none_each (psu_short s.n units) (clusters (Some s) units) e k d l))
 
-  pub can_build : All (CanBuild design units) (clusters design.second units)
-  can_build k d l = record {
+  pub can_build : IsDesign design → All (CanBuild design units) (clusters design.second units)
+  can_build is k d l = record {
     are_rows = rows k d l;
     small = none_large design units served.small k d l;
-    enough = second_enough design.second served.second_enough k d l;
+    enough = second_enough design.second (seconds_enough design units is served) k d l;
   }
 
   pub first_small : (k i : ℕ) → i < length (first_sizes design units k) → get_or (first_sizes design units k) i 0 < 2 ^ 31
@@ -67,7 +68,7 @@ module _ (design : Design) (units : List unit.Unit) (rows : All (AreRows (length
       All-map (λ z. z < 2 ^ 31) (size_of units) (clusters_in design units k)
       (All-filter _ (λ g. size_of units g < 2 ^ 31) (clusters design.second units) (sizes_small design units served.small)) i 0 l
 
-  pub few_in : (k : ℕ) → length (clusters design.second units) ≤ 100000 → length (first_sizes design units k) ≤ 100000
+  pub few_in : (k : ℕ) → length (clusters design.second units) ≤ max_rows → length (first_sizes design units k) ≤ max_rows
   few_in k few =
       let p : List ℕ → Bool = λ g. bytes_eq (stratum_at units (first_row g)) (stratum_name units k) in
       omega (arith, few, length-map (clusters_in design units k) (size_of units), length-filter p (clusters design.second units), count_by-le-length p (clusters design.second units))
@@ -93,21 +94,20 @@ module _ (design : Design) (units : List unit.Unit) (rows : All (AreRows (length
         (λ j d l. (let l2 : j < length members = omega (arith, l, long) in
         (each j d l2).value ∙ sym (get_or-map (first_of design units) (clusters_in design units k) j [] d (omega (arith, l2, long_in)) ∙ ap (first_of design units) (cluster_at j [] l2))))
 
-    pub built : (request : Request) → IsOver (length (first_sizes design units k)) request → Asks (first_sizes design units k) (sample_size design units k) request
-        → Fills request (length (first_sizes design units k)) (sample_size design units k)
+    pub built : (request : Request) → IsFirstRequest design units k request
         → (s : stratum.Stratum) → s ≡ record { name = stratum_name units k; units = fs; request = request } → s ≡ stratum_of design units k → IsBuilt design units k s
-    built request over asks draws s is value =
-        let long_sizes : length (first_sizes design units k) ≡ length fs = length-map (clusters_in design units k) (size_of units) ∙ long_in ∙ sym long in
+    built request asked s is value =
+        let long_units : length (clusters_in design units k) ≡ length fs = long_in ∙ sym long in
         record {
           value = value;
           stratum = rw is record {
-            some = omega (arith, sized k here, enough k here, count_by-le-length (nat_lt 0) (first_sizes design units k), long_sizes);
-            over = rw (← long_sizes) over;
+            some = omega (arith, asked.some, long_units);
+            over = rw (← long_units) asked.over;
             firsts = λ j d l. (each j d (omega (arith, l, long))).first;
           };
-          asks = rw is asks;
+          request = rw is asked;
           draws = rw is record {
-            firsts = rw (← long_sizes) draws;
+            firsts = λ n number. rw (← long_units) (asked.draws n number);
             rows = λ j d l. (each j d (omega (arith, l, long))).draws;
           };
           firsts = λ j d l. (let l2 : j < length members = omega (arith, l, long_in) in

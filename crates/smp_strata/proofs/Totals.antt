@@ -58,7 +58,7 @@ all_below numbers count (suc m) h =
     suc_is : (n : ℕ) → suc n ≡ n + 1
     suc_is n = omega arith
 
-pub map_twice : {A B : Type 0} (f : B → ℕ) (g : A → B) (xs : List A) → map f (map g xs) ≡ map (λ x. f (g x)) xs
+pub map_twice : {A B C : Type 0} (f : B → C) (g : A → B) (xs : List A) → map f (map g xs) ≡ map (λ x. f (g x)) xs
 map_twice f g [] = refl
 map_twice f g (x ∷ xs) = ap (λ ys. f (g x) ∷ ys) (map_twice f g xs)
 

@@ -1,30 +1,36 @@
 -- What is true of every plan.
-use Rattle.std.specs.Prelude.{◌≡◌, ℕ, ◌<◌, ◌≤◌, List, length, is_some, Option, IfSome, All}
+use Rattle.std.specs.Prelude.{◌≡◌, ℕ, ◌<◌, ◌≤◌, List, length, is_some, Option, IfSome, IsTrue, All}
 use Rattle.smp_frame.specs.Bounds.{AreNear}
 use Rattle.smp_prob.specs.declared.requests.Request.{Request}
 use Rattle.smp_prob.specs.Requests.{IsRequest}
-use Rattle.smp_prob.specs.Standings.{IsRising}
+use Rattle.smp_prob.specs.Standings.{AreApart, IsRising}
 use Rattle.smp_values.specs.Starts.{IsWhole}
 use Rattle.smp_design.specs.declared.method.Method.{Method}
+use Rattle.smp_design.specs.Words.{row}
 use Rattle.smp_strata.specs.Plans.{Parts}
 use Rattle.smp_strata.specs.Seats.{IsSeat, Seated}
 use Rattle.smp_strata.specs.declared.strata.First as first
 use Rattle.smp_strata.specs.declared.strata.Seat as seat
 use Rattle.smp_strata.specs.declared.strata.Stratum as stratum
 
--- a request over so many units, with the certain ones and the free ones in order, which draws a whole number of units
+-- a request over so many units, with the certain ones and the free ones in order, of which none is both
 pub record IsOver (count : ℕ) (request : Request) : Type 0 where
   pub sound : IsRequest request
   pub rising : IsRising request
-  pub whole : IsWhole request
+  pub apart : AreApart request
   pub certain : All (λ unit. unit < count) request.certain
   pub free : All (λ unit. unit < count) request.free
+
+-- a request for a whole number of so many units
+pub record IsWholeOver (count : ℕ) (request : Request) : Type 0 where
+  pub over : IsOver count request
+  pub whole : IsWhole request
 
 -- a first stage unit has rows, values within 2,147,483,647 of 0, and a request over its rows where there is a second stage
 pub record IsFirst (method : Option Method) (f : first.First) : Type 0 where
   pub some : 1 ≤ length f.rows
   pub near : AreNear f.values
-  pub over : IfSome f.second (IsOver (length f.rows))
+  pub over : IfSome f.second (IsWholeOver (length f.rows))
   pub staged : is_some f.second ≡ is_some method
 
 -- a stratum has first stage units, and a request over them
@@ -42,5 +48,7 @@ pub record AreSeated (rows : ℕ) (strata : List stratum.Stratum) : Type 0 where
 -- a plan over so many columns of values
 pub record IsPlan (count : ℕ) (plan : Parts) : Type 0 where
   pub strata : All (IsStratum plan.second) plan.strata
+  -- the method draws a whole number of units only where one is asked of it
+  pub whole : IsTrue (row plan.method).draws_whole → All (λ s. IsWhole s.request) plan.strata
   pub columns : All (λ s. All (λ f. length f.values ≡ count) s.units) plan.strata
   pub seated : AreSeated plan.rows plan.strata

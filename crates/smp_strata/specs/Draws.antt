@@ -1,22 +1,39 @@
 -- How many units a plan draws: the size of the sample is fixed in each stratum, and in each first stage unit (Tillé 2006).
-use Rattle.std.specs.Prelude.{◌≡◌, ℕ, List, Option, Some, length, slice_get, All, IfSome}
+use Rattle.std.specs.Prelude.{◌≡◌, ℕ, List, Option, Some, None, length, slice_get, All, IfSome}
+use Rattle.smp_fractions.specs.Fractions.{Same, whole}
+use Rattle.smp_prob.specs.Given.{expected_size}
 use Rattle.smp_prob.specs.declared.requests.Request.{Request}
+use Rattle.smp_values.specs.Starts.{IsWhole}
 use Rattle.smp_rows.specs.Rows.{Fills}
 use Rattle.smp_design.specs.declared.design.Design.{Design}
 use Rattle.smp_design.specs.declared.design.Second as second
 use Rattle.smp_frame.specs.declared.frame.Unit as unit
-use Rattle.smp_strata.specs.Plans.{Parts, sample_size}
+use Rattle.smp_strata.specs.Plans.{Parts, first_probs, sample_size}
 use Rattle.smp_strata.specs.declared.strata.First as first
 use Rattle.smp_strata.specs.declared.strata.Stratum as stratum
 
+-- a request for a whole number of units selects n of so many
+pub record IsFor (request : Request) (units n : ℕ) : Type 0 where
+  pub whole : IsWhole request
+  pub fills : Fills request units n
+
 -- the request of a second stage draws the second stage's n of so many rows, where there is a second stage
 abbrev pub SecondDraws : Option second.Second → ℕ → Option Request → Type 0
-SecondDraws second rows request = IfSome second (λ s. IfSome request (λ r. Fills r rows s.n))
+SecondDraws second rows request = IfSome second (λ s. IfSome request (λ r. IsFor r rows s.n))
 
--- a stratum draws its sample size of its first stage units, and the second stage draws n of the rows of each of these
+-- So many first stage units are asked of a stratum: its sample size, or with given probabilities their sum, where that is a whole number.
+abbrev pub AreAskedBy : Option (List ℕ) → Design → List unit.Unit → ℕ → ℕ → Type 0
+AreAskedBy None design units number n = n ≡ sample_size design units number
+AreAskedBy (Some column) design units number n =
+    Same (expected_size (first_probs design units number)) (whole n)
+
+abbrev pub AreAsked : Design → List unit.Unit → ℕ → ℕ → Type 0
+AreAsked design units number n = AreAskedBy design.columns.prob design units number n
+
+-- a stratum draws as many of its first stage units as are asked of it, and the second stage draws n of the rows of each of these
 pub record DrawsInStratum (design : Design) (units : List unit.Unit) (number : ℕ)
     (s : stratum.Stratum) : Type 0 where
-  pub firsts : Fills s.request (length s.units) (sample_size design units number)
+  pub firsts : (n : ℕ) → AreAsked design units number n → IsFor s.request (length s.units) n
   pub rows : All (λ f. SecondDraws design.second (length f.rows) f.second) s.units
 
 -- every stratum of a plan draws as the design asks

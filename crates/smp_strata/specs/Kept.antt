@@ -3,4 +3,5 @@ pub mod Keys
 pub mod Seen
 pub mod Groups
 pub mod Layouts
+pub mod Sized
 pub mod Built

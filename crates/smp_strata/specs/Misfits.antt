@@ -1,17 +1,21 @@
 -- Why a frame doesn't serve a design: the first misfit, in the order of their kinds.
-use Rattle.std.specs.Prelude.{◌≡◌, ℕ, nat_lt, nat_eq, ◌&&◌, not, Bool, if◌then◌else◌, List, [], ◌∷◌, Option, Some, None, Result, Ok, Err, length, ⊤}
+use Rattle.std.specs.Prelude.{◌≡◌, ℕ, nat_lt, nat_eq, ◌==◌, ◌&&◌, not, unsigned_abs, Bool, if◌then◌else◌, List, [], ◌∷◌, Option, Some, None, Result, Ok, Err, length, ⊤}
 use Rattle.std.specs.List.{list_any, range_with_len}
 use Rattle.std.specs.Str.{bytes_eq}
+use Rattle.smp_frame.specs.LowestTerms.{lowest_terms}
+use Rattle.smp_frac.specs.declared.fractions.Frac.{Frac}
 use Rattle.smp_prob.specs.Requested.{positive_units}
+use Rattle.smp_prob.specs.Given.{common_multiple, expected_size, largest_multiple}
 use Rattle.smp_design.specs.declared.design.Design.{Design}
 use Rattle.smp_design.specs.declared.design.Second as second
 use Rattle.smp_design.specs.Keys.{or_else}
+use Rattle.smp_design.specs.Words.{row}
 use Rattle.smp_frame.specs.declared.frame.Unit as unit
 use Rattle.smp_strata.specs.Clusters.{clusters, first_row, strata_numbers, stratum_name}
 use Rattle.smp_strata.specs.Rows.{rows_of, stratum_at, psu_at, is_large}
-use Rattle.smp_strata.specs.Plans.{sample_size, first_sizes, second_sizes}
+use Rattle.smp_strata.specs.Plans.{sample_size, first_probs, first_sizes, second_sizes}
 use Rattle.smp_strata.specs.declared.misfit.Misfit.{Misfit}
-use Rattle.smp_strata.specs.declared.misfit.Misfit.TheVariants.{UnitInTwo, PsuTooLarge, NoSize, TooMany, SecondTooMany, NoMemory}
+use Rattle.smp_strata.specs.declared.misfit.Misfit.TheVariants.{UnitInTwo, PsuTooLarge, NoSize, TooMany, SecondTooMany, Denominator, NotWhole, NoMemory}
 
 -- the first that is there, of what may be found at each entry of a list
 abbrev pub first_found : {A B : Type 0} → (A → Option B) → List A → Option B
@@ -84,14 +88,55 @@ too_many design units =
     (sample_size design units stratum))
     (strata_numbers units)
 
+-- ---- given probabilities
+
+-- the first stratum whose probabilities have too large a common denominator
+abbrev pub denominator : Design → List unit.Unit → Option Misfit
+denominator design units =
+    first_found (λ stratum.
+    when (nat_lt largest_multiple (common_multiple (first_probs design units stratum)))
+    (Denominator (stratum_name units stratum)))
+    (strata_numbers units)
+
+-- the sum of probabilities in lowest terms
+abbrev pub sum_of : List Frac → Frac
+sum_of probs = let sum = expected_size probs in lowest_terms (unsigned_abs sum.num) sum.den
+
+-- probabilities that don't add up to a whole number
+abbrev pub unwhole : List ℕ → Frac → Option Misfit
+unwhole name sum = when (not (sum.den == 1)) (NotWhole name sum)
+
+-- the first stratum with such probabilities, where the method draws a whole number of units
+abbrev pub not_whole : Design → List unit.Unit → Option Misfit
+not_whole design units =
+    if (row design.method).draws_whole
+    then first_found (λ stratum.
+    unwhole (stratum_name units stratum) (sum_of (first_probs design units stratum)))
+    (strata_numbers units)
+    else None
+
+-- ---- the first
+
+-- of a design without a column of probabilities, and of one with it
+abbrev pub sizes_misfit : Design → List unit.Unit → Option Misfit
+sizes_misfit design units =
+    or_else (no_size design units)
+    (or_else (too_many design units)
+    (second_too_many design.second units))
+
+abbrev pub probs_misfit : Design → List unit.Unit → Option Misfit
+probs_misfit design units = or_else (denominator design units) (not_whole design units)
+
+abbrev pub misfit_by : Option (List ℕ) → Design → List unit.Unit → Option Misfit
+misfit_by None design units = sizes_misfit design units
+misfit_by (Some column) design units = probs_misfit design units
+
 -- the first misfit of a frame and a design, in the order of these lines
 unfoldable pub misfit_of : Design → List unit.Unit → Option Misfit
 misfit_of design units =
     or_else (unit_in_two design.second units)
     (or_else (psu_too_large design units)
-    (or_else (no_size design units)
-    (or_else (too_many design units)
-    (second_too_many design.second units))))
+    (misfit_by design.columns.prob design units))
 
 -- the first misfit is answered, or that there is none; want of memory says nothing
 abbrev pub Reports : {A : Type 0} → Result A Misfit → Option Misfit → Type 0

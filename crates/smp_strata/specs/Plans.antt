@@ -4,14 +4,16 @@ use Rattle.std.specs.Str.{bytes_eq}
 use Rattle.smp_prob.specs.declared.orders.Order.{Order}
 use Rattle.smp_prob.specs.declared.requests.Request.{Request}
 use Rattle.smp_prob.specs.Requested.{requested_of}
+use Rattle.smp_prob.specs.Given.{given_of}
+use Rattle.smp_frac.specs.declared.fractions.Frac.{Frac}
 use Rattle.smp_design.specs.declared.method.Method.{Method}
 use Rattle.smp_design.specs.declared.design.Design.{Design}
 use Rattle.smp_design.specs.declared.design.Quota as quota
 use Rattle.smp_design.specs.declared.design.Second as second
 use Rattle.smp_frame.specs.declared.frame.Unit as unit
 use Rattle.smp_strata.specs.Allocations.{allocation}
-use Rattle.smp_strata.specs.Clusters.{clusters_in, stratum_names, stratum_name, strata_numbers}
-use Rattle.smp_strata.specs.Rows.{size_of, second_size_at, values_of}
+use Rattle.smp_strata.specs.Clusters.{clusters_in, first_row, stratum_names, stratum_name, strata_numbers}
+use Rattle.smp_strata.specs.Rows.{prob_at, size_of, second_size_at, values_of}
 use Rattle.smp_strata.specs.declared.strata.First as first
 use Rattle.smp_strata.specs.declared.strata.Stratum as stratum
 
@@ -53,6 +55,20 @@ sample_size design units stratum = slice_index (sample_sizes design units) strat
 abbrev pub first_sizes : Design → List unit.Unit → ℕ → List ℕ
 first_sizes design units stratum = map (size_of units) (clusters_in design units stratum)
 
+-- the probabilities of the first stage units of a stratum, where there is a column of these and so one stage: each of these units is a row
+abbrev pub first_probs : Design → List unit.Unit → ℕ → List Frac
+first_probs design units stratum =
+    map (λ rows. prob_at units (first_row rows)) (clusters_in design units stratum)
+
+-- the request over the first stage units of a stratum: by the column of probabilities, or else in proportion to their sizes
+abbrev pub request_by : Option (List ℕ) → Design → List unit.Unit → ℕ → Request
+request_by None design units stratum =
+    requested_of (first_sizes design units stratum) (sample_size design units stratum)
+request_by (Some column) design units stratum = given_of (first_probs design units stratum)
+
+abbrev pub first_request : Design → List unit.Unit → ℕ → Request
+first_request design units stratum = request_by design.columns.prob design units stratum
+
 abbrev pub second_sizes : List unit.Unit → List ℕ → List ℕ
 second_sizes units rows = map (second_size_at units) rows
 
@@ -74,7 +90,7 @@ abbrev pub stratum_of : Design → List unit.Unit → ℕ → stratum.Stratum
 stratum_of design units stratum = record {
   name = stratum_name units stratum;
   units = map (first_of design units) (clusters_in design units stratum);
-  request = requested_of (first_sizes design units stratum) (sample_size design units stratum);
+  request = first_request design units stratum;
 }
 
 -- the plan of a frame that has no misfit

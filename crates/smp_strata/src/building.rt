@@ -1,46 +1,48 @@
 //! The parts of a plan, where the frame serves the design.
 
-ghost use Rattle.std.specs.Prelude.{◌≡◌, ◌^◌, ◌<◌, ◌≤◌, ℕ, None, false, [], All, EachIndex, IfOk, IfSome, length, map, option_map, slice_index, slice_index_or};
+ghost use Rattle.std.specs.Prelude.{◌≡◌, ◌^◌, ◌<◌, ◌≤◌, ℕ, None, false, [], All, EachIndex, IfOk, IfSome, length, map, option_map, slice_index, slice_index_or, IsSome};
 ghost use Rattle.smp_frame.specs.Bounds.{HaveValues, IsFrame};
+ghost use Rattle.smp_frame.specs.Limits.{max_rows};
 ghost use Rattle.smp_design.specs.Bounds.{IsDesign};
+ghost use Rattle.smp_prob.specs.Given.{AreGiven, common_multiple, largest_multiple};
 ghost use Rattle.smp_prob.specs.Requested.{positive_units, requested_of};
-ghost use Rattle.smp_rows.specs.Rows.{Fills};
-ghost use Rattle.smp_strata.specs.Bounds.{IsOver, IsPlan};
+ghost use Rattle.smp_strata.specs.Bounds.{IsPlan, IsWholeOver};
 ghost use Rattle.smp_strata.specs.Clusters.{clusters as clusters_of, stratum_names};
 ghost use Rattle.smp_strata.specs.Rows.{is_large, size_of};
 ghost use Rattle.smp_strata.specs.Plans as Plans;
 ghost use Rattle.smp_strata.specs.Plans.{parts_of, sample_sizes};
 ghost use Rattle.smp_strata.specs.Asked.{AsksAsFrame};
-ghost use Rattle.smp_strata.specs.Draws.{DrawsAsAsked, SecondDraws};
+ghost use Rattle.smp_strata.specs.Draws.{DrawsAsAsked, IsFor, SecondDraws};
 ghost use Rattle.smp_strata.specs.declared.strata.First.{First};
 ghost use Rattle.smp_strata.specs.declared.strata.Seat.{Seat};
 ghost use Rattle.smp_strata.specs.declared.strata.Stratum.{Stratum};
 ghost use Rattle.smp_strata.specs.Misfits.{misfit_of};
-ghost use Rattle.smp_strata.specs.Kept.Layouts.{AreGroups, AreRows, homes_of, strata_homes};
-ghost use Rattle.smp_strata.specs.Kept.Built.{Asks, CanBuild, IsBuilt, IsBuiltFirst, SecondAsks, seat_by};
+ghost use Rattle.smp_strata.specs.Kept.Layouts.{AreGroups, AreRows, IsLaidOut, homes_of};
+ghost use Rattle.smp_strata.specs.Kept.Built.{Asks, CanBuild, IsBuilt, IsBuiltFirst, IsFirstRequest, IsGivenRequest, SecondAsks, seat_by};
+ghost use Rattle.smp_strata.specs.Kept.Sized.{AreSizes, HasSizes};
 
 use crate::checks::Sizes;
 use crate::groups::Group;
 use crate::layout::{Clusters, Strata};
-use crate::sizes::{second_sizes, sizes_at};
+use crate::sizes::{probs_at, second_sizes, sizes_at};
 use crate::sums::values_of;
 use crate::{First, Plan, Seat, Stratum, Units};
 use smp_design::{Design, Method, Second};
-use smp_frac::NoMemory;
+use smp_frac::{Frac, NoMemory};
 use smp_frame::{Numbers, Unit};
-use smp_prob::{Places, ProbFault, Request, requested};
+use smp_prob::{GivenFault, Places, ProbFault, Request, given, requested};
 use std::alloc::Global;
 
 // The request for n of the units with these sizes, which has that many positive ones.
 fn request_for(alloc: Global, sizes: &[u32], n: u32) -> Result<Request, NoMemory>
-    requires few { length sizes.now ≤ 100000 }
+    requires few { length sizes.now ≤ max_rows }
     requires small { EachIndex sizes.now (λ i. slice_index sizes.now i < 2 ^ 31) }
     requires some { 1 ≤ n }
     requires enough { n ≤ positive_units sizes.now }
     ensures value { IfOk result (λ request. request ≡ requested_of sizes.now n) }
-    ensures over { IfOk result (IsOver (length sizes.now)) }
+    ensures over { IfOk result (IsWholeOver (length sizes.now)) }
     ensures asks { IfOk result (Asks sizes.now n) }
-    ensures draws { IfOk result (λ request. Fills request (length sizes.now) n) }
+    ensures draws { IfOk result (λ request. IsFor request (length sizes.now) n) }
 {
     match requested(alloc, sizes, n) {
         Ok(request) => Ok(request),
@@ -62,7 +64,7 @@ fn second_request(
         s.n ≤ positive_units (Plans.second_sizes units.now rows.now)) }
     ensures value { IfOk result (λ request.
         request ≡ Plans.second_request second units.now rows.now) }
-    ensures over { IfOk result (λ request. IfSome request (IsOver (length rows.now))) }
+    ensures over { IfOk result (λ request. IfSome request (IsWholeOver (length rows.now))) }
     ensures asks { IfOk result
         (SecondAsks second (Plans.second_sizes units.now rows.now)) }
     ensures draws { IfOk result (SecondDraws second (length rows.now)) }
@@ -126,8 +128,41 @@ fn firsts(
     Ok(Units::from_vec(firsts))
 }
 
-// A stratum by its number.
-fn stratum_of(
+// The request over first stage units with these probabilities, which have a common denominator within the limit.
+fn request_given(alloc: Global, probs: &[Frac]) -> Result<Request, NoMemory>
+    requires given { AreGiven probs.now }
+    requires within { common_multiple probs.now ≤ largest_multiple }
+    ensures { IfOk result (IsGivenRequest probs.now) }
+{
+    match given(alloc, probs) {
+        Ok(request) => Ok(request),
+        Err(GivenFault::Denominator) => unreachable!(),
+        Err(GivenFault::NoMemory) => Err(NoMemory),
+    }
+}
+
+// The request over the first stage units of a stratum, where their probabilities are given.
+fn request_by_probs(
+    alloc: Global,
+    units: &[Unit],
+    design: &Design,
+    clusters: &[Group],
+    strata: &Strata,
+    stratum: usize,
+) -> Result<Request, NoMemory>
+    requires layout { IsLaidOut design.now units.now clusters.now strata.now }
+    requires served { misfit_of design.now units.now ≡ None }
+    requires given { IsSome design.now.columns.prob }
+    requires number { stratum < length strata.now.names.items }
+    ensures { IfOk result (IsFirstRequest design.now units.now stratum) }
+{
+    let probs = probs_at(alloc, units, clusters, strata.members[stratum].as_slice())?;
+    let request = request_given(alloc, &probs)?;
+    Ok(request)
+}
+
+// The request over the first stage units of a stratum, in proportion to their sizes.
+fn request_by_sizes(
     alloc: Global,
     units: &[Unit],
     design: &Design,
@@ -135,25 +170,40 @@ fn stratum_of(
     strata: &Strata,
     sizes: &Sizes,
     stratum: usize,
-) -> Result<Stratum, NoMemory>
-    requires frame { IsFrame units.now }
-    requires values { HaveValues (length design.now.columns.values) units.now }
-    requires design { IsDesign design.now }
+) -> Result<Request, NoMemory>
+    requires layout { IsLaidOut design.now units.now clusters.now strata.now }
     requires served { misfit_of design.now units.now ≡ None }
-    requires rows { clusters.now ≡ clusters_of design.now.second units.now }
-    requires all_rows { All (AreRows (length units.now)) clusters.now }
-    requires names { strata.now.names.items ≡ stratum_names units.now }
-    requires strata_homes { strata.now.homes.items ≡ strata_homes units.now clusters.now }
-    requires groups { AreGroups strata.now.homes.items (length strata.now.names.items)
-        strata.now.members.items strata.now.places.items }
-    requires sizes { sizes.now.clusters.items ≡ map (size_of units.now) clusters.now }
-    requires samples { sizes.now.samples.items ≡ sample_sizes design.now units.now }
+    requires sized { design.now.columns.prob ≡ None }
+    requires sizes { AreSizes design.now units.now clusters.now sizes.now }
+    requires number { stratum < length strata.now.names.items }
+    ensures { IfOk result (IsFirstRequest design.now units.now stratum) }
+{
+    let first_sizes = sizes_at(alloc, &sizes.clusters, strata.members[stratum].as_slice())?;
+    let request = request_for(alloc, &first_sizes, sizes.samples[stratum])?;
+    Ok(request)
+}
+
+// A stratum by its number.
+fn stratum_of(
+    alloc: Global,
+    units: &[Unit],
+    design: &Design,
+    clusters: &[Group],
+    strata: &Strata,
+    sizes: &Option<Sizes>,
+    stratum: usize,
+) -> Result<Stratum, NoMemory>
+    requires layout { IsLaidOut design.now units.now clusters.now strata.now }
+    requires served { misfit_of design.now units.now ≡ None }
+    requires sizes { HasSizes design.now units.now clusters.now sizes.now }
     requires number { stratum < length strata.now.names.items }
     ensures { IfOk result (IsBuilt design.now units.now stratum) }
 {
+    let request = match sizes {
+        Some(sizes) => request_by_sizes(alloc, units, design, clusters, strata, sizes, stratum)?,
+        None => request_by_probs(alloc, units, design, clusters, strata, stratum)?,
+    };
     let members = strata.members[stratum].as_slice();
-    let first_sizes = sizes_at(alloc, &sizes.clusters, members)?;
-    let request = request_for(alloc, &first_sizes, sizes.samples[stratum])?;
     Ok(Stratum {
         name: strata.names[stratum].copy(alloc)?,
         units: firsts(alloc, units, design, clusters, members)?,
@@ -168,20 +218,11 @@ pub(crate) fn plan_strata(
     design: &Design,
     clusters: &[Group],
     strata: &Strata,
-    sizes: &Sizes,
+    sizes: &Option<Sizes>,
 ) -> Result<Vec<Stratum>, NoMemory>
-    requires frame { IsFrame units.now }
-    requires values { HaveValues (length design.now.columns.values) units.now }
-    requires design { IsDesign design.now }
+    requires layout { IsLaidOut design.now units.now clusters.now strata.now }
     requires served { misfit_of design.now units.now ≡ None }
-    requires rows { clusters.now ≡ clusters_of design.now.second units.now }
-    requires all_rows { All (AreRows (length units.now)) clusters.now }
-    requires names { strata.now.names.items ≡ stratum_names units.now }
-    requires strata_homes { strata.now.homes.items ≡ strata_homes units.now clusters.now }
-    requires groups { AreGroups strata.now.homes.items (length strata.now.names.items)
-        strata.now.members.items strata.now.places.items }
-    requires sizes { sizes.now.clusters.items ≡ map (size_of units.now) clusters.now }
-    requires samples { sizes.now.samples.items ≡ sample_sizes design.now units.now }
+    requires sizes { HasSizes design.now units.now clusters.now sizes.now }
     ensures length { IfOk result (λ list. length list.items ≡ length strata.now.names.items) }
     ensures each { IfOk result (λ list. (k : ℕ) (d : Stratum)
         → k < length strata.now.names.items
@@ -238,21 +279,11 @@ pub(crate) fn planned(
     design: &Design,
     clusters: &Clusters,
     strata: &Strata,
-    sizes: &Sizes,
+    sizes: &Option<Sizes>,
 ) -> Result<Plan, NoMemory>
-    requires frame { IsFrame units.now }
-    requires values { HaveValues (length design.now.columns.values) units.now }
-    requires design { IsDesign design.now }
+    requires layout { IsLaidOut design.now units.now clusters.now.rows.items strata.now }
     requires served { misfit_of design.now units.now ≡ None }
-    requires rows { clusters.now.rows.items ≡ clusters_of design.now.second units.now }
-    requires all_rows { All (AreRows (length units.now)) clusters.now.rows.items }
-    requires names { strata.now.names.items ≡ stratum_names units.now }
-    requires strata_homes { strata.now.homes.items
-        ≡ strata_homes units.now clusters.now.rows.items }
-    requires groups { AreGroups strata.now.homes.items (length strata.now.names.items)
-        strata.now.members.items strata.now.places.items }
-    requires sizes { sizes.now.clusters.items ≡ map (size_of units.now) clusters.now.rows.items }
-    requires samples { sizes.now.samples.items ≡ sample_sizes design.now units.now }
+    requires sizes { HasSizes design.now units.now clusters.now.rows.items sizes.now }
     requires homes { clusters.now.homes.items ≡ homes_of design.now.second units.now }
     requires row_groups { AreGroups clusters.now.homes.items (length clusters.now.rows.items)
         clusters.now.rows.items clusters.now.places.items }

@@ -1,26 +1,28 @@
 //! Why a frame doesn't serve a design: each kind of misfit is looked for in the whole frame.
 
-ghost use Rattle.std.specs.Prelude.{◌≡◌, ◌<◌, ◌≤◌, None, Some, All, IfOk, length, map, nat_eq, slice_index, slice_index_or, []};
+ghost use Rattle.std.specs.Prelude.{◌≡◌, ◌<◌, ◌≤◌, None, Some, All, IfOk, length, map, nat_eq, nat_lt, slice_index, slice_index_or, [], ℕ};
 ghost use Rattle.std.specs.List.{range_with_len};
 ghost use Rattle.std.specs.Str.{bytes_eq};
 ghost use Rattle.smp_frame.specs.Bounds.{HaveValues, IsFrame};
-ghost use Rattle.smp_design.specs.Bounds.{IsDesign};
+ghost use Rattle.smp_frame.specs.Limits.{max_rows};
+ghost use Rattle.smp_prob.specs.Given.{AreGiven, common_multiple, largest_multiple};
 ghost use Rattle.smp_strata.specs.Rows as Rows;
 ghost use Rattle.smp_strata.specs.Rows.{psu_at, stratum_at};
-ghost use Rattle.smp_strata.specs.Clusters.{clusters as clusters_of, first_row, stratum_names};
-ghost use Rattle.smp_strata.specs.Plans as Plans;
-ghost use Rattle.smp_strata.specs.Misfits.{Reports, first_apart, first_found, misfit_of, psu_short, second_too_many, short, unit_in_two, when};
+ghost use Rattle.smp_strata.specs.Clusters.{clusters as clusters_of, first_row};
+ghost use Rattle.smp_strata.specs.Misfits.{Reports, first_apart, first_found, misfit_of, probs_misfit, psu_short, psu_too_large, second_too_many, short, sizes_misfit, sum_of, unit_in_two, unwhole, when};
 ghost use Rattle.smp_strata.specs.declared.misfit.Misfit.TheVariants as misfits;
-ghost use Rattle.smp_strata.specs.Kept.Layouts.{AreGroups, AreRows, homes_of, strata_homes};
+ghost use Rattle.smp_strata.specs.Kept.Layouts.{AreRows, IsLaidOut, homes_of, prob_of};
+ghost use Rattle.smp_strata.specs.Kept.Sized.{AreSizes, HasSizes};
 
 use crate::Misfit;
 use crate::groups::Group;
 use crate::layout::{Clusters, Strata};
-use crate::sizes::{cluster_sizes, positive_units, sample_sizes, second_sizes, sizes_at};
+use crate::sizes::{cluster_sizes, positive_units, probs_at, sample_sizes, second_sizes, sizes_at};
 use crate::sums::is_large;
 use smp_design::{Design, Second};
-use smp_frac::Text;
+use smp_frac::{Frac, Text};
 use smp_frame::Unit;
+use smp_prob::expected_size;
 use std::alloc::Global;
 
 // Whether two rows are in one stratum.
@@ -130,7 +132,7 @@ fn all_have_sizes(alloc: Global, names: &[Text], sizes: &[u32]) -> Result<(), Mi
 
 // A stratum has as many positive sizes as its number of units.
 fn stratum_fits(alloc: Global, name: &Text, sizes: &[u32], n: u32) -> Result<(), Misfit>
-    requires { length sizes.now ≤ 100000 }
+    requires { length sizes.now ≤ max_rows }
     ensures { Reports result (short name.now sizes.now n) }
 {
     let positive = positive_units(sizes);
@@ -152,7 +154,7 @@ fn strata_fit(
 ) -> Result<(), Misfit>
     requires sizes { length sizes.now ≡ length strata.now.names.items }
     requires members { length strata.now.members.items ≡ length strata.now.names.items }
-    requires few { All (λ group. length group ≤ 100000) strata.now.members.items }
+    requires few { All (λ group. length group ≤ max_rows) strata.now.members.items }
     requires within { All (All (λ member. member < length cluster_sizes.now))
         strata.now.members.items }
     ensures { Reports result (first_found
@@ -217,6 +219,107 @@ fn psus_fit(
     }
 }
 
+// The probabilities of a stratum have a common denominator within the limit.
+fn stratum_has_denominator(alloc: Global, name: &Text, probs: &[Frac]) -> Result<(), Misfit>
+    requires { AreGiven probs.now }
+    ensures { Reports result (when (nat_lt largest_multiple (common_multiple probs.now))
+        (misfits.Denominator name.now)) }
+{
+    match expected_size(probs) {
+        Some(_) => Ok(()),
+        None => Err(Misfit::Denominator {
+            stratum: name.copy(alloc)?,
+        }),
+    }
+}
+
+fn strata_have_denominators(
+    alloc: Global,
+    units: &[Unit],
+    clusters: &[Group],
+    strata: &Strata,
+) -> Result<(), Misfit>
+    requires frame { IsFrame units.now }
+    requires rows { All (AreRows (length units.now)) clusters.now }
+    requires members { length strata.now.members.items ≡ length strata.now.names.items }
+    requires few { All (λ group. length group ≤ max_rows) strata.now.members.items }
+    requires within { All (All (λ member. member < length clusters.now))
+        strata.now.members.items }
+    ensures { Reports result (first_found
+        (λ stratum. when (nat_lt largest_multiple (common_multiple
+        (map (prob_of units.now clusters.now)
+        (slice_index_or strata.now.members.items stratum []))))
+        (misfits.Denominator (slice_index_or strata.now.names.items stratum [])))
+        (range_with_len 0 (length strata.now.names.items))) }
+{
+    for stratum in 0..strata.names.len() {
+        let probs = probs_at(alloc, units, clusters, strata.members[stratum].as_slice())?;
+        stratum_has_denominator(alloc, &strata.names[stratum], &probs)?;
+    }
+    Ok(())
+}
+
+// The probabilities of a stratum add up to a whole number. They have a common denominator within the limit.
+fn stratum_is_whole(alloc: Global, name: &Text, probs: &[Frac]) -> Result<(), Misfit>
+    requires given { AreGiven probs.now }
+    requires within { common_multiple probs.now ≤ largest_multiple }
+    ensures { Reports result (unwhole name.now (sum_of probs.now)) }
+{
+    match expected_size(probs) {
+        Some(sum) if sum.den() != 1 => Err(Misfit::NotWhole {
+            stratum: name.copy(alloc)?,
+            sum,
+        }),
+        _ => Ok(()),
+    }
+}
+
+fn strata_are_whole(
+    alloc: Global,
+    units: &[Unit],
+    clusters: &[Group],
+    strata: &Strata,
+) -> Result<(), Misfit>
+    requires frame { IsFrame units.now }
+    requires rows { All (AreRows (length units.now)) clusters.now }
+    requires members { length strata.now.members.items ≡ length strata.now.names.items }
+    requires few { All (λ group. length group ≤ max_rows) strata.now.members.items }
+    requires within { All (All (λ member. member < length clusters.now))
+        strata.now.members.items }
+    requires denominators { (stratum : ℕ) → stratum < length strata.now.names.items
+        → common_multiple (map (prob_of units.now clusters.now)
+        (slice_index_or strata.now.members.items stratum [])) ≤ largest_multiple }
+    ensures { Reports result (first_found
+        (λ stratum. unwhole (slice_index_or strata.now.names.items stratum [])
+        (sum_of (map (prob_of units.now clusters.now)
+        (slice_index_or strata.now.members.items stratum []))))
+        (range_with_len 0 (length strata.now.names.items))) }
+{
+    for stratum in 0..strata.names.len() {
+        let probs = probs_at(alloc, units, clusters, strata.members[stratum].as_slice())?;
+        stratum_is_whole(alloc, &strata.names[stratum], &probs)?;
+    }
+    Ok(())
+}
+
+// The given probabilities can be asked of the strata.
+fn probs_fit(
+    alloc: Global,
+    units: &[Unit],
+    design: &Design,
+    clusters: &[Group],
+    strata: &Strata,
+) -> Result<(), Misfit>
+    requires layout { IsLaidOut design.now units.now clusters.now strata.now }
+    ensures { Reports result (probs_misfit design.now units.now) }
+{
+    strata_have_denominators(alloc, units, clusters, strata)?;
+    if design.method.draws_whole() {
+        strata_are_whole(alloc, units, clusters, strata)?;
+    }
+    Ok(())
+}
+
 /// The sizes of a frame's first stage units, and how many of them are drawn from each stratum.
 #[derive(Drop)]
 pub(crate) struct Sizes {
@@ -224,45 +327,55 @@ pub(crate) struct Sizes {
     pub samples: Vec<u32>,
 }
 
-/// The sizes of a frame that serves a design, or the first misfit.
+// The sizes of a frame that serves a design without given probabilities.
+fn sizes_that_fit(
+    alloc: Global,
+    units: &[Unit],
+    design: &Design,
+    clusters: &[Group],
+    strata: &Strata,
+) -> Result<Sizes, Misfit>
+    requires layout { IsLaidOut design.now units.now clusters.now strata.now }
+    requires sized { design.now.columns.prob ≡ None }
+    requires small { psu_too_large design.now units.now ≡ None }
+    ensures misfit { Reports result (sizes_misfit design.now units.now) }
+    ensures sizes { IfOk result (AreSizes design.now units.now clusters.now) }
+{
+    let samples = sample_sizes(alloc, design, &strata.names, &strata.members)?;
+    all_have_sizes(alloc, &strata.names, &samples)?;
+    let sizes = cluster_sizes(alloc, units, clusters)?;
+    strata_fit(alloc, strata, &sizes, &samples)?;
+    psus_fit(alloc, units, design.second, clusters)?;
+    Ok(Sizes {
+        clusters: sizes,
+        samples,
+    })
+}
+
+/// The sizes of a frame that serves a design, or the first misfit. There are no sizes where probabilities are given.
 pub(crate) fn checked(
     alloc: Global,
     units: &[Unit],
     design: &Design,
     clusters: &Clusters,
     strata: &Strata,
-) -> Result<Sizes, Misfit>
-    requires frame { IsFrame units.now }
-    requires values { HaveValues (length design.now.columns.values) units.now }
-    requires design { IsDesign design.now }
-    requires rows { clusters.now.rows.items ≡ clusters_of design.now.second units.now }
+) -> Result<Option<Sizes>, Misfit>
+    requires layout { IsLaidOut design.now units.now clusters.now.rows.items strata.now }
     requires homes { clusters.now.homes.items ≡ homes_of design.now.second units.now }
-    requires all_rows { All (AreRows (length units.now)) clusters.now.rows.items }
-    requires names { strata.now.names.items ≡ stratum_names units.now }
-    requires strata_homes { strata.now.homes.items
-        ≡ strata_homes units.now clusters.now.rows.items }
-    requires groups { AreGroups strata.now.homes.items (length strata.now.names.items)
-        strata.now.members.items strata.now.places.items }
     ensures misfit { Reports result (misfit_of design.now units.now) }
-    ensures clusters { IfOk result (λ sizes.
-        sizes.clusters.items ≡ map (Rows.size_of units.now) clusters.now.rows.items) }
-    ensures samples { IfOk result (λ sizes.
-        sizes.samples.items ≡ Plans.sample_sizes design.now units.now) }
+    ensures sizes { IfOk result (HasSizes design.now units.now clusters.now.rows.items) }
 {
+    let columns = design.columns.values.as_slice().len();
     no_unit_in_two(alloc, units, design.second, clusters)?;
-    none_too_large(
-        alloc,
-        units,
-        design.columns.values.as_slice().len(),
-        &clusters.rows,
-    )?;
-    let samples = sample_sizes(alloc, design, &strata.names, &strata.members)?;
-    all_have_sizes(alloc, &strata.names, &samples)?;
-    let sizes = cluster_sizes(alloc, units, &clusters.rows)?;
-    strata_fit(alloc, strata, &sizes, &samples)?;
-    psus_fit(alloc, units, design.second, &clusters.rows)?;
-    Ok(Sizes {
-        clusters: sizes,
-        samples,
-    })
+    none_too_large(alloc, units, columns, &clusters.rows)?;
+    match design.columns.prob {
+        None => {
+            let sizes = sizes_that_fit(alloc, units, design, &clusters.rows, strata)?;
+            Ok(Some(sizes))
+        }
+        Some(_) => {
+            probs_fit(alloc, units, design, &clusters.rows, strata)?;
+            Ok(None)
+        }
+    }
 }

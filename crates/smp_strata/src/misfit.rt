@@ -3,7 +3,7 @@
 ghost use Rattle.std.specs.Prelude.{◌≡◌};
 ghost use Rattle.smp_strata.specs.declared.misfit.Misfit.TheVariants as misfits;
 
-use smp_frac::{NoMemory, Text};
+use smp_frac::{Frac, NoMemory, Text};
 use std::alloc::{AllocError, AllocFailed};
 
 /// Why a frame doesn't serve a design: the first misfit, in the order of the variants.
@@ -41,6 +41,18 @@ pub enum Misfit {
         n: u32,
         /// How many have a second size above 0.
         positive: u32,
+    },
+    /// The least common denominator of a stratum's probabilities is above 2,147,483,647.
+    Denominator {
+        /// The stratum's name, which is empty where there are no strata.
+        stratum: Text,
+    },
+    /// The method draws a whole number of units, and a stratum's probabilities don't add up to one.
+    NotWhole {
+        /// The stratum's name, which is empty where there are no strata.
+        stratum: Text,
+        /// What they add up to.
+        sum: Frac,
     },
     /// Memory ran out.
     NoMemory,

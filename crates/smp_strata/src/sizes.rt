@@ -4,18 +4,19 @@ ghost use Rattle.std.specs.Prelude.{◌≡◌, ◌^◌, ◌<◌, ◌≤◌, All,
 ghost use Rattle.std.specs.Ordering.{nat_cmp};
 ghost use Rattle.std.specs.Cmp.Lexicographic.{slice_cmp};
 ghost use Rattle.smp_frame.specs.Bounds.{IsFrame};
+ghost use Rattle.smp_frame.specs.Limits.{max_rows};
 ghost use Rattle.smp_design.specs.Bounds.{Ascend, IsDesign};
 ghost use Rattle.smp_prob.specs.Requested as Requested;
 ghost use Rattle.smp_strata.specs.Rows as Rows;
 ghost use Rattle.smp_strata.specs.Plans as Plans;
 ghost use Rattle.smp_strata.specs.Plans.{sizes_by};
-ghost use Rattle.smp_strata.specs.Kept.Layouts.{AreRows};
+ghost use Rattle.smp_strata.specs.Kept.Layouts.{AreRows, prob_of};
 
 use crate::allocation::allocation;
 use crate::groups::Group;
 use crate::sums::size_of;
 use smp_design::{Design, Quota};
-use smp_frac::{NoMemory, Text};
+use smp_frac::{Frac, NoMemory, Text};
 use smp_frame::Unit;
 use std::alloc::Global;
 use std::cmp::Ordering;
@@ -50,6 +51,24 @@ pub(crate) fn sizes_at(alloc: Global, sizes: &[u32], places: &[usize]) -> Result
     Ok(list)
 }
 
+/// The probabilities of some first stage units of one row each, by their numbers.
+pub(crate) fn probs_at(
+    alloc: Global,
+    units: &[Unit],
+    clusters: &[Group],
+    members: &[usize],
+) -> Result<Vec<Frac>, NoMemory>
+    requires rows { All (AreRows (length units.now)) clusters.now }
+    requires within { All (λ member. member < length clusters.now) members.now }
+    ensures { IfOk result (λ probs. probs.items ≡ map (prob_of units.now clusters.now) members.now) }
+{
+    let mut probs = Vec::with_capacity(alloc, members.len())?;
+    for &member in members {
+        probs.push(units[clusters[member].as_slice()[0]].prob)?;
+    }
+    Ok(probs)
+}
+
 /// The second sizes of some rows.
 pub(crate) fn second_sizes(
     alloc: Global,
@@ -68,14 +87,14 @@ pub(crate) fn second_sizes(
 
 /// How many sizes are above 0.
 pub(crate) fn positive_units(sizes: &[u32]) -> u32
-    requires { length sizes.now ≤ 100000 }
+    requires { length sizes.now ≤ max_rows }
     ensures { result ≡ Requested.positive_units sizes.now }
 {
     sizes.iter().filter(|&&size| size > 0).count() as u32
 }
 
 fn lengths(alloc: Global, groups: &[Group]) -> Result<Vec<u32>, NoMemory>
-    requires { All (λ group. length group ≤ 100000) groups.now }
+    requires { All (λ group. length group ≤ max_rows) groups.now }
     ensures { IfOk result (λ list. list.items ≡ map length groups.now) }
 {
     let mut list = Vec::new(alloc);
@@ -122,9 +141,9 @@ pub(crate) fn sample_sizes(
     members: &[Group],
 ) -> Result<Vec<u32>, NoMemory>
     requires design { IsDesign design.now }
-    requires few { length members.now ≤ 100000 }
+    requires few { length members.now ≤ max_rows }
     requires some { 1 ≤ sum (map length members.now) }
-    requires total { sum (map length members.now) ≤ 100000 }
+    requires total { sum (map length members.now) ≤ max_rows }
     ensures { IfOk result (λ sizes. sizes.items
         ≡ sizes_by design.now.n design.now.sizes names.now (map length members.now)) }
 {

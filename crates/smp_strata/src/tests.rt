@@ -27,6 +27,15 @@ fn told(alloc: Global, design: &str, frame: &str) -> Result<String, Fail> {
         Err(Misfit::SecondTooMany { psu, n, positive }) => {
             format!(in alloc; "second {n} of {positive}: {}", psu.as_str())?
         }
+        Err(Misfit::Denominator { stratum }) => {
+            format!(in alloc; "denominator: {}", stratum.as_str())?
+        }
+        Err(Misfit::NotWhole { stratum, sum }) => format!(in alloc;
+            "sum {}/{}: {}",
+            sum.num(),
+            sum.den(),
+            stratum.as_str()
+        )?,
         Err(Misfit::NoMemory) => format!(in alloc; "no memory")?,
     };
     Ok(text)
@@ -73,6 +82,36 @@ fn misfits_of_strata(rt: HostRuntime) -> Result<(), Fail> {
         told(alloc, STRATA, "id,s\na,A\nb,A\n")?.as_str(),
         "5 of 2: A"
     );
+    Ok(())
+}
+
+const GIVEN: &str =
+    "version = 2\nmethod = \"pivotal\"\nid = \"id\"\nstratum = \"s\"\nprob = \"p\"\n";
+
+const GIVEN_WHOLE: &str =
+    "version = 2\nmethod = \"brewer\"\nid = \"id\"\nstratum = \"s\"\nprob = \"p\"\n";
+
+// The strata A with the sum 7/3, a certain unit among it, and B with the sum 1.
+const THIRDS: &str = "id,s,p\na,A,1/2\nb,B,2/3\nc,A,1/2\nd,A,1\ne,A,1/3\nf,B,1/3\ng,B,0\n";
+
+const DENOMINATORS: &str = "id,s,p\na,A,1/2\nb,B,1/65536\nc,B,1/65535\n";
+
+#[test]
+fn probabilities_are_given(rt: HostRuntime) -> Result<(), Fail> {
+    let alloc = rt.alloc();
+    assert_eq!(rt; told(alloc, GIVEN, THIRDS)?.as_str(), "2 strata");
+    assert_eq!(rt; told(alloc, GIVEN_WHOLE, THIRDS)?.as_str(), "sum 7/3: A");
+    assert_eq!(rt;
+        told(alloc, GIVEN_WHOLE, DENOMINATORS)?.as_str(),
+        "denominator: B"
+    );
+    let plan = plan_of(alloc, GIVEN, THIRDS)??;
+    assert_eq!(rt; plan.rows(), 7);
+    let wanted = [(1, 2), (2, 3), (1, 2), (1, 1), (1, 3), (1, 3), (0, 1)];
+    for row in 0..7 {
+        let share = asked(&plan, row);
+        assert_eq!(rt; (share.num, share.den), wanted[row]);
+    }
     Ok(())
 }
 

@@ -13,8 +13,7 @@ use Rattle.smp_prob.specs.declared.orders.Order.TheVariants.{Frame}
 use Rattle.smp_values.specs.Starts.{IsWhole}
 use Rattle.smp_design.specs.declared.method.Method.{Method}
 use Rattle.smp_methods.specs.declared.procedure.Procedure.{Procedure}
-use Rattle.smp_methods.specs.declared.procedure.Procedure.TheVariants as ways
-use Rattle.smp_methods.specs.Procedures.{procedure_of, NeedsWhole, TakesValues}
+use Rattle.smp_methods.specs.Procedures.{procedure_of, TakesValues}
 use Rattle.smp_methods.proofs.Columns.{procedure_takes}
 use Rattle.smp_strata.specs.Bounds.{IsFirst, IsStratum}
 use Rattle.smp_strata.specs.Plans.{Parts}
@@ -28,14 +27,6 @@ use Rattle.smp_twostage.specs.Selections.{column_count, free_values, values_at}
 given : (way : Option Procedure) (other : Procedure) → is_some way ≡ true → way ≡ Some (unwrap_or way other)
 given (Some way) other some = refl
 given None other some = absurd (cc)
-
-pub needs_whole : (way : Procedure) (request : Request) → IsWhole request → NeedsWhole way request
-needs_whole ways.MinimumSupport request whole = whole
-needs_whole ways.Brewer request whole = whole
-needs_whole (ways.Pivotal order) request whole = tt
-needs_whole (ways.Systematic order) request whole = tt
-needs_whole (ways.LocalPivotal dimensions) request whole = tt
-needs_whole ways.Cube request whole = tt
 
 first_long : (units : List First) (n : ℕ) → 1 ≤ length units → All (λ u. length u.values ≡ n) units → length (get_or (map (λ u. u.values) units) 0 []) ≡ n
 first_long [] n some all = absurd (omega (arith, some))
@@ -91,5 +82,6 @@ module _ (plan : Parts) (drawable : CanBeDrawn plan) (h : ℕ) (s : Stratum) (is
         method = drawable.method;
         second = drawable.second;
         stratum = subst (IsStratum plan.second) here (All-get_or (IsStratum plan.second) plan.strata h s within drawable.sound.strata);
+        whole = λ needed. subst (λ (t : Stratum). IsWhole t.request) here (All-get_or (λ (t : Stratum). IsWhole t.request) plan.strata h s within (drawable.sound.whole needed));
         counted = subst (λ (t : Stratum). All (λ u. length u.values ≡ drawable.columns) t.units) here (All-get_or (λ (t : Stratum). All (λ u. length u.values ≡ drawable.columns) t.units) plan.strata h s within drawable.sound.columns);
       }

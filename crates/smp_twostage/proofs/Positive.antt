@@ -16,7 +16,7 @@ use Rattle.smp_methods.specs.Designs.{method_of}
 use Rattle.smp_stages.specs.declared.places.Place.{Place}
 use Rattle.smp_stages.specs.declared.places.Stage.{Stage}
 use Rattle.smp_stages.specs.Stages.{Progress, read, seat_selected, unit_selected}
-use Rattle.smp_strata.specs.Bounds.{IsOver}
+use Rattle.smp_strata.specs.Bounds.{IsWholeOver}
 use Rattle.smp_strata.specs.Plans.{Parts}
 use Rattle.smp_strata.specs.Seats.{first_at, first_fraction, place_fraction, stage_fraction, unit_fraction}
 use Rattle.smp_strata.specs.declared.strata.Seat.{Seat}
@@ -96,10 +96,10 @@ module _ (plan : Parts) (drawable : CanBeDrawn plan) (states : List AnyState) wh
     second_positive : (method : Method) → plan.second ≡ Some method → (request : Option Request) → here.unit.second ≡ request → is_some request ≡ true → is_selected (record { stage = suc (at + place.unit); unit = place.place }) ≡ true
         → is_positive (stage_fraction request place.place).num ≡ true
     second_positive method second (Some request) asks some selected =
-        let over : IsOver (length here.unit.rows) request = rw asks at (first_is plan drawable place.stratum place.unit here.stratum here.unit here.is_stratum here.is_unit).over in
+        let over : IsWholeOver (length here.unit.rows) request = rw asks at (first_is plan drawable place.stratum place.unit here.stratum here.unit here.is_stratum here.is_unit).over in
         selected_unit (suc (at + place.unit)) place.place (second_stage method request (length here.unit.rows) at place.unit)
         (second_there plan place.stratum here.stratum here.is_stratum method second (seconds_in plan drawable method second place.stratum here.stratum here.is_stratum) place.unit here.unit here.is_unit request asks)
-        over.sound selected
+        over.over.sound selected
     second_positive method second None asks some selected = absurd (cc)
 
     by_method : (method : Option Method) → plan.second ≡ method → seat_selected is_selected (Some (seat_by method at place)) ≡ true → is_positive (row_fraction plan row).num ≡ true

@@ -11,7 +11,6 @@ use Rattle.smp_prob.specs.Standings.{fraction_at, standing}
 use Rattle.smp_design.specs.declared.method.Method.{Method}
 use Rattle.smp_split.specs.Counts.{LeavesSelect, selected_count}
 use Rattle.smp_split.specs.Paths.{AtEachLeaf}
-use Rattle.smp_rows.specs.Rows.{Fills}
 use Rattle.smp_rows.proofs.Asked.{rows_select}
 use Rattle.smp_methods.specs.declared.any.AnyState.{AnyState}
 use Rattle.smp_methods.specs.Designs.{first_state, method_of}
@@ -22,6 +21,7 @@ use Rattle.smp_stages.specs.Starts.{StartsInStages}
 use Rattle.smp_stages.specs.Laws.Reads.{some_within}
 use Rattle.std.proofs.lemmas.Bool.{and_parts}
 use Rattle.std.proofs.lemmas.Option.{slice_get_within}
+use Rattle.smp_strata.specs.Draws.{IsFor}
 use Rattle.smp_strata.specs.Plans.{Parts}
 use Rattle.smp_strata.specs.Seats.{first_at, first_fraction, place_fraction, stage_fraction, unit_fraction}
 use Rattle.smp_strata.specs.declared.strata.First.{First}
@@ -113,12 +113,12 @@ module _ (plan : Parts) (drawable : CanBeDrawn plan) (states : List AnyState) (e
   start = progress tree_of (stages_of plan) states
 
   -- the leaves of a stage select what its request draws
-  leaves_select : (i n : ℕ) (stage : Stage Selecting) (first : AnyState) → slice_get (stages_of plan) i ≡ Some stage → slice_get states i ≡ Some first → Fills stage.design.request stage.design.units n → LeavesSelect (tree_of stage.design) n first
+  leaves_select : (i n : ℕ) (stage : Stage Selecting) (first : AnyState) → slice_get (stages_of plan) i ≡ Some stage → slice_get states i ≡ Some first → IsFor stage.design.request stage.design.units n → LeavesSelect (tree_of stage.design) n first
   leaves_select i n stage first is_stage is_first fills =
       let here : StageStarts stage.design first = each.each i stage first is_stage is_first in
-      rows_select stage.design.units stage.design.request (method_of stage.design.design).tree first here.serves (method_of stage.design.design).belongs n here.member.paired here.adds_up fills
+      rows_select stage.design.units stage.design.request (method_of stage.design.design).tree first here.serves (method_of stage.design.design).belongs n here.member.paired (here.adds_up fills.whole) fills.fills
 
-  selected_so : (i n : ℕ) (stage : Stage Selecting) → slice_get (stages_of plan) i ≡ Some stage → Fills stage.design.request stage.design.units n
+  selected_so : (i n : ℕ) (stage : Stage Selecting) → slice_get (stages_of plan) i ≡ Some stage → IsFor stage.design.request stage.design.units n
       → AtEachLeaf (whole_tree plan) start (λ path leaf. is_drawn tree_of (stages_of plan) leaf.states i ≡ true
       → count_by (λ unit. selected_in tree_of (stages_of plan) leaf.states (record { stage = i; unit = unit })) (range_with_len 0 stage.design.units) ≡ n)
   selected_so i n stage is_stage fills path leaf leads done drawn =
@@ -133,12 +133,12 @@ module _ (plan : Parts) (drawable : CanBeDrawn plan) (states : List AnyState) (e
   first_drawn : (h : ℕ) (s : Stratum) → slice_get plan.strata h ≡ Some s → (leaves : List AnyState) → is_drawn tree_of (stages_of plan) leaves (first_number plan h) ≡ true
   first_drawn h s is leaves = rw (first_there plan h s is) refl
 
-  firsts : (h n : ℕ) (s : Stratum) → slice_get plan.strata h ≡ Some s → Fills s.request (length s.units) n → FirstSelects plan start h s n
+  firsts : (h n : ℕ) (s : Stratum) → slice_get plan.strata h ≡ Some s → IsFor s.request (length s.units) n → FirstSelects plan start h s n
   firsts h n s is fills path leaf leads done =
       selected_so (first_number plan h) n (first_stage plan s) (first_there plan h s is) fills path leaf leads done (first_drawn h s is leaf.states)
 
   seconds : (method : Option Method) → plan.second ≡ method → (h k n : ℕ) (s : Stratum) (u : First) (request : Request) → slice_get plan.strata h ≡ Some s → slice_get s.units k ≡ Some u → u.second ≡ Some request
-      → Fills request (length u.rows) n → SecondSelects plan start h k u n
+      → IsFor request (length u.rows) n → SecondSelects plan start h k u n
   seconds (Some method) second h k n s u request is_s is_u asks fills path leaf leads done first =
       let there = second_there plan h s is_s method second (seconds_in plan drawable method second h s is_s) k u is_u request asks in
       let drawn : is_drawn tree_of (stages_of plan) leaf.states (suc (first_number plan h + k)) ≡ true = ap (λ o. drawn_within tree_of (stages_of plan) leaf.states (within_of o)) there ∙ (and_parts _ _ first).1 in

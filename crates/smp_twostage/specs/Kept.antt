@@ -1,7 +1,9 @@
 -- What the code keeps on the way. No public clause cites it.
-use Rattle.std.specs.Prelude.{◌≡◌, ℕ, true, All, IfSome, is_some, List, Some, length, map}
+use Rattle.std.specs.Prelude.{◌≡◌, ℕ, true, All, IfSome, IsTrue, is_some, List, Some, length, map}
 use Rattle.std.specs.List.{range_with_len, slice_get}
 use Rattle.smp_split.specs.Counts.{AddsUp}
+use Rattle.smp_values.specs.Starts.{IsWhole}
+use Rattle.smp_design.specs.Words.{row}
 use Rattle.smp_rows.specs.Rows.{Serves}
 use Rattle.smp_methods.specs.declared.any.AnyState.{AnyState}
 use Rattle.smp_methods.specs.Designs.{first_state, method_of}
@@ -19,18 +21,19 @@ pub record IsPlanned (plan : Parts) (s : Stratum) : Type 0 where
   pub method : is_some (procedure_of plan.method plan.order columns) ≡ true
   pub second : IfSome plan.second TakesRows
   pub stratum : IsStratum plan.second s
+  pub whole : IsTrue (row plan.method).draws_whole → IsWhole s.request
   pub counted : All (λ u. length u.values ≡ columns) s.units
 
 -- the number of each stratum's first stage
 abbrev pub first_numbers : Parts → List ℕ
 first_numbers plan = map (first_number plan) (range_with_len 0 (length plan.strata))
 
--- a stage in its first state: each free unit has the value that is requested of it, and they add up to the number of draws
+-- A stage in its first state: each free unit has the value that is requested of it. They add up to the number of draws, where that is whole.
 pub record StageStarts (s : Selecting) (state : AnyState) : Type 0 where
   pub is : state ≡ first_state s.design
   pub member : belongs_to s state
   pub serves : Serves s.request (method_of s.design).tree state
-  pub adds_up : AddsUp (method_of s.design).tree s.request.r state
+  pub adds_up : IsWhole s.request → AddsUp (method_of s.design).tree s.request.r state
 
 -- each stage is in its first state
 pub record EachStarts (stages : List (Stage Selecting)) (states : List AnyState) : Type 0 where

@@ -5,9 +5,9 @@ use Rattle.smp_fractions.specs.Fractions.{Fraction, Same, integer, inverse, time
 use Rattle.smp_split.specs.Means.{mean, inclusion_probability}
 use Rattle.smp_split.specs.Paths.{AtEachLeaf, Entry}
 use Rattle.smp_design.specs.declared.method.Method.TheVariants.{Cube}
-use Rattle.smp_rows.specs.Rows.{Fills}
 use Rattle.smp_prob.specs.declared.requests.Request.{Request}
 use Rattle.smp_methods.specs.declared.any.AnyState.{AnyState}
+use Rattle.smp_strata.specs.Draws.{IsFor}
 use Rattle.smp_strata.specs.Plans.{Parts}
 use Rattle.smp_strata.specs.Seats.{seat_fraction}
 use Rattle.smp_strata.specs.declared.strata.First as unit
@@ -94,12 +94,13 @@ pub record StartsWhole (plan : Parts) (start : Progress AnyState) : Type 0 where
       → ((row : ℕ) → row < plan.rows → Same (asked row) (row_fraction plan row))
       → (x : ℕ → ℤ) → Same (mean (whole_tree plan) (λ row. weighted (asked row) (x row)) start)
       (sum_below plan.rows (λ row. integer (known (asked row) (x row))))
-  -- Each stratum's request fixes how many of its first stage units are selected, and a unit's request how many rows within it.
+  -- Each stratum's request fixes how many of its first stage units are selected, where that is whole, and a unit's request how many rows
+  -- within it.
   pub firsts : (h n : ℕ) (s : stratum.Stratum) → slice_get plan.strata h ≡ Some s
-      → Fills s.request (length s.units) n → FirstSelects plan start h s n
+      → IsFor s.request (length s.units) n → FirstSelects plan start h s n
   pub seconds : (h k n : ℕ) (s : stratum.Stratum) (u : unit.First) (request : Request)
       → slice_get plan.strata h ≡ Some s → slice_get s.units k ≡ Some u → u.second ≡ Some request
-      → Fills request (length u.rows) n → SecondSelects plan start h k u n
+      → IsFor request (length u.rows) n → SecondSelects plan start h k u n
   -- A path to a leaf is made of the stages' own paths, one after another.
   pub paths : AtEachLeaf (whole_tree plan) start
       (λ path leaf. GoesByStages tree_of (stages_of plan) (states_of plan) path leaf.states)

@@ -3,9 +3,8 @@
 ghost use Rattle.std.specs.Prelude.{◌≡◌, ◌++◌, ◌∷◌, [], true, is_some, None, Some, All, IfOk, OnOk, length, map, slice_index_or};
 ghost use Rattle.smp_prob.specs.Requests.{IsRequest};
 ghost use Rattle.smp_prob.specs.Standings.{IsRising};
-ghost use Rattle.smp_values.specs.Starts.{IsWhole};
 ghost use Rattle.smp_methods.specs.Designs.{design_of};
-ghost use Rattle.smp_methods.specs.Procedures.{TakesValues, procedure_of};
+ghost use Rattle.smp_methods.specs.Procedures.{NeedsWhole, procedure_of, TakesValues};
 ghost use Rattle.smp_strata.specs.Bounds.{IsFirst};
 ghost use Rattle.smp_twostage.specs.Kept.{EachStarts, IsPlanned, StageStarts, first_numbers};
 ghost use Rattle.smp_twostage.specs.Plans.{CanBeDrawn, TakesRows};
@@ -100,7 +99,7 @@ fn start_stage<'a>(
     values: &[Numbers],
 ) -> Result<StartedStage<'a>, NoMemory>
     requires request { IsRequest request.now }
-    requires whole { IsWhole request.now }
+    requires whole { NeedsWhole procedure request.now }
     requires rising { IsRising request.now }
     requires paired { length values.now ≡ length request.now.free }
     requires values { TakesValues procedure values.now }

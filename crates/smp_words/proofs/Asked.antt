@@ -7,7 +7,7 @@ use Rattle.smp_lines.specs.Decimals.{number_below}
 use Rattle.smp_words.specs.declared.command.DesignArguments.{DesignArguments}
 use Rattle.smp_words.specs.declared.command.Command.TheVariants.{Probs, Check}
 use Rattle.smp_words.specs.declared.command.Chance.TheVariants.{Seed}
-use Rattle.smp_words.specs.Words.{Given, DrawFiles, IsAsked, ◌>>=◌, when, in_range, number_from, all_distinct, is_empty, none_given, seed_from, have_own_names, draw_command, replay_command, quick_words, quick, demo_words, demo, design_arguments, draw_files, draw_by, draw, replay, by_name, command_given}
+use Rattle.smp_words.specs.Words.{Given, DrawFiles, IsAsked, ◌>>=◌, when, in_range, number_from, all_distinct, is_empty, none_given, seed_from, have_own_names, most_quick_units, least_demo_units, most_demo_units, draw_command, replay_command, quick_words, quick, demo_words, demo, design_arguments, draw_files, draw_by, draw, replay, by_name, command_given}
 
 -- ---- what holds of something that may not be there
 
@@ -53,14 +53,14 @@ quick_asked (frame ∷ n ∷ []) = tt
 quick_asked (frame ∷ n ∷ tape ∷ []) = tt
 quick_asked (frame ∷ n ∷ tape ∷ out ∷ []) =
     when_some IsAsked (all_distinct (frame ∷ tape ∷ out ∷ [])) _ (λ apart.
-    some_after IsAsked (Between 1 100000) (number_from 1 100000 n) _ (number_ranged 1 100000 n) (λ size within. record { distinct = apart; sized = within }))
+    some_after IsAsked (Between 1 most_quick_units) (number_from 1 most_quick_units n) _ (number_ranged 1 most_quick_units n) (λ size within. record { distinct = apart; sized = within }))
 quick_asked (frame ∷ n ∷ tape ∷ out ∷ fifth ∷ more) = tt
 
 demo_asked : (words : List (List ℕ)) → IfSome (demo_words words) IsAsked
 demo_asked [] = tt
 demo_asked (n ∷ []) = tt
 demo_asked (n ∷ seed ∷ []) =
-    some_after IsAsked (Between 30 100000) (number_from 30 100000 n) _ (number_ranged 30 100000 n) (λ units within.
+    some_after IsAsked (Between least_demo_units most_demo_units) (number_from least_demo_units most_demo_units n) _ (number_ranged least_demo_units most_demo_units n) (λ units within.
     some_then IsAsked (number_from 0 18446744073709551615 seed) _ (λ start. record { distinct = refl; sized = within }))
 demo_asked (n ∷ seed ∷ third ∷ more) = tt
 

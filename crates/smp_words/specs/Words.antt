@@ -80,19 +80,30 @@ seed_from text = seed_of (decode_sized text 32)
 
 -- ---- the table of the commands
 
--- FRAME N TAPE OUT, with N from 1 to 100,000
+-- the most units that `quick` draws
+abbrev pub most_quick_units : ℕ
+most_quick_units = 200000
+
+-- FRAME N TAPE OUT, with N from 1 to 200,000
 abbrev pub quick_words : List (List ℕ) → Option Command
 quick_words (frame ∷ n ∷ tape ∷ out ∷ []) =
-    when (all_distinct (frame ∷ tape ∷ out ∷ [])) (number_from 1 100000 n >>= λ size. Some (Quick (record { frame = frame; n = size; tape = tape; out = out })))
+    when (all_distinct (frame ∷ tape ∷ out ∷ [])) (number_from 1 most_quick_units n >>= λ size. Some (Quick (record { frame = frame; n = size; tape = tape; out = out })))
 quick_words other = None
 
 abbrev pub quick : Given → Option Command
 quick g = when (none_given (g.design ∷ g.frame ∷ g.tape ∷ g.seed ∷ g.log ∷ g.sample ∷ [])) (quick_words g.rest)
 
+-- the fewest and the most units of the frame that `demo` makes
+abbrev pub least_demo_units : ℕ
+least_demo_units = 30
+
+abbrev pub most_demo_units : ℕ
+most_demo_units = 100000
+
 -- N SEED, with N from 30 to 100,000 and SEED below 2^64
 abbrev pub demo_words : List (List ℕ) → Option Command
 demo_words (n ∷ seed ∷ []) = do
-  units ← number_from 30 100000 n
+  units ← number_from least_demo_units most_demo_units n
   start ← number_from 0 18446744073709551615 seed
   Some (Demo (record { n = units; seed = start }))
 demo_words other = None
@@ -203,11 +214,11 @@ outputs_of other = []
 
 -- how many units a command itself asks for
 abbrev pub IsSized : Command → Type 0
-IsSized (Quick arguments) = (1 ≤ arguments.n) × (arguments.n ≤ 100000)
-IsSized (Demo arguments) = (30 ≤ arguments.n) × (arguments.n ≤ 100000)
+IsSized (Quick arguments) = (1 ≤ arguments.n) × (arguments.n ≤ most_quick_units)
+IsSized (Demo arguments) = (least_demo_units ≤ arguments.n) × (arguments.n ≤ most_demo_units)
 IsSized other = Unit {0}
 
--- No two files of a command have the same name. `quick` asks for 1 to 100,000 units, and `demo` for 30 to 100,000.
+-- No two files of a command have the same name. `quick` asks for 1 to 200,000 units, and `demo` for 30 to 100,000.
 pub record IsAsked (command : Command) : Type 0 where
   pub distinct : all_distinct (inputs_of command ++ outputs_of command) ≡ true
   pub sized : IsSized command

@@ -7,7 +7,7 @@ use smp_frac::Text;
 pub struct QuickArguments {
     /// The name of the frame's file.
     pub frame: Text,
-    /// How many units are drawn, from 1 to 100,000.
+    /// How many units are drawn, from 1 to 200,000.
     pub n: u32,
     /// The name of the tape's file.
     pub tape: Text,

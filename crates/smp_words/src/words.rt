@@ -13,9 +13,11 @@ use crate::{
 use smp_frac::{NoMemory, Text};
 use std::alloc::Global;
 
-const MAX_UNITS: u128 = 100_000;
+const MAX_QUICK_UNITS: u128 = 200_000;
 
 const MIN_DEMO_UNITS: u128 = 30;
+
+const MAX_DEMO_UNITS: u128 = 100_000;
 
 const MAX_DEMO_SEED: u128 = u64::MAX as u128;
 
@@ -64,7 +66,7 @@ fn quick(alloc: Global, given: &Given) -> Result<Option<Command>, NoMemory>
     }
     match given.rest {
         Some([frame, n, tape, out]) if are_distinct(&[frame, tape, out]) => {
-            let Some(n) = number_from(1, MAX_UNITS, n) else {
+            let Some(n) = number_from(1, MAX_QUICK_UNITS, n) else {
                 return Ok(None);
             };
             Ok(Some(Command::Quick(QuickArguments {
@@ -88,7 +90,7 @@ fn demo(given: &Given) -> Option<Command>
     let [n, seed] = rest else {
         return None;
     };
-    let n = number_from(MIN_DEMO_UNITS, MAX_UNITS, n)? as u32;
+    let n = number_from(MIN_DEMO_UNITS, MAX_DEMO_UNITS, n)? as u32;
     let seed = number_from(0, MAX_DEMO_SEED, seed)? as u64;
     Some(Command::Demo(DemoArguments { n, seed }))
 }

@@ -1,16 +1,21 @@
 -- What is known of the parts of a plan when they are made.
-use Rattle.std.specs.Prelude.{◌≡◌, ℕ, ◌<◌, ◌≤◌, false, IfSome, List, length, Option, Some, None, ⊤, option_map, slice_index, slice_index_or, EachIndex, All}
-use Rattle.smp_fractions.specs.Fractions.{Same}
+use Rattle.std.specs.Prelude.{◌≡◌, ℕ, ◌<◌, ◌≤◌, false, IfSome, IsTrue, List, [], length, Option, Some, None, ⊤, option_map, slice_index, slice_index_or, EachIndex, All}
+use Rattle.smp_fractions.specs.Fractions.{Same, whole}
+use Rattle.smp_frac.specs.declared.fractions.Frac.{Frac}
+use Rattle.smp_prob.specs.Given.{expected_size, given_fraction, given_of}
 use Rattle.smp_prob.specs.declared.requests.Request.{Request}
 use Rattle.smp_prob.specs.Requested.{positive_units, requested_fraction}
 use Rattle.smp_prob.specs.Standings.{asked_fraction}
 use Rattle.smp_design.specs.declared.design.Design.{Design}
 use Rattle.smp_design.specs.declared.method.Method.{Method}
 use Rattle.smp_design.specs.declared.design.Second as second
+use Rattle.smp_design.specs.Words.{row}
 use Rattle.smp_frame.specs.declared.frame.Unit as unit
-use Rattle.smp_strata.specs.Bounds.{IsFirst, IsStratum}
-use Rattle.smp_strata.specs.Draws.{DrawsInStratum, SecondDraws}
-use Rattle.smp_strata.specs.Plans.{first_of, first_sizes, sample_size, second_request, second_sizes, stratum_of}
+use Rattle.smp_values.specs.Starts.{IsWhole}
+use Rattle.smp_strata.specs.Asked.{fraction_by}
+use Rattle.smp_strata.specs.Bounds.{IsFirst, IsOver, IsStratum}
+use Rattle.smp_strata.specs.Draws.{AreAsked, DrawsInStratum, IsFor, SecondDraws}
+use Rattle.smp_strata.specs.Plans.{first_of, first_request, second_request, second_sizes, stratum_of}
 use Rattle.smp_strata.specs.Clusters.{clusters_in}
 use Rattle.smp_strata.specs.Rows.{is_large}
 use Rattle.smp_strata.specs.Seats.{IsSeat}
@@ -30,6 +35,32 @@ SecondAsks None sizes request = ⊤
 SecondAsks (Some second) sizes None = ⊤
 SecondAsks (Some second) sizes (Some request) = Asks sizes second.n request
 
+-- a request gives each first stage unit of a stratum the probability that is asked for it
+abbrev pub FirstAsks : Design → List unit.Unit → ℕ → Request → Type 0
+FirstAsks design units number request = (u : ℕ) → u < length (clusters_in design units number)
+    → Same (asked_fraction request u)
+    (fraction_by design.columns.prob design units number
+    (slice_index_or (clusters_in design units number) u []))
+
+-- the request of given probabilities
+pub record IsGivenRequest (probs : List Frac) (request : Request) : Type 0 where
+  pub value : request ≡ given_of probs
+  pub over : IsOver (length probs) request
+  pub asks : EachIndex probs (λ unit.
+      Same (asked_fraction request unit) (given_fraction probs unit))
+  pub draws : (n : ℕ) → Same (expected_size probs) (whole n) → IsFor request (length probs) n
+
+-- the request over the first stage units of a stratum
+pub record IsFirstRequest (design : Design) (units : List unit.Unit) (number : ℕ)
+    (request : Request) : Type 0 where
+  pub some : 1 ≤ length (clusters_in design units number)
+  pub value : request ≡ first_request design units number
+  pub over : IsOver (length (clusters_in design units number)) request
+  pub whole : IsTrue (row design.method).draws_whole → IsWhole request
+  pub asks : FirstAsks design units number request
+  pub draws : (n : ℕ) → AreAsked design units number n
+      → IsFor request (length (clusters_in design units number)) n
+
 -- the method of a second stage
 abbrev pub second_method : Design → Option Method
 second_method design = option_map (λ second. second.method) design.second
@@ -47,7 +78,7 @@ pub record IsBuilt (design : Design) (units : List unit.Unit) (number : ℕ)
     (s : stratum.Stratum) : Type 0 where
   pub value : s ≡ stratum_of design units number
   pub stratum : IsStratum (second_method design) s
-  pub asks : Asks (first_sizes design units number) (sample_size design units number) s.request
+  pub request : IsFirstRequest design units number s.request
   pub draws : DrawsInStratum design units number s
   pub firsts : All (λ rows.
       SecondAsks design.second (second_sizes units rows) (second_request design.second units rows))

@@ -1,12 +1,18 @@
 -- Rows and their first stage units, and these and their strata, by numbers.
-use Rattle.std.specs.Prelude.{ℕ, ◌<◌, ◌≤◌, ◌≡◌, List, Option, Some, None, length, map, All}
+use Rattle.std.specs.Prelude.{ℕ, ◌<◌, ◌≤◌, ◌≡◌, List, [], Option, Some, None, length, map, slice_index_or, All}
 use Rattle.std.specs.List.{position_or_len, range_with_len}
 use Rattle.std.specs.Str.{bytes_eq}
+use Rattle.smp_frame.specs.Bounds.{HaveValues, IsFrame}
+use Rattle.smp_frame.specs.Limits.{max_rows}
+use Rattle.smp_design.specs.Bounds.{IsDesign}
+use Rattle.smp_design.specs.declared.design.Design.{Design}
 use Rattle.smp_design.specs.declared.design.Second as second
+use Rattle.smp_frac.specs.declared.fractions.Frac.{Frac}
 use Rattle.smp_frame.specs.declared.frame.Unit as unit
-use Rattle.smp_strata.specs.Clusters.{psu_names, first_row, stratum_number}
-use Rattle.smp_strata.specs.Rows.{rows_of, psu_at}
+use Rattle.smp_strata.specs.Clusters.{clusters, psu_names, first_row, stratum_names, stratum_number}
+use Rattle.smp_strata.specs.Rows.{prob_at, rows_of, psu_at}
 use Rattle.smp_strata.specs.Kept.Groups.{places_of, AreAmong}
+use Rattle.smp_strata.specs.declared.layout.Strata.{Strata}
 
 -- the number of the psu of a row
 abbrev pub psu_number : List unit.Unit → ℕ → ℕ
@@ -28,7 +34,7 @@ strata_homes units clusters = map (λ rows. stratum_number units (first_row rows
 -- rows of a frame of so many units, one at least
 pub record AreRows (count : ℕ) (rows : List ℕ) : Type 0 where
   pub some : 1 ≤ length rows
-  pub few : length rows ≤ 100000
+  pub few : length rows ≤ max_rows
   pub within : All (λ row. row < count) rows
 
 -- so many groups of places by the numbers that stand there, with the place of each place in its group
@@ -38,3 +44,20 @@ pub record AreGroups (numbers : List ℕ) (count : ℕ) (groups : List (List ℕ
   pub within : All (λ number. number < count) numbers
   pub seated : AreAmong numbers (length numbers) among
   pub paired : length among ≡ length numbers
+
+-- the probability of a cluster of one row, by its number
+abbrev pub prob_of : List unit.Unit → List (List ℕ) → ℕ → Frac
+prob_of units clustered cluster = prob_at units (first_row (slice_index_or clustered cluster []))
+
+-- the first stage units of a frame, as lists of rows, and the strata that they belong to, as the code holds them for a design
+pub record IsLaidOut (asked : Design) (units : List unit.Unit) (clustered : List (List ℕ))
+    (strata : Strata) : Type 0 where
+  pub frame : IsFrame units
+  pub values : HaveValues (length asked.columns.values) units
+  pub design : IsDesign asked
+  pub rows : clustered ≡ clusters asked.second units
+  pub all_rows : All (AreRows (length units)) clustered
+  pub names : strata.names.items ≡ stratum_names units
+  pub strata_homes : strata.homes.items ≡ strata_homes units clustered
+  pub groups : AreGroups strata.homes.items (length strata.names.items)
+      strata.members.items strata.places.items

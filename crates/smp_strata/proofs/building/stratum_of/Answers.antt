@@ -8,123 +8,51 @@ use Rattle.smp_strata.specs.Kept.Groups.{places_of}
 use Rattle.smp_strata.proofs.Totals.{how_many}
 use Rattle.smp_strata.proofs.Members.{count_all, group_of, homes, length_samples, places_within, sizes_are}
 use Rattle.smp_strata.proofs.MisfitOrder.{IsServed, served}
-use Rattle.smp_strata.proofs.Serving.{built, can_build, enough, few_in, first_small, is_stratum, sized}
+use Rattle.smp_strata.specs.Kept.Built.{IsFirstRequest}
+use Rattle.smp_strata.proofs.Serving.{built, can_build, is_stratum}
+use Rattle.smp_strata.proofs.building.stratum_of.Goals.{in-Some+in_ok-request-in-Some, in-None+in_ok-request-in-None}
 use Rattle.smp_strata.proofs.building.stratum_of.Goals as goal
 
 pub index-requires : goal.index-requires
-index-requires c = omega (arith, how_many _ _ _ _ c.requires.groups, c.requires.number)
-
-pub sizes_at-requires : goal.sizes_at-requires
-sizes_at-requires c =
-    let all_rows = rw c.requires.rows at c.requires.all_rows in
-    let groups = rw (c.requires.strata_homes, c.requires.rows, c.requires.names) at c.requires.groups in
-    let served : IsServed c.args.design.now c.args.units.now = served c.args.design.now c.args.units.now c.requires.served in
-    let here : c.args.stratum < length (stratum_names c.args.units.now) = rw c.requires.names at c.requires.number in
-    let within : c.args.stratum < length c.args.strata.now.members.items = omega (arith, how_many _ _ _ _ c.requires.groups, c.requires.number) in
-    let members : c.as_slice-members.result.now ≡ places_of (homes c.args.design.now c.args.units.now all_rows) c.args.stratum = c.as_slice-members.ensures ∙ c.index.ensures ∙ get_or_default c.args.strata.now.members.items c.args.stratum c.index.result.now [] within
-    ∙ group_of c.args.design.now c.args.units.now all_rows c.args.stratum here c.args.strata.now.members.items c.args.strata.now.places.items groups in
-    rw (members, c.deref.ensures.value, c.requires.sizes, c.requires.rows, length-map (clusters c.args.design.now.second c.args.units.now) (size_of c.args.units.now)) (places_within c.args.design.now c.args.units.now all_rows c.args.stratum)
-
-pub index-requires-2 : goal.index-requires-2
-index-requires-2 c =
-    let all_rows = rw c.requires.rows at c.requires.all_rows in
-    let groups = rw (c.requires.strata_homes, c.requires.rows, c.requires.names) at c.requires.groups in
-    let served : IsServed c.args.design.now c.args.units.now = served c.args.design.now c.args.units.now c.requires.served in
-    let here : c.args.stratum < length (stratum_names c.args.units.now) = rw c.requires.names at c.requires.number in
-    omega (arith, here, length_samples c.args.design.now c.args.units.now all_rows, ap length c.requires.samples)
-
-pub request_for-requires-clause-few : goal.request_for-requires-clause-few
-request_for-requires-clause-few c =
-    let all_rows = rw c.requires.rows at c.requires.all_rows in
-    let groups = rw (c.requires.strata_homes, c.requires.rows, c.requires.names) at c.requires.groups in
-    let served : IsServed c.args.design.now c.args.units.now = served c.args.design.now c.args.units.now c.requires.served in
-    let here : c.args.stratum < length (stratum_names c.args.units.now) = rw c.requires.names at c.requires.number in
-    let within : c.args.stratum < length c.args.strata.now.members.items = omega (arith, how_many _ _ _ _ c.requires.groups, c.requires.number) in
-    let members : c.as_slice-members.result.now ≡ places_of (homes c.args.design.now c.args.units.now all_rows) c.args.stratum = c.as_slice-members.ensures ∙ c.index.ensures ∙ get_or_default c.args.strata.now.members.items c.args.stratum c.index.result.now [] within
-    ∙ group_of c.args.design.now c.args.units.now all_rows c.args.stratum here c.args.strata.now.members.items c.args.strata.now.places.items groups in
-    let sizes : c.deref-2.result.now ≡ first_sizes c.args.design.now c.args.units.now c.args.stratum = c.deref-2.ensures.value ∙ c.in_ok-first_sizes.ensures
-    ∙ rw (c.deref.ensures.value, c.requires.sizes, c.requires.rows, members) (sizes_are c.args.design.now c.args.units.now all_rows c.args.stratum here) in
-    rw sizes (few_in c.args.design.now c.args.units.now all_rows served c.args.stratum (omega (arith, count_all c.args.design.now.second c.args.units.now, c.requires.frame.few)))
-
-pub request_for-requires-clause-small : goal.request_for-requires-clause-small
-request_for-requires-clause-small c =
-    let all_rows = rw c.requires.rows at c.requires.all_rows in
-    let groups = rw (c.requires.strata_homes, c.requires.rows, c.requires.names) at c.requires.groups in
-    let served : IsServed c.args.design.now c.args.units.now = served c.args.design.now c.args.units.now c.requires.served in
-    let here : c.args.stratum < length (stratum_names c.args.units.now) = rw c.requires.names at c.requires.number in
-    let within : c.args.stratum < length c.args.strata.now.members.items = omega (arith, how_many _ _ _ _ c.requires.groups, c.requires.number) in
-    let members : c.as_slice-members.result.now ≡ places_of (homes c.args.design.now c.args.units.now all_rows) c.args.stratum = c.as_slice-members.ensures ∙ c.index.ensures ∙ get_or_default c.args.strata.now.members.items c.args.stratum c.index.result.now [] within
-    ∙ group_of c.args.design.now c.args.units.now all_rows c.args.stratum here c.args.strata.now.members.items c.args.strata.now.places.items groups in
-    let sizes : c.deref-2.result.now ≡ first_sizes c.args.design.now c.args.units.now c.args.stratum = c.deref-2.ensures.value ∙ c.in_ok-first_sizes.ensures
-    ∙ rw (c.deref.ensures.value, c.requires.sizes, c.requires.rows, members) (sizes_are c.args.design.now c.args.units.now all_rows c.args.stratum here) in
-    rw sizes (first_small c.args.design.now c.args.units.now all_rows served c.args.stratum)
-
-pub request_for-requires-clause-some : goal.request_for-requires-clause-some
-request_for-requires-clause-some c =
-    let all_rows = rw c.requires.rows at c.requires.all_rows in
-    let groups = rw (c.requires.strata_homes, c.requires.rows, c.requires.names) at c.requires.groups in
-    let served : IsServed c.args.design.now c.args.units.now = served c.args.design.now c.args.units.now c.requires.served in
-    let here : c.args.stratum < length (stratum_names c.args.units.now) = rw c.requires.names at c.requires.number in
-    let n : c.index-2.result.now ≡ sample_size c.args.design.now c.args.units.now c.args.stratum = c.index-2.ensures ∙ get_or_default c.args.sizes.now.samples.items c.args.stratum c.index-2.result.now 0 (omega (arith, here, length_samples c.args.design.now c.args.units.now all_rows, ap length c.requires.samples))
-    ∙ ap (λ xs. get_or xs c.args.stratum 0) c.requires.samples in
-    rw n (sized c.args.design.now c.args.units.now all_rows served c.args.stratum here)
-
-pub request_for-requires-clause-enough : goal.request_for-requires-clause-enough
-request_for-requires-clause-enough c =
-    let all_rows = rw c.requires.rows at c.requires.all_rows in
-    let groups = rw (c.requires.strata_homes, c.requires.rows, c.requires.names) at c.requires.groups in
-    let served : IsServed c.args.design.now c.args.units.now = served c.args.design.now c.args.units.now c.requires.served in
-    let here : c.args.stratum < length (stratum_names c.args.units.now) = rw c.requires.names at c.requires.number in
-    let within : c.args.stratum < length c.args.strata.now.members.items = omega (arith, how_many _ _ _ _ c.requires.groups, c.requires.number) in
-    let members : c.as_slice-members.result.now ≡ places_of (homes c.args.design.now c.args.units.now all_rows) c.args.stratum = c.as_slice-members.ensures ∙ c.index.ensures ∙ get_or_default c.args.strata.now.members.items c.args.stratum c.index.result.now [] within
-    ∙ group_of c.args.design.now c.args.units.now all_rows c.args.stratum here c.args.strata.now.members.items c.args.strata.now.places.items groups in
-    let sizes : c.deref-2.result.now ≡ first_sizes c.args.design.now c.args.units.now c.args.stratum = c.deref-2.ensures.value ∙ c.in_ok-first_sizes.ensures
-    ∙ rw (c.deref.ensures.value, c.requires.sizes, c.requires.rows, members) (sizes_are c.args.design.now c.args.units.now all_rows c.args.stratum here) in
-    let n : c.index-2.result.now ≡ sample_size c.args.design.now c.args.units.now c.args.stratum = c.index-2.ensures ∙ get_or_default c.args.sizes.now.samples.items c.args.stratum c.index-2.result.now 0 (omega (arith, here, length_samples c.args.design.now c.args.units.now all_rows, ap length c.requires.samples))
-    ∙ ap (λ xs. get_or xs c.args.stratum 0) c.requires.samples in
-    rw (n, sizes) (enough c.args.design.now c.args.units.now all_rows served c.args.stratum here)
+index-requires c = omega (arith, how_many _ _ _ _ c.requires.layout.groups, c.requires.number)
 
 pub firsts-requires-clause-clusters : goal.firsts-requires-clause-clusters
 firsts-requires-clause-clusters c =
-    let all_rows = rw c.requires.rows at c.requires.all_rows in
-    let groups = rw (c.requires.strata_homes, c.requires.rows, c.requires.names) at c.requires.groups in
+    let all_rows = rw c.requires.layout.rows at c.requires.layout.all_rows in
+    let groups = rw (c.requires.layout.strata_homes, c.requires.layout.rows, c.requires.layout.names) at c.requires.layout.groups in
     let served : IsServed c.args.design.now c.args.units.now = served c.args.design.now c.args.units.now c.requires.served in
-    let here : c.args.stratum < length (stratum_names c.args.units.now) = rw c.requires.names at c.requires.number in
-    rw c.requires.rows (can_build c.args.design.now c.args.units.now all_rows served)
+    let here : c.args.stratum < length (stratum_names c.args.units.now) = rw c.requires.layout.names at c.requires.number in
+    rw c.requires.layout.rows (can_build c.args.design.now c.args.units.now all_rows served c.requires.layout.design)
 
 pub firsts-requires-clause-within : goal.firsts-requires-clause-within
 firsts-requires-clause-within c =
-    let all_rows = rw c.requires.rows at c.requires.all_rows in
-    let groups = rw (c.requires.strata_homes, c.requires.rows, c.requires.names) at c.requires.groups in
+    let all_rows = rw c.requires.layout.rows at c.requires.layout.all_rows in
+    let groups = rw (c.requires.layout.strata_homes, c.requires.layout.rows, c.requires.layout.names) at c.requires.layout.groups in
     let served : IsServed c.args.design.now c.args.units.now = served c.args.design.now c.args.units.now c.requires.served in
-    let here : c.args.stratum < length (stratum_names c.args.units.now) = rw c.requires.names at c.requires.number in
-    let within : c.args.stratum < length c.args.strata.now.members.items = omega (arith, how_many _ _ _ _ c.requires.groups, c.requires.number) in
+    let here : c.args.stratum < length (stratum_names c.args.units.now) = rw c.requires.layout.names at c.requires.number in
+    let within : c.args.stratum < length c.args.strata.now.members.items = omega (arith, how_many _ _ _ _ c.requires.layout.groups, c.requires.number) in
     let members : c.as_slice-members.result.now ≡ places_of (homes c.args.design.now c.args.units.now all_rows) c.args.stratum = c.as_slice-members.ensures ∙ c.index.ensures ∙ get_or_default c.args.strata.now.members.items c.args.stratum c.index.result.now [] within
     ∙ group_of c.args.design.now c.args.units.now all_rows c.args.stratum here c.args.strata.now.members.items c.args.strata.now.places.items groups in
-    rw (members, c.requires.rows) (places_within c.args.design.now c.args.units.now all_rows c.args.stratum)
+    rw (members, c.requires.layout.rows) (places_within c.args.design.now c.args.units.now all_rows c.args.stratum)
 
 pub returns : goal.returns
 returns c =
-    let all_rows = rw c.requires.rows at c.requires.all_rows in
-    let groups = rw (c.requires.strata_homes, c.requires.rows, c.requires.names) at c.requires.groups in
+    let all_rows = rw c.requires.layout.rows at c.requires.layout.all_rows in
+    let groups = rw (c.requires.layout.strata_homes, c.requires.layout.rows, c.requires.layout.names) at c.requires.layout.groups in
     let served : IsServed c.args.design.now c.args.units.now = served c.args.design.now c.args.units.now c.requires.served in
-    let here : c.args.stratum < length (stratum_names c.args.units.now) = rw c.requires.names at c.requires.number in
-    let within : c.args.stratum < length c.args.strata.now.members.items = omega (arith, how_many _ _ _ _ c.requires.groups, c.requires.number) in
+    let here : c.args.stratum < length (stratum_names c.args.units.now) = rw c.requires.layout.names at c.requires.number in
+    let within : c.args.stratum < length c.args.strata.now.members.items = omega (arith, how_many _ _ _ _ c.requires.layout.groups, c.requires.number) in
     let members : c.as_slice-members.result.now ≡ places_of (homes c.args.design.now c.args.units.now all_rows) c.args.stratum = c.as_slice-members.ensures ∙ c.index.ensures ∙ get_or_default c.args.strata.now.members.items c.args.stratum c.index.result.now [] within
     ∙ group_of c.args.design.now c.args.units.now all_rows c.args.stratum here c.args.strata.now.members.items c.args.strata.now.places.items groups in
-    let sizes : c.deref-2.result.now ≡ first_sizes c.args.design.now c.args.units.now c.args.stratum = c.deref-2.ensures.value ∙ c.in_ok-first_sizes.ensures
-    ∙ rw (c.deref.ensures.value, c.requires.sizes, c.requires.rows, members) (sizes_are c.args.design.now c.args.units.now all_rows c.args.stratum here) in
-    let n : c.index-2.result.now ≡ sample_size c.args.design.now c.args.units.now c.args.stratum = c.index-2.ensures ∙ get_or_default c.args.sizes.now.samples.items c.args.stratum c.index-2.result.now 0 (omega (arith, here, length_samples c.args.design.now c.args.units.now all_rows, ap length c.requires.samples))
-    ∙ ap (λ xs. get_or xs c.args.stratum 0) c.requires.samples in
-    let name : c.in_ok-copy.field-0 ≡ stratum_name c.args.units.now c.args.stratum = c.in_ok-copy.ensures ∙ c.index-3.ensures ∙ get_or_default c.args.strata.now.names.items c.args.stratum c.index-3.result.now [] c.requires.number
-    ∙ ap (λ xs. get_or xs c.args.stratum []) c.requires.names in
+    let name : c.in_ok-copy.field-0 ≡ stratum_name c.args.units.now c.args.stratum = c.in_ok-copy.ensures ∙ c.index-2.ensures ∙ get_or_default c.args.strata.now.names.items c.args.stratum c.index-2.result.now [] c.requires.number
+    ∙ ap (λ xs. get_or xs c.args.stratum []) c.requires.layout.names in
     let long = rw members at c.in_ok-firsts.ensures.length in
-    let each = rw (members, c.requires.rows) at c.in_ok-firsts.ensures.each in
-    let over = rw sizes at c.in_ok-request.ensures.over in
-    let asks = rw (sizes, n) at c.in_ok-request.ensures.asks in
-    let draws = rw (sizes, n) at c.in_ok-request.ensures.draws in
-    let value = rw (sizes, n) at c.in_ok-request.ensures.value in
-    let s : Stratum = record { name = c.in_ok-copy.field-0; units = c.in_ok-firsts.field-0; request = c.in_ok-request.request } in
-    let is : s ≡ record { name = stratum_name c.args.units.now c.args.stratum; units = c.in_ok-firsts.field-0; request = c.in_ok-request.request } = rw name refl in
-    built c.args.design.now c.args.units.now all_rows served c.args.stratum here c.in_ok-firsts.field-0 long each c.in_ok-request.request over asks draws s is
-    (is ∙ is_stratum c.args.design.now c.args.units.now all_rows served c.args.stratum here c.in_ok-firsts.field-0 long each c.in_ok-request.request value)
+    let each = rw (members, c.requires.layout.rows) at c.in_ok-firsts.ensures.each in
+    let first : IsFirstRequest c.args.design.now c.args.units.now c.args.stratum c.match-sizes.request = elim c.match-sizes.branch [
+      | in-Some+in_ok-request-in-Some w ↦ rw w.request-is w.in_ok-request-in-Some.ensures
+      | in-None+in_ok-request-in-None w ↦ rw w.request-is w.in_ok-request-in-None.ensures
+    ] in
+    let s : Stratum = record { name = c.in_ok-copy.field-0; units = c.in_ok-firsts.field-0; request = c.match-sizes.request } in
+    let is : s ≡ record { name = stratum_name c.args.units.now c.args.stratum; units = c.in_ok-firsts.field-0; request = c.match-sizes.request } = rw name refl in
+    built c.args.design.now c.args.units.now all_rows served c.args.stratum here c.in_ok-firsts.field-0 long each c.match-sizes.request first s is
+    (is ∙ is_stratum c.args.design.now c.args.units.now all_rows served c.args.stratum here c.in_ok-firsts.field-0 long each c.match-sizes.request first.value)

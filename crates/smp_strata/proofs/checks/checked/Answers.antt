@@ -1,150 +1,42 @@
-use Rattle.std.proofs.Common.{◌≡◌, ◌∙◌, sym, refl, rules, arith, length, None, Err}
-use Rattle.std.proofs.lemmas.List.{length-map}
-use Rattle.std.proofs.lemmas.List.Sums.{get_or-le-sum_by, sum-map}
-use Rattle.smp_strata.specs.Rows.{size_of}
-use Rattle.smp_strata.specs.Clusters.{clusters}
-use Rattle.smp_strata.specs.Plans.{sample_sizes}
-use Rattle.smp_strata.specs.Misfits.{no_size, psu_too_large, too_many}
+use Rattle.std.proofs.Common.{◌≡◌, ◌∙◌, sym, refl, rules, None, Err}
+use Rattle.std.specs.Prelude.{Option}
 use Rattle.smp_strata.specs.declared.checks.Sizes.{Sizes}
-use Rattle.smp_strata.proofs.Totals.{how_many}
-use Rattle.smp_strata.proofs.Members.{count_all, groups_within, length_samples, lengths_are, names_few, short_are, sizes_small, some_all, total_is}
-use Rattle.smp_strata.proofs.MisfitOrder.{passed, kind_1, kind_2, kind_3, kind_4, kind_5}
+use Rattle.smp_strata.specs.Misfits.{psu_too_large}
+use Rattle.smp_strata.proofs.MisfitOrder.{passed, kind_1, kind_2, other_kind}
 use Rattle.smp_strata.proofs.checks.checked.Goals as goal
 
 pub returns-in_err-no_unit_in_two-clause-misfit : goal.returns-in_err-no_unit_in_two-clause-misfit
 returns-in_err-no_unit_in_two-clause-misfit c =
     let said = c.in_err-no_unit_in_two.ensures in
     let same : c.from_residual.result ≡ Err c.in_err-no_unit_in_two.field-0.0 = search rules in
-    rw same (passed (Unit {0}) Sizes c.in_err-no_unit_in_two.field-0.0 _ _ said (kind_1 c.args.design.now c.args.units.now))
+    rw same (passed (Unit {0}) (Option Sizes) c.in_err-no_unit_in_two.field-0.0 _ _ said (kind_1 c.args.design.now c.args.units.now))
 
 pub returns-in_err-none_too_large-clause-misfit : goal.returns-in_err-none_too_large-clause-misfit
 returns-in_err-none_too_large-clause-misfit c =
-    let said = rw (c.deref.ensures.value, c.requires.rows, c.as_slice.ensures) at c.in_err-none_too_large.ensures in
+    let said = rw (c.deref.ensures.value, c.requires.layout.rows, c.as_slice-columns.ensures) at c.in_err-none_too_large.ensures in
     let same : c.from_residual-in_err-none_too_large.result ≡ Err c.in_err-none_too_large.field-0.0 = search rules in
-    rw same (passed (Unit {0}) Sizes c.in_err-none_too_large.field-0.0 _ _ said (kind_2 c.args.design.now c.args.units.now c.in_ok-no_unit_in_two.ensures))
+    rw same (passed (Unit {0}) (Option Sizes) c.in_err-none_too_large.field-0.0 _ _ said (kind_2 c.args.design.now c.args.units.now c.in_ok-no_unit_in_two.ensures))
 
-pub sample_sizes-requires-clause-few : goal.sample_sizes-requires-clause-few
-sample_sizes-requires-clause-few c =
-    let all_rows = rw c.requires.rows at c.requires.all_rows in
-    let groups = rw (c.requires.strata_homes, c.requires.rows, c.requires.names) at c.requires.groups in
-    let counts = lengths_are c.args.design.now c.args.units.now all_rows c.args.strata.now.members.items c.args.strata.now.places.items groups in
-    rw c.deref-3.ensures.value (omega (arith, how_many _ _ _ _ groups, names_few c.args.design.now c.args.units.now all_rows, c.requires.frame.few))
+pub returns-in_err-sizes-in-None-clause-misfit : goal.returns-in_err-sizes-in-None-clause-misfit
+returns-in_err-sizes-in-None-clause-misfit c =
+    let small : psu_too_large c.args.design.now c.args.units.now ≡ None = rw (c.deref.ensures.value, c.requires.layout.rows, c.as_slice-columns.ensures) at c.in_ok-none_too_large.ensures in
+    let same : c.from_residual-in_err-sizes-in-None.result ≡ Err c.in_err-sizes-in-None.field-0.0 = search rules in
+    rw same (passed Sizes (Option Sizes) c.in_err-sizes-in-None.field-0.0 _ _ c.in_err-sizes-in-None.ensures.misfit
+    (λ m at. other_kind c.args.design.now c.args.units.now c.in_ok-no_unit_in_two.ensures small _ (rw c.in-None.is at)))
 
-pub sample_sizes-requires-clause-some : goal.sample_sizes-requires-clause-some
-sample_sizes-requires-clause-some c =
-    let all_rows = rw c.requires.rows at c.requires.all_rows in
-    let groups = rw (c.requires.strata_homes, c.requires.rows, c.requires.names) at c.requires.groups in
-    let counts = lengths_are c.args.design.now c.args.units.now all_rows c.args.strata.now.members.items c.args.strata.now.places.items groups in
-    rw c.deref-3.ensures.value (omega (arith, total_is c.args.design.now c.args.units.now all_rows c.args.strata.now.members.items c.args.strata.now.places.items groups, some_all c.args.design.now.second c.args.units.now c.requires.frame.some))
+pub returns-in_err-probs_fit-in-Some-clause-misfit : goal.returns-in_err-probs_fit-in-Some-clause-misfit
+returns-in_err-probs_fit-in-Some-clause-misfit c =
+    let small : psu_too_large c.args.design.now c.args.units.now ≡ None = rw (c.deref.ensures.value, c.requires.layout.rows, c.as_slice-columns.ensures) at c.in_ok-none_too_large.ensures in
+    let same : c.from_residual-in_err-probs_fit-in-Some.result ≡ Err c.in_err-probs_fit-in-Some.field-0.0 = search rules in
+    rw same (passed (Unit {0}) (Option Sizes) c.in_err-probs_fit-in-Some.field-0.0 _ _ c.in_err-probs_fit-in-Some.ensures
+    (λ m at. other_kind c.args.design.now c.args.units.now c.in_ok-no_unit_in_two.ensures small _ (rw c.in-Some.is at)))
 
-pub sample_sizes-requires-clause-total : goal.sample_sizes-requires-clause-total
-sample_sizes-requires-clause-total c =
-    let all_rows = rw c.requires.rows at c.requires.all_rows in
-    let groups = rw (c.requires.strata_homes, c.requires.rows, c.requires.names) at c.requires.groups in
-    let counts = lengths_are c.args.design.now c.args.units.now all_rows c.args.strata.now.members.items c.args.strata.now.places.items groups in
-    rw c.deref-3.ensures.value (omega (arith, total_is c.args.design.now c.args.units.now all_rows c.args.strata.now.members.items c.args.strata.now.places.items groups, count_all c.args.design.now.second c.args.units.now, c.requires.frame.few))
+pub returns-in_ok-sizes-in-None-clause-misfit : goal.returns-in_ok-sizes-in-None-clause-misfit
+returns-in_ok-sizes-in-None-clause-misfit c =
+    let small : psu_too_large c.args.design.now c.args.units.now ≡ None = rw (c.deref.ensures.value, c.requires.layout.rows, c.as_slice-columns.ensures) at c.in_ok-none_too_large.ensures in
+    other_kind c.args.design.now c.args.units.now c.in_ok-no_unit_in_two.ensures small None (rw c.in-None.is c.in_ok-sizes-in-None.ensures.misfit)
 
-pub all_have_sizes-requires : goal.all_have_sizes-requires
-all_have_sizes-requires c =
-    let all_rows = rw c.requires.rows at c.requires.all_rows in
-    let groups = rw (c.requires.strata_homes, c.requires.rows, c.requires.names) at c.requires.groups in
-    let counts = lengths_are c.args.design.now c.args.units.now all_rows c.args.strata.now.members.items c.args.strata.now.places.items groups in
-    let samples : c.in_ok-samples.samples.items ≡ sample_sizes c.args.design.now c.args.units.now =
-    c.in_ok-samples.ensures ∙ rw (c.deref-2.ensures.value, c.requires.names, c.deref-3.ensures.value, counts) refl in
-    rw (c.deref-5.ensures.value, samples, c.deref-4.ensures.value, c.requires.names) (length_samples c.args.design.now c.args.units.now all_rows)
-
-pub returns-in_err-all_have_sizes-clause-misfit : goal.returns-in_err-all_have_sizes-clause-misfit
-returns-in_err-all_have_sizes-clause-misfit c =
-    let all_rows = rw c.requires.rows at c.requires.all_rows in
-    let groups = rw (c.requires.strata_homes, c.requires.rows, c.requires.names) at c.requires.groups in
-    let counts = lengths_are c.args.design.now c.args.units.now all_rows c.args.strata.now.members.items c.args.strata.now.places.items groups in
-    let samples : c.in_ok-samples.samples.items ≡ sample_sizes c.args.design.now c.args.units.now =
-    c.in_ok-samples.ensures ∙ rw (c.deref-2.ensures.value, c.requires.names, c.deref-3.ensures.value, counts) refl in
-    let small : psu_too_large c.args.design.now c.args.units.now ≡ None = rw (c.deref.ensures.value, c.requires.rows, c.as_slice.ensures) at c.in_ok-none_too_large.ensures in
-    let said = rw (c.deref-5.ensures.value, samples, c.deref-4.ensures.value, c.requires.names) at c.in_err-all_have_sizes.ensures in
-    let same : c.from_residual-in_err-all_have_sizes.result ≡ Err c.in_err-all_have_sizes.field-0.0 = search rules in
-    rw same (passed (Unit {0}) Sizes c.in_err-all_have_sizes.field-0.0 _ _ said (kind_3 c.args.design.now c.args.units.now c.in_ok-no_unit_in_two.ensures small))
-
-pub cluster_sizes-requires-clause-small : goal.cluster_sizes-requires-clause-small
-cluster_sizes-requires-clause-small c =
-    let small : psu_too_large c.args.design.now c.args.units.now ≡ None = rw (c.deref.ensures.value, c.requires.rows, c.as_slice.ensures) at c.in_ok-none_too_large.ensures in
-    rw (c.deref-6.ensures.value, c.requires.rows) (sizes_small c.args.design.now c.args.units.now small)
-
-pub strata_fit-requires-clause-sizes : goal.strata_fit-requires-clause-sizes
-strata_fit-requires-clause-sizes c =
-    let all_rows = rw c.requires.rows at c.requires.all_rows in
-    let groups = rw (c.requires.strata_homes, c.requires.rows, c.requires.names) at c.requires.groups in
-    let counts = lengths_are c.args.design.now c.args.units.now all_rows c.args.strata.now.members.items c.args.strata.now.places.items groups in
-    let samples : c.in_ok-samples.samples.items ≡ sample_sizes c.args.design.now c.args.units.now =
-    c.in_ok-samples.ensures ∙ rw (c.deref-2.ensures.value, c.requires.names, c.deref-3.ensures.value, counts) refl in
-    rw (c.deref-8.ensures.value, samples, c.requires.names) (length_samples c.args.design.now c.args.units.now all_rows)
-
-pub strata_fit-requires-clause-members : goal.strata_fit-requires-clause-members
-strata_fit-requires-clause-members c = how_many _ _ _ _ c.requires.groups
-
-pub strata_fit-requires-clause-few : goal.strata_fit-requires-clause-few
-strata_fit-requires-clause-few c =
-    let all_rows = rw c.requires.rows at c.requires.all_rows in
-    let groups = rw (c.requires.strata_homes, c.requires.rows, c.requires.names) at c.requires.groups in
-    let counts = lengths_are c.args.design.now c.args.units.now all_rows c.args.strata.now.members.items c.args.strata.now.places.items groups in
-    λ k d here. omega (arith, get_or-le-sum_by length c.args.strata.now.members.items k d here, sum-map length c.args.strata.now.members.items, total_is c.args.design.now c.args.units.now all_rows c.args.strata.now.members.items c.args.strata.now.places.items groups, count_all c.args.design.now.second c.args.units.now, c.requires.frame.few)
-
-pub strata_fit-requires-clause-within : goal.strata_fit-requires-clause-within
-strata_fit-requires-clause-within c =
-    let all_rows = rw c.requires.rows at c.requires.all_rows in
-    let groups = rw (c.requires.strata_homes, c.requires.rows, c.requires.names) at c.requires.groups in
-    let counts = lengths_are c.args.design.now c.args.units.now all_rows c.args.strata.now.members.items c.args.strata.now.places.items groups in
-    rw (c.deref-7.ensures.value, c.in_ok-sizes.ensures, c.deref-6.ensures.value, c.requires.rows, length-map (clusters c.args.design.now.second c.args.units.now) (size_of c.args.units.now))
-    (groups_within c.args.design.now c.args.units.now all_rows c.args.strata.now.members.items c.args.strata.now.places.items groups)
-
-pub returns-in_err-strata_fit-clause-misfit : goal.returns-in_err-strata_fit-clause-misfit
-returns-in_err-strata_fit-clause-misfit c =
-    let all_rows = rw c.requires.rows at c.requires.all_rows in
-    let groups = rw (c.requires.strata_homes, c.requires.rows, c.requires.names) at c.requires.groups in
-    let counts = lengths_are c.args.design.now c.args.units.now all_rows c.args.strata.now.members.items c.args.strata.now.places.items groups in
-    let samples : c.in_ok-samples.samples.items ≡ sample_sizes c.args.design.now c.args.units.now =
-    c.in_ok-samples.ensures ∙ rw (c.deref-2.ensures.value, c.requires.names, c.deref-3.ensures.value, counts) refl in
-    let sized : no_size c.args.design.now c.args.units.now ≡ None = rw (c.deref-5.ensures.value, samples, c.deref-4.ensures.value, c.requires.names) at c.in_ok-all_have_sizes.ensures in
-    let small : psu_too_large c.args.design.now c.args.units.now ≡ None = rw (c.deref.ensures.value, c.requires.rows, c.as_slice.ensures) at c.in_ok-none_too_large.ensures in
-    let said = rw (c.requires.names, c.deref-7.ensures.value, c.in_ok-sizes.ensures, c.deref-6.ensures.value, c.requires.rows, c.deref-8.ensures.value, samples) at c.in_err-strata_fit.ensures in
-    let same : c.from_residual-in_err-strata_fit.result ≡ Err c.in_err-strata_fit.field-0.0 = search rules in
-    rw same (passed (Unit {0}) Sizes c.in_err-strata_fit.field-0.0 _ _ said (λ m at. kind_4 c.args.design.now c.args.units.now c.in_ok-no_unit_in_two.ensures small sized m (sym (short_are c.args.design.now c.args.units.now all_rows c.args.strata.now.members.items c.args.strata.now.places.items groups) ∙ at)))
-
-pub returns-in_err-psus_fit-clause-misfit : goal.returns-in_err-psus_fit-clause-misfit
-returns-in_err-psus_fit-clause-misfit c =
-    let all_rows = rw c.requires.rows at c.requires.all_rows in
-    let groups = rw (c.requires.strata_homes, c.requires.rows, c.requires.names) at c.requires.groups in
-    let counts = lengths_are c.args.design.now c.args.units.now all_rows c.args.strata.now.members.items c.args.strata.now.places.items groups in
-    let samples : c.in_ok-samples.samples.items ≡ sample_sizes c.args.design.now c.args.units.now =
-    c.in_ok-samples.ensures ∙ rw (c.deref-2.ensures.value, c.requires.names, c.deref-3.ensures.value, counts) refl in
-    let sized : no_size c.args.design.now c.args.units.now ≡ None = rw (c.deref-5.ensures.value, samples, c.deref-4.ensures.value, c.requires.names) at c.in_ok-all_have_sizes.ensures in
-    let small : psu_too_large c.args.design.now c.args.units.now ≡ None = rw (c.deref.ensures.value, c.requires.rows, c.as_slice.ensures) at c.in_ok-none_too_large.ensures in
-    let enough : too_many c.args.design.now c.args.units.now ≡ None =
-    sym (short_are c.args.design.now c.args.units.now all_rows c.args.strata.now.members.items c.args.strata.now.places.items groups)
-    ∙ rw (c.requires.names, c.deref-7.ensures.value, c.in_ok-sizes.ensures, c.deref-6.ensures.value, c.requires.rows, c.deref-8.ensures.value, samples) at c.in_ok-strata_fit.ensures in
-    let said = c.in_err-psus_fit.ensures in
-    let same : c.from_residual-in_err-psus_fit.result ≡ Err c.in_err-psus_fit.field-0.0 = search rules in
-    rw same (passed (Unit {0}) Sizes c.in_err-psus_fit.field-0.0 _ _ said (λ m at. kind_5 c.args.design.now c.args.units.now c.in_ok-no_unit_in_two.ensures small sized enough _ at))
-
-pub returns-clause-misfit : goal.returns-clause-misfit
-returns-clause-misfit c =
-    let all_rows = rw c.requires.rows at c.requires.all_rows in
-    let groups = rw (c.requires.strata_homes, c.requires.rows, c.requires.names) at c.requires.groups in
-    let counts = lengths_are c.args.design.now c.args.units.now all_rows c.args.strata.now.members.items c.args.strata.now.places.items groups in
-    let samples : c.in_ok-samples.samples.items ≡ sample_sizes c.args.design.now c.args.units.now =
-    c.in_ok-samples.ensures ∙ rw (c.deref-2.ensures.value, c.requires.names, c.deref-3.ensures.value, counts) refl in
-    let sized : no_size c.args.design.now c.args.units.now ≡ None = rw (c.deref-5.ensures.value, samples, c.deref-4.ensures.value, c.requires.names) at c.in_ok-all_have_sizes.ensures in
-    let small : psu_too_large c.args.design.now c.args.units.now ≡ None = rw (c.deref.ensures.value, c.requires.rows, c.as_slice.ensures) at c.in_ok-none_too_large.ensures in
-    let enough : too_many c.args.design.now c.args.units.now ≡ None =
-    sym (short_are c.args.design.now c.args.units.now all_rows c.args.strata.now.members.items c.args.strata.now.places.items groups)
-    ∙ rw (c.requires.names, c.deref-7.ensures.value, c.in_ok-sizes.ensures, c.deref-6.ensures.value, c.requires.rows, c.deref-8.ensures.value, samples) at c.in_ok-strata_fit.ensures in
-    kind_5 c.args.design.now c.args.units.now c.in_ok-no_unit_in_two.ensures small sized enough _ c.in_ok-psus_fit.ensures
-
-pub returns-clause-samples : goal.returns-clause-samples
-returns-clause-samples c =
-    let all_rows = rw c.requires.rows at c.requires.all_rows in
-    let groups = rw (c.requires.strata_homes, c.requires.rows, c.requires.names) at c.requires.groups in
-    let counts = lengths_are c.args.design.now c.args.units.now all_rows c.args.strata.now.members.items c.args.strata.now.places.items groups in
-    let samples : c.in_ok-samples.samples.items ≡ sample_sizes c.args.design.now c.args.units.now =
-    c.in_ok-samples.ensures ∙ rw (c.deref-2.ensures.value, c.requires.names, c.deref-3.ensures.value, counts) refl in
-    samples
+pub returns-in_ok-probs_fit-in-Some-clause-misfit : goal.returns-in_ok-probs_fit-in-Some-clause-misfit
+returns-in_ok-probs_fit-in-Some-clause-misfit c =
+    let small : psu_too_large c.args.design.now c.args.units.now ≡ None = rw (c.deref.ensures.value, c.requires.layout.rows, c.as_slice-columns.ensures) at c.in_ok-none_too_large.ensures in
+    other_kind c.args.design.now c.args.units.now c.in_ok-no_unit_in_two.ensures small None (rw c.in-Some.is c.in_ok-probs_fit-in-Some.ensures)

@@ -1,8 +1,9 @@
+use Rattle.smp_methods.proofs.Wholes.{needs_whole}
 use Rattle.smp_twostage.proofs.Columns.{takes_rows}
 use Rattle.smp_twostage.proofs.made.Made.push_second.Goals as goal
 
 pub start_stage-requires-clause-whole : goal.start_stage-requires-clause-whole
-start_stage-requires-clause-whole c = let over = rw c.in-Some.is at c.requires.first.over in over.whole
+start_stage-requires-clause-whole c = (let over = rw c.in-Some.is at c.requires.first.over in needs_whole c.procedure-procedure.result c.in-Some.request over.whole)
 
 pub start_stage-requires-clause-values : goal.start_stage-requires-clause-values
 start_stage-requires-clause-values c =

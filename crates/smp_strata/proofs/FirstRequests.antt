@@ -1,0 +1,200 @@
+-- The request over the first stage units of a stratum.
+use Rattle.std.proofs.Common.{◌≡◌, ℕ, zero, suc, ◌+◌, ◌*◌, ◌<◌, ◌≤◌, ◌==◌, max, pos, true, false, not, Bool, List, [], ◌∷◌, length, map, filter, get_or, true≢false, nat_lt, nat_eq, Option, Some, None, inl, inr, arith, refl, sym, ap, subst, ◌∙◌}
+use Rattle.std.specs.Prelude.{All, IsSome, IsTrue, OnSome, unsigned_abs}
+use Rattle.std.specs.List.{list_any, range_with_len}
+use Rattle.std.specs.Str.{bytes_eq}
+use Rattle.std.proofs.lemmas.Bool.{cases_Bool, eqb-true, ltb-false}
+use Rattle.std.proofs.lemmas.List.{get_or-map, length-map}
+use Rattle.std.proofs.lemmas.List.Folds.{list_any_at}
+use Rattle.std.proofs.lemmas.List.FromFn.{length-map-range_with_len}
+use Rattle.std.proofs.lemmas.List.Elements.{All-filter, All-map}
+use Rattle.std.proofs.lemmas.List.Sums.{count_by-le-length, length-filter}
+use Rattle.smp_fractions.specs.Fractions.{Fraction, Same, over, plus, sum_below, whole}
+use Rattle.smp_fractions.proofs.Fractions.{same_sym, same_trans}
+use Rattle.smp_frac.specs.declared.fractions.Frac.{Frac}
+use Rattle.smp_frac.specs.Fractions.{fraction}
+use Rattle.smp_frac.proofs.Unique.{same_frac}
+use Rattle.smp_frame.specs.Bounds.{IsFrame}
+use Rattle.smp_frame.specs.Limits.{max_rows}
+use Rattle.smp_frame.specs.LowestTerms.{lowest_terms}
+use Rattle.smp_frame.proofs.LowestTerms.{lowest_terms-value}
+use Rattle.smp_prob.specs.Given.{AreGiven, IsWholeNumber, common_multiple, expected_size, given_fraction, largest_multiple}
+use Rattle.smp_design.specs.Bounds.{HasOnlyProbabilities, IsDesign}
+use Rattle.smp_design.specs.Words.{row}
+use Rattle.smp_design.specs.declared.design.Design.{Design}
+use Rattle.smp_frame.specs.declared.frame.Unit as unit
+use Rattle.smp_prob.specs.declared.requests.Request.{Request}
+use Rattle.smp_prob.specs.Requested.{requested_of}
+use Rattle.smp_strata.specs.Bounds.{IsWholeOver}
+use Rattle.smp_strata.specs.Clusters.{clusters, clusters_in, stratum_names, stratum_name, first_row}
+use Rattle.smp_strata.specs.Draws.{AreAsked, IsFor}
+use Rattle.smp_strata.specs.Misfits.{sum_of, unwhole, when}
+use Rattle.smp_strata.specs.Plans.{first_probs, first_sizes, sample_size}
+use Rattle.smp_strata.specs.declared.misfit.Misfit.TheVariants.{Denominator, NotWhole}
+use Rattle.smp_strata.specs.Rows.{prob_at, rows_of, size_of, stratum_at}
+use Rattle.smp_strata.specs.Kept.Built.{Asks, IsFirstRequest, IsGivenRequest}
+use Rattle.smp_strata.proofs.ClusterRows.{any_by_places, strata}
+use Rattle.smp_strata.proofs.Founds.{none_at, when_false}
+use Rattle.smp_strata.proofs.MisfitOrder.{HasProbs, IsServed, IsSized, has_probs}
+use Rattle.smp_strata.proofs.Members.{count_all}
+use Rattle.smp_strata.specs.Kept.Layouts.{AreRows}
+use Rattle.smp_strata.proofs.Serving.{enough, sized}
+use Rattle.smp_strata.proofs.TextPlaces.{any_distinct, itself}
+
+module _ (design : Design) (units : List unit.Unit) where
+  -- a request in proportion to size
+  pub by_sizes : IsSized design units → design.columns.prob ≡ None → (k : ℕ) → k < length (stratum_names units) → (request : Request)
+      → request ≡ requested_of (first_sizes design units k) (sample_size design units k)
+      → IsWholeOver (length (first_sizes design units k)) request
+      → Asks (first_sizes design units k) (sample_size design units k) request
+      → IsFor request (length (first_sizes design units k)) (sample_size design units k)
+      → IsFirstRequest design units k request
+  by_sizes is none k here request value over asks draws =
+      let long : length (first_sizes design units k) ≡ length (clusters_in design units k) = length-map (clusters_in design units k) (size_of units) in
+      record {
+        some = omega (arith, sized design units is k here, enough design units is k here, count_by-le-length (nat_lt 0) (first_sizes design units k), long);
+        value = rw none value;
+        over = rw (← long) over.over;
+        whole = λ whole. over.whole;
+        asks = λ u l. rw none (rw (get_or-map (size_of units) (clusters_in design units k) u [] 0 l) at (asks u (omega (arith, l, long))));
+        draws = λ n asked. (let is_n : n ≡ sample_size design units k = rw none at asked in rw (is_n, ← long) draws);
+      }
+
+-- ---- strata have rows
+
+some_pass : {A : Type 0} (q : A → Bool) (xs : List A) → list_any q xs ≡ true → 1 ≤ length (filter q xs)
+some_pass q [] e = absurd (true≢false (sym e))
+some_pass q (x ∷ xs) e =
+    elim (cases_Bool (q x)) [
+      | inl t ↦ rw t (omega arith)
+      | inr f ↦ rw f (some_pass q xs (rw f at e))
+    ]
+
+any_mapped : {A B : Type 0} (q : B → Bool) (f : A → B) (xs : List A) → list_any q (map f xs) ≡ list_any (λ x. q (f x)) xs
+any_mapped q f [] = refl
+any_mapped q f (x ∷ xs) = rw (any_mapped q f xs) refl
+
+module _ (design : Design) (units : List unit.Unit) where
+  -- with one stage a stratum has a first stage unit for each of its rows
+  pub has_rows : design.second ≡ None → (k : ℕ) → k < length (stratum_names units) → 1 ≤ length (clusters_in design units k)
+  has_rows one k here =
+      let name : List ℕ = stratum_name units k in
+      let q : List ℕ → Bool = λ rows. bytes_eq (stratum_at units (first_row rows)) name in
+      let named : list_any (λ t. bytes_eq t name) (strata units) ≡ true =
+      any_distinct (λ t. bytes_eq t name) (strata units) (list_any_at (λ t. bytes_eq t name) (stratum_names units) k [] here (itself name)) in
+      let placed : list_any (λ row. q (row ∷ [])) (rows_of units) ≡ true =
+      rw (length-map units (λ (u : unit.Unit). u.stratum)) at (sym (any_by_places (λ t. bytes_eq t name) (strata units)) ∙ named) in
+      rw one (some_pass q (map (λ row. row ∷ []) (rows_of units)) (any_mapped q (λ row. row ∷ []) (rows_of units) ∙ placed))
+
+-- ---- given probabilities
+
+abbrev nonneg : Fraction → Type 0
+nonneg a = (n : ℕ) × (a.num ≡ pos n)
+
+given_nonneg : (probs : List Frac) (unit : ℕ) → nonneg (get_or (map fraction probs) unit (whole 0))
+given_nonneg [] unit = (0, refl)
+given_nonneg (p ∷ probs) zero = (p.num, refl)
+given_nonneg (p ∷ probs) (suc unit) = given_nonneg probs unit
+
+sum_nonneg : (n : ℕ) (f : ℕ → Fraction) → ((k : ℕ) → nonneg (f k)) → nonneg (sum_below n f)
+sum_nonneg zero f each = (0, refl)
+sum_nonneg (suc n) f each =
+    let before = sum_nonneg n f each in
+    let last = each n in
+    (before.0 * (f n).den + last.0 * (sum_below n f).den, rw (before.1, last.1) refl)
+
+module _ (probs : List Frac) where
+  abbrev size : Fraction
+  size = expected_size probs
+
+  -- the sum in lowest terms has the value of the sum
+  pub sum_of-value : Same (fraction (sum_of probs)) size
+  sum_of-value = by_num (sum_nonneg (length probs) (given_fraction probs) (given_nonneg probs))
+    where
+      by_num : nonneg size → Same (fraction (sum_of probs)) size
+      by_num (n, is) =
+          let terms : Same (fraction (lowest_terms n size.den)) (over n size.den) = lowest_terms-value n size.den in
+          let one : max 1 size.den ≡ size.den = (let some = size.positive in omega (arith, some)) in
+          let value : Same (over n size.den) size = record { cross = rw (is, one) refl } in
+          let terms_are : lowest_terms n size.den ≡ sum_of probs = ap (λ z. lowest_terms (unsigned_abs z) size.den) (sym is) in
+          subst (λ f. Same (fraction f) size) terms_are (same_trans terms value)
+
+  pub sum_is : (f : Frac) → Same (fraction f) size → f ≡ sum_of probs
+  sum_is f same = same_frac f (sum_of probs) (same_trans same (same_sym sum_of-value))
+
+  -- it is whole where its denominator is 1
+  pub whole_sum : (sum_of probs).den ≡ 1 → IsWholeNumber size
+  whole_sum one = ((sum_of probs).num, same_trans (same_sym sum_of-value) record { cross = rw one refl })
+
+module _ (design : Design) (units : List unit.Unit) (column : List ℕ) (is : design.columns.prob ≡ Some column) (probs : HasProbs design units) where
+  -- each stratum has a common denominator within the limit
+  pub within : (k : ℕ) → k < length (stratum_names units) → common_multiple (first_probs design units k) ≤ largest_multiple
+  within k here =
+      ltb-false largest_multiple (common_multiple (first_probs design units k))
+      (when_false _ (Denominator (stratum_name units k))
+      (none_at (λ j. when (nat_lt largest_multiple (common_multiple (first_probs design units j))) (Denominator (stratum_name units j))) (length (stratum_names units)) probs.denominators k here))
+
+  whole_size : IsTrue (row design.method).draws_whole → (k : ℕ) → k < length (stratum_names units) → IsWholeNumber (expected_size (first_probs design units k))
+  whole_size needed k here =
+      let sum : Frac = sum_of (first_probs design units k) in
+      let none = rw needed at probs.whole in
+      let here_none = none_at (λ j. unwhole (stratum_name units j) (sum_of (first_probs design units j))) (length (stratum_names units)) none k here in
+      let one : (sum.den == 1) ≡ true = not_false (sum.den == 1) (when_false (not (sum.den == 1)) (NotWhole (stratum_name units k) sum) here_none) in
+      whole_sum (first_probs design units k) (eqb-true sum.den 1 one)
+    where
+      not_false : (b : Bool) → not b ≡ false → b ≡ true
+      not_false true e = refl
+      not_false false e = absurd (true≢false e)
+
+  -- a request by given probabilities
+  pub by_probs : design.second ≡ None → (k : ℕ) → k < length (stratum_names units) → (request : Request) → IsGivenRequest (first_probs design units k) request
+      → IsFirstRequest design units k request
+  by_probs one k here request given =
+      let cs : List (List ℕ) = clusters_in design units k in
+      let prob : List ℕ → Frac = λ rows. prob_at units (first_row rows) in
+      let long : length (first_probs design units k) ≡ length cs = length-map cs prob in
+      record {
+        some = has_rows design units one k here;
+        value = rw is given.value;
+        over = rw (← long) given.over;
+        whole = λ needed. (let size = whole_size needed k here in (given.draws size.0 size.1).whole);
+        asks = λ u l. (let value : given_fraction (first_probs design units k) u ≡ fraction (prob (get_or cs u [])) =
+            get_or-map fraction (first_probs design units k) u (prob []) (whole 0) (omega (arith, l, long)) ∙ ap fraction (get_or-map prob cs u [] (prob []) l) in
+            rw is (rw value at (given.asks u (omega (arith, l, long)))));
+        draws = λ n asked. (let same : Same (expected_size (first_probs design units k)) (whole n) = rw is at asked in rw (← long) (given.draws n same));
+      }
+
+-- ---- the same, where a column of probabilities is there
+
+what_is : {A : Type 0} (o : Option A) → IsSome o → (x : A) × (o ≡ Some x)
+what_is (Some x) some = (x, refl)
+what_is None some = absurd (cc)
+
+module _ (design : Design) (units : List unit.Unit) where
+  -- a stratum's probabilities can be given
+  pub given_probs : IsFrame units → All (AreRows (length units)) (clusters design.second units) → (k : ℕ) → AreGiven (first_probs design units k)
+  given_probs frame rows k =
+      let p : List ℕ → Bool = λ g. bytes_eq (stratum_at units (first_row g)) (stratum_name units k) in
+      let cs : List (List ℕ) = clusters_in design units k in
+      let few : length cs ≤ max_rows = omega (arith, frame.few, length-filter p (clusters design.second units), count_by-le-length p (clusters design.second units), count_all design.second units) in
+      let own : All (AreRows (length units)) cs = All-filter p (AreRows (length units)) (clusters design.second units) rows in
+      record {
+        few = omega (arith, few, length-map cs (λ g. prob_at units (first_row g)));
+        at_most_one = All-map (λ (f : Frac). f.num ≤ f.den) (λ g. prob_at units (first_row g)) cs
+            (λ j d l. (let here : first_row (get_or cs j d) < length units = (own j d l).within 0 0 (omega (arith, (own j d l).some)) in
+            (frame.probabilities (first_row (get_or cs j d)) (lowest_terms 1 1) (omega (arith, here, length-map units (λ (u : unit.Unit). u.prob)))).at_most_one));
+      }
+
+  module _ (is : IsServed design units) where
+    pub within_given : IsSome design.columns.prob → (k : ℕ) → k < length (stratum_names units) → common_multiple (first_probs design units k) ≤ largest_multiple
+    within_given some k here = (let column = what_is design.columns.prob some in within design units column.0 column.1 (has_probs design units is some) k here)
+
+    pub by_given : IsDesign design → IsSome design.columns.prob → (k : ℕ) → k < length (stratum_names units) → (request : Request) → IsGivenRequest (first_probs design units k) request
+        → IsFirstRequest design units k request
+    by_given asked some k here request given =
+        let column = what_is design.columns.prob some in
+        by_probs design units column.0 column.1 (has_probs design units is some) (only design.columns.prob asked.prob some).one_stage k here request given
+      where
+        only : (prob : Option (List ℕ)) → OnSome prob (HasOnlyProbabilities design) → IsSome prob → HasOnlyProbabilities design
+        only (Some name) given there = given
+        only None given there = absurd (cc)
