@@ -1,0 +1,24 @@
+use Rattle.library_example.proofs.Draws.{probability_is, is_done, is_drawn}
+use Rattle.library_example.proofs.drawing.draw.Goals as goal
+
+pub selected_units-requires-clause-done : goal.selected_units-requires-clause-done
+selected_units-requires-clause-done c =
+    let arrived = c.in_ok-walk.ensures.arrived in
+    let request = c.in_ok-request in
+    let tape = c.in_ok-tape in
+    is_done c.args.sizes.now c.args.n request.request request.ensures.value c.in_ok-design.design c.in_ok-state.state c.in_ok-design.ensures.design c.in_ok-state.ensures.state c.args.tape.now tape.tape tape.ensures.0 tape.ensures.1 c.walk.new.state arrived.path c.walk.new.draws arrived.ran
+    c.in_ok-state.ensures.starts.member request.ensures.ordered c.in_ok-design.ensures.requested.units
+
+pub returns-clause-probability : goal.returns-clause-probability
+returns-clause-probability c =
+    let request = c.in_ok-request in
+    probability_is c.args.sizes.now c.args.n request.request request.ensures.value c.in_ok-design.design c.in_ok-state.state c.in_ok-design.ensures.design c.in_ok-state.ensures.state
+    c.select_as_asked.ensures.probability request.ensures.probabilities
+
+pub returns-clause-drawn : goal.returns-clause-drawn
+returns-clause-drawn c =
+    let arrived = c.in_ok-walk.ensures.arrived in
+    let request = c.in_ok-request in
+    let tape = c.in_ok-tape in
+    is_drawn c.args.sizes.now c.args.n request.request request.ensures.value c.in_ok-design.design c.in_ok-state.state c.in_ok-design.ensures.design c.in_ok-state.ensures.state c.args.tape.now tape.tape tape.ensures.0 tape.ensures.1 c.walk.new.state arrived.path c.walk.new.draws arrived.ran
+    c.in_ok-selected_units.field-0.items c.in_ok-selected_units.ensures
