@@ -1,7 +1,7 @@
 #!/usr/bin/env python3
 """Times `sampler draw`, CSV to CSV, on made-up frames, and prints method, rows, steps, seconds and megabytes. It is no test.
 
-    bench/draw.py [ROWS ..]       100,000 rows where none are given, the most that a frame has
+    bench/draw.py [ROWS ..]       100,000 rows where none are given, half of the most that a frame has
 
 A tenth of the rows is drawn. Each method is drawn with two tapes: one of the least value of every draw, one of the greatest.
 """
@@ -10,7 +10,6 @@ import os
 import subprocess
 import sys
 import tempfile
-import time
 
 TOP = os.path.dirname(os.path.dirname(os.path.abspath(__file__)))
 
@@ -81,12 +80,19 @@ METHODS = [
 ]
 
 
+# A process counts the most pages of the one that it was made from too, so a small one starts the program.
+STARTER = """
+import resource, subprocess, sys, time
+begin = time.monotonic()
+code = subprocess.run(sys.argv[1:], stdout=subprocess.DEVNULL).returncode
+print(code, time.monotonic() - begin, resource.getrusage(resource.RUSAGE_CHILDREN).ru_maxrss)
+"""
+
+
 def run(words):
-    """The exit code, the seconds and the most megabytes of a call."""
-    begin = time.monotonic()
-    process = subprocess.Popen(words, stdout=subprocess.DEVNULL)
-    _, status, usage = os.wait4(process.pid, 0)
-    return os.waitstatus_to_exitcode(status), time.monotonic() - begin, usage.ru_maxrss / 1024
+    """The exit code, the seconds and the most megabytes, of 1,000,000 bytes, of a call."""
+    told = subprocess.run([sys.executable, "-c", STARTER, *words], stdout=subprocess.PIPE, check=True, text=True).stdout.split()
+    return int(told[0]), float(told[1]), int(told[2]) * 1024 / 1_000_000
 
 
 def write(folder, name, text):

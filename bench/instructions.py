@@ -1,7 +1,7 @@
 #!/usr/bin/env python3
 """Counts the instructions of `sampler draw` and `sampler probs`, CSV to CSV, on a made-up frame, where valgrind is there.
 
-    bench/instructions.py [ROWS]       100,000 rows where none are given, the most that a frame has
+    bench/instructions.py [ROWS]       100,000 rows where none are given, half of the most that a frame has
 
 A fifth of the rows is drawn. The counts are the same from run to run, whatever else the machine does. It is no test.
 """

@@ -2,7 +2,7 @@
 """Times `sampler check` and `sampler draw` over strata and in two stages, CSV to CSV, on made-up frames of equal sizes, and counts the
 instructions of the draw where valgrind is there. It is no test.
 
-    bench/strata.py [ROWS]        100,000 rows where none are given, the most that a frame has
+    bench/strata.py [ROWS]        100,000 rows where none are given, half of the most that a frame has
 
 A tenth of the rows is drawn, and half of them where strata have two rows or where pivotal steps are counted, with the tape of the least
 value of every draw. It prints what is drawn, the draws, the seconds of `check` and of `draw`, megabytes and millions of instructions.
