@@ -1,5 +1,5 @@
 -- The order of integers that are formal differences, and of fractions, over the natural numbers.
-use Rattle.std.proofs.Common.{◌≡◌, ℕ, suc, ◌+◌, ◌*◌, ◌≤◌, max, pos, negsuc, ◌+ℤ◌, ◌≤ℤ◌, arith, sym, ap, ◌∙◌}
+use Rattle.std.proofs.Common.{◌≡◌, ℕ, suc, ◌+◌, ◌*◌, ◌<◌, ◌≤◌, max, pos, negsuc, ◌+ℤ◌, ◌≤ℤ◌, ◌<ℤ◌, arith, sym, ap, ◌∙◌}
 use Rattle.std.proofs.lemmas.Int.{ints}
 use Rattle.std.proofs.Math.Nat.{mul-le-mul_right, le_of_mul-le-mul_right}
 use Rattle.smp_fractions.specs.Fractions.{Fraction, Same, AtMost, whole, over}
@@ -16,6 +16,12 @@ diff-le a b c d h = omega (arith, ints, diff_up a b, diff_up c d)
 
 pub le-diff : (a b c d : ℕ) → diff a b ≤ℤ diff c d → a + d ≤ c + b
 le-diff a b c d h = omega (arith, ints, diff_up a b, diff_up c d)
+
+pub diff-lt : (a b c d : ℕ) → a + d < c + b → diff a b <ℤ diff c d
+diff-lt a b c d h = omega (arith, ints, diff_up a b, diff_up c d)
+
+pub lt-diff : (a b c d : ℕ) → diff a b <ℤ diff c d → a + d < c + b
+lt-diff a b c d h = omega (arith, ints, diff_up a b, diff_up c d)
 
 -- what holds of each fraction whose numerator is a difference holds of each fraction
 pub by_parts : (P : Fraction → Type 0) → ((p p' d : ℕ) (h : 1 ≤ d) → P (record { num = diff p p'; den = d; positive = h })) → (a : Fraction) → P a

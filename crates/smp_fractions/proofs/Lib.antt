@@ -3,3 +3,4 @@ pub mod Fractions
 pub mod Over
 pub mod Differences
 pub mod Bounds
+pub mod Around

@@ -1,5 +1,5 @@
 -- Fractions: a whole number over a positive one, of any size. Two are the same where their cross products are equal.
-use Rattle.std.specs.Prelude.{◌≡◌, ℕ, zero, suc, ◌*◌, ◌≤◌, max, ℤ, pos, negsuc, neg_ℤ, ◌+ℤ◌, ◌*ℤ◌, ◌≤ℤ◌}
+use Rattle.std.specs.Prelude.{◌≡◌, ℕ, zero, suc, ◌*◌, ◌≤◌, max, ℤ, pos, negsuc, neg_ℤ, ◌+ℤ◌, ◌*ℤ◌, ◌≤ℤ◌, ◌<ℤ◌}
 use Rattle.std.proofs.Common.{arith}
 
 pub record Fraction : Type 0 where
@@ -13,6 +13,10 @@ pub record Same (a b : Fraction) : Type 0 where
 -- a is at most b
 pub record AtMost (a b : Fraction) : Type 0 where
   pub cross : (a.num *ℤ pos b.den) ≤ℤ (b.num *ℤ pos a.den)
+
+-- a is less than b
+pub record LessThan (a b : Fraction) : Type 0 where
+  pub cross : (a.num *ℤ pos b.den) <ℤ (b.num *ℤ pos a.den)
 
 pub positive_product : (m n : ℕ) → 1 ≤ m → 1 ≤ n → 1 ≤ m * n
 positive_product m n p q = grind arith

@@ -1,10 +1,14 @@
 -- A variant of an enum of designs is a lens that closes.
 use Rattle.std.proofs.Common.{◌≡◌, ℕ, true, false, List, Option, Some, None, refl, sym, subst}
-use Rattle.smp_split.specs.Counts.{AddsUp, LeavesSelect, selected_count}
+use Rattle.smp_fractions.specs.Bounds.{IsAround}
+use Rattle.smp_fractions.specs.Fractions.{Same, whole}
+use Rattle.smp_split.specs.Counts.{AddsUp, LeavesSelect, LeavesSelectAround, selected_count}
 use Rattle.smp_split.specs.Embeds.{embedded, BelongsInside}
 use Rattle.smp_split.specs.Lenses.{as_unit, Lens, Closes}
+use Rattle.smp_split.specs.Means.{value_sum}
 use Rattle.smp_split.specs.Parts.{moved}
 use Rattle.smp_split.specs.Trees.{Part, Tree, Lawful, LawfulParts, LawfulSplit, LawfulEnd}
+use Rattle.smp_fractions.proofs.Around.{around_same}
 use Rattle.smp_fractions.proofs.Fractions.{same_refl}
 use Rattle.smp_split.proofs.Lenses.{leaves_through, parts_through}
 
@@ -52,6 +56,15 @@ module _ {Inner Outer : Type 0} (into : Inner → Outer) (out : Outer → Option
   embedded_count n i count =
       leaves_through inner belongs (embedded into out inner) into as_unit embedded_lens embedded_closes (λ leaf. selected_count inner leaf ≡ n) (λ leaf. selected_count (embedded into out inner) leaf ≡ n)
       (λ leaf e is. rw (back leaf) is) i count
+
+  same_total : (i : Inner) → Same (value_sum (embedded into out inner) (λ _. whole 1) (into i)) (value_sum inner (λ _. whole 1) i)
+  same_total i = rw (back i) (same_refl (value_sum inner (λ _. whole 1) i))
+
+  pub embedded_around : (i : Inner) → LeavesSelectAround inner i → LeavesSelectAround (embedded into out inner) (into i)
+  embedded_around i around =
+      leaves_through inner belongs (embedded into out inner) into as_unit embedded_lens embedded_closes (λ leaf. IsAround (selected_count inner leaf) (value_sum inner (λ _. whole 1) i))
+      (λ leaf. IsAround (selected_count (embedded into out inner) leaf) (value_sum (embedded into out inner) (λ _. whole 1) (into i)))
+      (λ leaf e is. around_same (selected_count (embedded into out inner) (into leaf)) (same_total i) (rw (back leaf) is)) i around
 
   pub embedded_adds_up : (n : ℕ) (i : Inner) → AddsUp inner n i → AddsUp (embedded into out inner) n (into i)
   embedded_adds_up n i adds = rw (back i) adds

@@ -57,7 +57,7 @@ whole_over m n d one same = omega (arith, cross_from_over n m d 1 positive_one o
 
 -- where the value of each unit k is f k over d, the values add up to n exactly where the numerators add up to n * d
 module _ {State : Type 0} (tree : Tree State) (state : State) (f : ℕ → ℕ) (d : ℕ) (one : 1 ≤ d) (values : (k : ℕ) → k < tree.units → Same (tree.value state k) (over (f k) d)) where
-  value_sum-over : Same (value_sum tree (λ _. whole 1) state) (over (sum_by f (range_with_len 0 tree.units)) d)
+  pub value_sum-over : Same (value_sum tree (λ _. whole 1) state) (over (sum_by f (range_with_len 0 tree.units)) d)
   value_sum-over =
       same_trans (sum_same tree.units (λ k. times (whole 1) (tree.value state k)) (λ k. over (f k) d) (λ k h. same_trans (one-times (tree.value state k)) (values k h)))
       (sum-over f d tree.units)
@@ -70,6 +70,9 @@ module _ {State : Type 0} (tree : Tree State) (state : State) (f : ℕ → ℕ) 
 
 -- the same, where the numerators are a list
 module _ {State : Type 0} (tree : Tree State) (state : State) (xs : List ℕ) (d : ℕ) (one : 1 ≤ d) (count : length xs ≡ tree.units) (values : (k : ℕ) → k < tree.units → Same (tree.value state k) (over (get_or xs k 0) d)) where
+  pub list_sum : Same (value_sum tree (λ _. whole 1) state) (over (sum xs) d)
+  list_sum = rw (← sum_by-indices (λ x. x) xs 0 tree.units count) (value_sum-over tree state (λ k. get_or xs k 0) d one values)
+
   pub list_adds_up : (n : ℕ) → sum xs ≡ n * d → AddsUp tree n state
   list_adds_up n is = adds_up tree state (λ k. get_or xs k 0) d one values n (sum_by-indices (λ x. x) xs 0 tree.units count ∙ is)
 
@@ -81,13 +84,12 @@ module _ {State : Type 0} (tree : Tree State) (exchanged : ℕ → ℕ → State
   placed_sum : sum_by (λ unit. get_or xs (get_or s.order.places unit 0) 0) (range_with_len 0 tree.units) ≡ sum xs
   placed_sum = sum_by-places (λ place. get_or xs place 0) tree.units s.order placing ∙ sum_by-indices (λ x. x) xs 0 tree.units count
 
+  pub ordered_sum : Same (value_sum (ordered_tree tree exchanged) (λ _. whole 1) s) (over (sum xs) d)
+  ordered_sum = rw (← placed_sum) (value_sum-over (ordered_tree tree exchanged) s (λ unit. get_or xs (get_or s.order.places unit 0) 0) d one (λ unit h. values (get_or s.order.places unit 0)))
+
   pub ordered_adds_up : (n : ℕ) → sum xs ≡ n * d → AddsUp (ordered_tree tree exchanged) n s
   ordered_adds_up n is =
       adds_up (ordered_tree tree exchanged) s (λ unit. get_or xs (get_or s.order.places unit 0) 0) d one (λ unit h. values (get_or s.order.places unit 0)) n (placed_sum ∙ is)
-
-  pub ordered_adds : (n : ℕ) → AddsUp (ordered_tree tree exchanged) n s → sum xs ≡ n * d
-  ordered_adds n adds =
-      sym placed_sum ∙ numerators_add (ordered_tree tree exchanged) s (λ unit. get_or xs (get_or s.order.places unit 0) 0) d one (λ unit h. values (get_or s.order.places unit 0)) n adds
 
 -- where there are no units, the values add up to 0
 pub none_adds_up : {State : Type 0} (tree : Tree State) (state : State) → tree.units ≡ 0 → AddsUp tree 0 state

@@ -1,6 +1,7 @@
 -- How many units the values add up to, and how many the leaves of a design select.
 use Rattle.std.specs.Prelude.{◌≡◌, ℕ, Bool, List}
 use Rattle.std.specs.List.{count_by, filter, range_with_len}
+use Rattle.smp_fractions.specs.Bounds.{IsAround}
 use Rattle.smp_fractions.specs.Fractions.{Same, whole}
 use Rattle.smp_split.specs.Trees.{Tree, weight_sum, picked}
 use Rattle.smp_split.specs.Means.{value_sum}
@@ -16,6 +17,12 @@ selected_count tree state = count_by (tree.selected state) (range_with_len 0 tre
 -- each leaf below a state selects n units
 abbrev pub LeavesSelect : {State : Type 0} → Tree State → ℕ → State → Type 0
 LeavesSelect tree n state = AtEachLeaf tree state (λ path leaf. selected_count tree leaf ≡ n)
+
+-- each leaf selects as many units as the values add up to, or, where that isn't whole, one of the two whole numbers around it
+abbrev pub LeavesSelectAround : {State : Type 0} → Tree State → State → Type 0
+LeavesSelectAround tree state =
+    AtEachLeaf tree state (λ path leaf.
+    IsAround (selected_count tree leaf) (value_sum tree (λ _. whole 1) state))
 
 -- the values add up to n
 abbrev pub AddsUp : {State : Type 0} → Tree State → ℕ → State → Type 0
