@@ -1,8 +1,9 @@
 -- A state of a method's own starts a selection; and a method put into a larger type of states.
 use Rattle.std.proofs.Common.{◌≡◌, ℕ, Option, Some}
-use Rattle.smp_split.specs.Counts.{AddsUp, LeavesSelect}
+use Rattle.smp_split.specs.Counts.{AddsUp, LeavesSelect, LeavesSelectAround}
 use Rattle.smp_split.specs.Embeds.{embedded, BelongsInside}
 use Rattle.smp_split.specs.Methods.{Method, Starts}
+use Rattle.smp_split.proofs.Counts.{around_select}
 use Rattle.smp_split.proofs.Embeds.{embedded_lawful, embedded_count, adds_up_inside}
 use Rattle.smp_split.proofs.Means.{mean_is_value, probability_is_value}
 
@@ -13,6 +14,10 @@ starts method state here count = record {
   probability = probability_is_value method.tree method.belongs method.lawful state here;
   count = count;
 }
+
+-- the same, where each leaf selects one of the whole numbers around the sum
+pub starts_around : {State : Type 0} (method : Method State) (state : State) → method.belongs state → LeavesSelectAround method.tree state → Starts method state
+starts_around method state here around = starts method state here (λ n. around_select method.tree n state around)
 
 module _ {Inner Outer : Type 0} (into : Inner → Outer) (out : Outer → Option Inner) (back : (i : Inner) → out (into i) ≡ Some i) (inner : Method Inner) where
   -- the method as one on a variant of the larger type

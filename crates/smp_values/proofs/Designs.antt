@@ -1,21 +1,23 @@
 -- Designs whose states are values: what they are at the end, and what an exchange of two units leaves.
-use Rattle.std.proofs.Common.{◌≡◌, ℕ, ◌<◌, true, false, cond, nat_eq, List, length, get_or, arith, refl, ap, ◌∙◌}
-use Rattle.std.specs.List.{count_by, swap}
+use Rattle.std.proofs.Common.{◌≡◌, ℕ, ◌<◌, true, false, cond, nat_eq, List, length, get_or, arith, refl, sym, ap, ◌∙◌}
+use Rattle.std.specs.List.{count_by, sum, swap}
 use Rattle.std.proofs.lemmas.Bool.{eqb-true}
 use Rattle.std.proofs.lemmas.List.Edits.{length-swap}
 use Rattle.std.proofs.lemmas.List.Sorted.{IsPermutation-swap, sum_by-IsPermutation}
+use Rattle.smp_fractions.specs.Bounds.{IsAround}
 use Rattle.smp_fractions.specs.Fractions.{over}
 use Rattle.smp_fractions.proofs.Fractions.{same_refl}
 use Rattle.smp_prob.specs.Shares.{Shares}
-use Rattle.smp_split.specs.Counts.{AddsUp, LeavesSelect}
+use Rattle.smp_split.specs.Counts.{AddsUp, LeavesSelect, LeavesSelectAround}
 use Rattle.smp_split.specs.Orders.{Ordered, IsInOrder, IsExchange, exchange, ordered_tree}
 use Rattle.smp_split.specs.Trees.{Part, Lawful, LawfulEnd, LawfulSplit, EachPart}
 use Rattle.smp_split.specs.declared.kind.Kind.{Kind}
-use Rattle.smp_split.proofs.Counts.{KeepsCount, leaves_select, keeps_count, count_by-indices}
+use Rattle.smp_split.proofs.Counts.{KeepsCount, leaves_select, leaves_around, keeps_count, count_by-indices}
 use Rattle.smp_split.proofs.Orders.{get_or-swap, get_or-swap_exchange, ordered_lawful}
-use Rattle.smp_split.proofs.Sums.{list_adds, ordered_adds}
+use Rattle.smp_split.proofs.Sums.{list_adds, ordered_sum}
 use Rattle.smp_values.specs.Values.{AddTo, IsValues, exchanged_values, fractional, fractional_count, is_settled, values_tree}
 use Rattle.smp_values.proofs.Fractional.{IsSettled, not_fractional, over_settled, settled_count}
+use Rattle.smp_values.proofs.Near.{IsNear, near_count, near_same}
 use Rattle.smp_values.proofs.Units.{none_fractional}
 
 module _ (units most : ℕ) (s : Shares) (ok : IsValues units most s) where
@@ -39,8 +41,16 @@ module _ (units most : ℕ) (s : Shares) (ok : IsValues units most s) where
     exchanged_count : fractional_count (exchanged_values i j s) ≡ fractional_count s
     exchanged_count = sum_by-IsPermutation (λ a. cond (fractional s.den a) 1 0) s.numer (swap s.numer i j) (IsPermutation-swap s.numer (swap s.numer i j) i j i_in j_in refl)
 
-    exchanged_total : (n : ℕ) → AddTo n s → AddTo n (exchanged_values i j s)
-    exchanged_total n adds = sum_by-IsPermutation (λ a. a) s.numer (swap s.numer i j) (IsPermutation-swap s.numer (swap s.numer i j) i j i_in j_in refl) ∙ adds
+    exchanged_sum : sum (exchanged_values i j s).numer ≡ sum s.numer
+    exchanged_sum = sum_by-IsPermutation (λ a. a) s.numer (swap s.numer i j) (IsPermutation-swap s.numer (swap s.numer i j) i j i_in j_in refl)
+
+    exchanged_near : (total den : ℕ) → IsNear total den s → IsNear total den (exchanged_values i j s)
+    exchanged_near total den near = record {
+      den_is = near.den_is;
+      going = λ going. exchanged_sum ∙ near.going (ap (λ n. nat_eq n 0) (sym exchanged_count) ∙ going);
+      above = omega (arith, exchanged_sum, near.above);
+      below = omega (arith, exchanged_sum, near.below);
+    }
 
   -- ---- the end
 
@@ -54,7 +64,7 @@ module _ (units most : ℕ) (s : Shares) (ok : IsValues units most s) where
     pub ones_count : (n : ℕ) → AddTo n s → count_by (λ a. nat_eq a s.den) s.numer ≡ n
     ones_count n adds = settled_count s.den n s.numer ok.positive (λ k _. each_settled k) adds
 
--- ---- a design whose splits are lawful, and keep a whole sum of the values
+-- ---- a design whose splits are lawful, and keep a whole sum of the values, or one that is near
 
 module _ (units most : ℕ) (kind : Shares → Kind) (parts : Shares → List (Part Shares)) (rank : ℕ → ℕ) where
   module _ (belongs : Shares → Type 0) (within : (s : Shares) → belongs s → IsValues units most s) where
@@ -66,12 +76,21 @@ module _ (units most : ℕ) (kind : Shares → Kind) (parts : Shares → List (P
     pub values_lawful : ((s : Shares) → belongs s → is_settled s ≡ false → LawfulSplit (values_tree units kind parts rank) belongs s) → Lawful (values_tree units kind parts rank) belongs
     values_lawful split = record { split = split; end = values_end }
 
-    pub values_keep : (n : ℕ) → ((s : Shares) → belongs s → is_settled s ≡ false → AddTo n s → EachPart (λ p. AddTo n p.state) (parts s)) → KeepsCount (values_tree units kind parts rank) belongs n (AddTo n)
+    pub values_keep : (n : ℕ) → ((s : Shares) → belongs s → is_settled s ≡ false → AddTo n s → EachPart (λ p. AddTo n p.state) (parts s)) → KeepsCount (values_tree units kind parts rank) belongs (λ count. count ≡ n) (AddTo n)
     values_keep n keeps = record {
       kept = keeps;
       leaf = λ s here done adds.
           let ok = within s here in
           count_by-indices (λ a. nat_eq a s.den) s.numer 0 units ok.count ∙ ones_count units most s ok done n adds;
+    }
+
+    pub values_near : (total den : ℕ) → ((s : Shares) → belongs s → is_settled s ≡ false → IsNear total den s → EachPart (λ p. IsNear total den p.state) (parts s))
+        → KeepsCount (values_tree units kind parts rank) belongs (λ count. IsAround count (over total den)) (IsNear total den)
+    values_near total den keeps = record {
+      kept = keeps;
+      leaf = λ s here done near.
+          let ok = within s here in
+          rw (count_by-indices (λ a. nat_eq a s.den) s.numer 0 units ok.count) (near_count total den s ok.positive (λ k _. each_settled units most s ok done k) near);
     }
 
     pub values_count : (lawful : Lawful (values_tree units kind parts rank) belongs) (n : ℕ) → ((s : Shares) → belongs s → is_settled s ≡ false → AddTo n s → EachPart (λ p. AddTo n p.state) (parts s))
@@ -95,10 +114,14 @@ module _ (units most : ℕ) (kind : Shares → Kind) (parts : Shares → List (P
     in_order_lawful =
         ordered_lawful (values_tree units kind parts rank) (IsValues units most) exchanged_values (values_lawful (IsValues units most) (λ s ok. ok) split) values_exchange
 
-    pub in_order_count : (n : ℕ) → ((s : Shares) → IsValues units most s → is_settled s ≡ false → AddTo n s → EachPart (λ p. AddTo n p.state) (parts s))
-        → (s : Ordered Shares) → IsInOrder units (IsValues units most) s → AddsUp (ordered_tree (values_tree units kind parts rank) exchanged_values) n s → LeavesSelect (ordered_tree (values_tree units kind parts rank) exchanged_values) n s
-    in_order_count n keeps s here adds =
-        leaves_select (ordered_tree (values_tree units kind parts rank) exchanged_values) (IsInOrder units (IsValues units most)) in_order_lawful n (λ t. AddTo n t.state)
-        (keeps_count (values_tree units kind parts rank) (IsValues units most) exchanged_values n (AddTo n) (values_keep (IsValues units most) (λ s ok. ok) n keeps) (λ i j t hi hj ok. exchanged_total units most t ok i j hi hj n))
-        s here
-        (ordered_adds (values_tree units kind parts rank) exchanged_values s here.order s.state.numer s.state.den here.state.positive here.state.count (λ k. same_refl (over (get_or s.state.numer k 0) s.state.den)) n adds)
+    -- each leaf selects one of the two whole numbers around the sum
+    pub in_order_around : ((total den : ℕ) (s : Shares) → IsValues units most s → is_settled s ≡ false → IsNear total den s → EachPart (λ p. IsNear total den p.state) (parts s))
+        → (s : Ordered Shares) → IsInOrder units (IsValues units most) s → LeavesSelectAround (ordered_tree (values_tree units kind parts rank) exchanged_values) s
+    in_order_around keeps s here =
+        let total : ℕ = sum s.state.numer in
+        let den : ℕ = s.state.den in
+        leaves_around (ordered_tree (values_tree units kind parts rank) exchanged_values) (IsInOrder units (IsValues units most)) in_order_lawful (over total den) (λ t. IsNear total den t.state)
+        (keeps_count (values_tree units kind parts rank) (IsValues units most) exchanged_values (λ count. IsAround count (over total den)) (IsNear total den) (values_near (IsValues units most) (λ s ok. ok) total den (keeps total den))
+        (λ i j t hi hj ok. exchanged_near units most t ok i j hi hj total den))
+        s here (near_same total den s.state here.state.positive refl refl)
+        (ordered_sum (values_tree units kind parts rank) exchanged_values s here.order s.state.numer s.state.den here.state.positive here.state.count (λ k. same_refl (over (get_or s.state.numer k 0) s.state.den)))

@@ -43,7 +43,7 @@ one_settled den a one settled =
       | inr all ↦ rw (eq-eqb a den all) (omega arith)
     ]
 
-settled_sum : (den : ℕ) (xs : List ℕ) → 1 ≤ den → ((k : ℕ) → k < length xs → IsSettled den (get_or xs k 0)) → sum xs ≡ den * count_by (λ a. nat_eq a den) xs
+pub settled_sum : (den : ℕ) (xs : List ℕ) → 1 ≤ den → ((k : ℕ) → k < length xs → IsSettled den (get_or xs k 0)) → sum xs ≡ den * count_by (λ a. nat_eq a den) xs
 settled_sum den [] one all = omega arith
 settled_sum den (x ∷ xs) one all =
     let here : x ≡ den * cond (nat_eq x den) 1 0 = one_settled den x one (all 0 (omega arith)) in

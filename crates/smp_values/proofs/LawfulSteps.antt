@@ -1,5 +1,6 @@
 -- A pivotal step of two units, wherever they stand, and that of one unit alone: their parts are lawful.
 use Rattle.std.proofs.Common.{◌≡◌, ◌≢◌, ℕ, ◌+◌, ◌-◌, ◌*◌, ◌^◌, ◌<◌, ◌≤◌, true, false, min, length, get_or, set, arith, refl, ap, ◌∙◌, inl, inr, ◌⊎◌, length-set}
+use Rattle.std.specs.List.{sum}
 use Rattle.std.proofs.lemmas.Bool.{cases_eq}
 use Rattle.std.proofs.lemmas.List.{get_or-set_same, get_or-set_other}
 use Rattle.smp_prob.specs.Shares.{Shares}
@@ -11,6 +12,7 @@ use Rattle.smp_values.specs.Values.{IsValues, AddTo, fractional, is_fractional, 
 use Rattle.smp_values.specs.Steps.{pair_parts, lone_parts, steps_tree}
 use Rattle.smp_values.proofs.Fractional.{fractional_is, fractional_den}
 use Rattle.smp_values.proofs.Changes.{one_within, one_falls, two_at_i, two_at_j, two_elsewhere, two_within, two_fall, two_total}
+use Rattle.smp_values.proofs.Near.{IsNear, near_same}
 use Rattle.smp_values.proofs.PairNumbers.{IsPair, is_pair}
 
 module _ (units : ℕ) (s : Shares) (ok : IsValues units (2 ^ 80) s) where
@@ -98,13 +100,22 @@ module _ (units : ℕ) (s : Shares) (ok : IsValues units (2 ^ 80) s) where
               even_over num den_of s.den (get_or s.numer k 0) (pair_parts s i j) (refl, (refl, tt)) (pair_keeps (get_or s.numer i 0) (get_or s.numer j 0) _ _ _ refl refl pair k);
         }
 
-    -- it keeps the sum of the values
-    pub pair_total : (n : ℕ) → AddTo n s → EachPart (λ p. AddTo n p.state) (pair_parts s i j)
-    pair_total n adds =
+    -- it keeps the sum of the numerators
+    pair_sums : EachPart (λ p. sum p.state.numer ≡ sum s.numer) (pair_parts s i j)
+    pair_sums =
         let a : ℕ = get_or s.numer i 0 in
         let b : ℕ = get_or s.numer j 0 in
         let more : ℕ = min (a + b) s.den in
         let less : ℕ = a + b - s.den in (
-          two_total s.numer i j more less ne i_in j_in (omega arith) ∙ adds,
-          (two_total s.numer i j less more ne i_in j_in (omega arith) ∙ adds, tt),
+          two_total s.numer i j more less ne i_in j_in (omega arith),
+          (two_total s.numer i j less more ne i_in j_in (omega arith), tt),
         )
+
+    pub pair_total : (n : ℕ) → AddTo n s → EachPart (λ p. AddTo n p.state) (pair_parts s i j)
+    pair_total n adds = (pair_sums.0 ∙ adds, (pair_sums.1.0 ∙ adds, tt))
+
+    pub pair_near : (total den : ℕ) → s.den ≡ den → sum s.numer ≡ total → EachPart (λ p. IsNear total den p.state) (pair_parts s i j)
+    pair_near total den is same = (
+      near_same total den _ ok.positive is (pair_sums.0 ∙ same),
+      (near_same total den _ ok.positive is (pair_sums.1.0 ∙ same), tt),
+    )

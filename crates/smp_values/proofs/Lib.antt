@@ -5,6 +5,7 @@ pub mod PairNumbers
 pub mod LawfulSteps
 pub mod Searches
 pub mod Sums
+pub mod Near
 pub mod Designs
 pub mod Requests
 pub mod Pivotal
