@@ -5,13 +5,13 @@ use Rattle.std.proofs.lemmas.Bool.Decides.{Decides-at}
 use Rattle.std.specs.Bool.{Decides}
 use Rattle.std.proofs.lemmas.List.FromFn.{get_or-range_with_len}
 use Rattle.std.specs.List.{count_by, range_with_len}
-use Rattle.smp_split.specs.Counts.{draws_selecting, selected_after}
+use Rattle.smp_split.specs.Counts.{LeavesSelectAround, draws_selecting, selected_after}
 use Rattle.smp_split.specs.Methods.{Starts}
 use Rattle.smp_split.specs.Trees.{weight_sum, picked}
 use Rattle.smp_split.specs.Orders.{Placing, Ordered, in_order, frame_order}
 use Rattle.smp_split.proofs.Orders.{inner_bound, inner_picked, place_in}
 use Rattle.smp_split.proofs.Parts.{weight_sum-equal, picked-equal}
-use Rattle.smp_split.proofs.Methods.{starts}
+use Rattle.smp_split.proofs.Methods.{starts_around}
 use Rattle.smp_split.proofs.NumberSums.{sums_same, sum_by-range}
 use Rattle.smp_prob.specs.declared.orders.Order.{Order}
 use Rattle.smp_prob.specs.Shares.{Shares}
@@ -21,7 +21,7 @@ use Rattle.smp_values.proofs.Requests.{starts_in_order}
 use Rattle.smp_systematic.specs.Method.{method_of}
 use Rattle.smp_systematic.specs.Systematic.{IsSystematic, PointsAt, cumulated, takes, sampled, place_of, numerator_of, places_tree, systematic_tree}
 use Rattle.smp_systematic.specs.Laws.Points.{meets_decides}
-use Rattle.smp_systematic.specs.Laws.Splits.{sampled_at, draws_taking, leaf_count}
+use Rattle.smp_systematic.specs.Laws.Splits.{sampled_at, draws_taking, leaf_around}
 
 either_is : (den : ℕ) (b : Bool) → 1 ≤ den → nat_eq (cond b den 0) den ≡ b
 either_is den true one = eq-eqb den den refl
@@ -69,7 +69,9 @@ draws_in_frame s ok frame unit here =
     draws_are (length s.state.numer) s drawn ok unit here ∙ ap (λ p. get_or s.state.numer p 0) place
 
 -- a selection starts from any values in range, in either order
-pub systematic_starts : (order : Order) (s : Shares) → length s.numer < 2 ^ 64 → IsValues (length s.numer) (2 ^ 126 - 1) s → Starts (method_of (ordered_values order s)) (ordered_values order s)
-systematic_starts order s few ok =
-    let here = starts_in_order order (2 ^ 126 - 1) s few ok in
-    starts (method_of (ordered_values order s)) (ordered_values order s) here (λ n adds. leaf_count (length s.numer) n (ordered_values order s) here adds)
+module _ (order : Order) (s : Shares) (few : length s.numer < 2 ^ 64) (ok : IsValues (length s.numer) (2 ^ 126 - 1) s) where
+  pub systematic_around : LeavesSelectAround (method_of (ordered_values order s)).tree (ordered_values order s)
+  systematic_around = leaf_around (length s.numer) (ordered_values order s) (starts_in_order order (2 ^ 126 - 1) s few ok)
+
+  pub systematic_starts : Starts (method_of (ordered_values order s)) (ordered_values order s)
+  systematic_starts = starts_around (method_of (ordered_values order s)) (ordered_values order s) (starts_in_order order (2 ^ 126 - 1) s few ok) systematic_around

@@ -4,7 +4,7 @@ ghost use Rattle.std.specs.Prelude.{◌≡◌, ℕ, ◌-◌, ◌^◌, ◌<◌, f
 ghost use Rattle.std.specs.Bool.{Decides};
 ghost use Rattle.smp_prob.specs.Requests.{IsRequest};
 ghost use Rattle.smp_prob.specs.Shares.{Shares};
-ghost use Rattle.smp_split.specs.Counts.{draws_selecting, selected_after};
+ghost use Rattle.smp_split.specs.Counts.{LeavesSelectAround, draws_selecting, selected_after};
 ghost use Rattle.smp_split.specs.Methods.{Starts};
 ghost use Rattle.smp_split.specs.Orders.{Ordered, frame_order};
 ghost use Rattle.smp_split.specs.Trees.{weight_sum};
@@ -53,11 +53,12 @@ impl Systematic {
         })
     }
 
-    /// The state before the first step. Over all draws, each unit is selected with the probability that is its value, and where the values
-    /// add up to a whole number, that many units are.
+    /// The state before the first step. Over all draws, each unit is selected with the probability that is its value. Whatever is drawn, as
+    /// many units are selected as the values add up to, or, where their sum isn't whole, one of the two whole numbers around it.
     pub fn start(&self, alloc: Global) -> Result<SystematicState, NoMemory>
         ensures state { IfOk result (λ state. state ≡ self.now) }
         ensures starts { IfOk result (Starts (method_of self.now)) }
+        ensures around { IfOk result (LeavesSelectAround (method_of self.now).tree) }
 
         // In the order of the frame, each unit is selected by exactly as many of the draws as its numerator says.
         ensures draws { IfOk result (λ state.

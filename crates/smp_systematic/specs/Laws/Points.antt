@@ -143,13 +143,6 @@ pub meets_count : (den start size after : ℕ) → 1 ≤ den → size ≤ den �
 meets_count den start size after one le end =
     omega (arith, sums_plus den (points den after) (λ d. cond (meets den start after d) 1 0) (points den start) (λ d l. points_next den start size after d l le end), points_sum_all den after one, points_sum_all den start one)
 
--- before 0 no point lies, and before n times the denominator n of them do
+-- before 0 no point lies
 pub points_zero : (den draw : ℕ) → draw < den → points den 0 draw ≡ 0
 points_zero den draw h = div-eq_of_lt (omega arith)
-
-pub points_whole : (den n draw : ℕ) → draw < den → points den (n * den) draw ≡ n
-points_whole den n draw h =
-    let some : 0 < den = omega arith in
-    let sum : n * den + (den - 1 - draw) ≡ (den - 1 - draw) + n * den = omega arith in
-    let none : (den - 1 - draw) / den ≡ 0 = div-eq_of_lt (omega arith) in
-    ap (λ x. x / den) sum ∙ add-mul-div_right (den - 1 - draw) n some ∙ omega arith

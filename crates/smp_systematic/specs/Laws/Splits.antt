@@ -1,4 +1,4 @@
--- The law of systematic selection: its split is lawful, and keeps a whole sum of the values.
+-- The law of systematic selection: its split is lawful, and leaves a sum of the values that is one of the whole numbers around theirs.
 use Rattle.std.proofs.Common.{◌≡◌, ℕ, zero, suc, ◌+◌, ◌-◌, ◌*◌, ◌^◌, ◌<◌, ◌≤◌, Bool, true, false, cond, nat_eq, List, length, get_or, arith, refl, sym, ap, ◌∙◌, inl, inr}
 use Rattle.std.specs.List.{sum}
 use Rattle.std.proofs.Math.Seq.{take-length}
@@ -8,7 +8,7 @@ use Rattle.std.proofs.lemmas.List.FromFn.{get_or-map-range_with_len, length-map-
 use Rattle.std.proofs.lemmas.List.Sums.{sum_by_more}
 use Rattle.smp_fractions.specs.Fractions.{Same, whole, times, over}
 use Rattle.smp_prob.specs.Shares.{Shares}
-use Rattle.smp_split.specs.Counts.{AddsUp, LeavesSelect}
+use Rattle.smp_split.specs.Counts.{LeavesSelectAround}
 use Rattle.smp_split.specs.Orders.{Ordered}
 use Rattle.smp_split.specs.Parts.{equal_parts}
 use Rattle.smp_split.specs.Trees.{EachPart, IsPart, LawfulSplit, Lawful, weight_sum, weighted, weighted_number}
@@ -16,11 +16,12 @@ use Rattle.smp_split.specs.declared.kind.Kind.TheVariants.{System}
 use Rattle.smp_split.proofs.NumberSums.{counts, sums_same, sums-none, sums_scaled, weight_false, sum_by-range, sum_by-map-range}
 use Rattle.smp_split.proofs.Over.{even_over}
 use Rattle.smp_split.proofs.Parts.{weight_sum-equal, weighted_number-equal, each_equal}
-use Rattle.smp_values.specs.Values.{AddTo, IsValues, fractional, fractional_count, is_settled}
-use Rattle.smp_values.proofs.Designs.{in_order_lawful, in_order_count}
+use Rattle.smp_values.specs.Values.{IsValues, fractional, fractional_count, is_settled}
+use Rattle.smp_values.proofs.Designs.{in_order_lawful, in_order_around}
 use Rattle.smp_values.proofs.Fractional.{fractional_den}
+use Rattle.smp_values.proofs.Near.{IsNear, near_settled}
 use Rattle.smp_systematic.specs.Systematic.{IsSystematic, cumulated, takes, sampled, places_tree, systematic_tree}
-use Rattle.smp_systematic.specs.Laws.Points.{points, meets_count, points_next, points_zero, points_whole}
+use Rattle.smp_systematic.specs.Laws.Points.{points, meets_count, points_next, points_zero, gap_of}
 
 -- ---- what a draw leads to
 
@@ -112,18 +113,20 @@ module _ (units : ℕ) (s : Shares) (ok : IsValues units (2 ^ 126 - 1) s) where
         points_next s.den (cumulated s.numer m) (get_or s.numer m 0) (cumulated s.numer (m + 1)) draw within (ok.each m) (cumulated_next s.numer m (omega arith)) in
         omega (arith, taken_points m (omega arith), ap (λ k. points s.den (cumulated s.numer k) draw) one_more)
 
-    sampled_total : (n : ℕ) → AddTo n s → AddTo n (sampled s draw)
-    sampled_total n whole =
+    sampled_sum : sum (sampled s draw).numer ≡ points s.den (sum s.numer) draw * s.den
+    sampled_sum =
         sum_by-map-range (length s.numer) (λ a. a) (λ place. cond (takes s draw place) s.den 0)
         ∙ sums_scaled (length s.numer) s.den (takes s draw)
-        ∙ ap (λ k. k * s.den)
-        (taken_points (length s.numer) (omega arith)
-        ∙ ap (λ xs. points s.den (sum xs) draw) (take-length s.numer)
-        ∙ ap (λ c. points s.den c draw) whole
-        ∙ points_whole s.den n draw within)
+        ∙ ap (λ k. k * s.den) (taken_points (length s.numer) (omega arith) ∙ ap (λ xs. points s.den (sum xs) draw) (take-length s.numer))
 
-  pub places_keep : (n : ℕ) → AddTo n s → EachPart (λ p. AddTo n p.state) (equal_parts s.den (sampled s))
-  places_keep n whole = each_equal (sampled s) (λ p. AddTo n p.state) s.den (λ draw within. sampled_total draw within n whole)
+    sampled_near : (total den : ℕ) → s.den ≡ den → sum s.numer ≡ total → IsNear total den (sampled s draw)
+    sampled_near total den is same =
+        let gap = gap_of s.den (sum s.numer) draw within in
+        near_settled total den (sampled s draw) is (sampled_done s draw) (omega (arith, sampled_sum, gap.at, gap.short)) (omega (arith, sampled_sum, gap.at, gap.short))
+
+  pub places_near : is_settled s ≡ false → (total den : ℕ) → IsNear total den s → EachPart (λ p. IsNear total den p.state) (equal_parts s.den (sampled s))
+  places_near going total den near =
+      each_equal (sampled s) (λ p. IsNear total den p.state) s.den (λ draw within. sampled_near draw within total den near.den_is (near.going going))
 
 -- ---- in either order
 
@@ -133,7 +136,6 @@ one_step fractional = cond (nat_eq fractional 0) 0 1
 pub systematic_lawful : (units : ℕ) → Lawful (systematic_tree units) (IsSystematic units)
 systematic_lawful units = in_order_lawful units (2 ^ 126 - 1) (λ _. System) (λ s. equal_parts s.den (sampled s)) one_step (places_split units)
 
--- where the values add up to n, each leaf selects n units
-pub leaf_count : (units n : ℕ) (s : Ordered Shares) → IsSystematic units s → AddsUp (systematic_tree units) n s → LeavesSelect (systematic_tree units) n s
-leaf_count units n s ok adds =
-    in_order_count units (2 ^ 126 - 1) (λ _. System) (λ t. equal_parts t.den (sampled t)) one_step (places_split units) n (λ t here _ whole. places_keep units t here n whole) s ok adds
+-- each leaf selects one of the whole numbers of units around the sum of the values
+pub leaf_around : (units : ℕ) (s : Ordered Shares) → IsSystematic units s → LeavesSelectAround (systematic_tree units) s
+leaf_around units = in_order_around units (2 ^ 126 - 1) (λ _. System) (λ t. equal_parts t.den (sampled t)) one_step (places_split units) (λ total den t here going. places_near units t here going total den)
