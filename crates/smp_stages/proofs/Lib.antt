@@ -1,5 +1,7 @@
 pub mod Scans
 pub mod Stepped
+pub mod Sections
+pub mod OwnStages
 pub mod WholePaths
 pub mod StagePaths
 pub mod Starts

@@ -6,14 +6,18 @@
 //!
 //! [`Stages`] is one lawful design, whose units are the rows of a frame. Each row has a [`Seat`]: its unit in a first stage, and its unit in the
 //! second stage within that one, where there is one. Its value is the product of theirs. A whole path is made of the stages' own paths.
+//!
+//! Stages in a row that select within one another alone, as those of a stratum do, are a selection too, and a part of the whole.
 #![tactic(auto)]
 
+mod laws;
 mod places;
 mod stages;
 mod state;
 #[cfg(test)]
 mod tests;
 
+pub use laws::{own_stages_are_a_part, stages_go_by_sections};
 pub use places::{Place, Seat, Stage};
 pub use stages::Stages;
 pub use state::StagesState;
