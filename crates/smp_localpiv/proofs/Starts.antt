@@ -7,15 +7,16 @@ use Rattle.smp_prob.specs.declared.requests.Request.{Request}
 use Rattle.smp_prob.specs.Requests.{IsRequest}
 use Rattle.smp_prob.specs.Shares.{Shares, numerators, shares_of}
 use Rattle.smp_prob.proofs.Fractions.{length-numerators}
+use Rattle.smp_split.specs.Counts.{LeavesSelectAround}
 use Rattle.smp_split.specs.Methods.{Starts}
-use Rattle.smp_split.proofs.Methods.{starts}
+use Rattle.smp_split.proofs.Methods.{starts_around}
 use Rattle.smp_values.specs.Starts.{IsRequested}
 use Rattle.smp_values.specs.Values.{fractional, value_at}
 use Rattle.smp_values.proofs.Requests.{few_shares, requested_values, shares_fractional, shares_in_range}
 use Rattle.smp_localpiv.specs.Local.{IsLocal, local_tree, located_values}
 use Rattle.smp_localpiv.specs.Method.{method_of, started}
 use Rattle.smp_localpiv.specs.Kept.States.{IsOpen, IsWeighed}
-use Rattle.smp_localpiv.proofs.Counts.{leaf_count}
+use Rattle.smp_localpiv.proofs.Counts.{leaf_around}
 use Rattle.smp_localpiv.proofs.Weights.{all_ones}
 
 -- the points of values that are all fractional are all living
@@ -30,10 +31,15 @@ first_weighed dimensions coords s is = record {
   weights_are = all_ones s.den s.numer is.open_at;
 }
 
-pub local_starts : (dimensions : ℕ) (coords : List (List ℤ)) (s : Shares) → IsOpen dimensions coords s → Starts (method_of (located_values coords s)) (located_values coords s)
-local_starts dimensions coords s is =
-    let here : IsLocal (length s.numer) (located_values coords s) = record { values = is.values; few = is.narrow; placed = is.placed; meets = tt } in
-    starts (method_of (located_values coords s)) (located_values coords s) here (λ n adds. leaf_count (length s.numer) n (located_values coords s) here adds)
+module _ (dimensions : ℕ) (coords : List (List ℤ)) (s : Shares) (is : IsOpen dimensions coords s) where
+  first_local : IsLocal (length s.numer) (located_values coords s)
+  first_local = record { values = is.values; few = is.narrow; placed = is.placed; meets = tt }
+
+  pub local_around : LeavesSelectAround (method_of (located_values coords s)).tree (located_values coords s)
+  local_around = leaf_around (length s.numer) (located_values coords s) first_local
+
+  pub local_starts : Starts (method_of (located_values coords s)) (located_values coords s)
+  local_starts = starts_around (method_of (located_values coords s)) (located_values coords s) first_local local_around
 
 -- ---- the values of a request
 

@@ -3,6 +3,7 @@
 ghost use Rattle.std.specs.Prelude.{◌≡◌, ◌≤◌, length, IfOk};
 ghost use Rattle.smp_near.specs.Nearest.{all_living};
 ghost use Rattle.smp_prob.specs.Requests.{IsRequest};
+ghost use Rattle.smp_split.specs.Counts.{LeavesSelectAround};
 ghost use Rattle.smp_split.specs.Methods.{Starts};
 ghost use Rattle.smp_values.specs.Starts.{IsRequested};
 ghost use Rattle.smp_localpiv.specs.Local.{Local, located_values};
@@ -57,11 +58,13 @@ impl<const K: usize> LocalPivotal<K> {
         })
     }
 
-    /// The state before the first step. Over all draws, each unit is selected with the probability that is its value, and
-    /// where the values add up to a whole number, that many units are.
+    /// The state before the first step. Over all draws, each unit is selected with the probability that is its value.
+    /// Whatever is drawn, as many units are selected as the values add up to, or, where their sum isn't whole, one of the two
+    /// whole numbers around it.
     pub fn start(&self, alloc: Global) -> Result<LocalState<K>, NoMemory>
         ensures state { IfOk result (λ state. state ≡ self.now) }
         ensures starts { IfOk result (Starts (method_of self.now)) }
+        ensures around { IfOk result (LeavesSelectAround (method_of self.now).tree) }
     {
         let state = first_state(alloc, self.coords.as_slice(), &self.values)?;
         Ok(state)
