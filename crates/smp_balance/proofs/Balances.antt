@@ -25,7 +25,7 @@ use Rattle.smp_landing.proofs.Starts.{cube_balances}
 use Rattle.smp_balance.specs.Strata.{Stratum, IsStratum, values_of, column_count, row_count, free_values, free_units, tree_of, start_of}
 use Rattle.smp_balance.specs.Totals.{counted, total, known_of, known, estimate, error_bound}
 use Rattle.smp_balance.specs.Balances.{FlightsKeepTotals, TotalsAreKnown, ExactWithoutLanding, ErrorIsBounded, IsBalanced, EachIsBalanced}
-use Rattle.smp_balance.proofs.Sums.{at_free, sum_apart}
+use Rattle.smp_rows.proofs.Sums.{at_free, sum_apart}
 use Rattle.smp_balance.proofs.Terms.{fixed_at, known_at, total_term, estimate_term, known_term, error_term}
 
 -- the same added to both leaves them as far apart

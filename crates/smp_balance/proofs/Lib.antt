@@ -1,4 +1,3 @@
-pub mod Sums
 pub mod Absolute
 pub mod Terms
 pub mod Balances

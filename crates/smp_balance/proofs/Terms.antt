@@ -20,7 +20,7 @@ use Rattle.smp_flight.specs.Totals.{expanded, addend}
 use Rattle.smp_landing.proofs.Starts.{starts_requested}
 use Rattle.smp_balance.specs.Strata.{Stratum, IsStratum, values_of, value_in, free_values, free_units}
 use Rattle.smp_balance.specs.Totals.{can_be_selected, counted, is_undecided}
-use Rattle.smp_balance.proofs.Sums.{free_is, at_free}
+use Rattle.smp_rows.proofs.Sums.{free_is, at_free}
 
 cond_same : (b : Bool) {a c : Fraction} → Same a c → Same (cond b a (whole 0)) (cond b c (whole 0))
 cond_same true h = h

@@ -1,9 +1,9 @@
-ghost use Rattle.std.specs.Prelude.{ℕ, ◌<◌};
-ghost use Rattle.smp_split.specs.Counts.{AddsUp, LeavesSelect};
+ghost use Rattle.std.specs.Prelude.{ℕ, ◌<◌, All};
+ghost use Rattle.smp_split.specs.Counts.{AddsUp, LeavesSelect, LeavesSelectAround};
 ghost use Rattle.smp_fractions.specs.Fractions.{Same};
 ghost use Rattle.smp_split.specs.Means.{inclusion_probability};
 ghost use Rattle.smp_rows.specs.Rows.{rows_tree, BelongsToRows, Serves, Fills};
-ghost use Rattle.smp_prob.specs.Standings.{asked_fraction};
+ghost use Rattle.smp_prob.specs.Standings.{AreApart, asked_fraction};
 ghost use Rattle.smp_rows.specs.Laws.Rows.{rows_lawful};
 
 use smp_prob::{Request, Standing};
@@ -23,7 +23,8 @@ pub struct Rows<'a, D: Splitting> {
 impl<'a, D: Splitting> Rows<'a, D> {
     /// Where the design serves its request from a state on, each row is selected with the probability that the request
     /// gives it; and where the free units' values add up to the draws that they share, each leaf selects the rows that
-    /// the request fills. It runs nothing: its contract is the theorem.
+    /// the request fills. Where each leaf of the design selects one of the two whole numbers of units around the sum of
+    /// their values, it selects one of those around the sum over all rows. It runs nothing: its contract is the theorem.
     pub fn select_as_asked(&self, state: &D::State)
         requires belongs { BelongsToRows self.now.request.now (D.tree self.now.design)
             (D.belongs self.now.design) state.now }
@@ -34,6 +35,10 @@ impl<'a, D: Splitting> Rows<'a, D> {
         ensures count { (n : ℕ) → AddsUp (D.tree self.now.design) self.now.request.now.r state.now →
             Fills self.now.request.now self.now.rows n →
             LeavesSelect (rows_tree self.now.rows self.now.request.now (D.tree self.now.design)) n state.now }
+        ensures around { AreApart self.now.request.now →
+            All (λ unit. unit < self.now.rows) self.now.request.now.free →
+            LeavesSelectAround (D.tree self.now.design) state.now →
+            LeavesSelectAround (rows_tree self.now.rows self.now.request.now (D.tree self.now.design)) state.now }
     {
         mean_is_value(self, state);
     }

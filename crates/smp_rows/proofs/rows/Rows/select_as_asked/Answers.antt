@@ -1,4 +1,5 @@
 use Rattle.smp_fractions.proofs.Fractions.{same_trans}
+use Rattle.smp_rows.proofs.Around.{rows_around}
 use Rattle.smp_rows.proofs.Asked.{value_is_asked, rows_select}
 use Rattle.smp_rows.proofs.rows.Rows.select_as_asked.Goals as goal
 
@@ -11,3 +12,8 @@ pub returns-clause-count : goal.returns-clause-count
 returns-clause-count g c n adds fills =
     let design = c.args.self.now in
     rows_select design.rows design.request.now (g.D.Splitting.tree design.design) c.args.state.now c.requires.serves (g.D.Splitting.belongs design.design) n c.requires.belongs.paired adds fills
+
+pub returns-clause-around : goal.returns-clause-around
+returns-clause-around g c apart inside around =
+    let design = c.args.self.now in
+    rows_around design.rows design.request.now (λ u l. inside u 0 l) apart (g.D.Splitting.tree design.design) c.requires.belongs.paired (g.D.Splitting.belongs design.design) c.args.state.now around

@@ -1,4 +1,4 @@
--- Sums over the units of a stratum: those over the free units, and those over the others.
+-- Sums over all units of a request: those over the free units, and those over the others.
 use Rattle.std.proofs.Common.{◌≡◌, ◌≢◌, ℕ, zero, suc, ◌<◌, Bool, nat_eq, cond, length, Option, Some, None, refl, sym, ap, ◌∙◌, subst, inl, inr}
 use Rattle.std.specs.Prelude.{position, is_some, slice_index}
 use Rattle.std.proofs.lemmas.Bool.{cases_Bool, cases_eq, eq-eqb, ne_eqb, eqb-true}
