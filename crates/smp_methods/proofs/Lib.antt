@@ -2,3 +2,4 @@ pub mod Starts
 pub mod Moved
 pub mod Columns
 pub mod Wholes
+pub mod Ways

@@ -1,16 +1,24 @@
 -- A selection by a method starts one among all methods.
-use Rattle.std.proofs.Common.{◌≡◌, ℤ, List, ap, sym, subst, ◌∙◌}
+use Rattle.std.proofs.Common.{◌≡◌, ℕ, ℤ, List, arith, refl, ap, sym, subst, ◌∙◌}
+use Rattle.smp_fractions.specs.Fractions.{Same, whole, over}
+use Rattle.smp_fractions.proofs.Around.{around_over, around_same}
+use Rattle.smp_fractions.proofs.Fractions.{same_trans}
 use Rattle.smp_prob.specs.declared.requests.Request.{Request}
+use Rattle.smp_split.specs.Counts.{AddsUp, LeavesSelect, LeavesSelectAround}
 use Rattle.smp_split.specs.Methods.{Starts}
-use Rattle.smp_split.proofs.Embeds.{embedded_adds_up}
+use Rattle.smp_split.specs.Trees.{Tree}
+use Rattle.smp_split.proofs.Embeds.{embedded_adds_up, embedded_around}
 use Rattle.smp_split.proofs.Methods.{embedded_starts}
-use Rattle.smp_values.specs.Starts.{IsRequested}
+use Rattle.smp_values.specs.Starts.{IsRequested, IsWhole}
+use Rattle.smp_values.proofs.Requests.{adds_to_draws}
 use Rattle.smp_methods.specs.declared.any.AnyDesign.{AnyDesign}
 use Rattle.smp_methods.specs.declared.any.AnyState.{AnyState}
 use Rattle.smp_methods.specs.declared.procedure.Procedure.{Procedure}
+use Rattle.smp_methods.specs.declared.procedure.Procedure.TheVariants as procedure
 use Rattle.smp_methods.specs.Designs.{Variant, design_of, first_state, method_among, method_of, state_among, variant, variant_of}
-use Rattle.smp_methods.specs.Kept.Alone.{RequestedAlone, StartsAlone}
-use Rattle.smp_methods.specs.Starts.{IsStarted}
+use Rattle.smp_methods.specs.Kept.Alone.{AroundAlone, OwnAround, RequestedAlone, StartsAlone}
+use Rattle.smp_methods.specs.Procedures.{NeedsWhole}
+use Rattle.smp_methods.specs.Starts.{IsStarted, SelectsAround}
 
 -- what a method says of its start holds of the design among all methods
 starts_among : (v : Variant) → StartsAlone v → Starts (method_among v) (state_among v)
@@ -23,16 +31,46 @@ requested_among (variant method design into out back) request here = record {
   whole = λ some whole. embedded_adds_up into out method.tree back method.belongs request.r design (here.whole some whole);
 }
 
+around_among : (v : Variant) → OwnAround v → LeavesSelectAround (method_among v).tree (state_among v)
+around_among (variant method design into out back) around = embedded_around into out method.tree back method.belongs design around
+
+-- a whole number is around itself
+select_around : {State : Type 0} (tree : Tree State) (n : ℕ) (state : State) → AddsUp tree n state → LeavesSelect tree n state → LeavesSelectAround tree state
+select_around tree n state adds select path leaf leads done =
+    let one : Same (whole n) (over n 1) = record { cross = refl } in
+    rw (select path leaf leads done) (around_same n (same_trans adds one) (around_over n n 1 (omega arith) (omega arith) (omega arith)))
+
+-- so each leaf selects one of the whole numbers around the sum where the units drawn are whole in number
+module _ (request : Request) (design : AnyDesign) (starts : Starts (method_of design) (first_state design)) (asked : IsRequested (method_of design).tree request (first_state design)) where
+  whole_around : IsWhole request → LeavesSelectAround (method_of design).tree (first_state design)
+  whole_around whole =
+      let adds = adds_to_draws (method_of design).tree request (first_state design) asked whole in
+      select_around (method_of design).tree request.r (first_state design) adds (starts.count request.r adds)
+
+selects_around : (way : Procedure) (request : Request) (values : List (List ℤ)) → NeedsWhole way request
+    → Starts (method_of (design_of way request values)) (first_state (design_of way request values)) → IsRequested (method_of (design_of way request values)).tree request (first_state (design_of way request values))
+    → AroundAlone (design_of way request values) → SelectsAround (design_of way request values) (first_state (design_of way request values))
+selects_around (procedure.Pivotal order) request values whole starts asked around = around_among (variant_of (design_of (procedure.Pivotal order) request values)) around
+selects_around (procedure.Systematic order) request values whole starts asked around = around_among (variant_of (design_of (procedure.Systematic order) request values)) around
+selects_around (procedure.LocalPivotal dimensions) request values whole starts asked around = around_among (variant_of (design_of (procedure.LocalPivotal dimensions) request values)) around
+selects_around procedure.MinimumSupport request values whole starts asked around = whole_around request (design_of procedure.MinimumSupport request values) starts asked whole
+selects_around procedure.Brewer request values whole starts asked around = whole_around request (design_of procedure.Brewer request values) starts asked whole
+selects_around procedure.Cube request values whole starts asked around = tt
+
 -- the design of the request by the method, at its first state
 pub is_started : (way : Procedure) (request : Request) (values : List (List ℤ)) (design : AnyDesign) (state : AnyState)
-    → design ≡ design_of way request values → RequestedAlone request (variant_of design) → state ≡ first_state design → StartsAlone (variant_of design)
+    → NeedsWhole way request → design ≡ design_of way request values → RequestedAlone request (variant_of design) → state ≡ first_state design → StartsAlone (variant_of design) → AroundAlone design
     → IsStarted way request values (record { design = design; state = state })
-is_started way request values design state made requested there starts =
-    let start : Starts (method_of design) state = subst (λ (s : AnyState). Starts (method_of design) s) (sym there) (starts_among (variant_of design) starts) in
-    let asked : IsRequested (method_of design).tree request state = subst (λ (s : AnyState). IsRequested (method_of design).tree request s) (sym there) (requested_among (variant_of design) request requested) in
+is_started way request values design state whole made requested there starts around =
+    let own : AnyDesign = design_of way request values in
+    let start : Starts (method_of own) (first_state own) = subst (λ (d : AnyDesign). Starts (method_of d) (first_state d)) made (starts_among (variant_of design) starts) in
+    let asked : IsRequested (method_of own).tree request (first_state own) =
+    subst (λ (d : AnyDesign). IsRequested (method_of d).tree request (first_state d)) made (requested_among (variant_of design) request requested) in
+    let same : state ≡ first_state own = there ∙ ap first_state made in
     record {
       design = made;
-      state = there ∙ ap first_state made;
-      starts = subst (λ (d : AnyDesign). Starts (method_of d) state) made start;
-      requested = subst (λ (d : AnyDesign). IsRequested (method_of d).tree request state) made asked;
+      state = same;
+      starts = subst (λ (s : AnyState). Starts (method_of own) s) (sym same) start;
+      requested = subst (λ (s : AnyState). IsRequested (method_of own).tree request s) (sym same) asked;
+      around = subst (λ (s : AnyState). SelectsAround own s) (sym same) (selects_around way request values whole start asked (subst AroundAlone made around));
     }

@@ -4,7 +4,7 @@ ghost use Rattle.std.specs.Prelude.{◌≡◌, ◌<◌, false, length, IfOk, OnO
 ghost use Rattle.smp_prob.specs.Requests.{IsRequest};
 ghost use Rattle.smp_split.specs.Trees.{weight_sum};
 ghost use Rattle.smp_methods.specs.Designs.{design_of, first_state, left_at, method_of, variant_of};
-ghost use Rattle.smp_methods.specs.Kept.Alone.{RequestedAlone, StartsAlone, StepsAlone};
+ghost use Rattle.smp_methods.specs.Kept.Alone.{AroundAlone, RequestedAlone, StartsAlone, StepsAlone};
 ghost use Rattle.smp_methods.specs.Procedures.{NeedsWhole, TakesValues};
 
 use crate::Procedure;
@@ -103,6 +103,7 @@ impl AnyDesign {
     pub(crate) fn start(&self, alloc: Global) -> Result<AnyState, NoMemory>
         ensures state { IfOk result (λ state. state ≡ first_state self.now) }
         ensures starts { OnOk result (StartsAlone (variant_of self.now)) }
+        ensures around { OnOk result (AroundAlone self.now) }
     {
         by_method!(self, design => state design.start(alloc)?)
     }

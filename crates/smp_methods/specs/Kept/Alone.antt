@@ -1,11 +1,14 @@
 -- What a method itself says of its design and of a step, before it is told among all methods.
 use Rattle.std.specs.Prelude.{◌≡◌, ℕ, Option, Some, None}
 use Rattle.smp_prob.specs.declared.requests.Request.{Request}
+use Rattle.smp_split.specs.Counts.{LeavesSelectAround}
 use Rattle.smp_split.specs.Methods.{Method, Starts}
 use Rattle.smp_split.specs.Trees.{picked}
 use Rattle.smp_values.specs.Starts.{IsRequested}
+use Rattle.smp_methods.specs.declared.any.AnyDesign.{AnyDesign}
+use Rattle.smp_methods.specs.declared.any.AnyDesign.TheVariants as designs
 use Rattle.smp_methods.specs.declared.any.AnyState.{AnyState}
-use Rattle.smp_methods.specs.Designs.{Variant, variant}
+use Rattle.smp_methods.specs.Designs.{Variant, variant, variant_of}
 
 -- a selection starts with the design
 abbrev pub StartsAlone : Variant → Type 0
@@ -15,6 +18,17 @@ StartsAlone (variant method design into out back) = Starts method design
 abbrev pub RequestedAlone : Request → Variant → Type 0
 RequestedAlone request (variant method design into out back) =
     IsRequested method.tree request design
+
+-- each leaf selects one of the whole numbers of units around the sum of the values
+abbrev pub OwnAround : Variant → Type 0
+OwnAround (variant method design into out back) = LeavesSelectAround method.tree design
+
+-- so it is by sequential pivotal, systematic and local pivotal selection, whatever the sum
+abbrev pub AroundAlone : AnyDesign → Type 0
+AroundAlone (designs.Pivotal s) = OwnAround (variant_of (designs.Pivotal s))
+AroundAlone (designs.Systematic s) = OwnAround (variant_of (designs.Systematic s))
+AroundAlone (designs.LocalPivotal s) = OwnAround (variant_of (designs.LocalPivotal s))
+AroundAlone other = Unit {0}
 
 -- the draw leads from the method's own state to that of its part
 abbrev pub IsStep : {State : Type 0} → (State → AnyState) → Method State → Option State
