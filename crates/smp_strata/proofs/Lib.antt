@@ -13,6 +13,7 @@ pub mod RowNumbers
 pub mod ClusterRows
 pub mod QuotaSearch
 pub mod Totals
+pub mod Expected
 pub mod Founds
 pub mod Apart
 pub mod Members

@@ -1,5 +1,5 @@
 -- What a frame that serves a design gives the parts of its plan.
-use Rattle.std.proofs.Common.{◌≡◌, ℕ, ◌<◌, ◌≤◌, ◌^◌, Bool, List, [], length, map, get_or, nat_eq, nat_lt, Option, Some, None, arith, refl, sym, ap, ◌∙◌}
+use Rattle.std.proofs.Common.{◌≡◌, ℕ, ◌<◌, ◌≤◌, ◌^◌, Bool, List, [], length, map, get_or, nat_eq, Option, Some, None, arith, refl, sym, ap, ◌∙◌}
 use Rattle.std.specs.Prelude.{All, IfSome}
 use Rattle.std.specs.Str.{bytes_eq}
 use Rattle.std.proofs.lemmas.Bool.{eqb-false, ltb-false}
@@ -24,6 +24,7 @@ use Rattle.smp_strata.specs.declared.strata.Stratum as stratum
 use Rattle.smp_strata.specs.Kept.Built.{CanBuild, IsBuilt, IsBuiltFirst, IsFirstRequest}
 use Rattle.smp_strata.specs.Kept.Groups.{places_of}
 use Rattle.smp_strata.specs.Kept.Layouts.{AreRows}
+use Rattle.smp_strata.proofs.Expected.{given_size}
 use Rattle.smp_strata.proofs.Founds.{none_at, none_each, when_false}
 use Rattle.smp_strata.proofs.Members.{homes, members_are, none_large, sizes_small}
 use Rattle.smp_strata.proofs.MisfitOrder.{IsServed, IsSized, seconds_enough}
@@ -109,6 +110,7 @@ module _ (design : Design) (units : List unit.Unit) (rows : All (AreRows (length
           draws = rw is record {
             firsts = λ n number. rw (← long_units) (asked.draws n number);
             rows = λ j d l. (each j d (omega (arith, l, long))).draws;
+            expected = rw (← long_units) (given_size design units k request design.columns.prob refl asked.asks);
           };
           firsts = λ j d l. (let l2 : j < length members = omega (arith, l, long_in) in
               let f : first.First = first_of design units (get_or all (get_or members j 0) []) in

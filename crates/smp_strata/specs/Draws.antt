@@ -1,7 +1,8 @@
 -- How many units a plan draws: the size of the sample is fixed in each stratum, and in each first stage unit (Tillé 2006).
 use Rattle.std.specs.Prelude.{◌≡◌, ℕ, List, Option, Some, None, length, slice_get, All, IfSome}
-use Rattle.smp_fractions.specs.Fractions.{Same, whole}
+use Rattle.smp_fractions.specs.Fractions.{Fraction, Same, whole, sum_below}
 use Rattle.smp_prob.specs.Given.{expected_size}
+use Rattle.smp_prob.specs.Standings.{asked_fraction}
 use Rattle.smp_prob.specs.declared.requests.Request.{Request}
 use Rattle.smp_values.specs.Starts.{IsWhole}
 use Rattle.smp_rows.specs.Rows.{Fills}
@@ -9,7 +10,6 @@ use Rattle.smp_design.specs.declared.design.Design.{Design}
 use Rattle.smp_design.specs.declared.design.Second as second
 use Rattle.smp_frame.specs.declared.frame.Unit as unit
 use Rattle.smp_strata.specs.Plans.{Parts, first_probs, sample_size}
-use Rattle.smp_strata.specs.declared.strata.First as first
 use Rattle.smp_strata.specs.declared.strata.Stratum as stratum
 
 -- a request for a whole number of units selects n of so many
@@ -30,11 +30,18 @@ AreAskedBy (Some column) design units number n =
 abbrev pub AreAsked : Design → List unit.Unit → ℕ → ℕ → Type 0
 AreAsked design units number n = AreAskedBy design.columns.prob design units number n
 
+-- how many first stage units are expected of a stratum: the sum of the probabilities that its request gives them
+abbrev pub expected_firsts : stratum.Stratum → Fraction
+expected_firsts s = sum_below (length s.units) (asked_fraction s.request)
+
 -- a stratum draws as many of its first stage units as are asked of it, and the second stage draws n of the rows of each of these
 pub record DrawsInStratum (design : Design) (units : List unit.Unit) (number : ℕ)
     (s : stratum.Stratum) : Type 0 where
   pub firsts : (n : ℕ) → AreAsked design units number n → IsFor s.request (length s.units) n
   pub rows : All (λ f. SecondDraws design.second (length f.rows) f.second) s.units
+  -- with given probabilities, as many of its first stage units are expected as these add up to, whole or not
+  pub expected : IfSome design.columns.prob (λ column.
+      Same (expected_firsts s) (expected_size (first_probs design units number)))
 
 -- every stratum of a plan draws as the design asks
 abbrev pub DrawsAsAsked : Design → List unit.Unit → Parts → Type 0
