@@ -174,10 +174,12 @@ class Report:
 
 def outputs_of(words):
     """The names of the files that a call writes, in the order of writing."""
-    if words[1:2] == ["quick"]:
-        return words[5:6]
-    options = dict(zip(words[2::2], words[3::2]))
-    return [options[name] for name in ("--log", "--sample") if name in options and not (words[1] == "replay" and name == "--log")]
+    try:
+        command, given = sampler.read_words(words)
+    except sampler.Refusal:
+        return []
+    written = {"quick": ("out",), "draw": ("log", "sample"), "replay": ("sample",), "migrate": ("to",)}
+    return [given[name] for name in written.get(command, ())]
 
 
 def stood(folder):
@@ -425,7 +427,7 @@ def full_disk(runner, report):
             code = code_of(runner, ["draw", "--design", "design", "--frame", "frame", "--seed", SEED, "--log", "log", "--sample", "sample"], folder)
             report.note("a disk that is full", code)
             logged, drawn = stood_in(folder, "log"), stood_in(folder, "sample")
-            is_whole = logged.endswith(b"\nend %d\n" % (logged.count(b"\n") - 4)) and (drawn == b"old sample" or drawn.count(b"\n") == 1501)
+            is_whole = logged.endswith(b"\nend %d\n" % (logged.count(b"\n") - 6)) and (drawn == b"old sample" or drawn.count(b"\n") == 1501)
             is_old = logged == b"old log" and drawn == b"old sample"
             if code != (0 if drawn.count(b"\n") == 1501 else 13) or not (is_whole or is_old) or len(os.listdir(folder)) != 5:
                 report.fault(f"a disk with {room} KB left: code {code}, files {sorted(os.listdir(folder))}")

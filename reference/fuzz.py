@@ -10,7 +10,8 @@ the words and what differs are put, the files of the case are kept in a folder w
 Most frames and designs go together, so that draws are reached. Nearly a third of the designs of one stage have a column of probabilities, whose sums
 are often whole. The tapes are made by the steps of the reference, with values of all sizes and at the borders of the parts to which they lead. Then some
 cases get faults: other keys, fields and words, missing files, bytes that are changed, taken out or doubled. A tape may be too short, too long, or have a
-value that its step doesn't take. A log is one of the reference's own draws by a seed, mostly with a line, a number or bytes changed.
+value that its step doesn't take. A log, of either version, is one of the reference's own draws by a seed, mostly with a line, a section, a number or bytes
+changed.
 
 Python's tomllib reads TOML 1.0 but for the year 0 and the second 60, and the program reads TOML 1.1. Only this is counted apart: the reference
 alone refuses the design with 3.1, the design has a `\\e`, a `\\x`, a new line or a last comma in an inline table, a time without seconds or of
@@ -66,8 +67,8 @@ ODD_BYTES = (b"\xff", b"\xc3", b"\xc0\x80", b"\xed\xa0\x80", b"\xf4\x90\x80\x80"
              b"\r", b"\n", b"\r\n", b",", b'"', b'""', b"'", b"-", b"0", b"9", b" ", b"#", b"=", b"[", b"]", b"{", b"}", b"\\", b".", b"_")
 ODD_WORDS = (b"", b"-", b"--", b"---", b"-h", b"--help", b"-V", b"--version", b"help", b"draw", b"quick", b"probs", b"-1", b"3", b"x", b"=",
              b"-d", b"--d", b"--design", b"--frame", b"--tape", b"--seed", b"--out", b"--Design", b"--design=", b"--design=x", b"--tape=t",
-             b"--seed=" + b"0" * 64, b"--log=--log", b"--sample==", b"--size=1", b"--=x", b"\xff", b"--design=\xff", b"--\xff", b"\xef\xbb\xbf")
-COMMANDS = ("draw", "quick", "probs", "check", "replay", "demo", "seed")
+             b"--seed=" + b"0" * 64, b"--log=--log", b"--sample==", b"--size=1", b"--=x", b"--stratum", b"--stratum=1", b"--to", b"--to=to", b"migrate", b"\xff", b"--design=\xff", b"--\xff", b"\xef\xbb\xbf")
+COMMANDS = ("draw", "quick", "probs", "check", "replay", "demo", "seed", "migrate")
 DRAW_FILES = ("design", "frame", "tape", "log", "sample")
 KINDS_OF_FAULTS = ("keys", "table", "fractions", "tape", "words", "design bytes", "frame bytes", "tape bytes", "file")
 
@@ -375,10 +376,11 @@ class Enough(Exception):
     """A draw takes more values than a case may have."""
 
 
-class Chooser:
+class Chooser(sampler.Steps):
     """Chooses the value of each step of a draw, in one of several manners, and keeps those of steps with a bound of 2 or more."""
 
     def __init__(self, r):
+        super().__init__()
         self.r, self.values, self.bounds = r, [], []
         self.manner = r.choice(("any", "any", "any", "edge", "edge", "first", "last", "bit", "low", "second", "mixed"))
 
@@ -569,7 +571,14 @@ def number_word(r, n):
     return r.choice((f"00{n}", "0", "200000", "200001", "18446744073709551617", "+1", "-1", "", "x", "1.0", " 1", "٣"))
 
 
-def words_of(r, command, names, n):
+def stratum_word(r, strata):
+    """The H of `--stratum` as a word, mostly the number of one of the strata or the next number."""
+    if chance(r, 0.9):
+        return str(r.choice((*range(1, strata + 1), r.randint(1, strata + 1))))
+    return r.choice(("0", "00", "01", "0" * 40 + "1", "200000", "200001", "4294967297", "18446744073709551617", "+1", "-1", "", "x", "1.0", "1 ", " 1", "٣"))
+
+
+def words_of(r, command, names, n, strata):
     """The words of a command with these file names."""
     name = {part: text.encode("utf-8") for part, text in names.items()}
     if command == "quick":
@@ -577,29 +586,63 @@ def words_of(r, command, names, n):
         return [b"quick", *([b"--"] if any(word[:1] == b"-" for word in words) or chance(r, 0.03) else []), *words]
     if command == "demo":
         return [b"demo", str(r.choice((29, 30, 31, 40, 100001, 200000))).encode("ascii"), str(r.choice((0, 1, 2**64 - 1, 2**64))).encode("ascii")]
-    parts = {"draw": DRAW_FILES, "replay": ("design", "frame", "log", "sample"), "seed": ("design", "frame", "log", "sample")}
-    options = option_words(r, {part: name[part] for part in parts.get(command, ("design", "frame"))})
+    logged = ("design", "frame", "log", "sample")
+    parts = {"draw": DRAW_FILES, "replay": logged, "seed": logged, "migrate": ("design", "frame", "log", "to")}
+    given = {part: name[part] for part in parts.get(command, ("design", "frame"))}
+    if command == "replay" and chance(r, 0.5):
+        given["stratum"] = stratum_word(r, strata).encode("utf-8")
+    options = option_words(r, given)
     if command == "seed":
         options += [b"--seed", "".join(r.choice("0123456789abcdefABCDEF") for _ in range(r.choice((64, 64, 64, 63, 65)))).encode("ascii")]
     front = {"seed": "draw"}.get(command, command).encode("ascii")
     return [front, *options] if chance(r, 0.9) or b"--" in options else [*options, front]
 
 
-def written_log(r, design, frame):
-    """A log of this design and frame as the reference draws it by a seed, or nothing where they don't go together. Mostly it has a fault."""
-    store = run_cases.Memory({"design": design, "frame": frame})
-    seed = "".join(r.choice("0123456789abcdef") for _ in range(64))
-    words = ["sampler", "draw", "--design", "design", "--frame", "frame", "--seed", seed, "--log", "log", "--sample", "sample"]
+def log_of(r, version, design, frame):
+    """A log of this version, as the reference draws it by a seed, or its first line alone where design and frame don't go together."""
     try:
-        code = sampler.sampler(words, store)
+        read = sampler.read_design(design)
+        draws = sampler.Seed(sampler.chacha_words(r.randbytes(32)))
+        sampler.select(sampler.plan(sampler.read_frame(frame, read), read), read, draws)
     except Exception:
-        code = None
-    log = store.files["log"] if code == 0 else b"sampler-log 1\n"
+        return f"sampler-log {version}\n".encode("ascii")
+    return sampler.log_bytes(design, frame, draws) if version == 2 else sampler.old_log_bytes(design, frame, draws.steps)
+
+
+def with_another_number(r, line):
+    """A line of a log with another number, mostly its last one, or with the same in another form."""
+    parts = line.rstrip(b"\n").split(b" ")
+    place = len(parts) - 1 if chance(r, 0.6) else r.randrange(len(parts))
+    number = int(parts[place]) if parts[place].isdigit() else 0
+    odd = (number, number + 1, max(number - 1, 0), 0, 2**64 - 1, 2**64, 2**128)
+    parts[place] = r.choice((b"%d", b"%d", b"%d", b"0%d", b"%d ", b"+%d", b"%d\r")) % r.choice(odd)
+    return b" ".join(parts) + b"\n"
+
+
+def is_mark(line):
+    """Whether a line of a log is none of a step and none of the head."""
+    return line.startswith((b"stratum ", b"done ", b"end "))
+
+
+def shuffled_sections(r, lines):
+    """A log of version 2 with its sections in another order, or with some of them alone."""
+    begun = [place for place, line in enumerate(lines) if line.startswith(b"stratum ")]
+    if not begun:
+        return lines
+    sections = [lines[first:behind] for first, behind in zip(begun, [*begun[1:], len(lines) - 1])]
+    chosen = r.sample(sections, len(sections)) if chance(r, 0.6) else r.choices(sections, k=len(sections))
+    return lines[: begun[0]] + [line for section in chosen for line in section] + lines[-1:]
+
+
+def written_log(r, design, frame, versions):
+    """A log of this design and frame of one of these versions. Mostly it has a fault."""
+    log = log_of(r, r.choice(versions), design, frame)
     if chance(r, 0.35):
         return log
     lines = log.splitlines(True)
-    place = r.randrange(len(lines))
-    form = r.randrange(9)
+    marks = [place for place, line in enumerate(lines) if is_mark(line)]
+    place = r.choice(marks) if marks and chance(r, 0.5) else r.randrange(len(lines))
+    form = r.randrange(12)
     if form == 0:
         return spoiled_bytes(r, log)
     if form == 1:
@@ -609,21 +652,24 @@ def written_log(r, design, frame):
     elif form == 3:
         del lines[place:]
     elif form == 4:
-        lines += r.choice((lines, [b"x"], [b"\n"], [b"end 0\n"]))
+        lines += r.choice((lines, [b"x"], [b"\n"], [b"end 0\n"], [b"stratum 1 0\n"]))
     elif form == 5:
         lines[-1] = lines[-1].rstrip(b"\n")
+    elif form == 6:
+        other = r.choice(marks) if marks and chance(r, 0.5) else r.randrange(len(lines))
+        lines[place], lines[other] = lines[other], lines[place]
+    elif form == 7:
+        lines = shuffled_sections(r, lines)
+    elif form == 8:
+        lines[0] = r.choice((b"sampler-log 1\n", b"sampler-log 2\n", b"sampler-log 3\n", b"sampler-log 02\n"))
     else:
-        parts = lines[place].split(b" ")
-        last = parts[-1].rstrip(b"\n")
-        number = int(last) if last.isdigit() else 0
-        parts[-1] = r.choice((b"%d", b"0%d", b"%d ", b"+%d", b"%d\r")) % r.choice((number, number + 1, max(number - 1, 0), 0, 2**128)) + b"\n"
-        lines[place] = b" ".join(parts)
+        lines[place] = with_another_number(r, lines[place])
     return b"".join(lines)
 
 
 def names_of(r):
     """The names of the files of a case."""
-    names = {"design": "design.toml", "frame": "frame.csv", "tape": "tape.txt", "log": "log.txt", "sample": "sample.csv"}
+    names = {"design": "design.toml", "frame": "frame.csv", "tape": "tape.txt", "log": "log.txt", "sample": "sample.csv", "to": "new.txt"}
     if chance(r, 0.1):
         odd = ("-", "--", "-x", "=", "a b", "größe", "a\nb", "--frame", "x" * 246, "x" * 247, "x" * 255, '"', "\ufeff", "日本.csv")
         names[r.choice(list(names))] = r.choice(odd)
@@ -640,7 +686,7 @@ def faults_of(r):
 def made(seed):
     """The case of a seed."""
     r = random.Random(seed)
-    command = r.choices(COMMANDS, (62, 11, 7, 4, 8, 1, 7))[0]
+    command = r.choices(COMMANDS, (55, 10, 6, 4, 13, 1, 7, 4))[0]
     faults, names, world = faults_of(r), names_of(r), World(r)
     n = r.randint(1, max(1, len(world.rows) // 2)) if command == "quick" else None
     if n is not None and chance(r, 0.9):
@@ -664,13 +710,16 @@ def made(seed):
     tape = written_tape(r, values)
     if "tape bytes" in faults:
         tape = spoiled_bytes(r, tape)
-    words = words_of(r, command, names, n)
+    words = words_of(r, command, names, n, max(1, world.strata))
     files = {names["design"]: design, names["frame"]: frame, names["tape"]: tape}
     if chance(r, 0.1):
-        files[names["log"]] = files[names["sample"]] = b"what stood here before, and is longer than most of what is written to its place\n" * 40
+        files[names["log"]] = files[names["sample"]] = files[names["to"]] = b"what stood here before, and is longer than most of what is written to its place\n" * 40
         files["sample.csv.partial1"] = b"what a stopped program left"
     if command == "replay":
-        files[names["log"]] = written_log(r, design, frame)
+        alone = any(word.startswith(b"--stratum") for word in words)
+        files[names["log"]] = written_log(r, design, frame, (1, 2, 2, 2, 2, 2) if alone else (1, 2, 2))
+    if command == "migrate":
+        files[names["log"]] = written_log(r, design, frame, (1, 1, 1, 1, 1, 2))
     if "words" in faults:
         words = spoiled_words(r, words)
     if "file" in faults:

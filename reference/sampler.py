@@ -39,7 +39,7 @@ MOST_OF_AN_ESTIMATE = 2**126
 OFFERS_PER_UNIT = 64
 CANDIDATES = 256
 
-USAGE = "error 2 usage: sampler COMMAND [OPTIONS], COMMAND is quick, draw, replay, probs, check or demo"
+USAGE = "error 2 usage: sampler COMMAND [OPTIONS], COMMAND is quick, draw, replay, migrate, probs, check or demo"
 
 
 class Refusal(Exception):
@@ -80,11 +80,12 @@ def written(fraction):
 # ---------------------------------------------------------------------------------------------------------------------------------------------
 # Words. docs/formats.md, "Words"
 
-OPTIONS = ("design", "frame", "tape", "seed", "log", "sample")
+OPTIONS = ("design", "frame", "tape", "seed", "log", "sample", "stratum", "to")
 
 FILES = {
     "draw": (("design", "frame", "tape", "log", "sample"), ("design", "frame", "seed", "log", "sample")),
-    "replay": (("design", "frame", "log", "sample"),),
+    "replay": (("design", "frame", "log", "sample"), ("design", "frame", "log", "sample", "stratum")),
+    "migrate": (("design", "frame", "log", "to"),),
     "probs": (("design", "frame"),),
     "check": (("design", "frame"),),
 }
@@ -150,12 +151,16 @@ def read_words(words):
     elif command in FILES:
         if alone or not any(set(options) == set(needed) for needed in FILES[command]):
             raise usage
-        names = [value for option, value in options.items() if option != "seed"]
+        names = [value for option, value in options.items() if option not in ("seed", "stratum")]
         given = dict(options)
         if "seed" in options:
             if len(options["seed"]) != 64 or any(digit not in "0123456789abcdefABCDEF" for digit in options["seed"]):
                 raise usage
             given["seed"] = bytes.fromhex(options["seed"])
+        if "stratum" in options:
+            given["stratum"] = number_up_to(options["stratum"], MOST_ROWS) if is_digits(options["stratum"]) else None
+            if not given["stratum"]:
+                raise usage
     else:
         raise usage
     if len(set(names)) < len(names):
@@ -888,7 +893,7 @@ def walk(state, draws):
 # Strata and stages. docs/formats.md, "Strata" and "Second stages"
 
 Unit = namedtuple("Unit", "rows size values second")
-Stratum = namedtuple("Stratum", "name units request")
+Stratum = namedtuple("Stratum", "number name units request")
 
 
 def allocate(n, counts):
@@ -972,11 +977,11 @@ def plan(rows, design):
             raise Refusal(5, f"error 5.5 second stage {design.second_n} asked of {many.positive}: {psu}") from None
 
     units = [Unit(inside, *totals[place], seconds[place]) for place, (_, _, inside) in enumerate(listed)]
-    return [Stratum(name, [units[place] for place in members[name]], requests[name]) for name in names]
+    return [Stratum(number, name, [units[place] for place in members[name]], requests[name]) for number, name in enumerate(names, 1)]
 
 
 def asked(strata, count):
-    """The requested fraction of each row: that of its first stage unit, times its own within the unit where there is a second stage."""
+    """The requested fraction of each row of these strata: that of its first stage unit, times its own within the unit where there is a second stage."""
     fractions = [None] * count
     for stratum in strata:
         for unit, first in zip(stratum.units, stratum.request.fractions):
@@ -998,9 +1003,11 @@ def drawn_units(request, method, order, columns, draws):
 def select(strata, design, draws):
     """The drawn rows; for each stratum its drawn first stage units, and how many units were undecided when a landing began.
 
-    Strata come in order of first appearance. In each, the first stage goes first, and then the second stages of the drawn units in their order."""
+    Strata come in order of first appearance. In each, the first stage goes first, and then the second stages of the drawn units in their order. The
+    draws are told where the steps of a stratum begin and where they end."""
     rows, units, left = [], [], []
     for stratum in strata:
+        draws.open()
         first, state = drawn_units(stratum.request, design.method, design.order, [unit.values for unit in stratum.units], draws)
         units.append(first)
         left.append(getattr(state, "left", None) or 0)
@@ -1010,18 +1017,49 @@ def select(strata, design, draws):
             else:
                 inside, _ = drawn_units(unit.second, design.second_method, "frame", [()] * len(unit.rows), draws)
                 rows.extend(unit.rows[place] for place in inside)
+        draws.close()
     return Drawn(sorted(rows), units, left)
 
 
 # ---------------------------------------------------------------------------------------------------------------------------------------------
-# Draws. A source of draws gives a number below a bound and keeps the lines of the steps. A bound of 1 takes nothing and gives 0.
+# Draws. A source of draws gives a number below a bound and keeps the steps. A bound of 1 takes nothing and gives 0.
 
 
-class Tape:
+class Step(namedtuple("Step", "kind bound value")):
+    """A step that was taken."""
+
+    def line(self):
+        return f"{self.kind} {self.bound} {self.value}\n"
+
+
+class Steps:
+    """The steps that were taken, in their order, with the places at which the strata begin, and how many of the steps took a number."""
+
+    def __init__(self):
+        self.steps, self.begun, self.taken = [], [], 0
+
+    def open(self):
+        """The steps of the next stratum begin."""
+        self.begun.append(len(self.steps))
+
+    def close(self):
+        """Those of a stratum have ended."""
+
+    def end(self):
+        """All have ended."""
+
+    def keep(self, kind, bound, value):
+        self.steps.append(Step(kind, bound, value))
+        self.taken += bound > 1
+        return value
+
+
+class Tape(Steps):
     """The numbers of a tape. docs/formats.md, "Tape"."""
 
     def __init__(self, content):
-        self.values, self.taken, self.lines = read_tape(content), 0, []
+        super().__init__()
+        self.values = read_tape(content)
 
     def below(self, kind, bound):
         value = 0
@@ -1031,9 +1069,7 @@ class Tape:
             value = self.values[self.taken]
             if value >= bound:
                 raise Refusal(8, f"error 8 tape value {self.taken + 1} is {value}, bound {bound}")
-            self.taken += 1
-        self.lines.append(f"{kind} {bound} {value}\n")
-        return value
+        return self.keep(kind, bound, value)
 
     def end(self):
         if self.taken < len(self.values):
@@ -1097,30 +1133,29 @@ def sieve(words, bound):
     return None
 
 
-class Seed:
+class Seed(Steps):
     """Numbers from the words of a generator, without end."""
 
     def __init__(self, words):
-        self.words, self.lines = words, []
+        super().__init__()
+        self.words = words
 
     def below(self, kind, bound):
         value = sieve(self.words, bound) if bound > 1 else 0
         if value is None:
             raise Refusal(10, f"error 10 rejected 256 times below {bound}")
-        self.lines.append(f"{kind} {bound} {value}\n")
-        return value
-
-    def end(self):
-        pass
+        return self.keep(kind, bound, value)
 
 
-class Log:
-    """The numbers of a log. It is refused at the first line with which no log of this design and this frame goes on."""
+class Log(Steps):
+    """The numbers of a log of one of these versions. It is refused at the first line with which no such log of this design and this frame goes on."""
 
-    def __init__(self, content, head):
-        self.found = content.split(b"\n")
-        self.place, self.lines = 0, []
-        for line in head.splitlines():
+    def __init__(self, content, versions, design, frame):
+        super().__init__()
+        self.found, self.place = content.split(b"\n"), 0
+        told = [version for version in versions if self.line() == f"sampler-log {version}".encode("ascii")]
+        self.version = told[0] if told else versions[0]
+        for line in log_head(self.version, design, frame).splitlines():
             self.expect(line)
 
     def line(self):
@@ -1131,41 +1166,98 @@ class Log:
         raise Refusal(11, f"error 11 log differs at line {self.place + 1}")
 
     def expect(self, line):
-        if self.line() != line.encode("ascii"):
+        if self.line() != line.rstrip("\n").encode("ascii"):
             self.differs()
         self.place += 1
 
-    def below(self, kind, bound):
-        front = f"{kind} {bound} ".encode("ascii")
+    def number_behind(self, front, bound):
+        """The number below this bound with which the next line ends, where it begins so."""
         line = self.line()
-        if line is None or not line.startswith(front):
+        if line is None or not line.startswith(front.encode("ascii")):
             self.differs()
         digits = line[len(front) :].decode("latin-1")
         value = number_up_to(digits, bound - 1) if is_digits(digits) else None
         if value is None or str(value) != digits:
             self.differs()
-        self.lines.append(f"{kind} {bound} {value}\n")
         self.place += 1
         return value
 
+    def open(self):
+        super().open()
+        if self.version == 2:
+            self.expect(opening_line(len(self.begun), self.taken))
+
+    def close(self):
+        if self.version == 2:
+            self.expect(closing_line(len(self.begun), len(self.steps) - self.begun[-1]))
+
+    def below(self, kind, bound):
+        return self.keep(kind, bound, self.number_behind(f"{kind} {bound} ", bound))
+
     def end(self):
-        self.expect(f"end {len(self.lines)}")
+        self.expect(last_line(len(self.steps)))
         if self.found[self.place :] != [b""]:
             self.differs()
+
+
+class Section(Log):
+    """The numbers of one section of a log of version 2. It stands from its opening line on, the first that begins with its number, and nothing else
+    is read. Its place on the tape may be any."""
+
+    def __init__(self, content, number, design, frame):
+        super().__init__(content, (2,), design, frame)
+        self.number = number
+
+    def open(self):
+        front = f"stratum {self.number} "
+        while self.line() is not None and not self.line().startswith(front.encode("ascii")):
+            self.place += 1
+        self.number_behind(front, 2**64)
+
+    def close(self):
+        self.expect(closing_line(self.number, len(self.steps)))
+
+    def end(self):
+        pass
 
 
 # ---------------------------------------------------------------------------------------------------------------------------------------------
 # Outputs. docs/formats.md, "Outputs"
 
 
-def log_head(design, frame):
-    """The first three lines of a log, which name the bytes of the design and of the frame by their SHA-256."""
-    return f"sampler-log 1\ndesign {hashlib.sha256(design).hexdigest()}\nframe {hashlib.sha256(frame).hexdigest()}\n"
+def log_head(version, design, frame):
+    """The first three lines of a log, which say its version, and name the bytes of the design and of the frame by their SHA-256."""
+    return f"sampler-log {version}\ndesign {hashlib.sha256(design).hexdigest()}\nframe {hashlib.sha256(frame).hexdigest()}\n"
 
 
-def log_bytes(head, lines):
-    """A log: its head, the lines of the steps, and `end` with their number."""
-    return (head + "".join(lines) + f"end {len(lines)}\n").encode("ascii")
+def opening_line(number, taken):
+    """The line before the steps of a stratum: its number, and how many numbers the steps before it took."""
+    return f"stratum {number} {taken}\n"
+
+
+def closing_line(number, count):
+    """The line behind the steps of a stratum: its number, and how many steps it has."""
+    return f"done {number} {count}\n"
+
+
+def last_line(count):
+    """The last line of a log: how many steps it has."""
+    return f"end {count}\n"
+
+
+def old_log_bytes(design, frame, steps):
+    """A log of version 1: its head, the lines of the steps, and the last line."""
+    return (log_head(1, design, frame) + "".join(step.line() for step in steps) + last_line(len(steps))).encode("ascii")
+
+
+def log_bytes(design, frame, draws):
+    """A log of version 2: its head, the lines of the steps, those of each stratum between two lines of its own, and the last line."""
+    text, taken = log_head(2, design, frame), 0
+    for number, (first, behind) in enumerate(zip(draws.begun, [*draws.begun[1:], len(draws.steps)]), 1):
+        own = draws.steps[first:behind]
+        text += opening_line(number, taken) + "".join(step.line() for step in own) + closing_line(number, len(own))
+        taken += sum(step.bound > 1 for step in own)
+    return (text + last_line(len(draws.steps))).encode("ascii")
 
 
 def sample_bytes(rows, fractions, drawn):
@@ -1217,18 +1309,19 @@ def estimate(values, fractions):
         return "wide"
 
 
-def report(rows, strata, design, drawn, lines):
-    """What `draw` and `replay` put: how many were drawn, in how many steps, and for the cube how well each stratum is balanced."""
-    text = f"selected {len(drawn.rows)} of {len(rows)}\nsteps {len(lines)}\n"
+def report(strata, design, drawn, steps):
+    """What `draw` and `replay` put of these strata: how many were drawn, in how many steps, and for the cube how well each stratum is balanced."""
+    rows = sum(len(unit.rows) for stratum in strata for unit in stratum.units)
+    text = f"selected {len(drawn.rows)} of {rows}\nsteps {len(steps)}\n"
     if design.method == "cube":
-        for number, stratum in enumerate(strata):
-            text += f"left {number + 1} {drawn.left[number]}\n"
+        for stratum, units, left in zip(strata, drawn.units, drawn.left):
+            text += f"left {stratum.number} {left}\n"
             fractions = stratum.request.fractions
             for column in range(len(design.values)):
                 values = [unit.values[column] for unit in stratum.units]
-                estimated = estimate([values[unit] for unit in drawn.units[number]], [fractions[unit] for unit in drawn.units[number]])
+                estimated = estimate([values[unit] for unit in units], [fractions[unit] for unit in units])
                 total = sum(value for value, fraction in zip(values, fractions) if fraction > 0)
-                text += f"balance {number + 1} {column + 1} {estimated} {total}\n"
+                text += f"balance {stratum.number} {column + 1} {estimated} {total}\n"
     return text.encode("ascii")
 
 
@@ -1273,7 +1366,7 @@ def quick(given, store):
     drawn = select(strata, design, draws)
     draws.end()
     ids = csv_row("id") + b"".join(csv_row(rows[place].id) for place in drawn.rows)
-    return [(given["out"], ids)], "".join(draws.lines).encode("ascii")
+    return [(given["out"], ids)], "".join(step.line() for step in draws.steps).encode("ascii")
 
 
 def draw(given, store):
@@ -1286,23 +1379,41 @@ def draw(given, store):
     draws = Seed(chacha_words(given["seed"])) if "seed" in given else Tape(store.read(given["tape"]))
     drawn = select(strata, design, draws)
     draws.end()
-    log = log_bytes(log_head(design_bytes, frame_bytes), draws.lines)
+    log = log_bytes(design_bytes, frame_bytes, draws)
     sample = sample_bytes(rows, asked(strata, len(rows)), drawn.rows)
-    return [(given["log"], log), (given["sample"], sample)], report(rows, strata, design, drawn, draws.lines)
+    return [(given["log"], log), (given["sample"], sample)], report(strata, design, drawn, draws.steps)
 
 
 def replay(given, store):
-    """Draws the sample that a log tells of, where the log is one of this design and this frame."""
+    """Draws the sample that a log tells of, where the log is one of this design and this frame; or that of one stratum, by its section alone."""
     design_bytes = store.read(given["design"])
     design = read_design(design_bytes)
     frame_bytes = store.read(given["frame"])
     rows = read_frame(frame_bytes, design)
     strata = plan(rows, design)
-    draws = Log(store.read(given["log"]), log_head(design_bytes, frame_bytes))
+    if "stratum" in given:
+        if given["stratum"] > len(strata):
+            raise Refusal(16, f"error 16 stratum {given['stratum']} of {len(strata)}")
+        strata = [strata[given["stratum"] - 1]]
+        draws = Section(store.read(given["log"]), given["stratum"], design_bytes, frame_bytes)
+    else:
+        draws = Log(store.read(given["log"]), (1, 2), design_bytes, frame_bytes)
     drawn = select(strata, design, draws)
     draws.end()
     sample = sample_bytes(rows, asked(strata, len(rows)), drawn.rows)
-    return [(given["sample"], sample)], report(rows, strata, design, drawn, draws.lines)
+    return [(given["sample"], sample)], report(strata, design, drawn, draws.steps)
+
+
+def migrate(given, store):
+    """Writes the log of version 2 for one of version 1."""
+    design_bytes = store.read(given["design"])
+    design = read_design(design_bytes)
+    frame_bytes = store.read(given["frame"])
+    strata = plan(read_frame(frame_bytes, design), design)
+    draws = Log(store.read(given["log"]), (1,), design_bytes, frame_bytes)
+    select(strata, design, draws)
+    draws.end()
+    return [(given["to"], log_bytes(design_bytes, frame_bytes, draws))], f"migrated {len(draws.steps)} steps\n".encode("ascii")
 
 
 def probs(given, store):
@@ -1368,7 +1479,8 @@ def perform(words, store):
     command, given = read_words(words)
     if command == "demo":
         return demo(given)
-    return {"quick": quick, "draw": draw, "replay": replay, "probs": probs, "check": check}[command](given, store)
+    commands = {"quick": quick, "draw": draw, "replay": replay, "migrate": migrate, "probs": probs, "check": check}
+    return commands[command](given, store)
 
 
 def sampler(words, store):

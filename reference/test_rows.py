@@ -4,6 +4,7 @@
 """
 import itertools
 import os
+import random
 import subprocess
 import sys
 import tempfile
@@ -20,6 +21,8 @@ HALVES = "id,p\na,1/2\nb,1/2\nc,1/3\n"
 ZEROS = "0" * 64
 FILES = ["--design", "design", "--frame", "frame"]
 DRAW = ["sampler", "draw", *FILES, "--log", "log", "--sample", "sample"]
+REPLAY = ["sampler", "replay", *FILES, "--log", "log", "--sample", "sample"]
+MIGRATE = ["sampler", "migrate", *FILES, "--log", "log", "--to", "new"]
 
 
 def design(method, n=2, more="", size='size = "size"\n'):
@@ -40,24 +43,72 @@ def store_of(design_text, frame_text, tape=None):
     return Memory(files)
 
 
+def in_sections(strata):
+    """What stands behind the head of a log of version 2, by the lines of the steps of each stratum."""
+    text, taken = "", 0
+    for number, steps in enumerate(strata, 1):
+        text += "".join(f"{line}\n" for line in [f"stratum {number} {taken}", *steps, f"done {number} {len(steps)}"])
+        taken += sum(step.split()[1] != "1" for step in steps)
+    return f"{text}end {sum(map(len, strata))}\n"
+
+
+def old_log(log):
+    """The log of version 1 for one of version 2."""
+    lines = log.splitlines(True)
+    return b"sampler-log 1\n" + b"".join(line for line in lines[1:] if not line.startswith((b"stratum ", b"done ")))
+
+
+def cut(log, count):
+    """The first whole lines of a log."""
+    return b"".join(log.splitlines(True)[:count])
+
+
 class Rows(unittest.TestCase):
     """Each test is a row or a few that belong together."""
 
     maxDiff = None
 
     def drawn(self, design_text, frame_text, tape, steps, sample, report=None):
-        """A draw by a tape has these steps, this sample and this report, and its whole log replays."""
+        """A draw by a tape has these steps, in a list for each stratum or in one, this sample and this report, and its log replays, in both versions."""
         store = store_of(design_text, frame_text, tape)
         self.assertEqual(sampler.sampler([*DRAW, "--tape", "tape"], store), 0, store.written)
-        lines = "".join(line + "\n" for line in steps)
-        self.assertEqual(store.files["log"].decode().split("\n", 3)[3], f"{lines}end {len(steps)}\n")
+        strata = steps if steps and isinstance(steps[0], list) else [steps]
+        self.assertEqual(store.files["log"].decode().split("\n", 3)[3], in_sections(strata))
         self.assertEqual(store.files["sample"].decode(), "id,weight\n" + sample)
         if report is not None:
             self.assertEqual(store.written.decode(), report)
 
-        again = Memory({name: store.files[name] for name in ("design", "frame", "log")})
-        self.assertEqual(sampler.sampler(["sampler", "replay", *FILES, "--log", "log", "--sample", "sample"], again), 0)
-        self.assertEqual((again.files["sample"], again.written), (store.files["sample"], store.written))
+        for log in (store.files["log"], old_log(store.files["log"])):
+            again = self.with_log(store, log)
+            self.assertEqual(sampler.sampler(REPLAY, again), 0)
+            self.assertEqual((again.files["sample"], again.written), (store.files["sample"], store.written))
+        self.migrated(store, store.files["log"])
+
+    def migrated(self, store, log):
+        """The log of version 1 for this one becomes this one."""
+        again = self.with_log(store, old_log(log))
+        before = dict(again.files)
+        self.assertEqual(sampler.sampler(MIGRATE, again), 0, again.written)
+        self.assertEqual(again.files, {**before, "new": log})
+        self.assertEqual(again.written.decode(), f"migrated {log.split()[-1].decode()} steps\n")
+
+    def with_log(self, store, log):
+        """The design and the frame of a store, and this log."""
+        return Memory({"design": store.files["design"], "frame": store.files["frame"], "log": log})
+
+    def without_log(self, store):
+        """The design and the frame of a store."""
+        return Memory({"design": store.files["design"], "frame": store.files["frame"]})
+
+    def differs(self, store, log, line):
+        """The log isn't one of the design and the frame of this store, and differs at this line."""
+        self.refused(REPLAY, self.with_log(store, log), 11, f"error 11 log differs at line {line}")
+
+    def logged(self, design_text, frame_text, tape):
+        """The store after a draw, and its log."""
+        store = store_of(design_text, frame_text, tape)
+        self.assertEqual(sampler.sampler([*DRAW, "--tape", "tape"], store), 0, store.written)
+        return store, store.files["log"]
 
     def refused(self, words, store, code, line):
         """A call ends with this code and this line, and no file has changed."""
@@ -161,7 +212,7 @@ class Rows(unittest.TestCase):
     def test_strata_and_allocation(self):
         text = design("systematic", 5, 'stratum = "s"\n', size="")
         sample = "a1,7/4\na2,7/4\na4,7/4\na6,7/4\nb1,3/1\n"
-        self.drawn(text, self.STRATA, [0, 0], ["system 7 0", "system 3 0"], sample, "selected 5 of 10\nsteps 2\n")
+        self.drawn(text, self.STRATA, [0, 0], [["system 7 0"], ["system 3 0"]], sample, "selected 5 of 10\nsteps 2\n")
         self.put("check", text, self.STRATA, "accepted 10 units in 2 strata\n")
         sizes = 'version = 1\nmethod = "systematic"\nid = "id"\nstratum = "s"\n[sizes]\nA = 2\n'
         self.refused_draw(sizes, self.STRATA, [0, 0], 5, "error 5.3 no sample size: B")
@@ -278,44 +329,201 @@ class Rows(unittest.TestCase):
         self.refused_draw(design("pivotal"), FOUR, [0, 4, 4], 8, "error 8 tape value 2 is 4, bound 4")
         self.refused_draw(design("pivotal"), FOUR, "0\n3x\n", 6, "error 6 tape line 2 isn't a number")
 
+    # Logs
+
+    def test_log_of_one_stratum(self):
+        store, log = self.logged(design("pivotal"), FOUR, [0, 3, 4])
+        self.assertEqual((log.count(b"\n"), len(log)), (9, 214))
+        lines = log.decode().splitlines()
+        self.assertEqual((lines[0], lines[3:]), ("sampler-log 2", ["stratum 1 0", "pivot 3 0", "pivot 4 3", "pivot 5 4", "done 1 3", "end 3"]))
+        self.assertEqual([len(line) for line in lines[1:3]], [71, 70])
+        self.assertEqual((old_log(log).count(b"\n"), len(old_log(log))), (7, 193))
+
+    def test_log_of_two_strata(self):
+        _, log = self.logged(design("systematic", 5, 'stratum = "s"\n', size=""), self.STRATA, [0, 0])
+        sections = ["stratum 1 0", "system 7 0", "done 1 1", "stratum 2 1", "system 3 0", "done 2 1", "end 2"]
+        self.assertEqual(log.decode().splitlines()[3:], sections)
+
+    def test_log_of_empty_sections(self):
+        frame = "id,s\na,A\nb,B\nc,B\nd,C\n"
+        text = 'version = 1\nmethod = "pivotal"\nid = "id"\nstratum = "s"\n[sizes]\nA = 1\nB = 1\nC = 1\n'
+        store, log = self.logged(text, frame, [1])
+        sections = ["stratum 1 0", "done 1 0", "stratum 2 0", "pivot 2 1", "done 2 1", "stratum 3 1", "done 3 0", "end 1"]
+        self.assertEqual(log.decode().splitlines()[3:], sections)
+        for changed, line in (
+            (log.replace(b"stratum 1 0\ndone 1 0\n", b""), 4),
+            (log.replace(b"done 1 0\n", b""), 5),
+            (log.replace(b"stratum 3 1\n", b""), 9),
+            (log.replace(b"stratum 3 1\ndone 3 0\n", b""), 9),
+            (log.replace(b"end 1\n", b"stratum 4 1\ndone 4 0\nend 1\n"), 11),
+        ):
+            self.differs(store, changed, line)
+
+    def test_places_on_the_tape(self):
+        """A step of bound 1 takes no number, and so counts for T and N, and not for P."""
+        frame = "id,s,x\n" + "".join(f"{name}{i},{name},{i}\n" for name in "AB" for i in range(1, 5))
+        text = design("cube", 4, 'stratum = "s"\nbalance = ["x"]\n', size="")
+        _, log = self.logged(text, frame, [0, 3, 0, 0, 0])
+        first = ["stratum 1 0", "flight 2 0", "flight 4 3", "drop 1 0", "flight 3 0", "done 1 4"]
+        self.assertEqual(log.decode().splitlines()[3:], [*first, "stratum 2 3", "flight 2 0", "flight 4 0", "done 2 2", "end 6"])
+
     def test_replay(self):
-        store = store_of(design("pivotal"), FOUR, [0, 3, 4])
-        sampler.sampler([*DRAW, "--tape", "tape"], store)
-        log = store.files["log"]
-        self.assertEqual((log.count(b"\n"), len(log)), (7, 193))
-        self.assertTrue(log.endswith(b"\npivot 3 0\npivot 4 3\npivot 5 4\nend 3\n"))
-        words = ["sampler", "replay", *FILES, "--log", "log", "--sample", "again"]
+        store, log = self.logged(design("pivotal"), FOUR, [0, 3, 4])
+        for version in (log, old_log(log)):
+            other = self.with_log(store, version.replace(b"pivot 4 3", b"pivot 4 0"))
+            self.assertEqual(sampler.sampler(REPLAY, other), 0)
+            self.assertEqual(other.files["sample"], b"id,weight\na,5/1\nd,5/4\n")
+            # In version 2 the lines of the steps stand one line later, and the last line two.
+            later = 1 if version is log else 0
+            last = 7 + 2 * later
+            differing = [
+                (version.replace(b"pivot 4 3", b"pivot 4 4"), 5 + later),
+                (version.replace(b"pivot 4 3", b"pivot 4 03"), 5 + later),
+                (version.replace(b"pivot 4 3", b"pivot 4  3"), 5 + later),
+                (version[: version.index(b" 3\npivot 5")], 5 + later),
+                (version.replace(b"pivot 5 4\n", b""), 6 + later),
+                (version + b"end 3\n", last + 1),
+                (version + b"e", last + 1),
+                (version[:-1], last),
+                (version.replace(b"end 3", b"end 2"), last),
+                (version.replace(b"\nframe ", b"\nframe 0"), 3),
+                (version.replace(b"sampler-log ", b"sampler-log 1"), 1),
+                (version[1:], 1),
+            ]
+            for changed, line in differing:
+                self.differs(store, changed, line)
+            for count in range(version.count(b"\n")):
+                self.differs(store, cut(version, count), count + 1)
+        self.differs(store, old_log(log).replace(b"sampler-log 1", b"sampler-log 2"), 4)
+        self.differs(store, log.replace(b"sampler-log 2", b"sampler-log 1"), 4)
+        self.differs(store, log.replace(b"sampler-log 2", b"sampler-log 3"), 1)
+        self.differs(store, log + old_log(log), 10)
 
-        def files(changed):
-            return Memory({"design": store.files["design"], "frame": store.files["frame"], "log": changed})
+    def test_replay_of_sections(self):
+        store, log = self.logged(design("systematic", 5, 'stratum = "s"\n', size=""), self.STRATA, [0, 0])
+        head, first, second = cut(log, 3), b"stratum 1 0\nsystem 7 0\ndone 1 1\n", b"stratum 2 1\nsystem 3 0\ndone 2 1\n"
+        self.assertEqual(log, head + first + second + b"end 2\n")
+        for count in range(10):
+            self.differs(store, cut(log, count), count + 1)
+        for changed, line in (
+            (head + second + first + b"end 2\n", 4),
+            (head + first + first + b"end 2\n", 7),
+            (head + first + second + second + b"end 3\n", 10),
+            (log.replace(b"stratum 1 0", b"stratum 1 1"), 4),
+            (log.replace(b"stratum 1 0", b"stratum 01 0"), 4),
+            (log.replace(b"stratum 2 1", b"stratum 2 0"), 7),
+            (log.replace(b"stratum 2 1", b"stratum 2 01"), 7),
+            (log.replace(b"stratum 2 1", b"stratum 3 1"), 7),
+            (log.replace(b"stratum 2 1\n", b"stratum 2 1\nstratum 2 1\n"), 8),
+            (log.replace(b"done 1 1", b"done 1 2"), 6),
+            (log.replace(b"done 2 1", b"done 2 2"), 9),
+            (log.replace(b"done 2 1", b"done 1 1"), 9),
+            (log.replace(b"done 1 1\n", b""), 6),
+            (log.replace(b"system 7 0", b"system 7 9"), 5),
+            (log.replace(b"system 7 0\n", b""), 5),
+            (log.replace(b"end 2", b"end 1"), 10),
+        ):
+            self.differs(store, changed, line)
 
-        other = files(log.replace(b"pivot 4 3", b"pivot 4 0"))
-        self.assertEqual(sampler.sampler(words, other), 0)
-        self.assertEqual(other.files["again"], b"id,weight\na,5/1\nd,5/4\n")
-        differing = [
-            (log.replace(b"pivot 4 3", b"pivot 4 4"), 5),
-            (log.replace(b"pivot 4 3", b"pivot 4 03"), 5),
-            (log.replace(b"pivot 4 3", b"pivot 4  3"), 5),
-            (log[: log.index(b" 3\npivot 5")], 5),
-            (log + b"end 3\n", 8),
-            (log + b"e", 8),
-            (log[:-1], 7),
-            (log.replace(b"end 3", b"end 2"), 7),
-            (log.replace(b"pivot 5 4\n", b""), 6),
-            (log.replace(b"sampler-log 1", b"sampler-log 2"), 1),
-            (log.replace(b"\nframe ", b"\nframe 0"), 3),
+    def section(self, store, log, number, sample, report):
+        """The replay of this section alone gives this sample and this report."""
+        again = self.with_log(store, log)
+        self.assertEqual(sampler.sampler([*REPLAY, "--stratum", str(number)], again), 0, again.written)
+        self.assertEqual((again.files["sample"].decode(), again.written.decode()), ("id,weight\n" + sample, report))
+
+    def section_differs(self, store, log, number, line):
+        """It differs at this line."""
+        self.refused([*REPLAY, "--stratum", str(number)], self.with_log(store, log), 11, f"error 11 log differs at line {line}")
+
+    def test_replay_of_one_section(self):
+        store, log = self.logged(design("systematic", 5, 'stratum = "s"\n', size=""), self.STRATA, [0, 0])
+        head, first, second = cut(log, 3), b"stratum 1 0\nsystem 7 0\ndone 1 1\n", b"stratum 2 1\nsystem 3 0\ndone 2 1\n"
+        one, other = ("a1,7/4\na2,7/4\na4,7/4\na6,7/4\n", "selected 4 of 7\nsteps 1\n"), ("b1,3/1\n", "selected 1 of 3\nsteps 1\n")
+        self.section(store, log, 1, *one)
+        self.section(store, log, 2, *other)
+        self.section(store, log, "002", *other)
+        # What stands elsewhere isn't read, and the place on the tape isn't compared.
+        self.section(store, log.replace(b"system 7 0", b"system 7 9"), 2, *other)
+        self.section_differs(store, log.replace(b"system 7 0", b"system 7 9"), 1, 5)
+        for changed in (
+            head + second,
+            head + second + b"x",
+            head + second + first,
+            head + second + second,
+            head + b"\xff\nsystem 3 9\nstratum 22 0\nstratum 2\n stratum 2 0\n" + second,
+            log.replace(b"stratum 2 1", b"stratum 2 0"),
+            log.replace(b"stratum 2 1", b"stratum 2 18446744073709551615"),
+            log.replace(b"end 2", b"end 9"),
+        ):
+            self.section(store, changed, 2, *other)
+        for changed, line in (
             (b"", 1),
-        ]
-        for changed, line in differing:
-            self.refused(words, files(changed), 11, f"error 11 log differs at line {line}")
+            (old_log(log), 1),
+            (cut(log, 1), 2),
+            (log.replace(b"\nframe ", b"\nframe 0"), 3),
+            (log.replace(b"\nframe ", b"\nframe 0").replace(b"stratum 2", b"stratum 3"), 3),
+            (head, 4),
+            (head + first, 7),
+            (head + first + b"stratum 2 1", 7),
+            (head + first + b"end 1\n", 8),
+            (log.replace(b"stratum 2 1", b"stratum 02 1"), 11),
+            (log.replace(b"stratum 2 1", b"stratum 2 01"), 7),
+            (log.replace(b"stratum 2 1", b"stratum 2 18446744073709551616"), 7),
+            (log.replace(b"stratum 2 1", b"stratum 2 "), 7),
+            (head + b"stratum 2 1\n" + second, 5),
+            (head + b"stratum 2 x\n" + second, 4),
+            (log.replace(b"system 3 0", b"system 3 3"), 8),
+            (log.replace(b"done 2 1", b"done 2 2"), 9),
+            (cut(log, 8), 9),
+            (cut(log, 9)[:-1], 9),
+        ):
+            self.section_differs(store, changed, 2, line)
+        self.refused([*REPLAY, "--stratum", "3"], self.with_log(store, log), 16, "error 16 stratum 3 of 2")
+        self.refused([*REPLAY, "--stratum", "200000"], self.without_log(store), 16, "error 16 stratum 200000 of 2")
+        self.refused([*REPLAY, "--stratum", "2"], self.without_log(store), 12, "")
+        more = self.without_log(store)
+        more.files["design"] = more.files["design"].replace(b"n = 5", b"n = 50")
+        self.refused([*REPLAY, "--stratum", "3"], more, 5, "error 5.4 35 asked of 7: A")
+
+    def test_replay_of_an_empty_section(self):
+        frame = "id,s\na,A\nb,B\nc,B\nd,C\n"
+        text = 'version = 1\nmethod = "pivotal"\nid = "id"\nstratum = "s"\n[sizes]\nA = 1\nB = 1\nC = 1\n'
+        store, log = self.logged(text, frame, [1])
+        self.section(store, log, 1, "a,1/1\n", "selected 1 of 1\nsteps 0\n")
+        self.section(store, cut(log, 3) + b"stratum 3 9\ndone 3 0\n", 3, "d,1/1\n", "selected 1 of 1\nsteps 0\n")
+        self.section_differs(store, log.replace(b"done 3 0", b"pivot 2 1"), 3, 10)
+
+    def test_replay_of_a_cube_alone(self):
+        frame = "id,s,x\n" + "".join(f"{name}{i},{name},{i}\n" for i in range(1, 5) for name in "AB")
+        text = design("cube", 4, 'stratum = "s"\nbalance = ["x"]\n', size="")
+        store, log = self.logged(text, frame, [0, 0, 0, 3, 0])
+        self.section(store, log, 1, "A1,2/1\nA4,2/1\n", "selected 2 of 4\nsteps 2\nleft 1 0\nbalance 1 1 10/1 10\n")
+        self.section(store, log, 2, "B3,2/1\nB4,2/1\n", "selected 2 of 4\nsteps 4\nleft 2 2\nbalance 2 1 14/1 10\n")
+
+    def test_replay_of_villages_alone(self):
+        second = '[second]\npsu = "village"\nmethod = "systematic"\nn = 1\n'
+        frame = "id,s,village\na1,x,A\na2,x,A\nb1,x,B\nb2,x,B\nb3,x,B\nc1,y,C\nc2,y,C\n"
+        store, log = self.logged(design("pivotal", 2, 'stratum = "s"\n' + second, size=""), frame, [4, 2, 0])
+        self.section(store, log, 1, "b3,5/1\n", "selected 1 of 5\nsteps 2\n")
+        self.section(store, log, 2, "c1,2/1\n", "selected 1 of 2\nsteps 1\n")
+
+    def test_migrate(self):
+        store, log = self.logged(design("pivotal"), FOUR, [0, 3, 4])
+        self.migrated(store, log)
+        self.migrated(store, log.replace(b"pivot 4 3", b"pivot 4 0"))
+        old = old_log(log)
+        differing = [(log, 1), (b"", 1), (old.replace(b"pivot 4 3", b"pivot 4 4"), 5), (old.replace(b"end 3", b"end 2"), 7), (old + b"x", 8)]
+        for changed, line in differing + [(cut(old, count), count + 1) for count in range(7)]:
+            self.refused(MIGRATE, self.with_log(store, changed), 11, f"error 11 log differs at line {line}")
+        self.refused(MIGRATE, self.without_log(store), 12, "")
+        more = self.with_log(store, old)
+        more.files["design"] = more.files["design"].replace(b"n = 2", b"n = 5")
+        self.refused(MIGRATE, more, 5, "error 5.4 5 asked of 4: ")
 
     def test_replay_of_a_dropped_row(self):
-        store = store_of(design("cube", more='balance = ["x"]\n', size=""), "id,x\n1,1\n2,2\n3,3\n4,4\n", [0, 3, 0])
-        sampler.sampler([*DRAW, "--tape", "tape"], store)
-        log = store.files["log"].replace(b"flight 4 3", b"flight 4 0")
-        files = Memory({"design": store.files["design"], "frame": store.files["frame"], "log": log})
-        words = ["sampler", "replay", *FILES, "--log", "log", "--sample", "again"]
-        self.refused(words, files, 11, "error 11 log differs at line 6")
+        store, log = self.logged(design("cube", more='balance = ["x"]\n', size=""), "id,x\n1,1\n2,2\n3,3\n4,4\n", [0, 3, 0])
+        self.differs(store, log.replace(b"flight 4 3", b"flight 4 0"), 7)
+        self.differs(store, old_log(log).replace(b"flight 4 3", b"flight 4 0"), 6)
 
     def test_refused_frames(self):
         rows = {
@@ -407,6 +615,19 @@ class Rows(unittest.TestCase):
             ["sampler", "quick", "\udcff", "2", "tape", "out"],
             ["sampler", "demo", "29", "1"],
             ["sampler", "demo", "100001", "1"],
+            [*REPLAY, "--stratum", "0"],
+            [*REPLAY, "--stratum", "200001"],
+            [*REPLAY, "--stratum", "+1"],
+            [*REPLAY, "--stratum="],
+            [*REPLAY, "--stratum", "1", "--stratum", "1"],
+            [*DRAW, *tape, "--stratum", "1"],
+            ["sampler", "probs", *FILES, "--stratum", "1"],
+            MIGRATE[:-2],
+            [*MIGRATE[:-1], "log"],
+            [*MIGRATE, "more"],
+            [*MIGRATE, "--sample", "sample"],
+            [*MIGRATE, "--stratum", "1"],
+            [*REPLAY, "--to", "new"],
         ]
         for words in rows:
             self.refused(words, store_of(design("pivotal"), FOUR, [0, 3, 4]), 2, sampler.USAGE)
@@ -444,8 +665,8 @@ class Rows(unittest.TestCase):
             store = store_of(text, FOUR)
             self.assertEqual(sampler.sampler([*DRAW, "--seed", ZEROS], store), 0)
             self.assertEqual(store.files["sample"].count(b"\n"), 3)
-            again = Memory({name: store.files[name] for name in ("design", "frame", "log")})
-            self.assertEqual(sampler.sampler(["sampler", "replay", *FILES, "--log", "log", "--sample", "sample"], again), 0)
+            again = self.with_log(store, store.files["log"])
+            self.assertEqual(sampler.sampler(REPLAY, again), 0)
             self.assertEqual((again.files["sample"], again.written), (store.files["sample"], store.written))
 
     def test_demo(self):
@@ -510,17 +731,18 @@ class Asking(Exception):
         self.bound = bound
 
 
-class Front:
+class Front(sampler.Steps):
     """The first numbers of a tape."""
 
     def __init__(self, values):
+        super().__init__()
         self.values = iter(values)
 
-    def below(self, _kind, bound):
+    def below(self, kind, bound):
         value = 0 if bound == 1 else next(self.values, None)
         if value is None:
             raise Asking(bound)
-        return value
+        return self.keep(kind, bound, value)
 
 
 def over_all_tapes(strata, text, count, values=()):
@@ -531,6 +753,127 @@ def over_all_tapes(strata, text, count, values=()):
         tails = [over_all_tapes(strata, text, count, (*values, value)) for value in range(asking.bound)]
         return [sum(row) / asking.bound for row in zip(*tails)]
     return [Fraction(place in drawn.rows) for place in range(count)]
+
+
+def full_tapes(strata, text, values=()):
+    """The steps of the draw by each full tape."""
+    front = Front(values)
+    try:
+        sampler.select(strata, text, front)
+    except Asking as asking:
+        for value in range(asking.bound):
+            yield from full_tapes(strata, text, (*values, value))
+    else:
+        yield front
+
+
+def kept(log, logs):
+    """The greatest number of whole lines of a log that are the first lines of one of these logs."""
+    lines, most = log.splitlines(True), 0
+    for genuine in logs:
+        same = 0
+        for line, other in zip(lines, genuine):
+            if line != other:
+                break
+            same += 1
+        most = max(most, same)
+    return most
+
+
+def damaged(r, log):
+    """A log with one or two edits of its lines."""
+    lines = log.splitlines(True)
+    for _ in range(r.choice((1, 1, 2))):
+        place, other = r.randrange(len(lines)), r.randrange(len(lines))
+        form = r.randrange(7)
+        if form == 0:
+            del lines[place]
+        elif form == 1:
+            lines.insert(place, lines[other])
+        elif form == 2:
+            lines[place], lines[other] = lines[other], lines[place]
+        elif form == 3:
+            lines[place:] = [lines[place][: r.randrange(len(lines[place]))]]
+        else:
+            front, _, last = lines[place].rpartition(b" ")
+            lines[place] = front + b" %d\n" % max(0, int(last) + r.choice((-1, 1, 1, 2))) if last.rstrip(b"\n").isdigit() else lines[place][1:]
+        lines = lines or [b""]
+    return b"".join(lines)
+
+
+class Logs(unittest.TestCase):
+    """A damaged log is looked for among all genuine ones of both versions."""
+
+    WORLDS = [
+        (design("pivotal"), FOUR),
+        (design("systematic", 3, 'stratum = "s"\n', size=""), "id,s\na,A\nb,B\nc,A\nd,C\ne,B\n"),
+        (design("cube", 3, 'stratum = "s"\nbalance = ["x"]\n', size=""), "id,s,x\na,A,1\nb,A,3\nc,A,4\nd,B,1\n"),
+        (design("pivotal", 2, 'stratum = "s"\n[second]\npsu = "p"\nmethod = "systematic"\nn = 1\n', size=""), "id,s,p\na,A,x\nb,A,x\nc,A,y\nd,B,z\ne,B,z\n"),
+        (given("local_pivotal", 'near = ["x"]\nstratum = "s"\n'), "id,s,p,x\na,A,1/2,0\nb,A,1/3,1\nc,B,1,2\nd,B,1/2,3\n"),
+    ]
+
+    def worlds(self):
+        """A generator of random numbers, each design and frame with its plan, and the steps of all full tapes."""
+        for text, frame in self.WORLDS:
+            read = sampler.read_design(text.encode())
+            rows = sampler.read_frame(frame.encode(), read)
+            strata = sampler.plan(rows, read)
+            yield random.Random(text), Memory({"design": text.encode(), "frame": frame.encode()}), strata, list(full_tapes(strata, read))
+
+    def test_all_logs(self):
+        for r, store, _, draws in self.worlds():
+            files = (store.files["design"], store.files["frame"])
+            logs = [sampler.log_bytes(*files, steps) for steps in draws] + [sampler.old_log_bytes(*files, steps.steps) for steps in draws]
+            self.assertEqual(len(logs), len(set(logs)))
+            lines = [log.splitlines(True) for log in logs]
+            for log in logs + [damaged(r, r.choice(logs)) for _ in range(400)]:
+                again, new = Memory({**store.files, "log": log}), Memory({**store.files, "log": log})
+                code = sampler.sampler(REPLAY, again)
+                if log in logs[: len(draws)] or log not in logs:
+                    line = kept(log, lines[len(draws) :]) + 1
+                    self.assertEqual((sampler.sampler(MIGRATE, new), new.written.decode()), (11, f"error 11 log differs at line {line}\n"))
+                else:
+                    self.assertEqual((sampler.sampler(MIGRATE, new), new.files["new"]), (0, logs[logs.index(log) - len(draws)]))
+                if log in logs:
+                    self.assertEqual(code, 0)
+                else:
+                    self.assertEqual((code, again.written.decode()), (11, f"error 11 log differs at line {kept(log, lines) + 1}\n"), log)
+
+
+    def test_all_sections(self):
+        for r, store, strata, draws in self.worlds():
+            files = (store.files["design"], store.files["frame"])
+            logs = [sampler.log_bytes(*files, steps) for steps in draws]
+            head = logs[0].splitlines(True)[:3]
+            read = sampler.read_design(files[0])
+            for stratum in strata:
+                steps = [[step.line().encode() for step in alone.steps] for alone in full_tapes([stratum], read)]
+                sections = [[*lines, b"done %d %d\n" % (stratum.number, len(lines))] for lines in steps]
+                for log in logs + [damaged(r, r.choice(logs)) for _ in range(200)]:
+                    again = Memory({**store.files, "log": log})
+                    code = sampler.sampler([*REPLAY, "--stratum", str(stratum.number)], again)
+                    line = self.line_of(log, head, stratum.number, sections)
+                    if line is None:
+                        self.assertEqual(code, 0, log)
+                    else:
+                        self.assertEqual((code, again.written.decode()), (11, f"error 11 log differs at line {line}\n"), log)
+
+    def line_of(self, log, head, number, sections):
+        """The line at which a section differs, or None where one of these stands there."""
+        lines = [line for line in log.splitlines(True) if line.endswith(b"\n")]
+        for place, line in enumerate(head):
+            if lines[place : place + 1] != [line]:
+                return place + 1
+        opening = next((place for place, line in enumerate(lines) if line.startswith(b"stratum %d " % number)), None)
+        if opening is None:
+            return len(lines) + 1
+        place = lines[opening].split(b" ", 2)[2].rstrip(b"\n")
+        if not (place.isdigit() and int(place) < 2**64 and str(int(place)).encode() == place):
+            return opening + 1
+        rest = lines[opening + 1 :]
+        if any(rest[: len(section)] == section for section in sections):
+            return None
+        return opening + 2 + kept(b"".join(rest), sections)
 
 
 class Probabilities(unittest.TestCase):

@@ -1,5 +1,5 @@
 -- What the cube draws of the strata of a plan, and what the report tells of it.
-use Rattle.std.proofs.Common.{◌≡◌, ℕ, ◌+◌, ◌-◌, ◌^◌, ◌<◌, ◌≤◌, Bool, true, false, ℤ, List, [], ◌∷◌, length, map, get_or, Some, None, refl, sym, ap, subst, ◌∙◌, inl, inr, arith, true≢false}
+use Rattle.std.proofs.Common.{◌≡◌, ℕ, ◌+◌, ◌-◌, ◌^◌, ◌<◌, ◌≤◌, Bool, true, false, ℤ, List, [], ◌∷◌, length, map, get_or, Some, None, refl, sym, ap, subst, ◌∙◌, inl, inr, arith}
 use Rattle.std.specs.Prelude.{if◌then◌else◌, is_some, nat_le, option_map}
 use Rattle.std.specs.Str.{bytes_eq}
 use Rattle.std.specs.List.{filter, range_with_len, slice_get}
@@ -10,19 +10,14 @@ use Rattle.std.proofs.lemmas.List.Elements.{All-from_get_or, All-map, All-weaker
 use Rattle.std.proofs.lemmas.Option.{slice_get_within, slice_get-get_or, slice_get-map, same_Some}
 use Rattle.smp_frame.specs.declared.frame.Unit as unit
 use Rattle.smp_prob.specs.declared.orders.Order.{Order}
-use Rattle.smp_values.specs.Values.{is_one}
 use Rattle.smp_frame.specs.Bounds.{AreNear}
 use Rattle.smp_kernel.specs.Vectors.{Within}
 use Rattle.smp_prob.specs.declared.requests.Request.{Request}
-use Rattle.smp_prob.specs.declared.standings.Standing.{Standing}
-use Rattle.smp_prob.specs.declared.standings.Standing.TheVariants.{Certain, Free, Never}
-use Rattle.smp_prob.specs.Requests.{IsRequest}
-use Rattle.smp_prob.specs.Standings.{standing, is_taken}
+use Rattle.smp_prob.specs.Standings.{standing}
 use Rattle.smp_split.specs.Paths.{Entry}
 use Rattle.smp_flight.specs.Requests.{AreValues}
-use Rattle.smp_landing.specs.Cube.{Balancing, values_in}
+use Rattle.smp_landing.specs.Cube.{Balancing}
 use Rattle.smp_balance.specs.Strata.{IsStratum}
-use Rattle.smp_balance.specs.Strata as balance
 use Rattle.smp_balance.specs.Totals.{can_be_selected, is_selected}
 use Rattle.smp_balance.specs.Reports.{TellsColumn}
 use Rattle.smp_balance.specs.Lines as lines
@@ -42,7 +37,7 @@ use Rattle.smp_stages.specs.Stages.{Progress}
 use Rattle.smp_strata.specs.Bounds.{IsFirst}
 use Rattle.smp_strata.specs.Clusters.{clusters as clusters_of, clusters_in, first_row, strata_numbers, stratum_name, stratum_names}
 use Rattle.smp_strata.specs.Plans.{Parts, parts_of, first_of, stratum_of}
-use Rattle.smp_strata.specs.Rows.{size_of, stratum_at}
+use Rattle.smp_strata.specs.Rows.{stratum_at}
 use Rattle.smp_strata.proofs.Members.{count_all}
 use Rattle.smp_strata.specs.declared.strata.First.{First}
 use Rattle.smp_strata.specs.declared.strata.Stratum.{Stratum}
@@ -50,22 +45,20 @@ use Rattle.smp_twostage.specs.Cubes.{IsDrawnByCube, balancing}
 use Rattle.smp_twostage.specs.Selections.{tree_of as stage_tree, first_number, stages_of, states_of}
 use Rattle.smp_twostage.specs.Kept.{IsPlanned as IsPlannedStratum}
 use Rattle.smp_twostage.specs.Plans.{CanBeDrawn}
+use Rattle.smp_twostage.specs.Covered.{covered_first}
+use Rattle.smp_twostage.specs.Selections.{covers}
 use Rattle.smp_twostage.specs.Starts.{first_selected}
 use Rattle.smp_twostage.proofs.Columns.{is_planned}
 use Rattle.smp_twostage.proofs.Cubes.{cube_selected}
 use Rattle.smp_app.specs.declared.plan.FramePlan.{FramePlan}
-use Rattle.smp_app.specs.Plans.{parts, Drawn}
+use Rattle.smp_app.specs.Plans.{Plan, parts, Drawn, covered}
 use Rattle.smp_app.specs.Stages.{IsPlanned, plan_view}
 use Rattle.smp_app.specs.Draws.{KeepsBalance}
 use Rattle.smp_app.specs.Texts.{drawn_stratum}
+use Rattle.smp_app.proofs.Alone.{covered_open}
 use Rattle.smp_app.proofs.Written.{passing}
 
 -- ---- the strata of a plan
-
-drawn_open : (drawn : ℕ → Bool) (stand : Standing) → is_taken drawn stand ≡ true → can_be_selected stand ≡ true
-drawn_open drawn Certain h = refl
-drawn_open drawn (Free u) h = refl
-drawn_open drawn Never h = absurd (true≢false (sym h))
 
 filter_same : (p q : ℕ → Bool) (xs : List ℕ) → ((k : ℕ) → p k ≡ q k) → filter p xs ≡ filter q xs
 filter_same p q [] same = refl
@@ -141,7 +134,7 @@ module _ (plan : FramePlan) (planned : IsPlanned plan) (cube : plan.design.metho
 
   module _ (path : List Entry) (to : Progress AnyState) (leaf : Balancing) (leaf_is : slice_get to.states (first_number all h) ≡ Some (states.Cube leaf)) where
     abbrev here : Drawn
-    here = record { plan = plan_view plan; leaf = to; path = path }
+    here = record { plan = plan_view plan; only = None; leaf = to; path = path }
 
     units_are : (drawn_stratum here h s).units ≡ filter (is_selected (balancing s) leaf) (range_with_len 0 (length (map (λ u. u.values) s.units)))
     units_are =
@@ -151,30 +144,36 @@ module _ (plan : FramePlan) (planned : IsPlanned plan) (cube : plan.design.metho
     pub tells : (column : ℕ) → TellsColumn (drawn_stratum here h s) leaf column
     tells = each_line_tells (drawn_stratum here h s) leaf is_stratum units_are
 
-    pub is_told : IsTold (drawn_stratum here h s)
+  -- ---- what is told of it, whichever strata are covered
+
+  module _ (drawn : Drawn) (by : drawn.plan ≡ plan_view plan) (covered_so : covers (covered drawn) h ≡ true) where
+    its : slice_get (covered drawn).plan.strata h ≡ Some s
+    its = ap (λ (p : Plan). slice_get (parts p).strata h) by ∙ is
+
+    pub is_told : IsTold (drawn_stratum drawn h s)
     is_told = record {
       stratum = is_stratum;
       few = few_units;
       columns = refl;
       units =
-          All-weaker (λ k. first_selected all to.states h k ≡ true) (λ k. can_be_selected (standing s.request k) ≡ true)
-          (λ k selected. drawn_open (is_one (values_in leaf)) (standing s.request k) (sym (cube_selected all drawable cube to.states h s is leaf leaf_is k) ∙ selected))
-          (drawn_stratum here h s).units (filter_passes (first_selected all to.states h) (range_with_len 0 (length s.units)));
+          All-weaker (λ k. covered_first (covered drawn) drawn.leaf.states h k ≡ true) (λ k. can_be_selected (standing s.request k) ≡ true)
+          (λ k selected. covered_open (covered drawn) drawn.leaf.states h s its covered_so k selected)
+          (drawn_stratum drawn h s).units (filter_passes (covered_first (covered drawn) drawn.leaf.states h) (range_with_len 0 (length s.units)));
       within =
-          All-from_get_or (λ k. k < length (map (λ u. u.values) s.units)) (drawn_stratum here h s).units 0
-          (λ i l. let below = (passing (first_selected all to.states h) 0 0 (length s.units) i l).0 in omega (arith, below, length-map s.units (λ u. u.values)));
+          All-from_get_or (λ k. k < length (map (λ u. u.values) s.units)) (drawn_stratum drawn h s).units 0
+          (λ i l. let below = (passing (covered_first (covered drawn) drawn.leaf.states h) 0 0 (length s.units) i l).0 in omega (arith, below, length-map s.units (λ u. u.values)));
     }
 
     -- what the code says of it
-    pub drawn_same : (left columns : ℕ) (request : Request) (values : List (List ℤ)) (units : List ℕ) → left ≡ (drawn_stratum here h s).left → columns ≡ (drawn_stratum here h s).columns → request ≡ s.request
-        → values ≡ map (λ u. u.values) s.units → units ≡ (drawn_stratum here h s).units
-        → ◌≡◌ {A = lines.Drawn} (record { number = h + 1; left = left; columns = columns; stratum = record { request = request; values = values }; units = units }) (drawn_stratum here h s)
+    pub drawn_same : (left columns : ℕ) (request : Request) (values : List (List ℤ)) (units : List ℕ) → left ≡ (drawn_stratum drawn h s).left → columns ≡ (drawn_stratum drawn h s).columns → request ≡ s.request
+        → values ≡ map (λ u. u.values) s.units → units ≡ (drawn_stratum drawn h s).units
+        → ◌≡◌ {A = lines.Drawn} (record { number = h + 1; left = left; columns = columns; stratum = record { request = request; values = values }; units = units }) (drawn_stratum drawn h s)
     drawn_same left columns request values units left_is columns_are request_is values_are units_are =
         ap (λ (n : ℕ). record { number = h + 1; left = n; columns = columns; stratum = record { request = request; values = values }; units = units }) left_is
-        ∙ ap (λ (n : ℕ). record { number = h + 1; left = (drawn_stratum here h s).left; columns = n; stratum = record { request = request; values = values }; units = units }) columns_are
-        ∙ ap (λ (r : Request). record { number = h + 1; left = (drawn_stratum here h s).left; columns = (drawn_stratum here h s).columns; stratum = record { request = r; values = values }; units = units }) request_is
-        ∙ ap (λ (vs : List (List ℤ)). record { number = h + 1; left = (drawn_stratum here h s).left; columns = (drawn_stratum here h s).columns; stratum = record { request = s.request; values = vs }; units = units }) values_are
-        ∙ ap (λ (us : List ℕ). record { number = h + 1; left = (drawn_stratum here h s).left; columns = (drawn_stratum here h s).columns; stratum = balancing s; units = us }) units_are
+        ∙ ap (λ (n : ℕ). record { number = h + 1; left = (drawn_stratum drawn h s).left; columns = n; stratum = record { request = request; values = values }; units = units }) columns_are
+        ∙ ap (λ (r : Request). record { number = h + 1; left = (drawn_stratum drawn h s).left; columns = (drawn_stratum drawn h s).columns; stratum = record { request = r; values = values }; units = units }) request_is
+        ∙ ap (λ (vs : List (List ℤ)). record { number = h + 1; left = (drawn_stratum drawn h s).left; columns = (drawn_stratum drawn h s).columns; stratum = record { request = s.request; values = vs }; units = units }) values_are
+        ∙ ap (λ (us : List ℕ). record { number = h + 1; left = (drawn_stratum drawn h s).left; columns = (drawn_stratum drawn h s).columns; stratum = balancing s; units = us }) units_are
 
 -- ---- the balance of what is drawn
 
@@ -187,7 +186,7 @@ module _ (plan : FramePlan) (planned : IsPlanned plan) (path : List Entry) (to :
 
   pub keeps_balance : (goes : Goes plan.plan) → (plan.plan.method ≡ Cube → (q : List Entry) (ends : List AnyState) (by : GoesByStages stage_tree (stages_of plan.plan) (states_of plan.plan) q ends) (h : ℕ) (s : Stratum)
       → slice_get plan.plan.strata h ≡ Some s → IsDrawnByCube plan.plan h s (by.part (first_number plan.plan h)) ends)
-      → KeepsBalance (record { plan = plan_view plan; leaf = to; path = path })
+      → KeepsBalance (record { plan = plan_view plan; only = None; leaf = to; path = path })
   keeps_balance goes cubes =
       let has : Has (parts (plan_view plan)) = subst Has planned.parts_are (goes, λ h s is cube. cubes cube path to.states goes h s is) in
       record {

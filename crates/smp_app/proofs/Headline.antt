@@ -1,6 +1,7 @@
 -- A draw that ended well is the one of the design, the frame and the draws that were read.
-use Rattle.std.proofs.Common.{◌≡◌, ℕ, List, [], ◌∷◌, Option, Some, None, Result, Ok, Err, refl, sym, ap, subst, ◌∙◌, inl, inr}
-use Rattle.std.specs.Prelude.{◌==◌, option_map}
+use Rattle.std.proofs.Common.{◌≡◌, ℕ, zero, suc, ◌+◌, ◌-◌, ◌^◌, ◌<◌, ◌≤◌, Bool, true, false, ◌&&◌, List, [], ◌∷◌, ◌++◌, length, Option, Some, None, Result, Ok, Err, refl, sym, ap, subst, ◌∙◌, inl, inr, arith, length-append}
+use Rattle.std.specs.Prelude.{◌==◌, if◌then◌else◌, nat_le, option_map}
+use Rattle.std.specs.List.{filter, flat_map, range_with_len}
 use Rattle.std.proofs.lemmas.Bool.{cases_Bool}
 use Rattle.smp_io.specs.Sink.{with_bytes}
 use Rattle.smp_io.specs.Store.{Files}
@@ -10,18 +11,21 @@ use Rattle.smp_tape.specs.Laws.Tapes.{tape_source}
 use Rattle.smp_sieve.specs.Keys.{words_of_seed}
 use Rattle.smp_sieve.specs.Laws.Keys.{key_stream}
 use Rattle.smp_sieve.specs.Laws.Sieves.{sieve_source}
+use Rattle.smp_split.specs.Counts.{selected_units}
 use Rattle.smp_split.specs.Paths.{Entry}
 use Rattle.smp_split.specs.Runs.{Outcome, leaf, stopped, run}
 use Rattle.smp_frame.specs.declared.frame.Unit as unit
 use Rattle.smp_frame.specs.Frames.{frame_of}
 use Rattle.smp_stages.specs.Stages.{Progress}
-use Rattle.smp_twostage.specs.Selections.{BelongsToWhole}
-use Rattle.smp_twostage.specs.Laws.Wholes.{whole_lawful}
+use Rattle.smp_twostage.specs.Covered.{StartsAlone, state_alone}
+use Rattle.smp_twostage.specs.Selections.{BelongsToCovered, BelongsToWhole, Coverage, all_of, covered_start, covered_tree, is_of_stratum, strata_sections}
+use Rattle.smp_twostage.specs.Laws.Wholes.{covered_lawful, strata_sectioned, whole_lawful}
 use Rattle.smp_strata.specs.Misfits.{misfit_of}
 use Rattle.smp_strata.specs.declared.misfit.Misfit.{Misfit}
 use Rattle.smp_design.specs.Designs.{design_of}
 use Rattle.smp_methods.specs.declared.any.AnyState.{AnyState}
 use Rattle.smp_words.specs.declared.command.DrawArguments.{DrawArguments}
+use Rattle.smp_words.specs.declared.command.MigrateArguments.{MigrateArguments}
 use Rattle.smp_words.specs.declared.command.ReplayArguments.{ReplayArguments}
 use Rattle.smp_words.specs.declared.command.Command.TheVariants as commands
 use Rattle.smp_words.specs.declared.command.Chance.{Chance}
@@ -29,25 +33,34 @@ use Rattle.smp_words.specs.declared.command.Chance.TheVariants.{Tape, Seed}
 use Rattle.smp_words.specs.Words.{command_of}
 use Rattle.smp_log.specs.Answers.{IsAnswer, log_reading}
 use Rattle.smp_log.specs.Genuine.{IsFullPath, IsGenuine}
+use Rattle.smp_log.specs.Logs as logs
+use Rattle.smp_log.specs.Logs.{end_text}
+use Rattle.smp_log.specs.LoneSections.{HasSection, IsReplayedAlone, IsSectionAnswer, section_reading, section_told}
+use Rattle.smp_log.specs.SectionLogs.{IsAnyGenuine, IsAnyText, IsSectionedGenuine, placed, section_text, sectioned_head, sectioned_log_text, sections_text}
+use Rattle.smp_log.specs.SectionReading.{any_reading}
 use Rattle.smp_log.specs.Heads.{IsHead, head_of}
 use Rattle.smp_log.specs.Told.{path_told}
-use Rattle.smp_log.proofs.Answered.{exact_reading}
 use Rattle.smp_log.proofs.Heads.{head_of-is}
+use Rattle.smp_log.proofs.Answered.{exact_reading}
+use Rattle.smp_log.proofs.LoneAnswers.{has_reading, has_told}
+use Rattle.smp_log.proofs.LoneExact.{exact_section}
+use Rattle.smp_log.proofs.PartSections.{replayed_alone}
 use Rattle.smp_log.proofs.Telling.{genuine_told}
-use Rattle.smp_log.specs.Logs as logs
+use Rattle.smp_log.proofs.TwoVersions.{any_told, exact_any}
 use Rattle.smp_app.specs.declared.status.Status.{Status}
 use Rattle.smp_app.specs.declared.status.Status.TheVariants as status
-use Rattle.smp_app.specs.declared.status.Status.TheVariants.{TapeLong}
+use Rattle.smp_app.specs.declared.status.Status.TheVariants.{NoStratum, TapeLong}
 use Rattle.smp_app.specs.Codes.{class_of, design_status, frame_status, tape_status}
-use Rattle.smp_app.specs.Plans.{Plan, Drawn, parts, tree_of, start_of}
-use Rattle.smp_app.specs.Texts.{log_text, sample_text, report_text}
-use Rattle.smp_app.specs.Commands.{Held, FrameHeld, DrawnFile, ByLog, Draws, Job, source_of, job_of, job_for, outputs_by}
+use Rattle.smp_app.specs.Plans.{Plan, Drawn, parts, tree_of, start_of, sections_of, covered, drawn_rows}
+use Rattle.smp_app.specs.Texts.{log_text, sample_text, report_text, migrated_text}
+use Rattle.smp_app.specs.Commands.{Held, FrameHeld, DrawnFile, ByLog, ByOldLog, BySection, Draws, Job, source_of, log_source, job_of, job_for, outputs_by}
 use Rattle.smp_app.specs.Commands as drawing
-use Rattle.smp_app.specs.Verdict.{Stop, Refused, ReadDesign, ◌>>=◌, content, or_fault, unless_misfit, values_taken, values_left, no_words, drawn_at, drawn_of, drawn_by_tape, drawn_by_seed, told_by_log, drawn_by_log, design_stage, frame_stage, plan_stage, drawn_stage, outputs_stage}
+use Rattle.smp_app.specs.Verdict.{Stop, Refused, ReadDesign, ◌>>=◌, content, or_fault, unless_misfit, values_taken, values_left, no_words, drawn_at, drawn_of, drawn_by_tape, drawn_by_seed, alone, stratum_at, told_by, drawn_by_log, drawn_by_old_log, drawn_by_section, design_stage, frame_stage, plan_stage, drawn_stage, outputs_stage}
 use Rattle.smp_app.specs.Deliveries.{Outputs, with_files}
-use Rattle.smp_app.specs.Draws.{IsDraw, HasProbabilities}
+use Rattle.smp_app.specs.Draws.{IsDraw, IsDrawnAlone, IsDrawnBy, IsDrawnOf, HasProbabilities}
 use Rattle.smp_app.specs.Answers.{Outside, Says, IsWork, Done}
-use Rattle.smp_app.specs.Headline.{IsDrawnByChance, IsReadPlan, IsExactDraw, IsExactReplay, Headline}
+use Rattle.smp_app.specs.Headline.{IsDrawnByChance, IsReadPlan, IsExactDraw, IsExactReplay, IsExactSection, IsExactMigration, Headline}
+use Rattle.smp_app.proofs.Alone.{seats_long}
 use Rattle.smp_app.proofs.Ends.{verdict_of}
 
 -- ---- what a stage that goes on has read
@@ -119,21 +132,26 @@ planned design frame fs plan h =
     }
 
 -- at a leaf that is told, the draw is that leaf
-at_leaf : (plan : Plan) (state : Progress AnyState) (path : List Entry) (left : ℕ) (drawn : Drawn) → drawn_at plan state path left ≡ Ok drawn → record { plan = plan; leaf = state; path = path } ≡ drawn
-at_leaf plan state path left drawn h =
+at_leaf : (made : Drawn) (left : ℕ) (drawn : Drawn) → drawn_at made left ≡ Ok drawn → made ≡ drawn
+at_leaf made left drawn h =
     elim (cases_Bool (left == 0)) [
-      | inl e ↦ (let same : ◌≡◌ {A = Result Drawn Stop} (Ok (record { plan = plan; leaf = state; path = path })) (Ok drawn) = rw e at h in cc)
+      | inl e ↦ (let same : ◌≡◌ {A = Result Drawn Stop} (Ok made) (Ok drawn) = rw e at h in cc)
       | inr e ↦ absurd (let same : ◌≡◌ {A = Result Drawn Stop} (Err (Refused (TapeLong left))) (Ok drawn) = rw e at h in cc)
     ]
 
--- what is drawn is drawn by the plan
-plan_same : {Rest : Type 0} (plan : Plan) (taken left : Rest → ℕ) (outcome : Outcome (Progress AnyState) Rest) (drawn : Drawn) → drawn_of plan taken left outcome ≡ Ok drawn → drawn.plan ≡ plan
-plan_same plan taken left (leaf state path end) drawn h = ap (λ (d : Drawn). d.plan) (sym (at_leaf plan state path (left end) drawn h))
+-- what is drawn is drawn by the plan, of all strata or of this one
+record Same (plan : Plan) (only : Option ℕ) (drawn : Drawn) : Type 0 where
+  by_plan : drawn.plan ≡ plan
+  only_so : drawn.only ≡ only
+
+plan_same : {Rest : Type 0} (plan : Plan) (taken left : Rest → ℕ) (outcome : Outcome (Progress AnyState) Rest) (drawn : Drawn) → drawn_of plan taken left outcome ≡ Ok drawn → Same plan None drawn
+plan_same plan taken left (leaf state path end) drawn h =
+    subst (Same plan None) (at_leaf (record { plan = plan; only = None; leaf = state; path = path }) (left end) drawn h) (record { by_plan = refl; only_so = refl })
 plan_same plan taken left (stopped state path fault end) drawn h = absurd (cc)
 
 -- where the draws came from
 record ByChance (plan : Plan) (chance : Chance) (fs : Files) (drawn : Drawn) : Type 0 where
-  by_plan : drawn.plan ≡ plan
+  same : Same plan None drawn
   by_chance : IsDrawnByChance chance fs drawn
 
 by_chance : (plan : Plan) (chance : Chance) (fs : Files) (drawn : Drawn) → drawn_stage plan (source_of chance) fs ≡ Ok drawn → ByChance plan chance fs drawn
@@ -141,59 +159,192 @@ unfolding drawn_stage
 by_chance plan (Seed seed) fs drawn h =
     let same = plan_same plan no_words no_words (run (sieve_source key_stream) (tree_of plan) (start_of plan) (words_of_seed seed)) drawn h in
     record {
-      by_plan = same;
-      by_chance = subst (λ (p : Plan). drawn_by_seed p seed ≡ Ok drawn) (sym same) h;
+      same = same;
+      by_chance = subst (λ (p : Plan). drawn_by_seed p seed ≡ Ok drawn) (sym same.by_plan) h;
     }
 by_chance plan (Tape tape) fs drawn h =
     let bytes = step (content tape (fs tape)) _ drawn h in
     let values = step (or_fault tape_status (tape_of bytes.value)) _ drawn bytes.then_is in
     let same = plan_same plan values_taken values_left (run tape_source (tree_of plan) (start_of plan) (tape_of_values [] values.value)) drawn values.then_is in
     record {
-      by_plan = same;
+      same = same;
       by_chance = record {
         values = values.value;
         tape_read = ap (option_map tape_of) (content_is (fs tape) tape bytes.value bytes.first_is) ∙ ap Some (read_is tape_status (tape_of bytes.value) values.value values.first_is);
-        is_drawn = subst (λ (p : Plan). drawn_by_tape p values.value ≡ Ok drawn) (sym same) values.then_is;
+        is_drawn = subst (λ (p : Plan). drawn_by_tape p values.value ≡ Ok drawn) (sym same.by_plan) values.then_is;
       };
     }
 
 -- ---- what a log told
 
-record Logged (plan : Plan) (name : List ℕ) (fs : Files) (drawn : Drawn) : Type 0 where
-  by_plan : drawn.plan ≡ plan
+-- what was told is of the plan, and its reading is a leaf
+record Told (plan : Plan) (only : Option ℕ) (path : List Entry) (reading : Result (Progress AnyState) ℕ) (drawn : Drawn) : Type 0 where
+  same : Same plan only drawn
+  reads : reading ≡ Ok drawn.leaf
+  path_so : drawn.path ≡ path
+
+told_so : (plan : Plan) (only : Option ℕ) (path : List Entry) (reading : Result (Progress AnyState) ℕ) (drawn : Drawn) → told_by plan only path reading ≡ Ok drawn → Told plan only path reading drawn
+told_so plan only path (Ok state) drawn h =
+    let ok : ◌≡◌ {A = Result Drawn Stop} (Ok (record { plan = plan; only = only; leaf = state; path = path })) (Ok drawn) = h in
+    let made : record { plan = plan; only = only; leaf = state; path = path } ≡ drawn = cc in
+    subst (Told plan only path (Ok state)) made (record { same = record { by_plan = refl; only_so = refl }; reads = refl; path_so = refl })
+told_so plan only path (Err line) drawn h = absurd (cc)
+
+-- a log was read, and this was told of its bytes
+record Logged (stage : List ℕ → Result Drawn Stop) (name : List ℕ) (fs : Files) (drawn : Drawn) : Type 0 where
   log : List ℕ
   held : fs name ≡ Some log
-  genuine : IsGenuine (tree_of plan) (start_of plan) plan.head log drawn.leaf
-  path_is : drawn.path ≡ genuine.path
+  tells : stage log ≡ Ok drawn
 
-module _ (plan : Plan) (member : BelongsToWhole (parts plan) (start_of plan)) (is_head : IsHead plan.head) (name log : List ℕ) (fs : Files) (held : fs name ≡ Some log) where
-  logged_at : (state : Progress AnyState) → log_reading (tree_of plan) (start_of plan) plan.head log ≡ Ok state → Logged plan name fs (record { plan = plan; leaf = state; path = path_told (tree_of plan) (start_of plan) log })
-  logged_at state read =
-      let exact = exact_reading (tree_of plan) (BelongsToWhole (parts plan)) (whole_lawful (parts plan)) (start_of plan) member plan.head is_head log in
-      let genuine : IsGenuine (tree_of plan) (start_of plan) plan.head log state = subst (IsAnswer (IsGenuine (tree_of plan) (start_of plan) plan.head) log) read exact.right in
+logged : (stage : List ℕ → Result Drawn Stop) (name : List ℕ) (fs : Files) (drawn : Drawn) → content name (fs name) >>= stage ≡ Ok drawn → Logged stage name fs drawn
+logged stage name fs drawn h =
+    let bytes = step (content name (fs name)) stage drawn h in
+    record { log = bytes.value; held = content_is (fs name) name bytes.value bytes.first_is; tells = bytes.then_is }
+
+by_log : (plan : Plan) (name : List ℕ) (fs : Files) (drawn : Drawn) → drawn_stage plan (ByLog name) fs ≡ Ok drawn → Logged (drawn_by_log plan) name fs drawn
+unfolding drawn_stage
+by_log plan name fs drawn h = logged (drawn_by_log plan) name fs drawn h
+
+by_old_log : (plan : Plan) (name : List ℕ) (fs : Files) (drawn : Drawn) → drawn_stage plan (ByOldLog name) fs ≡ Ok drawn → Logged (drawn_by_old_log plan) name fs drawn
+unfolding drawn_stage
+by_old_log plan name fs drawn h = logged (drawn_by_old_log plan) name fs drawn h
+
+by_section : (plan : Plan) (name : List ℕ) (number h : ℕ) (fs : Files) (drawn : Drawn) → number ≡ h + 1 → drawn_stage plan (BySection name number) fs ≡ Ok drawn → Logged (drawn_by_section plan h) name fs drawn
+unfolding drawn_stage
+by_section plan name number h fs drawn is staged =
+    let at = step (stratum_at plan number) (λ k. content name (fs name) >>= drawn_by_section plan k) drawn staged in
+    subst (λ (k : ℕ). Logged (drawn_by_section plan k) name fs drawn) (omega (arith, counted number (length (parts plan).strata) at.value at.first_is, is)) (logged (drawn_by_section plan at.value) name fs drawn at.then_is)
+  where
+    counted : (n strata k : ℕ) → (if nat_le n strata then Ok (n - 1) else Err (Refused (NoStratum n strata))) ≡ Ok k → k ≡ n - 1
+    counted n strata k e =
+        elim (cases_Bool (nat_le n strata)) [
+          | inl there ↦ (let same : ◌≡◌ {A = Result ℕ Stop} (Ok (n - 1)) (Ok k) = rw there at e in cc)
+          | inr beyond ↦ absurd (let same : ◌≡◌ {A = Result ℕ Stop} (Err (Refused (NoStratum n strata))) (Ok k) = rw beyond at e in cc)
+        ]
+
+module _ (plan : Plan) (member : BelongsToWhole (parts plan) (start_of plan)) (is_head : IsHead plan.head) (log : List ℕ) (drawn : Drawn) where
+  abbrev any_text : List Entry → List ℕ → Type 0
+  any_text = IsAnyText (tree_of plan) (sections_of plan) (start_of plan) plan.head
+
+  -- the log of either version of what is drawn
+  record AnyLog : Type 0 where
+    same : Same plan None drawn
+    genuine : IsAnyGenuine (tree_of plan) (sections_of plan) (start_of plan) plan.head log drawn.leaf
+    path_is : drawn.path ≡ genuine.path
+
+  any_log : drawn_by_log plan log ≡ Ok drawn → AnyLog
+  any_log h =
+      let told = told_so plan None (path_told (tree_of plan) (start_of plan) log) (any_reading (tree_of plan) (sections_of plan) (start_of plan) plan.head log) drawn h in
+      let exact = exact_any (tree_of plan) (BelongsToWhole (parts plan)) (whole_lawful (parts plan)) (sections_of plan) (strata_sectioned (all_of (parts plan))) (start_of plan) member plan.head is_head log in
+      let genuine : IsAnyGenuine (tree_of plan) (sections_of plan) (start_of plan) plan.head log drawn.leaf = subst (IsAnswer (IsAnyGenuine (tree_of plan) (sections_of plan) (start_of plan) plan.head) log) told.reads exact.right in
       record {
-        by_plan = refl;
-        log = log;
-        held = held;
+        same = told.same;
         genuine = genuine;
-        path_is = genuine_told (tree_of plan) (BelongsToWhole (parts plan)) (whole_lawful (parts plan)) (start_of plan) member plan.head log is_head state genuine;
+        path_is = told.path_so ∙ any_told (tree_of plan) (BelongsToWhole (parts plan)) (whole_lawful (parts plan)) (sections_of plan) (strata_sectioned (all_of (parts plan))) (start_of plan) member plan.head is_head log drawn.leaf genuine;
       }
 
-  logged : (drawn : Drawn) → drawn_by_log plan log ≡ Ok drawn → Logged plan name fs drawn
-  logged drawn h = by_reading (log_reading (tree_of plan) (start_of plan) plan.head log) refl h
-    where
-      by_reading : (reading : Result (Progress AnyState) ℕ) → log_reading (tree_of plan) (start_of plan) plan.head log ≡ reading → told_by_log plan log reading ≡ Ok drawn → Logged plan name fs drawn
-      by_reading (Ok state) read told =
-          let ok : ◌≡◌ {A = Result Drawn Stop} (Ok (record { plan = plan; leaf = state; path = path_told (tree_of plan) (start_of plan) log })) (Ok drawn) = told in
-          let same : record { plan = plan; leaf = state; path = path_told (tree_of plan) (start_of plan) log } ≡ drawn = cc in
-          subst (Logged plan name fs) same (logged_at state read)
-      by_reading (Err line) read told = absurd (cc)
+  -- the log of version 1 of what is drawn
+  record OldLog : Type 0 where
+    same : Same plan None drawn
+    genuine : IsGenuine (tree_of plan) (start_of plan) plan.head log drawn.leaf
+    path_is : drawn.path ≡ genuine.path
 
-by_log : (plan : Plan) (name : List ℕ) (fs : Files) (drawn : Drawn) → BelongsToWhole (parts plan) (start_of plan) → IsHead plan.head → drawn_stage plan (ByLog name) fs ≡ Ok drawn → Logged plan name fs drawn
-unfolding drawn_stage
-by_log plan name fs drawn member is_head h =
-    let bytes = step (content name (fs name)) _ drawn h in
-    logged plan member is_head name bytes.value fs (content_is (fs name) name bytes.value bytes.first_is) drawn bytes.then_is
+  old_log : drawn_by_old_log plan log ≡ Ok drawn → OldLog
+  old_log h =
+      let told = told_so plan None (path_told (tree_of plan) (start_of plan) log) (log_reading (tree_of plan) (start_of plan) plan.head log) drawn h in
+      let exact = exact_reading (tree_of plan) (BelongsToWhole (parts plan)) (whole_lawful (parts plan)) (start_of plan) member plan.head is_head log in
+      let genuine : IsGenuine (tree_of plan) (start_of plan) plan.head log drawn.leaf = subst (IsAnswer (IsGenuine (tree_of plan) (start_of plan) plan.head) log) told.reads exact.right in
+      record {
+        same = told.same;
+        genuine = genuine;
+        path_is = told.path_so ∙ genuine_told (tree_of plan) (BelongsToWhole (parts plan)) (whole_lawful (parts plan)) (start_of plan) member plan.head log is_head drawn.leaf genuine;
+      }
+
+-- ---- what a section told
+
+-- the numbers that pass one test are those among the numbers that pass another
+filter_both : (p q r : ℕ → Bool) (from len : ℕ) → ((k : ℕ) → k < from + len → p k ≡ q k && r k) → filter p (range_with_len from len) ≡ filter q (filter r (range_with_len from len))
+filter_both p q r from zero same = refl
+filter_both p q r from (suc len) same =
+    let rest = filter_both p q r (from + 1) len (λ k l. same k (omega (arith, l))) in
+    let here : p from ≡ q from && r from = same from (omega arith) in
+    elim (cases_Bool (r from)) [
+      | inl inner ↦
+          (let p_is : p from ≡ q from = here ∙ ap (λ b. q from && b) inner ∙ and_true (q from) in
+          elim (cases_Bool (q from)) [
+            | inl both ↦ (let passes : p from ≡ true = p_is ∙ both in rw (inner, passes, both) (ap (λ ks. from ∷ ks) rest))
+            | inr none ↦ (let fails : p from ≡ false = p_is ∙ none in rw (inner, fails, none) rest)
+          ])
+      | inr outer ↦ (let fails : p from ≡ false = here ∙ ap (λ b. q from && b) outer ∙ and_false (q from) in rw (outer, fails) rest)
+    ]
+  where
+    and_true : (b : Bool) → b && true ≡ b
+    and_true true = refl
+    and_true false = refl
+
+    and_false : (b : Bool) → b && false ≡ false
+    and_false true = refl
+    and_false false = refl
+
+-- a log has at least a byte for each section
+sections_long : (steps : List (ℕ × Entry)) (g n : ℕ) → n ≤ length (flat_map (section_text steps) (range_with_len g n))
+sections_long steps g zero = omega arith
+sections_long steps g (suc n) =
+    let rest = sections_long steps (g + 1) n in
+    omega (arith, rest, length-append (section_text steps g) (flat_map (section_text steps) (range_with_len (g + 1) n)))
+
+log_long : (head : List ℕ) (count : ℕ) (steps : List (ℕ × Entry)) → count ≤ length (sections_text head count steps)
+log_long head count steps =
+    let body : List ℕ = flat_map (section_text steps) (range_with_len 0 count) in
+    omega (arith, sections_long steps 0 count, length-append body (end_text (length steps)), length-append (sectioned_head head) (body ++ end_text (length steps)))
+
+module _ (plan : Plan) (is_head : IsHead plan.head) (h : ℕ) (within : h < length (parts plan).strata) (starts : StartsAlone (parts plan) h (covered_start (alone plan h))) (log : List ℕ) where
+  abbrev own : Coverage
+  own = alone plan h
+
+  -- the leaf of the section where the whole log is genuine
+  module _ (member : BelongsToWhole (parts plan) (start_of plan)) (leaf : Progress AnyState) (short : length log < 2 ^ 64) (genuine : IsSectionedGenuine (tree_of plan) (sections_of plan) (start_of plan) plan.head log leaf) where
+    replays : IsReplayedAlone (tree_of plan) (start_of plan) plan.head log h (covered_tree own) (state_alone (parts plan) h) (is_of_stratum (parts plan) h) leaf
+    replays =
+        let steps : List (ℕ × Entry) = placed (tree_of plan) (sections_of plan) (start_of plan) genuine.path in
+        let long : (sections_of plan).count ≤ length (sections_text plan.head (sections_of plan).count steps) = log_long plan.head (sections_of plan).count steps in
+        let size : length log ≡ length (sections_text plan.head (sections_of plan).count steps) = ap length genuine.text in
+        replayed_alone (tree_of plan) (BelongsToWhole (parts plan)) (whole_lawful (parts plan)) (sections_of plan) (strata_sectioned (all_of (parts plan))) h within (covered_tree own) (state_alone (parts plan) h) (is_of_stratum (parts plan) h) starts.part
+        (BelongsToCovered own) (covered_lawful own) (start_of plan) member (subst (BelongsToCovered own) starts.state starts.member) plan.head is_head log leaf genuine (omega (arith, long, size, short)) short
+
+    section_there : HasSection (covered_tree own) (covered_start own) plan.head (h + 1) log (state_alone (parts plan) h leaf)
+    section_there = subst (λ (s : Progress AnyState). HasSection (covered_tree own) s plan.head (h + 1) log (state_alone (parts plan) h leaf)) (sym starts.state) replays.section
+
+    rows_same : filter ((covered_tree own).selected (state_alone (parts plan) h leaf)) (range_with_len 0 (covered_tree own).units) ≡ filter (is_of_stratum (parts plan) h) (selected_units (tree_of plan) leaf)
+    rows_same =
+        let units : (covered_tree own).units ≡ (tree_of plan).units = seats_long (parts plan) (Some h) ∙ sym (seats_long (parts plan) None) in
+        ap (λ n. filter ((covered_tree own).selected (state_alone (parts plan) h leaf)) (range_with_len 0 n)) units
+        ∙ filter_both ((covered_tree own).selected (state_alone (parts plan) h leaf)) (is_of_stratum (parts plan) h) ((tree_of plan).selected leaf) 0 (tree_of plan).units (λ k l. replays.selected k (omega (arith, l)))
+
+  module _ (drawn : Drawn) where
+    -- the section of what is drawn
+    record SectionLog : Type 0 where
+      same : Same plan (Some h) drawn
+      section : HasSection (covered_tree own) (covered_start own) plan.head (h + 1) log drawn.leaf
+      path_is : drawn.path ≡ section.genuine.path
+      rows : BelongsToWhole (parts plan) (start_of plan) → (leaf : Progress AnyState) → length log < 2 ^ 64 → IsSectionedGenuine (tree_of plan) (sections_of plan) (start_of plan) plan.head log leaf
+          → selected_units (covered_tree own) drawn.leaf ≡ filter (is_of_stratum (parts plan) h) (selected_units (tree_of plan) leaf)
+
+    section_log : drawn_by_section plan h log ≡ Ok drawn → SectionLog
+    section_log staged =
+        let told = told_so plan (Some h) (section_told (covered_tree own) (covered_start own) (h + 1) log) (section_reading (covered_tree own) (covered_start own) plan.head (h + 1) log) drawn staged in
+        let exact = exact_section (covered_tree own) (BelongsToCovered own) (covered_lawful own) (covered_start own) starts.member plan.head is_head (h + 1) log in
+        let section : HasSection (covered_tree own) (covered_start own) plan.head (h + 1) log drawn.leaf = subst (IsSectionAnswer (covered_tree own) (covered_start own) plan.head (h + 1) log) told.reads exact.right in
+        record {
+          same = told.same;
+          section = section;
+          path_is = told.path_so ∙ has_told (covered_tree own) (BelongsToCovered own) (covered_lawful own) (covered_start own) starts.member plan.head (h + 1) log drawn.leaf section;
+          rows = λ member leaf short genuine.
+              (let there = has_reading (covered_tree own) (BelongsToCovered own) (covered_lawful own) (covered_start own) starts.member plan.head (h + 1) log is_head (state_alone (parts plan) h leaf) (section_there member leaf short genuine) in
+              let one : ◌≡◌ {A = Result (Progress AnyState) ℕ} (Ok drawn.leaf) (Ok (state_alone (parts plan) h leaf)) = sym told.reads ∙ there in
+              let same : drawn.leaf ≡ state_alone (parts plan) h leaf = cc in
+              ap (selected_units (covered_tree own)) same ∙ rows_same member leaf short genuine);
+        }
 
 -- ---- a draw that ended well
 
@@ -240,6 +391,34 @@ outputs_are words job fs before now source files put plan drawn asked work_is pl
     let staged : outputs_stage job fs ≡ Ok (outputs_by files put drawn) = rw (planned_is, work_is, drawn_is) refl in
     ok_same _ _ (sym work.accepted ∙ verdict_of words job asked fs ∙ staged)
 
+-- what is drawn of all strata
+by_whole : (plan : Plan) (drawn : Drawn) → drawn.only ≡ None → IsDrawnOf drawn.only plan drawn → IsDrawnBy plan drawn
+by_whole plan drawn all by = subst (λ (o : Option ℕ). IsDrawnOf o plan drawn) all by
+
+-- the log that is written of it is genuine, of version 2
+module _ (plan : Plan) (whole : Drawn) (by : IsDrawnBy plan whole) where
+  abbrev text_by : Plan → Option ℕ → List ℕ
+  text_by p only =
+      let c : Coverage = record { plan = parts p; only = only } in
+      sectioned_log_text (covered_tree c) (strata_sections c) (covered_start c) p.head whole.path
+
+  whole_seen : covered whole ≡ all_of (parts plan)
+  whole_seen = ap (λ (p : Plan). record { plan = parts p; only = whole.only }) by.plan_is ∙ ap (λ (o : Option ℕ). record { plan = parts plan; only = o }) by.all
+
+  log_genuine : (log : List ℕ) → log ≡ log_text whole → IsSectionedGenuine (tree_of plan) (sections_of plan) (start_of plan) plan.head log whole.leaf
+  log_genuine log is = record {
+    path = whole.path;
+    full = by.full;
+    text = is ∙ ap (λ (p : Plan). text_by p whole.only) by.plan_is ∙ ap (text_by plan) by.all;
+  }
+
+-- by its own plan
+written_genuine : (plan : Plan) (drawn : Drawn) → IsDrawnBy plan drawn → (genuine : IsSectionedGenuine (tree_of drawn.plan) (sections_of drawn.plan) (start_of drawn.plan) drawn.plan.head (log_text drawn) drawn.leaf) × (genuine.path ≡ drawn.path)
+unfolding log_genuine
+written_genuine plan drawn by =
+    let own : IsDrawnBy drawn.plan drawn = subst (λ (p : Plan). IsDrawnBy p drawn) (sym by.plan_is) by in
+    (log_genuine drawn.plan drawn own (log_text drawn) refl, refl)
+
 module _ (a : DrawArguments) (fs : Files) (before now : Outside) (words : List (List ℕ)) (asked : command_of words ≡ Some (commands.Draw a)) where
   abbrev draw_files : List DrawnFile
   draw_files = record { name = a.log; text = log_text } ∷ record { name = a.sample; text = sample_text } ∷ []
@@ -257,22 +436,21 @@ module _ (a : DrawArguments) (fs : Files) (before now : Outside) (words : List (
       let drawn = exact.drawn in
       let from = read_plan a.design a.frame fs plan (read a.design a.frame fs plan exact.planned) in
       let chance = by_chance plan a.chance fs drawn exact.is_drawn in
+      let by = by_whole plan drawn chance.same.only_so exact.by_plan in
       let outputs = outputs_are words draw_job fs before now (source_of a.chance) draw_files report_text plan drawn draw_asked refl exact.planned exact.is_drawn work in
       record {
         drawn = drawn;
-        read = subst (IsReadPlan a.design a.frame fs) (sym chance.by_plan) from;
+        read = subst (IsReadPlan a.design a.frame fs) (sym chance.same.by_plan) from;
+        all = chance.same.only_so;
         is_drawn = chance.by_chance;
         written = work.files ∙ ap (λ (o : Outputs). Some (with_files o.files fs)) outputs;
-        genuine = record {
-          path = drawn.path;
-          full = subst (λ (p : Plan). IsFullPath (tree_of p) (start_of p) drawn.path drawn.leaf) (sym chance.by_plan) exact.by_plan.full;
-          text = refl;
-        };
+        genuine = (written_genuine plan drawn by).0;
+        path_is = sym (written_genuine plan drawn by).1;
         put = work.written ∙ ap (λ (o : Outputs). with_bytes o.put before.written) outputs;
-        firsts = exact.by_plan.firsts;
-        seconds = exact.by_plan.seconds;
-        probabilities = subst HasProbabilities (sym exact.by_plan.plan_is) exact.by_plan.probabilities;
-        balance = exact.by_plan.balance;
+        firsts = by.firsts;
+        seconds = by.seconds;
+        probabilities = subst HasProbabilities (sym by.plan_is) by.probabilities;
+        balance = by.balance;
       }
 
   pub exact_draw : Done words before now → before.files ≡ Some fs → IsExactDraw a fs before now
@@ -282,48 +460,159 @@ module _ (a : DrawArguments) (fs : Files) (before now : Outside) (words : List (
 
 -- ---- a replay that ended well
 
+-- the head of the plan that was read
+head_so : (design frame : List ℕ) (fs : Files) (plan : Plan) → IsReadPlan design frame fs plan → IsHead plan.head
+head_so design frame fs plan from = subst IsHead (sym from.head) (head_of-is from.design_bytes from.frame_bytes)
+
 module _ (a : ReplayArguments) (fs : Files) (before now : Outside) (words : List (List ℕ)) (asked : command_of words ≡ Some (commands.Replay a)) where
   abbrev replay_files : List DrawnFile
   replay_files = record { name = a.sample; text = sample_text } ∷ []
 
-  abbrev replay_job : Job
-  replay_job = record { design = Held a.design; frame = FrameHeld a.frame; work = Draws (ByLog a.log) replay_files report_text }
+  abbrev replay_job : drawing.Source → Job
+  replay_job source = record { design = Held a.design; frame = FrameHeld a.frame; work = Draws source replay_files report_text }
 
-  replay_asked : job_for words ≡ Some replay_job
-  replay_asked = ap (option_map job_of) asked
+  module _ (source : drawing.Source) (from_words : log_source a.log a.stratum ≡ source) where
+    replay_asked : job_for words ≡ Some (replay_job source)
+    replay_asked = ap (option_map job_of) asked ∙ ap (λ (s : drawing.Source). Some (replay_job s)) from_words
 
-  replayed_work : IsWork words replay_job fs before now → IsExactReplay a fs before now
-  replayed_work work =
-      let exact : IsDraw replay_job (ByLog a.log) fs = work.exact in
+    replay_done : Done words before now → before.files ≡ Some fs → IsWork words (replay_job source) fs before now
+    replay_done done told =
+        let same : done.job ≡ replay_job source = some_same _ _ (sym done.asked ∙ replay_asked) in
+        subst (λ (j : Job). IsWork words j fs before now) same (done.done fs told)
+
+    replay_outputs : (work : IsWork words (replay_job source) fs before now) (exact : IsDraw (replay_job source) source fs) → work.outputs ≡ outputs_by replay_files report_text exact.drawn
+    replay_outputs work exact = outputs_are words (replay_job source) fs before now source replay_files report_text exact.plan exact.drawn replay_asked refl exact.planned exact.is_drawn work
+
+  replayed_work : a.stratum ≡ None → IsWork words (replay_job (ByLog a.log)) fs before now → IsExactReplay a fs before now
+  replayed_work none work =
+      let exact : IsDraw (replay_job (ByLog a.log)) (ByLog a.log) fs = work.exact in
       let plan = exact.plan in
       let drawn = exact.drawn in
       let from = read_plan a.design a.frame fs plan (read a.design a.frame fs plan exact.planned) in
-      let told = by_log plan a.log fs drawn exact.by_plan.start (subst IsHead (sym from.head) (head_of-is from.design_bytes from.frame_bytes)) exact.is_drawn in
-      let outputs = outputs_are words replay_job fs before now (ByLog a.log) replay_files report_text plan drawn replay_asked refl exact.planned exact.is_drawn work in
+      let logged = by_log plan a.log fs drawn exact.is_drawn in
+      let told = told_so plan None (path_told (tree_of plan) (start_of plan) logged.log) (any_reading (tree_of plan) (sections_of plan) (start_of plan) plan.head logged.log) drawn logged.tells in
+      let by = by_whole plan drawn told.same.only_so exact.by_plan in
+      let any = any_log plan by.start (head_so a.design a.frame fs plan from) logged.log drawn logged.tells in
+      let outputs = replay_outputs (ByLog a.log) (ap (log_source a.log) none) work exact in
       record {
         drawn = drawn;
-        read = subst (IsReadPlan a.design a.frame fs) (sym told.by_plan) from;
-        log = told.log;
-        log_held = told.held;
+        all = told.same.only_so;
+        read = subst (IsReadPlan a.design a.frame fs) (sym any.same.by_plan) from;
+        log = logged.log;
+        log_held = logged.held;
         genuine = record {
-          path = told.genuine.path;
-          full = subst (λ (p : Plan). IsFullPath (tree_of p) (start_of p) told.genuine.path drawn.leaf) (sym told.by_plan) told.genuine.full;
-          text = told.genuine.text ∙ ap (λ (p : Plan). logs.log_text p.head told.genuine.path) (sym told.by_plan);
+          path = any.genuine.path;
+          full = subst (λ (p : Plan). IsFullPath (tree_of p) (start_of p) any.genuine.path drawn.leaf) (sym any.same.by_plan) any.genuine.full;
+          text = subst (λ (p : Plan). IsAnyText (tree_of p) (sections_of p) (start_of p) p.head any.genuine.path logged.log) (sym any.same.by_plan) any.genuine.text;
         };
-        path_is = told.path_is;
+        path_is = any.path_is;
         written = work.files ∙ ap (λ (o : Outputs). Some (with_files o.files fs)) outputs;
         put = work.written ∙ ap (λ (o : Outputs). with_bytes o.put before.written) outputs;
       }
 
-  pub exact_replay : Done words before now → before.files ≡ Some fs → IsExactReplay a fs before now
-  exact_replay done told =
-      let same : done.job ≡ replay_job = some_same _ _ (sym done.asked ∙ replay_asked) in
-      replayed_work (subst (λ (j : Job). IsWork words j fs before now) same (done.done fs told))
+  pub exact_replay : a.stratum ≡ None → Done words before now → before.files ≡ Some fs → IsExactReplay a fs before now
+  exact_replay none done told = replayed_work none (replay_done (ByLog a.log) (ap (log_source a.log) none) done told)
+
+  -- ---- of one stratum
+
+  module _ (h : ℕ) where
+    -- what is told of the section, by the plan
+    record Sectioned (drawn : Drawn) (plan : Plan) (log : List ℕ) : Type 0 where
+      section : HasSection (covered_tree (alone plan h)) (covered_start (alone plan h)) plan.head (h + 1) log drawn.leaf
+      path_is : drawn.path ≡ section.genuine.path
+      rows : (whole : Drawn) → IsDrawnBy plan whole → log ≡ log_text whole → length log < 2 ^ 64 → drawn_rows drawn ≡ filter (is_of_stratum (parts plan) h) (drawn_rows whole)
+
+    section_work : a.stratum ≡ Some (h + 1) → IsWork words (replay_job (BySection a.log (h + 1))) fs before now → IsExactSection a h fs before now
+    section_work number work =
+        let exact : IsDraw (replay_job (BySection a.log (h + 1))) (BySection a.log (h + 1)) fs = work.exact in
+        let plan = exact.plan in
+        let drawn = exact.drawn in
+        let from = read_plan a.design a.frame fs plan (read a.design a.frame fs plan exact.planned) in
+        let logged = by_section plan a.log (h + 1) h fs drawn refl exact.is_drawn in
+        let own = alone plan h in
+        let told = told_so plan (Some h) (section_told (covered_tree own) (covered_start own) (h + 1) logged.log) (section_reading (covered_tree own) (covered_start own) plan.head (h + 1) logged.log) drawn logged.tells in
+        let by : IsDrawnAlone plan h drawn = subst (λ (o : Option ℕ). IsDrawnOf o plan drawn) told.same.only_so exact.by_plan in
+        let lone = section_log plan (head_so a.design a.frame fs plan from) h by.there by.starts logged.log drawn logged.tells in
+        let seen : covered drawn ≡ own = ap (λ (p : Plan). record { plan = parts p; only = drawn.only }) lone.same.by_plan ∙ ap (λ (o : Option ℕ). record { plan = parts plan; only = o }) lone.same.only_so in
+        let of_plan : Sectioned drawn plan logged.log = record {
+          section = lone.section;
+          path_is = lone.path_is;
+          rows = λ whole by_whole_draw is short.
+              (ap (λ (c : Coverage). selected_units (covered_tree c) drawn.leaf) seen
+              ∙ lone.rows by_whole_draw.start whole.leaf short (log_genuine plan whole by_whole_draw logged.log is)
+              ∙ ap (λ (c : Coverage). filter (is_of_stratum (parts plan) h) (selected_units (covered_tree c) whole.leaf)) (sym (whole_seen plan whole by_whole_draw)));
+        } in
+        let of_drawn : Sectioned drawn drawn.plan logged.log = subst (λ (p : Plan). Sectioned drawn p logged.log) (sym lone.same.by_plan) of_plan in
+        let outputs = replay_outputs (BySection a.log (h + 1)) (ap (log_source a.log) number) work exact in
+        record {
+          drawn = drawn;
+          only = lone.same.only_so;
+          read = subst (IsReadPlan a.design a.frame fs) (sym lone.same.by_plan) from;
+          there = subst (λ (p : Plan). h < length (parts p).strata) (sym lone.same.by_plan) by.there;
+          log = logged.log;
+          log_held = logged.held;
+          section = of_drawn.section;
+          path_is = of_drawn.path_is;
+          rows = of_drawn.rows;
+          written = work.files ∙ ap (λ (o : Outputs). Some (with_files o.files fs)) outputs;
+          put = work.written ∙ ap (λ (o : Outputs). with_bytes o.put before.written) outputs;
+        }
+
+    pub exact_section_replay : a.stratum ≡ Some (h + 1) → Done words before now → before.files ≡ Some fs → IsExactSection a h fs before now
+    exact_section_replay number done told = section_work number (replay_done (BySection a.log (h + 1)) (ap (log_source a.log) number) done told)
+
+-- ---- a migration that ended well
+
+module _ (a : MigrateArguments) (fs : Files) (before now : Outside) (words : List (List ℕ)) (asked : command_of words ≡ Some (commands.Migrate a)) where
+  abbrev migrate_files : List DrawnFile
+  migrate_files = record { name = a.to; text = log_text } ∷ []
+
+  abbrev migrate_job : Job
+  migrate_job = record { design = Held a.design; frame = FrameHeld a.frame; work = Draws (ByOldLog a.log) migrate_files migrated_text }
+
+  migrate_asked : job_for words ≡ Some migrate_job
+  migrate_asked = ap (option_map job_of) asked
+
+  migrated_work : IsWork words migrate_job fs before now → IsExactMigration a fs before now
+  migrated_work work =
+      let exact : IsDraw migrate_job (ByOldLog a.log) fs = work.exact in
+      let plan = exact.plan in
+      let drawn = exact.drawn in
+      let from = read_plan a.design a.frame fs plan (read a.design a.frame fs plan exact.planned) in
+      let logged = by_old_log plan a.log fs drawn exact.is_drawn in
+      let told = told_so plan None (path_told (tree_of plan) (start_of plan) logged.log) (log_reading (tree_of plan) (start_of plan) plan.head logged.log) drawn logged.tells in
+      let by = by_whole plan drawn told.same.only_so exact.by_plan in
+      let old = old_log plan by.start (head_so a.design a.frame fs plan from) logged.log drawn logged.tells in
+      let outputs = outputs_are words migrate_job fs before now (ByOldLog a.log) migrate_files migrated_text plan drawn migrate_asked refl exact.planned exact.is_drawn work in
+      record {
+        drawn = drawn;
+        all = told.same.only_so;
+        read = subst (IsReadPlan a.design a.frame fs) (sym old.same.by_plan) from;
+        log = logged.log;
+        log_held = logged.held;
+        old = record {
+          path = old.genuine.path;
+          full = subst (λ (p : Plan). IsFullPath (tree_of p) (start_of p) old.genuine.path drawn.leaf) (sym old.same.by_plan) old.genuine.full;
+          text = old.genuine.text ∙ ap (λ (p : Plan). logs.log_text p.head old.genuine.path) (sym old.same.by_plan);
+        };
+        path_is = old.path_is;
+        written = work.files ∙ ap (λ (o : Outputs). Some (with_files o.files fs)) outputs;
+        genuine = (written_genuine plan drawn by).0;
+        same_path = (written_genuine plan drawn by).1 ∙ old.path_is;
+        put = work.written ∙ ap (λ (o : Outputs). with_bytes o.put before.written) outputs;
+      }
+
+  pub exact_migration : Done words before now → before.files ≡ Some fs → IsExactMigration a fs before now
+  exact_migration done told =
+      let same : done.job ≡ migrate_job = some_same _ _ (sym done.asked ∙ migrate_asked) in
+      migrated_work (subst (λ (j : Job). IsWork words j fs before now) same (done.done fs told))
 
 pub headline : (answer : Status) (words : List (List ℕ)) (before now : Outside) → Says (class_of answer) answer words before now → Headline answer words before now
 headline answer words before now says = record {
   draw = λ a fs is asked told. exact_draw a fs before now words asked (done is) told;
-  replay = λ a fs is asked told. exact_replay a fs before now words asked (done is) told;
+  replay = λ a fs is asked none told. exact_replay a fs before now words asked none (done is) told;
+  section = λ a h fs is asked number told. exact_section_replay a fs before now words asked h number (done is) told;
+  migrate = λ a fs is asked told. exact_migration a fs before now words asked (done is) told;
 }
   where
     done : answer ≡ status.Done → Done words before now

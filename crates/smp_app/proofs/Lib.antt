@@ -1,3 +1,4 @@
+pub mod Alone
 pub mod Designs
 pub mod Deliveries
 pub mod Ends

@@ -1,7 +1,6 @@
 -- What is selected by a tape or by a seed is what the verdict draws, with the requested probabilities.
-use Rattle.std.proofs.Common.{◌≡◌, ℕ, zero, suc, ◌<◌, ◌≤◌, List, length, Option, Some, None, Result, Ok, Err, true, refl, sym, ap, subst, ◌∙◌, arith, inl, inr}
-use Rattle.std.specs.Prelude.{◌==◌, IfSome, is_some, option_map}
-use Rattle.std.proofs.lemmas.Bool.{cases_Bool, eqb-true}
+use Rattle.std.proofs.Common.{◌≡◌, ℕ, ◌<◌, List, length, Option, Some, None, Result, Ok, Err, true, refl, sym, ap, subst, ◌∙◌, arith, inr}
+use Rattle.std.specs.Prelude.{◌+◌, IfOk, IfSome, OnOk, is_some, option_map}
 use Rattle.std.specs.List.{count_by, range_with_len, slice_get}
 use Rattle.std.proofs.lemmas.List.Elements.{All-get_or}
 use Rattle.std.proofs.lemmas.Option.{slice_get_within, get_or_from_slice_get}
@@ -11,18 +10,22 @@ use Rattle.smp_fractions.proofs.Fractions.{same_sym, same_trans}
 use Rattle.smp_prob.specs.declared.requests.Request.{Request}
 use Rattle.smp_tape.specs.Sources.{Source}
 use Rattle.smp_tape.specs.declared.draws.DrawFault.{DrawFault}
-use Rattle.smp_tape.specs.declared.draws.DrawFault.TheVariants.{Short, TooBig, Rejected}
-use Rattle.smp_log.specs.Answers.{log_reading}
-use Rattle.smp_log.specs.Genuine.{DiffersAt, IsFullPath, IsGenuine}
-use Rattle.smp_log.specs.Logs.{log_text}
+use Rattle.smp_log.specs.Answers.{AnswersAs, log_reading}
+use Rattle.smp_log.specs.Genuine.{DiffersAt, IsFullPath}
+use Rattle.smp_log.specs.LoneSections.{section_reading, section_told}
+use Rattle.smp_log.specs.declared.fault.ReplayFault.{ReplayFault}
+use Rattle.smp_log.specs.declared.fault.ReplayFault.TheVariants as replays
+use Rattle.smp_log.specs.SectionLogs.{HasLeaf, IsAnyGenuine, sectioned_log_text}
+use Rattle.smp_log.specs.SectionReading.{any_reading}
 use Rattle.smp_log.specs.declared.fault.LogFault.{LogFault}
 use Rattle.smp_log.specs.declared.fault.LogFault.TheVariants.{Differs}
 use Rattle.smp_log.specs.Told.{path_told}
-use Rattle.smp_log.proofs.Paths.{leads_full_path}
+use Rattle.smp_log.proofs.Paths.{full_path_leads, leads_full_path}
 use Rattle.smp_split.specs.Paths.{Entry, Leads}
 use Rattle.smp_split.specs.Runs.{Outcome, run, leaf, stopped, IsLeaf, IsStop, IsOutcome}
 use Rattle.smp_split.proofs.Runs.{run_is}
 use Rattle.smp_split.specs.Trees.{Tree, weight_sum}
+use Rattle.smp_split.specs.Sectioning.{Sectioning}
 use Rattle.smp_design.specs.declared.design.Second as second
 use Rattle.smp_methods.specs.declared.any.AnyState.{AnyState}
 use Rattle.smp_stages.specs.Stages.{Progress}
@@ -31,22 +34,19 @@ use Rattle.smp_strata.specs.Plans.{Parts}
 use Rattle.smp_strata.specs.declared.strata.First.{First}
 use Rattle.smp_strata.specs.declared.strata.Stratum.{Stratum}
 use Rattle.smp_twostage.specs.Selections as selections
-use Rattle.smp_twostage.specs.Selections.{BelongsToWhole, place_of, whole_tree}
+use Rattle.smp_twostage.specs.Selections.{BelongsToCovered, BelongsToWhole, Coverage, all_of, covered_start, covered_tree, one_of, place_of, strata_sections, whole_tree}
+use Rattle.smp_twostage.specs.Covered.{StartsAlone}
 use Rattle.smp_twostage.specs.Starts.{StartsWhole, first_selected, known, row_fraction, second_selected, weighted}
 use Rattle.smp_twostage.specs.Laws.Places.{place_is_seat}
 use Rattle.smp_twostage.specs.Laws.Staged.{seconds_in}
-use Rattle.smp_twostage.specs.Laws.Wholes.{whole_lawful}
+use Rattle.smp_twostage.specs.Laws.Wholes.{covered_lawful, whole_lawful}
 use Rattle.smp_app.specs.declared.plan.FramePlan.{FramePlan}
-use Rattle.smp_app.specs.declared.status.Status.TheVariants.{TapeLong, LogDiffers}
-use Rattle.smp_app.specs.declared.status.Status.{Status}
-use Rattle.smp_app.specs.declared.selection.Stopped.{Stopped}
-use Rattle.smp_app.specs.declared.selection.Stopped.TheVariants as stops
-use Rattle.smp_app.specs.Codes.{class_of}
-use Rattle.smp_app.specs.Stages.{IsPlanned, EndsAs, EndsAsTold, RefusedAt, Follows, FollowsEnd, IsOfContent, plan_view, stopped_status}
-use Rattle.smp_app.specs.Draws.{IsDrawnBy, HasProbabilities}
-use Rattle.smp_app.specs.Plans.{Plan, parts, tree_of, start_of, row_probability, Drawn}
+use Rattle.smp_app.specs.Stages.{IsPlanned, IsWalked, EndsAsTold, RefusedAt, end_told, plan_view}
+use Rattle.smp_app.specs.Draws.{IsDrawnBy, IsDrawnOf, HasProbabilities}
+use Rattle.smp_app.specs.Plans.{Plan, parts, tree_of, start_of, row_probability, Drawn, covered}
+use Rattle.smp_app.specs.Texts.{log_text}
 use Rattle.smp_app.proofs.Cubes.{keeps_balance}
-use Rattle.smp_app.specs.Verdict.{Stop, Refused, draw_status, drawn_at, drawn_of, told_by_log, drawn_by_log}
+use Rattle.smp_app.specs.Verdict.{Stop, alone, told_by, drawn_by_log, drawn_by_old_log, drawn_by_section}
 
 -- the entries that were told
 pub told_is : {path lines : List Entry} → Some lines ≡ Some path → lines ≡ path
@@ -79,92 +79,71 @@ module _ {Rest : Type 0} (source : Source Rest) (plan : Plan) (tree : Tree (Prog
 
 -- ---- what a log tells
 
-module _ (plan : Plan) (tree : Tree (Progress AnyState)) (tree_is : tree ≡ tree_of plan) (start : Progress AnyState) (start_is : start ≡ start_of plan) (log : List ℕ) where
-  read_so : (answer : Result (Progress AnyState) ℕ) → log_reading tree start plan.head log ≡ answer → log_reading (tree_of plan) (start_of plan) plan.head log ≡ answer
-  read_so answer read =
-      subst (λ (t : Tree (Progress AnyState)). log_reading t (start_of plan) plan.head log ≡ answer) tree_is
-      (subst (λ (s : Progress AnyState). log_reading tree s plan.head log ≡ answer) start_is read)
+-- the end of a replay is what its log tells, which has this path and this reading
+module _ (plan : Plan) (only : Option ℕ) (state : Progress AnyState) (stage : Result Drawn Stop) where
+  pub ends_told : (told : Result (Unit {0}) ReplayFault) (lines path : List Entry) (reading : Result (Progress AnyState) ℕ) → stage ≡ told_by plan only path reading → AnswersAs told state reading → OnOk told (Some lines ≡ Some path)
+      → EndsAsTold plan only stage state (end_told told lines)
+  ends_told (Ok done) lines path reading is reads tells =
+      is ∙ ap (told_by plan only path) reads ∙ ap (λ (p : List Entry). Ok (record { plan = plan; only = only; leaf = state; path = p })) (sym (told_is tells))
+  ends_told (Err (replays.Differs line)) lines path reading is reads tells = is ∙ ap (told_by plan only path) reads
+  ends_told (Err replays.NoMemory) lines path reading is reads tells = tt
 
-  path_so : (lines : List Entry) → lines ≡ path_told tree start log → lines ≡ path_told (tree_of plan) (start_of plan) log
-  path_so lines is =
-      subst (λ (t : Tree (Progress AnyState)). lines ≡ path_told t (start_of plan) log) tree_is
-      (subst (λ (s : Progress AnyState). lines ≡ path_told tree s log) start_is is)
+-- what holds of the lines where all was told
+pub told_holds : (told : Result (Unit {0}) ReplayFault) (lines : List Entry) (P : List Entry → Type 0) → OnOk told (P lines) → IfOk (end_told told lines) P
+told_holds (Ok done) lines P p = p
+told_holds (Err (replays.Differs line)) lines P p = tt
+told_holds (Err replays.NoMemory) lines P p = tt
 
-  -- the log was replayed to its end
-  pub told_leaf : (state : Progress AnyState) (lines : List Entry) → log_reading tree start plan.head log ≡ Ok state → lines ≡ path_told tree start log → drawn_by_log plan log ≡ Ok (record { plan = plan; leaf = state; path = lines })
-  told_leaf state lines read is = ap (told_by_log plan log) (read_so _ read) ∙ ap (λ (p : List Entry). Ok (record { plan = plan; leaf = state; path = p })) (sym (path_so lines is))
+pub on_both : {A E : Type 0} (result : Result A E) (P Q R : Type 0) → (P → Q → R) → OnOk result P → OnOk result Q → OnOk result R
+on_both (Ok x) P Q R f p q = f p q
+on_both (Err e) P Q R f p q = tt
 
-  -- it differs
-  pub told_differs : (line : ℕ) → log_reading tree start plan.head log ≡ Err line → drawn_by_log plan log ≡ Err (Refused (LogDiffers line))
-  told_differs line read = ap (told_by_log plan log) (read_so _ read)
+-- what is read in a selection that is seen so is what the plan's draw tree reads
+module _ (plan : Plan) (own : Coverage) (start : Progress AnyState) (log : List ℕ) where
+  abbrev any_by : Coverage → Progress AnyState → Result Drawn Stop
+  any_by c from = told_by plan None (path_told (covered_tree c) from log) (any_reading (covered_tree c) (strata_sections c) from plan.head log)
 
--- ---- what is answered at the end of a walk
+  pub any_stage : own ≡ all_of (parts plan) → start ≡ start_of plan → drawn_by_log plan log ≡ any_by own start
+  any_stage is from = sym (ap (any_by own) from ∙ ap (λ c. any_by c (start_of plan)) is)
 
--- the refusal of a draw has a line
-pub stopped_kind : (stop : Stopped) (taken : ℕ) → IsOfContent (class_of (stopped_status stop taken)) (stopped_status stop taken)
-stopped_kind (stops.Draw Short bound) taken = refl
-stopped_kind (stops.Draw (TooBig place value) bound) taken = refl
-stopped_kind (stops.Draw (Rejected rejected) bound) taken = refl
-stopped_kind (stops.Log line) taken = refl
-stopped_kind stops.NoMemory taken = tt
+  abbrev old_by : Coverage → Progress AnyState → Result Drawn Stop
+  old_by c from = told_by plan None (path_told (covered_tree c) from log) (log_reading (covered_tree c) from plan.head log)
 
-refused_so : (fault : DrawFault) (bound taken : ℕ) (stage : Result Drawn Stop) → stage ≡ Err (Refused (draw_status fault bound taken)) → Follows {A = Drawn} (Err (draw_status fault bound taken)) stage
-refused_so Short bound taken stage is = is
-refused_so (TooBig place value) bound taken stage is = is
-refused_so (Rejected rejected) bound taken stage is = is
+  pub old_stage : own ≡ all_of (parts plan) → start ≡ start_of plan → drawn_by_old_log plan log ≡ old_by own start
+  old_stage is from = sym (ap (old_by own) from ∙ ap (λ c. old_by c (start_of plan)) is)
 
--- what is answered at the end of a walk is what its run comes to
-pub by_run : {Rest : Type 0} (plan : Plan) (taken_by left_by : Rest → ℕ) (outcome : Outcome (Progress AnyState) Rest) (left : Rest) (state : Progress AnyState) (end : Result (List Entry) Stopped) (answer : Result Drawn Status)
-    → EndsAs plan outcome left state end → FollowsEnd plan answer state end (taken_by left) (left_by left) → Follows answer (drawn_of plan taken_by left_by outcome)
-by_run plan taken_by left_by outcome left state (Ok path) answer ends follows = rw ends follows
-by_run plan taken_by left_by outcome left state (Err (stops.Draw fault bound)) answer ends follows =
-    rw follows
-    (refused_so fault bound (taken_by left) _
-    (ap (drawn_of plan taken_by left_by) ends.ran ∙ ap (λ (b : ℕ). Err (Refused (draw_status fault b (taken_by left)))) (sym ends.bound_is)))
-by_run plan taken_by left_by outcome left state (Err (stops.Log line)) answer ends follows = absurd ends
-by_run plan taken_by left_by outcome left state (Err stops.NoMemory) answer ends follows = rw follows tt
+  module _ (h : ℕ) where
+    abbrev section_by : Coverage → Progress AnyState → Result Drawn Stop
+    section_by c from = told_by plan (Some h) (section_told (covered_tree c) from (h + 1) log) (section_reading (covered_tree c) from plan.head (h + 1) log)
 
--- what is answered at the end of a replay is what the log tells
-pub by_log : (plan : Plan) (log : List ℕ) (state : Progress AnyState) (end : Result (List Entry) Stopped) (answer : Result Drawn Status)
-    → EndsAsTold plan log state end → FollowsEnd plan answer state end 0 0 → Follows answer (drawn_by_log plan log)
-by_log plan log state (Ok path) answer ends follows = subst (Follows answer) (sym ends) follows
-by_log plan log state (Err (stops.Log line)) answer ends follows = subst (λ (a : Result Drawn Status). Follows a (drawn_by_log plan log)) (sym follows) ends
-by_log plan log state (Err (stops.Draw fault bound)) answer ends follows = absurd ends
-by_log plan log state (Err stops.NoMemory) answer ends follows = subst (λ (a : Result Drawn Status). Follows a (drawn_by_log plan log)) (sym follows) tt
+    pub section_stage : own ≡ alone plan h → start ≡ covered_start (alone plan h) → drawn_by_section plan h log ≡ section_by own start
+    section_stage is from = sym (ap (section_by own) from ∙ ap (λ c. section_by c (covered_start (alone plan h))) is)
 
-pub all_taken : (plan : Plan) (state : Progress AnyState) (path : List Entry) (left : ℕ) → left ≤ 0 → drawn_at plan state path left ≡ Ok (record { plan = plan; leaf = state; path = path })
-all_taken plan state path zero h = refl
-all_taken plan state path (suc n) h = absurd (omega arith)
+-- ---- what a run of a selection comes to
 
-pub some_left : (plan : Plan) (state : Progress AnyState) (path : List Entry) (left : ℕ) → 0 < left → drawn_at plan state path left ≡ Err (Refused (TapeLong left))
-some_left plan state path left h =
-    elim (cases_Bool (left == 0)) [
-      | inl e ↦ absurd (let none : left ≡ 0 = eqb-true left 0 e in omega (arith, h, none))
-      | inr e ↦ rw e refl
-    ]
+module _ {Rest : Type 0} (source : Source Rest) (own : Coverage) (start : Progress AnyState) (here : BelongsToCovered own start) (draws : Rest) where
+  comes_to : IsOutcome source (covered_tree own) start draws (run source (covered_tree own) start draws)
+  comes_to = run_is source (covered_tree own) (BelongsToCovered own) (covered_lawful own) start draws here
 
--- ---- what a run of the whole selection comes to
+  pub leaf_is : (state : Progress AnyState) (path : List Entry) (end : Rest) → run source (covered_tree own) start draws ≡ leaf state path end → IsLeaf source (covered_tree own) start draws state path end
+  leaf_is state path end ran = subst (IsOutcome source (covered_tree own) start draws) ran comes_to
 
-module _ {Rest : Type 0} (source : Source Rest) (own : Parts) (start : Progress AnyState) (here : BelongsToWhole own start) (draws : Rest) where
-  comes_to : IsOutcome source (whole_tree own) start draws (run source (whole_tree own) start draws)
-  comes_to = run_is source (whole_tree own) (BelongsToWhole own) (whole_lawful own) start draws here
-
-  pub leaf_is : (state : Progress AnyState) (path : List Entry) (end : Rest) → run source (whole_tree own) start draws ≡ leaf state path end → IsLeaf source (whole_tree own) start draws state path end
-  leaf_is state path end ran = subst (IsOutcome source (whole_tree own) start draws) ran comes_to
-
-  pub stop_is : (state : Progress AnyState) (path : List Entry) (fault : DrawFault) (end : Rest) → run source (whole_tree own) start draws ≡ stopped state path fault end → IsStop source (whole_tree own) start draws state path fault end
-  stop_is state path fault end ran = subst (IsOutcome source (whole_tree own) start draws) ran comes_to
+  pub stop_is : (state : Progress AnyState) (path : List Entry) (fault : DrawFault) (end : Rest) → run source (covered_tree own) start draws ≡ stopped state path fault end → IsStop source (covered_tree own) start draws state path fault end
+  stop_is state path fault end ran = subst (IsOutcome source (covered_tree own) start draws) ran comes_to
 
 -- ---- what is drawn by a plan
 
 module _ (plan : FramePlan) where
   -- the state from which a walk starts is one of the selection
-  pub belongs : (own : Parts) → own ≡ plan.plan → (state : Progress AnyState) → StartsWhole plan.plan state → BelongsToWhole own state
-  belongs own is state starts = subst (λ p. BelongsToWhole p state) (sym is) starts.member
+  pub belongs : (own : Coverage) → own ≡ all_of plan.plan → (state : Progress AnyState) → StartsWhole plan.plan state → BelongsToCovered own state
+  belongs own is state starts = subst (λ c. BelongsToCovered c state) (sym is) starts.member
 
 module _ (plan : FramePlan) (planned : IsPlanned plan) where
-  pub tree_is : (own : Parts) → own ≡ plan.plan → whole_tree own ≡ tree_of (plan_view plan)
-  tree_is own is = ap whole_tree (is ∙ planned.parts_are)
+  pub own_is : (own : Coverage) → own ≡ all_of plan.plan → own ≡ all_of (parts (plan_view plan))
+  own_is own is = is ∙ ap all_of planned.parts_are
+
+  pub tree_is : (own : Coverage) → own ≡ all_of plan.plan → covered_tree own ≡ tree_of (plan_view plan)
+  tree_is own is = ap covered_tree (own_is own is)
 
   pub start_is : (state : Progress AnyState) → state ≡ selections.start_of plan.plan → state ≡ start_of (plan_view plan)
   start_is state is = is ∙ ap selections.start_of planned.parts_are
@@ -185,11 +164,11 @@ module _ (plan : FramePlan) (planned : IsPlanned plan) where
     probabilities_own : HasProbabilities (plan_view plan)
     probabilities_own = record {
       probability = λ row l.
-          subst (λ (t : Tree (Progress AnyState)). Same (inclusion_probability t (start_of (plan_view plan)) row) (row_probability (plan_view plan) row)) (tree_is plan.plan refl)
+          subst (λ (t : Tree (Progress AnyState)). Same (inclusion_probability t (start_of (plan_view plan)) row) (row_probability (plan_view plan) row)) (tree_is (all_of plan.plan) refl)
           (subst (λ (s : Progress AnyState). Same (inclusion_probability (whole_tree plan.plan) s row) (row_probability (plan_view plan) row)) state_is
           (same_trans (starts.probability row (omega (arith, l, rows_are))) (asked_is row l)));
       unbiased = λ x.
-          subst (λ (t : Tree (Progress AnyState)). Same (mean t (λ row. weighted (row_probability (plan_view plan) row) (x row)) (start_of (plan_view plan))) (sum_below (length plan.frame) (λ row. integer (known (row_probability (plan_view plan) row) (x row))))) (tree_is plan.plan refl)
+          subst (λ (t : Tree (Progress AnyState)). Same (mean t (λ row. weighted (row_probability (plan_view plan) row) (x row)) (start_of (plan_view plan))) (sum_below (length plan.frame) (λ row. integer (known (row_probability (plan_view plan) row) (x row))))) (tree_is (all_of plan.plan) refl)
           (subst (λ (s : Progress AnyState). Same (mean (whole_tree plan.plan) (λ row. weighted (row_probability (plan_view plan) row) (x row)) s) (sum_below (length plan.frame) (λ row. integer (known (row_probability (plan_view plan) row) (x row))))) state_is
           (subst (λ n. Same (mean (whole_tree plan.plan) (λ row. weighted (row_probability (plan_view plan) row) (x row)) state) (sum_below n (λ row. integer (known (row_probability (plan_view plan) row) (x row))))) rows_are
           (starts.unbiased (row_probability (plan_view plan)) (λ row l. same_sym (asked_is row (omega (arith, l, rows_are)))) x)));
@@ -197,7 +176,7 @@ module _ (plan : FramePlan) (planned : IsPlanned plan) where
 
     module _ (path : List Entry) (to : Progress AnyState) (leads : Leads (whole_tree plan.plan) state path to) (done : (whole_tree plan.plan).done to ≡ true) where
       abbrev here : Drawn
-      here = record { plan = plan_view plan; leaf = to; path = path }
+      here = record { plan = plan_view plan; only = None; leaf = to; path = path }
 
       abbrev FirstsBy : Parts → Type 0
       FirstsBy p =
@@ -230,34 +209,102 @@ module _ (plan : FramePlan) (planned : IsPlanned plan) where
           seconds_by h k s u asked is_s is_u u.second refl (seconds_in plan.plan planned.drawable asked.method method h s is_s k u is_u)
           (subst (λ (o : Option second.Second). SecondDraws o (length u.rows) u.second) is_second draws) first
 
-      pub drawn_by : (drawn : Drawn) → drawn.plan ≡ plan_view plan → drawn.leaf ≡ to → drawn.path ≡ path → IsDrawnBy (plan_view plan) drawn
-      drawn_by drawn by ends goes =
-          subst (IsDrawnBy (plan_view plan)) (sym same)
-          (record {
-            plan_is = refl;
-            start = subst (λ (s : Progress AnyState). BelongsToWhole (parts (plan_view plan)) s) state_is (belongs plan (parts (plan_view plan)) (sym planned.parts_are) state starts);
-            full = subst (λ (s : Progress AnyState). IsFullPath (tree_of (plan_view plan)) s path to) state_is
-                (subst (λ (t : Tree (Progress AnyState)). IsFullPath t state path to) (tree_is plan.plan refl)
-                (leads_full_path (whole_tree plan.plan) (BelongsToWhole plan.plan) (whole_lawful plan.plan) state to path (belongs plan plan.plan refl state starts) leads done));
-            firsts = subst FirstsBy planned.parts_are firsts_own;
-            seconds = subst SecondsBy planned.parts_are seconds_own;
-            probabilities = probabilities_own;
-            balance = keeps_balance plan planned path to (starts.paths path to leads done) starts.cubes;
-          })
-        where
-          same : drawn ≡ here
-          same =
-              ap (λ (p : Plan). record { plan = p; leaf = drawn.leaf; path = drawn.path }) by
-              ∙ ap (λ (s : Progress AnyState). record { plan = plan_view plan; leaf = s; path = drawn.path }) ends
-              ∙ ap (λ (q : List Entry). record { plan = plan_view plan; leaf = to; path = q }) goes
+      drawn_by : IsDrawnBy (plan_view plan) here
+      drawn_by = record {
+        plan_is = refl;
+        all = refl;
+        start = subst (λ (s : Progress AnyState). BelongsToWhole (parts (plan_view plan)) s) state_is (belongs plan (all_of (parts (plan_view plan))) (sym (own_is (all_of plan.plan) refl)) state starts);
+        full = subst (λ (s : Progress AnyState). IsFullPath (tree_of (plan_view plan)) s path to) state_is
+            (subst (λ (t : Tree (Progress AnyState)). IsFullPath t state path to) (tree_is (all_of plan.plan) refl)
+            (leads_full_path (whole_tree plan.plan) (BelongsToWhole plan.plan) (whole_lawful plan.plan) state to path (belongs plan (all_of plan.plan) refl state starts) leads done));
+        firsts = subst FirstsBy planned.parts_are firsts_own;
+        seconds = subst SecondsBy planned.parts_are seconds_own;
+        probabilities = probabilities_own;
+        balance = keeps_balance plan planned path to (starts.paths path to leads done) starts.cubes;
+      }
 
-  -- the same of a design that is seen as the plan
-  pub drawn_from : (own : Parts) → own ≡ plan.plan → (state : Progress AnyState) → StartsWhole plan.plan state → state ≡ start_of (plan_view plan) → (path : List Entry) (to : Progress AnyState) → Leads (whole_tree own) state path to → (whole_tree own).done to ≡ true
-      → (drawn : Drawn) → drawn.plan ≡ plan_view plan → drawn.leaf ≡ to → drawn.path ≡ path → IsDrawnBy (plan_view plan) drawn
-  drawn_from own is state starts state_is path to leads done =
-      drawn_by state starts state_is path to (subst (λ p. Leads (whole_tree p) state path to) is leads) (subst (λ p. (whole_tree p).done to ≡ true) is done)
+  abbrev view : Plan
+  view = plan_view plan
+
+  -- a walk of all strata that came to a leaf
+  pub walked_all : (own : Coverage) → own ≡ all_of plan.plan → (start : Progress AnyState) → StartsWhole plan.plan start → start ≡ selections.start_of plan.plan → (to : Progress AnyState) → BelongsToCovered own to → (path lines : List Entry) → IsFullPath (covered_tree own) start path to → lines ≡ path
+      → IsWalked view own (record { plan = view; only = None; leaf = to; path = lines })
+  walked_all own is start starts from to here path lines full same =
+      let goes = full_path_leads (covered_tree own) (BelongsToCovered own) (covered_lawful own) start to path (belongs plan own is start starts) full in
+      subst (λ (p : List Entry). IsWalked view own (record { plan = view; only = None; leaf = to; path = p })) (sym same)
+      (record {
+        whole = own_is own is;
+        belongs = here;
+        done = subst (λ (t : Tree (Progress AnyState)). t.done to ≡ true) (tree_is own is) goes.1;
+        by_plan = drawn_by start starts (start_is start from) path to (subst (λ c. Leads (covered_tree c) start path to) is goes.0) (subst (λ c. (covered_tree c).done to ≡ true) is goes.1);
+      })
+
+  -- a walk of one stratum alone that came to a leaf
+  pub walked_alone : (h : ℕ) → h < length plan.plan.strata → (own : Coverage) → own ≡ one_of plan.plan h → (start : Progress AnyState) → StartsAlone plan.plan h start → start ≡ covered_start (one_of plan.plan h) → (to : Progress AnyState) → BelongsToCovered own to
+      → (path lines : List Entry) → IsFullPath (covered_tree own) start path to → lines ≡ path → IsWalked view own (record { plan = view; only = Some h; leaf = to; path = lines })
+  walked_alone h within own is start starts from to here path lines full same =
+      let seen : own ≡ alone view h = is ∙ ap (λ (p : Parts). one_of p h) planned.parts_are in
+      let begins : start ≡ covered_start (alone view h) = from ∙ ap (λ (p : Parts). covered_start (one_of p h)) planned.parts_are in
+      let member : BelongsToCovered own start = subst (λ (c : Coverage). BelongsToCovered c start) (sym is) starts.member in
+      let goes = full_path_leads (covered_tree own) (BelongsToCovered own) (covered_lawful own) start to path member full in
+      subst (λ (p : List Entry). IsWalked view own (record { plan = view; only = Some h; leaf = to; path = p })) (sym same)
+      (record {
+        whole = seen;
+        belongs = here;
+        done = subst (λ (c : Coverage). (covered_tree c).done to ≡ true) seen goes.1;
+        by_plan = record {
+          plan_is = refl;
+          only = refl;
+          there = omega (arith, within, ap (λ (p : Parts). length p.strata) planned.parts_are);
+          starts = subst (λ (p : Parts). StartsAlone p h (covered_start (one_of p h))) planned.parts_are (subst (StartsAlone plan.plan h) from starts);
+          full = subst (λ (s : Progress AnyState). IsFullPath (covered_tree (alone view h)) s path to) begins (subst (λ (c : Coverage). IsFullPath (covered_tree c) start path to) seen full);
+        };
+      })
+
+-- ---- the log of what is drawn
+
+-- what is drawn has the path of a full tape, and where it is of one stratum alone, the plan has it
+module _ (plan : Plan) (leaf : Progress AnyState) (path : List Entry) where
+  abbrev pub drawn_of_only : Option ℕ → Drawn
+  drawn_of_only only = record { plan = plan; only = only; leaf = leaf; path = path }
+
+  full_of : (only : Option ℕ) → IsDrawnOf only plan (drawn_of_only only) → IsFullPath (covered_tree (covered (drawn_of_only only))) (covered_start (covered (drawn_of_only only))) path leaf
+  full_of None by = by.full
+  full_of (Some h) by = by.full
+
+  there_of : (only : Option ℕ) → IsDrawnOf only plan (drawn_of_only only) → IfSome only (λ h. h < length (parts plan).strata)
+  there_of None by = tt
+  there_of (Some h) by = by.there
+
+module _ (plan : FramePlan) (planned : IsPlanned plan) (only : Option ℕ) (leaf : Progress AnyState) (path : List Entry) (by : IsDrawnOf only (plan_view plan) (record { plan = plan_view plan; only = only; leaf = leaf; path = path })) where
+  abbrev drawn_here : Drawn
+  drawn_here = record { plan = plan_view plan; only = only; leaf = leaf; path = path }
+
+  pub own_strata : IfSome only (λ h. h < length plan.plan.strata)
+  own_strata = subst (λ (p : Parts). IfSome only (λ h. h < length p.strata)) (sym planned.parts_are) (there_of (plan_view plan) leaf path only by)
+
+  -- in the selection that is made once more
+  module _ (own : Coverage) (is : own ≡ record { plan = plan.plan; only = only }) (start : Progress AnyState) (from : start ≡ covered_start (record { plan = plan.plan; only = only })) where
+    seen : own ≡ covered drawn_here
+    seen = is ∙ ap (λ (p : Parts). record { plan = p; only = only }) planned.parts_are
+
+    begins : start ≡ covered_start (covered drawn_here)
+    begins = from ∙ ap (λ (p : Parts). covered_start (record { plan = p; only = only })) planned.parts_are
+
+    pub own_path : IsFullPath (covered_tree own) start path leaf
+    own_path =
+        subst (λ (s : Progress AnyState). IsFullPath (covered_tree own) s path leaf) (sym begins)
+        (subst (λ (c : Coverage). IsFullPath (covered_tree c) (covered_start (covered drawn_here)) path leaf) (sym seen) (full_of (plan_view plan) leaf path only by))
+
+    pub own_leaf : HasLeaf (covered_tree own) start path
+    own_leaf = record { leaf = leaf; full = own_path }
+
+    pub own_text : sectioned_log_text (covered_tree own) (strata_sections own) start plan.head path ≡ log_text drawn_here
+    own_text =
+        ap (λ (s : Progress AnyState). sectioned_log_text (covered_tree own) (strata_sections own) s plan.head path) begins
+        ∙ ap (λ (c : Coverage). sectioned_log_text (covered_tree c) (strata_sections c) (covered_start (covered drawn_here)) plan.head path) seen
 
 -- the log of a full path never differs
-pub never_differs : {State : Type 0} (tree : Tree State) (from : State) (head : List ℕ) (path : List Entry) (end : State) → IsFullPath tree from path end → (log : List ℕ) → log ≡ log_text head path
-    → (fault : LogFault) → ((line : ℕ) → fault ≡ Differs line → DiffersAt (IsGenuine tree from head) log line) → ⊥
-never_differs tree from head path end full log is (Differs line) differs = (differs line refl).not_genuine end (record { path = path; full = full; text = is })
+pub never_differs : {State : Type 0} (tree : Tree State) (sections : Sectioning State) (from : State) (head : List ℕ) (path : List Entry) (end : State) → IsFullPath tree from path end
+    → (log : List ℕ) → log ≡ sectioned_log_text tree sections from head path → (fault : LogFault) → ((line : ℕ) → fault ≡ Differs line → DiffersAt (IsAnyGenuine tree sections from head) log line) → ⊥
+never_differs tree sections from head path end full log is (Differs line) differs = (differs line refl).not_genuine end (record { path = path; full = full; text = inr is })

@@ -1,11 +1,12 @@
 -- Texts that are written row by row.
-use Rattle.std.proofs.Common.{◌≡◌, ℕ, ◌+◌, ◌*◌, ◌<◌, ◌≤◌, suc, zero, Bool, true, ℤ, pos, negsuc, ◌*ℤ◌, List, [], ◌∷◌, ◌++◌, length, get_or, drop, Option, Some, Result, Ok, Err, IfOk, arith, sym, ap, subst, ◌∙◌, inl, inr, drop-cons, true≢false}
-use Rattle.std.specs.List.{filter, flat_map, range_with_len}
-use Rattle.std.specs.Prelude.{option_map}
+use Rattle.std.proofs.Common.{◌≡◌, ℕ, ◌+◌, ◌-◌, ◌*◌, ◌<◌, ◌≤◌, suc, zero, Bool, cond, true, false, append_assoc, ℤ, pos, negsuc, ◌*ℤ◌, List, [], ◌∷◌, ◌++◌, length, get_or, drop, Option, Some, Result, Ok, Err, IfOk, arith, sym, ap, subst, ◌∙◌, inl, inr, drop-cons, true≢false}
+use Rattle.std.specs.List.{count_by, filter, flat_map, range_with_len}
+use Rattle.std.specs.Prelude.{nat_eq, option_map}
 use Rattle.std.proofs.lemmas.Bool.{cases_Bool}
 use Rattle.std.proofs.lemmas.Int.{ints}
-use Rattle.std.proofs.lemmas.List.FromFn.{length-range_with_len}
-use Rattle.std.proofs.lemmas.List.{append-nil, drop_all, get_or-map, length-map}
+use Rattle.std.proofs.lemmas.List.Sums.{sum_by-cons}
+use Rattle.std.proofs.lemmas.List.{append-nil, drop_all, get_or-map}
+use Rattle.smp_split.proofs.Filters.{filter_here, filter_next}
 use Rattle.smp_fractions.specs.Fractions.{Same, inverse}
 use Rattle.smp_fractions.proofs.Fractions.{same_trans, numerator_positive, inverse_same}
 use Rattle.smp_frac.specs.declared.fractions.Frac.{Frac}
@@ -15,18 +16,17 @@ use Rattle.smp_frame.specs.declared.frame.Unit as unit
 use Rattle.smp_strata.specs.Plans.{Parts}
 use Rattle.smp_strata.specs.Seats.{IsSeat, seat_fraction}
 use Rattle.smp_strata.specs.declared.strata.Seat.{Seat}
-use Rattle.smp_twostage.specs.Selections as selections
-use Rattle.smp_twostage.specs.Selections.{place_of, whole_tree}
+use Rattle.smp_twostage.specs.Selections.{Coverage, covered_tree, is_of_stratum, place_of, seats_by}
 use Rattle.smp_twostage.specs.Starts.{is_positive, row_fraction}
 use Rattle.smp_twostage.specs.Laws.Places.{place_is_seat}
-use Rattle.smp_twostage.proofs.Positive.{selected_positive}
 use Rattle.smp_weights.specs.Rows.{AddsRow, row}
 use Rattle.smp_weights.specs.Sample.{sample_row}
 use Rattle.smp_weights.proofs.Written.{row_added}
 use Rattle.smp_app.specs.declared.plan.FramePlan.{FramePlan}
 use Rattle.smp_app.specs.declared.selection.Selection.{Selection}
-use Rattle.smp_app.specs.Plans.{Plan, parts, row_id, row_probability, tree_of, drawn_rows}
+use Rattle.smp_app.specs.Plans.{Plan, parts, row_id, row_probability, covered, drawn_rows}
 use Rattle.smp_app.specs.Stages.{IsPlanned, IsSelection, plan_view, selection_view}
+use Rattle.smp_app.proofs.Alone.{covered_positive, seats_long}
 
 -- the row of one more element
 pub next_row : {A : Type 0} (line : A → List ℕ) (xs : List A) (i : ℕ) (d : A) (old new : Option (List ℕ)) (text whole : List ℕ) → i < length xs → AddsRow old new text → text ≡ line (get_or xs i d)
@@ -53,6 +53,39 @@ pub rows_written : {A E : Type 0} (line : A → List ℕ) (xs : List A) (i : ℕ
     → option_map (λ before. before ++ flat_map line (drop i xs)) written ≡ Some whole → IfOk result (λ text. written ≡ Some text) → IfOk result (λ text. text ≡ whole)
 rows_written line xs i written whole result ended so_far answer =
     if_ok result (λ text. written ≡ Some text) (λ text. text ≡ whole) (λ text is. all_rows line xs i written text whole ended is so_far) answer
+
+-- ---- how many numbers pass a test
+
+module _ (p : ℕ → Bool) (n k : ℕ) (here : k < n) where
+  left : n - k ≡ suc (n - (k + 1))
+  left = omega arith
+
+  abbrev pub others : ℕ
+  others = count_by p (range_with_len (k + 1) (n - (k + 1)))
+
+  pub count_from : (b : Bool) → p k ≡ b → count_by p (range_with_len k (n - k)) ≡ cond b 1 0 + others
+  count_from b is =
+      ap (λ m. count_by p (range_with_len k m)) left ∙ sum_by-cons (λ x. cond (p x) 1 0) k (range_with_len (k + 1) (n - (k + 1))) ∙ ap (λ t. cond t 1 0 + others) is
+
+-- ---- a text of the numbers that pass a test
+
+module _ (line : ℕ → List ℕ) (p : ℕ → Bool) (n : ℕ) where
+  -- the text of those from one on
+  abbrev pub lines_from : ℕ → List ℕ
+  lines_from k = flat_map line (filter p (range_with_len k (n - k)))
+
+  module _ (i : ℕ) (old whole : List ℕ) where
+    pub line_more : i < n → p i ≡ true → (new : List ℕ) → new ≡ old ++ line i → old ++ lines_from i ≡ whole → new ++ lines_from (i + 1) ≡ whole
+    line_more here passes new adds so_far =
+        ap (λ t. t ++ lines_from (i + 1)) adds ∙ append_assoc old (line i) (lines_from (i + 1)) ∙ ap (λ ks. old ++ flat_map line ks) (sym (filter_here p n i here passes)) ∙ so_far
+
+    pub line_passed : i < n → p i ≡ false → old ++ lines_from i ≡ whole → old ++ lines_from (i + 1) ≡ whole
+    line_passed here fails so_far = ap (λ ks. old ++ flat_map line ks) (sym (filter_next p n i here fails)) ∙ so_far
+
+    pub lines_all : n ≤ i → old ++ lines_from i ≡ whole → old ≡ whole
+    lines_all ended so_far =
+        let none : n - i ≡ 0 = omega (arith, ended) in
+        sym (append-nil old) ∙ ap (λ m. old ++ flat_map line (filter p (range_with_len i m))) (sym none) ∙ so_far
 
 -- ---- the numbers below a bound that pass a test
 
@@ -81,6 +114,13 @@ module _ (plan : Plan) (r : ℕ) (u : unit.Unit) (within : r < length plan.units
   -- the id of the unit in a row
   pub id_is : u.id ≡ row_id plan r
   id_is = sym (get_or-map (λ (v : unit.Unit). v.id) plan.units r u [] within ∙ ap (λ (v : unit.Unit). v.id) (sym is))
+
+-- the stratum of a row is that of its seat
+pub stands_in_its : (plan : FramePlan) → IsPlanned plan → (r : ℕ) → r < length plan.frame → (seat : Seat) → ((other : Seat) → IsSeat plan.plan.strata r other → other ≡ seat) → (h : ℕ) → is_of_stratum (parts (plan_view plan)) h r ≡ nat_eq seat.stratum h
+stands_in_its plan planned r within seat once h =
+    let seated = planned.drawable.sound.seated.seats r (omega (arith, within, ap (λ (p : Parts). p.rows) planned.parts_are)) in
+    let same : place_of plan.plan.strata r ≡ seat = once (place_of plan.plan.strata r) (place_is_seat plan.plan.strata r seated.seat seated.is) in
+    ap (λ (p : Parts). is_of_stratum p h r) (sym planned.parts_are) ∙ ap (λ (at : Seat). nat_eq at.stratum h) same
 
 module _ (plan : FramePlan) (planned : IsPlanned plan) (r : ℕ) (within : r < length plan.frame) (f : Frac) (asked : (seat : Seat) → IsSeat plan.plan.strata r seat → Same (fraction f) (seat_fraction plan.plan.strata seat)) where
   inside : r < plan.plan.rows
@@ -122,15 +162,15 @@ module _ (plan : FramePlan) (selection : Selection) (is : IsSelection (plan_view
   abbrev pub drawn_row : ℕ
   drawn_row = get_or selection.rows.items i 0
 
-  there : (drawn_row < length plan.frame) × ((tree_of (plan_view plan)).selected selection.state drawn_row ≡ true)
+  abbrev own : Coverage
+  own = covered (selection_view (plan_view plan) selection)
+
+  there : (drawn_row < length plan.frame) × ((covered_tree own).selected selection.state drawn_row ≡ true)
   there =
-      let passed = passing ((tree_of (plan_view plan)).selected selection.state) 0 0 (length (selections.seats_of (parts (plan_view plan)))) i (rw is.rows at within) in
+      let passed = passing ((covered_tree own).selected selection.state) 0 0 (length (seats_by (parts (plan_view plan)) selection.only)) i (rw is.rows at within) in
       let found : get_or (drawn_rows (selection_view (plan_view plan) selection)) i 0 ≡ drawn_row = ap (λ (items : List ℕ). get_or items i 0) (sym is.rows) in
-      subst (λ k. (k < length plan.frame) × ((tree_of (plan_view plan)).selected selection.state k ≡ true)) found
-      (omega (arith, passed.0, all_seats), passed.1)
-    where
-      all_seats : length (selections.seats_of (parts (plan_view plan))) ≡ length plan.frame
-      all_seats = length-map (range_with_len 0 (length plan.frame)) _ ∙ length-range_with_len 0 (length plan.frame)
+      subst (λ k. (k < length plan.frame) × ((covered_tree own).selected selection.state k ≡ true)) found
+      (omega (arith, passed.0, seats_long (parts (plan_view plan)) selection.only), passed.1)
 
   -- a drawn row is one of the frame, and has a positive probability
   pub drawn_below : drawn_row < length plan.frame
@@ -139,5 +179,5 @@ module _ (plan : FramePlan) (selection : Selection) (is : IsSelection (plan_view
   pub drawn_asked : (planned : IsPlanned plan) (f : Frac) → ((seat : Seat) → IsSeat plan.plan.strata drawn_row seat → Same (fraction f) (seat_fraction plan.plan.strata seat)) → 1 ≤ f.num
   drawn_asked planned f asked =
       positive plan planned drawn_row drawn_below f asked
-      (selected_positive plan.plan planned.drawable selection.state drawn_row (inside plan planned drawn_row drawn_below f asked)
-      (subst (λ (p : Parts). (whole_tree p).selected selection.state drawn_row ≡ true) (sym planned.parts_are) there.1))
+      (covered_positive (record { plan = plan.plan; only = selection.only }) planned.drawable selection.state drawn_row (inside plan planned drawn_row drawn_below f asked)
+      (subst (λ (p : Parts). (covered_tree (record { plan = p; only = selection.only })).selected selection.state drawn_row ≡ true) (sym planned.parts_are) there.1))

@@ -26,6 +26,7 @@ code_of (status.LogDiffers line) = 11
 code_of status.ReadFault = 12
 code_of status.WriteFault = 13
 code_of status.NoMemory = 14
+code_of (status.NoStratum number strata) = 16
 
 -- how a call may end: all was done; the words are those of no command; it was refused; a read or a write failed; memory ran out
 pub data Class : Type 0 where

@@ -1,5 +1,5 @@
 -- The table of the commands: what each reads, how it draws, and what it writes and puts.
-use Rattle.std.specs.Prelude.{ℕ, List, [], ◌∷◌, ◌++◌, map, Option, option_map}
+use Rattle.std.specs.Prelude.{ℕ, List, [], ◌∷◌, ◌++◌, map, Option, Some, None, option_map}
 use Rattle.smp_design.specs.declared.design.Design.{Design}
 use Rattle.smp_words.specs.declared.command.Command.{Command}
 use Rattle.smp_words.specs.declared.command.Command.TheVariants as commands
@@ -8,7 +8,7 @@ use Rattle.smp_words.specs.declared.command.Chance.TheVariants.{Tape, Seed}
 use Rattle.smp_words.specs.Words.{command_of}
 use Rattle.smp_app.specs.declared.outputs.OutputFile.{OutputFile}
 use Rattle.smp_app.specs.Plans.{Plan, Drawn, quick_design}
-use Rattle.smp_app.specs.Texts.{ids_text, steps_text, log_text, sample_text, report_text, demo_text, probabilities_text, accepted_text}
+use Rattle.smp_app.specs.Texts.{ids_text, steps_text, log_text, sample_text, report_text, migrated_text, demo_text, probabilities_text, accepted_text}
 use Rattle.smp_app.specs.Deliveries.{Outputs}
 use Rattle.smp_cases.specs.Demo.{demo_design_text, demo_frame_text, demo_key}
 
@@ -28,15 +28,23 @@ pub record DrawnFile : Type 0 where
   pub name : List ℕ
   pub text : Drawn → List ℕ
 
--- what leads through the draw tree: the values of the tape of a name, the words of a seed, or the steps of the log of a name
+-- What leads through the draw tree: the values of the tape of a name, the words of a seed, the steps of the log of a name, of version 1
+-- alone or of either version, or the steps of the stratum of this number, counted from 1, in such a log of version 2.
 pub data Source : Type 0 where
   ByTape : (name : List ℕ) → Source
   BySeed : (seed : List ℕ) → Source
   ByLog : (name : List ℕ) → Source
+  ByOldLog : (name : List ℕ) → Source
+  BySection : (name : List ℕ) → (number : ℕ) → Source
 
 abbrev pub source_of : Chance → Source
 source_of (Tape name) = ByTape name
 source_of (Seed seed) = BySeed seed
+
+-- a log, or one stratum of it
+abbrev pub log_source : List ℕ → Option ℕ → Source
+log_source name None = ByLog name
+log_source name (Some number) = BySection name number
 
 -- How a command goes on from the plan. It puts a text of it; or it selects by a source, writes files, and puts a text.
 pub data Work : Type 0 where
@@ -77,7 +85,12 @@ job_of (commands.Check a) = record {
 job_of (commands.Replay a) = record {
   design = Held a.design;
   frame = FrameHeld a.frame;
-  work = Draws (ByLog a.log) (record { name = a.sample; text = sample_text } ∷ []) report_text;
+  work = Draws (log_source a.log a.stratum) (record { name = a.sample; text = sample_text } ∷ []) report_text;
+}
+job_of (commands.Migrate a) = record {
+  design = Held a.design;
+  frame = FrameHeld a.frame;
+  work = Draws (ByOldLog a.log) (record { name = a.to; text = log_text } ∷ []) migrated_text;
 }
 job_of (commands.Demo a) = record {
   design = Made (demo_design_text a.n);
@@ -104,6 +117,8 @@ abbrev pub source_names : Source → List (List ℕ)
 source_names (ByTape name) = name ∷ []
 source_names (BySeed seed) = []
 source_names (ByLog name) = name ∷ []
+source_names (ByOldLog name) = name ∷ []
+source_names (BySection name number) = name ∷ []
 
 abbrev pub drawn_names : Work → List (List ℕ)
 drawn_names (Lists text) = []

@@ -1,5 +1,5 @@
 -- What holds of what a job draws.
-use Rattle.std.specs.Prelude.{◌≡◌, ℕ, ◌<◌, true, ℤ, length, Some, Ok}
+use Rattle.std.specs.Prelude.{◌≡◌, ℕ, ◌<◌, true, ℤ, length, Option, Some, None, Ok}
 use Rattle.std.specs.List.{count_by, range_with_len, slice_get}
 use Rattle.smp_io.specs.Store.{Files}
 use Rattle.smp_fractions.specs.Fractions.{Fraction, Same, integer, sum_below}
@@ -14,12 +14,13 @@ use Rattle.smp_strata.specs.declared.strata.First as first
 use Rattle.smp_strata.specs.declared.strata.Stratum.{Stratum}
 use Rattle.smp_stages.specs.Paths.{GoesByStages}
 use Rattle.smp_twostage.specs.Cubes.{IsDrawnByCube, balancing}
-use Rattle.smp_twostage.specs.Selections.{BelongsToWhole, tree_of as stage_tree, first_number, stages_of, states_of}
+use Rattle.smp_twostage.specs.Covered.{StartsAlone}
+use Rattle.smp_twostage.specs.Selections.{BelongsToWhole, covered_start, covered_tree, tree_of as stage_tree, first_number, stages_of, states_of}
 use Rattle.smp_twostage.specs.Starts.{first_selected, known, second_selected, weighted}
 use Rattle.smp_app.specs.Plans.{Plan, parts, row_probability, tree_of, start_of, Drawn}
 use Rattle.smp_app.specs.Texts.{drawn_stratum}
 use Rattle.smp_app.specs.Commands.{Source, Work, Lists, Draws, Job}
-use Rattle.smp_app.specs.Verdict.{plan_stage, drawn_stage}
+use Rattle.smp_app.specs.Verdict.{alone, plan_stage, drawn_stage}
 
 -- ---- how many are drawn
 
@@ -97,8 +98,10 @@ pub record HasProbabilities (plan : Plan) : Type 0 where
   pub unbiased : (x : ℕ → ℤ) → Same (mean (tree_of plan) (counted plan x) (start_of plan))
       (sum_below (length plan.units) (to_estimate plan x))
 
+-- what is drawn of all strata
 pub record IsDrawnBy (plan : Plan) (drawn : Drawn) : Type 0 where
   pub plan_is : drawn.plan ≡ plan
+  pub all : drawn.only ≡ None
   -- The draw starts from a state of the tree, and its path is that of a full tape.
   pub start : BelongsToWhole (parts plan) (start_of plan)
   pub full : IsFullPath (tree_of plan) (start_of plan) drawn.path drawn.leaf
@@ -107,13 +110,28 @@ pub record IsDrawnBy (plan : Plan) (drawn : Drawn) : Type 0 where
   pub probabilities : HasProbabilities plan
   pub balance : KeepsBalance drawn
 
+-- What is drawn of stratum h alone. The draw starts from the stratum's state in the start of the whole draw, and makes the steps that the
+-- whole makes in the stratum; each row of it is selected with exactly the probability that is asked for it, and no other row is. Its path is
+-- that of a full tape.
+pub record IsDrawnAlone (plan : Plan) (h : ℕ) (drawn : Drawn) : Type 0 where
+  pub plan_is : drawn.plan ≡ plan
+  pub only : drawn.only ≡ Some h
+  pub there : h < length (parts plan).strata
+  pub starts : StartsAlone (parts plan) h (covered_start (alone plan h))
+  pub full : IsFullPath (covered_tree (alone plan h)) (covered_start (alone plan h)) drawn.path
+      drawn.leaf
+
+abbrev pub IsDrawnOf : Option ℕ → Plan → Drawn → Type 0
+IsDrawnOf None plan drawn = IsDrawnBy plan drawn
+IsDrawnOf (Some h) plan drawn = IsDrawnAlone plan h drawn
+
 -- what a source draws by the plan of a job
 pub record IsDraw (job : Job) (source : Source) (fs : Files) : Type 0 where
   pub plan : Plan
   pub planned : plan_stage job fs ≡ Ok plan
   pub drawn : Drawn
   pub is_drawn : drawn_stage plan source fs ≡ Ok drawn
-  pub by_plan : IsDrawnBy plan drawn
+  pub by_plan : IsDrawnOf drawn.only plan drawn
 
 abbrev pub IsExactWork : Job → Work → Files → Type 0
 IsExactWork job (Lists text) fs = Unit {0}

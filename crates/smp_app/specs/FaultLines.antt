@@ -46,7 +46,7 @@ misfit_line (misfits.NotWhole stratum sum) = Some (codes "error 5.7 sum " ++ (de
 misfit_line misfits.NoMemory = None
 
 abbrev pub usage_line : List ℕ
-usage_line = codes "error 2 usage: sampler COMMAND [OPTIONS], COMMAND is quick, draw, replay, probs, check or demo\n"
+usage_line = codes "error 2 usage: sampler COMMAND [OPTIONS], COMMAND is quick, draw, replay, migrate, probs, check or demo\n"
 
 abbrev pub refusal_line : Status → Option (List ℕ)
 refusal_line (status.Design fault) = design_line fault
@@ -59,6 +59,8 @@ refusal_line (status.TapeValue place value bound) =
 refusal_line (status.TapeLong left) = Some (codes "error 9 tape has " ++ (decimal left ++ codes " more\n"))
 refusal_line (status.Rejected bound) = Some (codes "error 10 rejected 256 times below " ++ (decimal bound ++ codes "\n"))
 refusal_line (status.LogDiffers line) = Some (codes "error 11 log differs at line " ++ (decimal line ++ codes "\n"))
+refusal_line (status.NoStratum number strata) =
+    Some (codes "error 16 stratum " ++ (decimal number ++ (codes " of " ++ (decimal strata ++ codes "\n"))))
 refusal_line other = None
 
 -- refusals have a line, and other ends none

@@ -4,6 +4,8 @@ use Rattle.smp_io.specs.Counts.{Rose, NeverFalls}
 use Rattle.smp_io.specs.Sink.{with_bytes, AppendsFront}
 use Rattle.smp_io.specs.Store.{Files}
 use Rattle.smp_frame.specs.Bounds.{IsFrame}
+use Rattle.smp_log.specs.declared.fault.ReplayFault.{ReplayFault}
+use Rattle.smp_log.specs.declared.fault.ReplayFault.TheVariants as replays
 use Rattle.smp_tape.specs.declared.draws.DrawFault.{DrawFault}
 use Rattle.smp_split.specs.Paths.{Entry}
 use Rattle.smp_split.specs.Runs.{Outcome, leaf, stopped}
@@ -14,7 +16,7 @@ use Rattle.smp_stages.specs.Stages.{Progress}
 use Rattle.smp_strata.specs.Asked.{AsksAsFrame}
 use Rattle.smp_strata.specs.Draws.{DrawsAsAsked}
 use Rattle.smp_twostage.specs.Plans.{CanBeDrawn}
-use Rattle.smp_twostage.specs.Selections.{BelongsToWhole}
+use Rattle.smp_twostage.specs.Selections.{BelongsToCovered, Coverage, covered_tree}
 use Rattle.smp_words.specs.Words.{all_distinct}
 use Rattle.smp_app.specs.declared.status.Status.{Status}
 use Rattle.smp_app.specs.declared.status.Status.TheVariants as status
@@ -43,11 +45,11 @@ use Rattle.smp_app.specs.declared.job.Job as code_job
 use Rattle.smp_app.specs.Codes.{Class, IsDone, IsUsage, IsRefusal, IsReadFault, IsWriteFault, IsNoMemory, class_of}
 use Rattle.smp_app.specs.FaultLines.{fault_line}
 use Rattle.smp_cases.specs.Demo.{demo_design_text, demo_frame_text}
-use Rattle.smp_app.specs.Plans.{Plan, parts, quick_design, tree_of, Drawn, drawn_rows}
-use Rattle.smp_app.specs.Texts.{ids_text, steps_text, log_text, sample_text, report_text, demo_text, probabilities_text, accepted_text}
-use Rattle.smp_app.specs.Commands.{DesignSource, Held, Given, Made, FrameSource, FrameHeld, FrameMade, Source, ByTape, BySeed, ByLog, DrawnFile, Work, Lists, Draws, Job, inputs_of}
-use Rattle.smp_app.specs.Verdict.{Stop, Refused, Missing, ReadDesign, without, draw_status, drawn_at, drawn_by_log}
-use Rattle.smp_app.specs.Draws.{IsDrawnBy}
+use Rattle.smp_app.specs.Plans.{Plan, parts, quick_design, tree_of, Drawn, covered, drawn_rows}
+use Rattle.smp_app.specs.Texts.{ids_text, steps_text, log_text, sample_text, report_text, migrated_text, demo_text, probabilities_text, accepted_text}
+use Rattle.smp_app.specs.Commands.{DesignSource, Held, Given, Made, FrameSource, FrameHeld, FrameMade, Source, ByTape, BySeed, ByLog, ByOldLog, BySection, DrawnFile, Work, Lists, Draws, Job, inputs_of}
+use Rattle.smp_app.specs.Verdict.{Stop, Refused, Missing, ReadDesign, without, draw_status, drawn_at}
+use Rattle.smp_app.specs.Draws.{IsDrawnOf}
 use Rattle.smp_app.specs.Answers.{Outside, Untouched, RefusesBy, Done, ReadFault, WriteFault, NoMemory}
 
 -- ---- values of the code as the definitions see them
@@ -60,7 +62,11 @@ read_view read = record { design = read.design; bytes = read.bytes }
 
 abbrev pub selection_view : Plan → Selection → Drawn
 selection_view plan selection =
-    record { plan = plan; leaf = selection.state; path = selection.lines }
+    record { plan = plan; only = selection.only; leaf = selection.state; path = selection.lines }
+
+abbrev pub walked_view : Plan → Walked → List Entry → Drawn
+walked_view plan walked path =
+    record { plan = plan; only = walked.only; leaf = walked.state; path = path }
 
 abbrev pub result_view : {A B E : Type 0} → (A → B) → Result A E → Result B E
 result_view view (Ok x) = Ok (view x)
@@ -86,6 +92,7 @@ drawn_text drawn_texts.Log = log_text
 drawn_text drawn_texts.Sample = sample_text
 drawn_text drawn_texts.Report = report_text
 drawn_text drawn_texts.Summary = demo_text
+drawn_text drawn_texts.Migrated = migrated_text
 
 abbrev pub file_view : code_file.DrawnFile → DrawnFile
 file_view file = record { name = file.name.now; text = drawn_text file.text }
@@ -94,6 +101,8 @@ abbrev pub draw_view : DrawSource → Source
 draw_view (draw_sources.Tape name) = ByTape name.now
 draw_view (draw_sources.Seed seed) = BySeed seed
 draw_view (draw_sources.Log name) = ByLog name.now
+draw_view (draw_sources.OldLog name) = ByOldLog name.now
+draw_view (draw_sources.Section name number) = BySection name.now number
 
 abbrev pub work_view : code_work.Work → Work
 work_view (works.Lists text) = Lists (plan_text text)
@@ -202,14 +211,21 @@ EndsAs plan outcome left state (Err (stops.Draw fault bound)) = RefusedAt plan o
 EndsAs plan outcome left state (Err (stops.Log line)) = ⊥
 EndsAs plan outcome left state (Err stops.NoMemory) = Unit {0}
 
--- a replay ended as the log tells, unless memory ran out
-abbrev pub EndsAsTold : Plan → List ℕ → Progress AnyState → Result (List Entry) Stopped → Type 0
-EndsAsTold plan log state (Ok path) =
-    drawn_by_log plan log ≡ Ok (record { plan = plan; leaf = state; path = path })
-EndsAsTold plan log state (Err (stops.Log line)) =
-    drawn_by_log plan log ≡ Err (Refused (status.LogDiffers line))
-EndsAsTold plan log state (Err (stops.Draw fault bound)) = ⊥
-EndsAsTold plan log state (Err stops.NoMemory) = Unit {0}
+-- a replay of all strata or of one alone ended as the log tells, unless memory ran out
+abbrev pub EndsAsTold : Plan → Option ℕ → Result Drawn Stop → Progress AnyState
+    → Result (List Entry) Stopped → Type 0
+EndsAsTold plan only stage state (Ok path) =
+    stage ≡ Ok (record { plan = plan; only = only; leaf = state; path = path })
+EndsAsTold plan only stage state (Err (stops.Log line)) =
+    stage ≡ Err (Refused (status.LogDiffers line))
+EndsAsTold plan only stage state (Err (stops.Draw fault bound)) = ⊥
+EndsAsTold plan only stage state (Err stops.NoMemory) = Unit {0}
+
+-- the end of a replay, by its answer and the lines that it told
+abbrev pub end_told : Result (Unit {0}) ReplayFault → List Entry → Result (List Entry) Stopped
+end_told (Ok done) lines = Ok lines
+end_told (Err (replays.Differs line)) lines = Err (stops.Log line)
+end_told (Err replays.NoMemory) lines = Err stops.NoMemory
 
 -- the refusal for which a walk stopped, where so many values are taken
 abbrev pub stopped_status : Stopped → ℕ → Status
@@ -218,25 +234,26 @@ stopped_status (stops.Log line) taken = status.LogDiffers line
 stopped_status stops.NoMemory taken = status.NoMemory
 
 -- What is answered follows from the end of a walk, where so many values are taken and so many left.
-abbrev pub FollowsEnd : Plan → Result Drawn Status → Progress AnyState
+abbrev pub FollowsEnd : Plan → Option ℕ → Result Drawn Status → Progress AnyState
     → Result (List Entry) Stopped → (taken left : ℕ) → Type 0
-FollowsEnd plan answer state (Ok path) taken left = Follows answer (drawn_at plan state path left)
-FollowsEnd plan answer state (Err stop) taken left = answer ≡ Err (stopped_status stop taken)
+FollowsEnd plan only answer state (Ok path) taken left =
+    Follows answer (drawn_at (record { plan = plan; only = only; leaf = state; path = path }) left)
+FollowsEnd plan only answer state (Err stop) taken left = answer ≡ Err (stopped_status stop taken)
 
--- where a walk came to a leaf: a done state of the whole selection by the plan, and the path to it
-pub record IsWalked (plan : Plan) (walked : Walked) (path : List Entry) : Type 0 where
-  pub whole : walked.whole ≡ parts plan
-  pub belongs : BelongsToWhole walked.whole walked.state
-  pub done : (tree_of plan).done walked.state ≡ true
-  pub drawn : IsDrawnBy plan (record { plan = plan; leaf = walked.state; path = path })
+-- where a walk came to a leaf: a done state of the selection by the plan, and the path to it
+pub record IsWalked (plan : Plan) (design : Coverage) (drawn : Drawn) : Type 0 where
+  pub whole : design ≡ covered drawn
+  pub belongs : BelongsToCovered design drawn.leaf
+  pub done : (covered_tree (covered drawn)).done drawn.leaf ≡ true
+  pub by_plan : IsDrawnOf drawn.only plan drawn
 
 -- what is drawn by a plan: the rows of such a state
 pub record IsSelection (plan : Plan) (selection : Selection) : Type 0 where
-  pub whole : selection.whole ≡ parts plan
-  pub belongs : BelongsToWhole selection.whole selection.state
-  pub done : (tree_of plan).done selection.state ≡ true
+  pub whole : selection.whole ≡ covered (selection_view plan selection)
+  pub belongs : BelongsToCovered selection.whole selection.state
+  pub done : (covered_tree (covered (selection_view plan selection))).done selection.state ≡ true
   pub rows : selection.rows.items ≡ drawn_rows (selection_view plan selection)
-  pub drawn : IsDrawnBy plan (selection_view plan selection)
+  pub drawn : IsDrawnOf selection.only plan (selection_view plan selection)
 
 -- ---- jobs
 
@@ -253,11 +270,21 @@ abbrev pub IsFrameInRanges : code_frame.FrameSource → Type 0
 IsFrameInRanges (frames.Held name) = Unit {0}
 IsFrameInRanges (frames.Demo n seed) = IsDemoSize n
 
+-- strata are counted from 1
+abbrev pub IsSourceInRanges : DrawSource → Type 0
+IsSourceInRanges (draw_sources.Section name number) = 1 ≤ number
+IsSourceInRanges other = Unit {0}
+
+abbrev pub IsWorkInRanges : code_work.Work → Type 0
+IsWorkInRanges (works.Lists text) = Unit {0}
+IsWorkInRanges (works.Draws from files put) = IsSourceInRanges from
+
 -- what the words of a command are sure to have: the inputs have different names
 pub record IsJob (job : code_job.Job) : Type 0 where
   pub distinct : all_distinct (inputs_of (job_view job)) ≡ true
   pub design : IsInRanges job.design
   pub frame : IsFrameInRanges job.frame
+  pub work : IsWorkInRanges job.work
 
 -- ---- the work before the line of a refusal
 

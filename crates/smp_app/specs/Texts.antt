@@ -5,6 +5,7 @@ use Rattle.std.specs.Fmt.{decimal}
 use Rattle.smp_fractions.specs.Fractions.{Fraction}
 use Rattle.smp_frac.specs.Fractions.{fraction_text}
 use Rattle.smp_log.specs.Logs as logs
+use Rattle.smp_log.specs.SectionLogs.{sectioned_log_text}
 use Rattle.smp_weights.specs.Rows.{row}
 use Rattle.smp_weights.specs.Sample.{sample_file}
 use Rattle.smp_design.specs.declared.method.Method.{Method}
@@ -14,8 +15,9 @@ use Rattle.smp_balance.specs.Lines.{balance_lines}
 use Rattle.smp_balance.specs.Strata.{column_count}
 use Rattle.smp_strata.specs.declared.strata.Stratum.{Stratum}
 use Rattle.smp_twostage.specs.Cubes.{balancing}
-use Rattle.smp_twostage.specs.Starts.{first_selected, left_in}
-use Rattle.smp_app.specs.Plans.{Plan, parts, row_id, row_probability, Drawn, drawn_rows}
+use Rattle.smp_twostage.specs.Covered.{covered_first, covered_left}
+use Rattle.smp_twostage.specs.Selections.{covered_start, covered_tree, strata_sections}
+use Rattle.smp_app.specs.Plans.{Plan, parts, row_id, row_probability, Drawn, covered, covered_strata, rows_by, drawn_rows}
 
 -- ---- texts of a plan
 
@@ -48,9 +50,12 @@ ids_text drawn = row (codes "id" ∷ []) ++ flat_map (id_row drawn.plan) (drawn_
 abbrev pub steps_text : Drawn → List ℕ
 steps_text drawn = logs.steps_text drawn.path
 
--- the log: its head, the lines of the steps, and its end
+-- the log: its head, the steps of a stratum after the other, and its end
 abbrev pub log_text : Drawn → List ℕ
-log_text drawn = logs.log_text drawn.plan.head drawn.path
+log_text drawn =
+    let own = covered drawn in
+    sectioned_log_text (covered_tree own) (strata_sections own) (covered_start own)
+    drawn.plan.head drawn.path
 
 -- the sample: the drawn units with their design weights
 abbrev pub weighted_row : Plan → ℕ → List ℕ × Fraction
@@ -59,21 +64,25 @@ weighted_row plan r = (row_id plan r, row_probability plan r)
 abbrev pub sample_text : Drawn → List ℕ
 sample_text drawn = sample_file (map (weighted_row drawn.plan) (drawn_rows drawn))
 
--- the report: how many units were drawn of how many, and in how many steps
+-- what is put of a log that was written anew: how many steps it has
+abbrev pub migrated_text : Drawn → List ℕ
+migrated_text drawn = codes "migrated " ++ (decimal (length drawn.path) ++ codes " steps\n")
+
+-- the report: how many units were drawn, of how many in the strata that are covered, and in how many steps
 abbrev pub summary_text : Drawn → List ℕ
 summary_text drawn =
     codes "selected " ++ (decimal (length (drawn_rows drawn))
-    ++ (codes " of " ++ (decimal (length drawn.plan.units)
+    ++ (codes " of " ++ (decimal (rows_by drawn.plan drawn.only)
     ++ (codes "\nsteps " ++ (decimal (length drawn.path) ++ codes "\n")))))
 
 -- and where they were drawn by the cube, what it kept and gave up in each stratum
 abbrev pub drawn_stratum : Drawn → ℕ → Stratum → balance.Drawn
 drawn_stratum drawn h s = record {
   number = h + 1;
-  left = left_in (parts drawn.plan) drawn.leaf.states h;
+  left = covered_left (covered drawn) drawn.leaf.states h;
   columns = column_count (balancing s);
   stratum = balancing s;
-  units = filter (first_selected (parts drawn.plan) drawn.leaf.states h) (range_with_len 0 (length s.units));
+  units = filter (covered_first (covered drawn) drawn.leaf.states h) (range_with_len 0 (length s.units));
 }
 
 abbrev pub lines_at : Drawn → ℕ → Option Stratum → List ℕ
@@ -84,8 +93,7 @@ abbrev pub stratum_lines : Drawn → ℕ → List ℕ
 stratum_lines drawn h = lines_at drawn h (slice_get (parts drawn.plan).strata h)
 
 abbrev pub cube_lines : Method → Drawn → List ℕ
-cube_lines Cube drawn =
-    flat_map (stratum_lines drawn) (range_with_len 0 (length (parts drawn.plan).strata))
+cube_lines Cube drawn = flat_map (stratum_lines drawn) (covered_strata drawn)
 cube_lines other drawn = []
 
 abbrev pub report_text : Drawn → List ℕ
@@ -94,10 +102,10 @@ report_text drawn = summary_text drawn ++ cube_lines drawn.plan.design.method dr
 -- the summary of the demonstration: how many units were drawn of how many, in how many steps, and how many units were fractional in each
 -- stratum where its landing began; and that the log of the draw was replayed
 abbrev pub left_text : Drawn → ℕ → List ℕ
-left_text drawn h = codes " " ++ decimal (left_in (parts drawn.plan) drawn.leaf.states h)
+left_text drawn h = codes " " ++ decimal (covered_left (covered drawn) drawn.leaf.states h)
 
 abbrev pub lefts_text : Drawn → List ℕ
-lefts_text drawn = flat_map (left_text drawn) (range_with_len 0 (length (parts drawn.plan).strata))
+lefts_text drawn = flat_map (left_text drawn) (covered_strata drawn)
 
 abbrev pub demo_text : Drawn → List ℕ
 demo_text drawn =

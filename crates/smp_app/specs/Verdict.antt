@@ -1,5 +1,5 @@
 -- What a call is to answer, by its words and the files: the first refusal in the order of work, or what it is to write and put.
-use Rattle.std.specs.Prelude.{ℕ, List, [], length, ◌==◌, Option, Some, None, Result, Ok, Err, if◌then◌else◌}
+use Rattle.std.specs.Prelude.{ℕ, ◌+◌, ◌-◌, List, [], length, ◌==◌, nat_le, Option, Some, None, Result, Ok, Err, if◌then◌else◌}
 use Rattle.std.specs.Str.{bytes_eq}
 use Rattle.smp_io.specs.Store.{Files}
 use Rattle.smp_tape.specs.Sources as sources
@@ -13,6 +13,8 @@ use Rattle.smp_sieve.specs.Laws.Keys.{key_stream}
 use Rattle.smp_sieve.specs.Laws.Sieves.{sieve_source}
 use Rattle.smp_log.specs.Answers.{log_reading}
 use Rattle.smp_log.specs.Heads.{head_of}
+use Rattle.smp_log.specs.LoneSections.{section_reading, section_told}
+use Rattle.smp_log.specs.SectionReading.{any_reading}
 use Rattle.smp_log.specs.Told.{path_told}
 use Rattle.smp_split.specs.Trees.{weight_sum}
 use Rattle.smp_split.specs.Paths.{Entry}
@@ -26,12 +28,13 @@ use Rattle.smp_stages.specs.Stages.{Progress}
 use Rattle.smp_strata.specs.Misfits.{misfit_of}
 use Rattle.smp_strata.specs.declared.misfit.Misfit.{Misfit}
 use Rattle.smp_app.specs.declared.status.Status.{Status}
-use Rattle.smp_app.specs.declared.status.Status.TheVariants.{Usage, TapeShort, TapeValue, TapeLong, LogDiffers}
+use Rattle.smp_app.specs.declared.status.Status.TheVariants.{Usage, TapeShort, TapeValue, TapeLong, LogDiffers, NoStratum}
 use Rattle.smp_app.specs.declared.status.Status.TheVariants as status
 use Rattle.smp_app.specs.Codes.{design_status, frame_status, tape_status}
 use Rattle.smp_app.specs.Deliveries.{Outputs}
-use Rattle.smp_app.specs.Plans.{Plan, Drawn, tree_of, start_of}
-use Rattle.smp_app.specs.Commands.{DesignSource, Held, Given, Made, FrameSource, FrameHeld, FrameMade, Source, ByTape, BySeed, ByLog, Work, Lists, Draws, Job, job_of, outputs_by}
+use Rattle.smp_twostage.specs.Selections.{Coverage, covered_start, covered_tree, one_of}
+use Rattle.smp_app.specs.Plans.{Plan, Drawn, parts, tree_of, start_of, sections_of}
+use Rattle.smp_app.specs.Commands.{DesignSource, Held, Given, Made, FrameSource, FrameHeld, FrameMade, Source, ByTape, BySeed, ByLog, ByOldLog, BySection, Work, Lists, Draws, Job, job_of, outputs_by}
 
 -- why a call doesn't go on to its writes
 pub data Stop : Type 0 where
@@ -81,10 +84,8 @@ abbrev pub plan_of : Plan → Result Plan Stop
 plan_of plan = unless_misfit plan (misfit_of plan.design plan.units)
 
 -- at a leaf, where so many values are left: what is drawn, unless there are some
-abbrev pub drawn_at : Plan → Progress AnyState → List Entry → ℕ → Result Drawn Stop
-drawn_at plan state path left =
-    if left == 0 then Ok (record { plan = plan; leaf = state; path = path })
-    else Err (Refused (TapeLong left))
+abbrev pub drawn_at : Drawn → ℕ → Result Drawn Stop
+drawn_at drawn left = if left == 0 then Ok drawn else Err (Refused (TapeLong left))
 
 -- the refusal of a draw below a bound, where so many values were taken
 abbrev pub draw_status : DrawFault → ℕ → ℕ → Status
@@ -95,7 +96,8 @@ draw_status (Rejected rejected) bound taken = status.Rejected rejected
 -- what a run comes to, by how many values are taken then and how many are left
 abbrev pub drawn_of : {Rest : Type 0} → Plan → (taken left : Rest → ℕ)
     → Outcome (Progress AnyState) Rest → Result Drawn Stop
-drawn_of plan taken left (leaf state path rest) = drawn_at plan state path (left rest)
+drawn_of plan taken left (leaf state path rest) =
+    drawn_at (record { plan = plan; only = None; leaf = state; path = path }) (left rest)
 drawn_of plan taken left (stopped state path fault rest) =
     Err (Refused (draw_status fault (weight_sum ((tree_of plan).parts state)) (taken rest)))
 
@@ -124,15 +126,40 @@ abbrev pub drawn_by_seed : Plan → List ℕ → Result Drawn Stop
 drawn_by_seed plan seed =
     drawn_from (sieve_source key_stream) no_words no_words plan (words_of_seed seed)
 
--- what a log tells: the leaf and the path of the draw of which it is the log
-abbrev pub told_by_log : Plan → List ℕ → Result (Progress AnyState) ℕ → Result Drawn Stop
-told_by_log plan log (Ok state) =
-    Ok (record { plan = plan; leaf = state; path = path_told (tree_of plan) (start_of plan) log })
-told_by_log plan log (Err line) = Err (Refused (LogDiffers line))
+-- what a log tells of all strata or of one alone, where this is the path that it tells and its reading
+abbrev pub told_by : Plan → Option ℕ → List Entry → Result (Progress AnyState) ℕ → Result Drawn Stop
+told_by plan only path (Ok state) =
+    Ok (record { plan = plan; only = only; leaf = state; path = path })
+told_by plan only path (Err line) = Err (Refused (LogDiffers line))
 
+-- a log of either version: the leaf and the path of the draw of which it is the log
 abbrev pub drawn_by_log : Plan → List ℕ → Result Drawn Stop
 drawn_by_log plan log =
-    told_by_log plan log (log_reading (tree_of plan) (start_of plan) plan.head log)
+    told_by plan None (path_told (tree_of plan) (start_of plan) log)
+    (any_reading (tree_of plan) (sections_of plan) (start_of plan) plan.head log)
+
+-- a log of version 1 alone
+abbrev pub drawn_by_old_log : Plan → List ℕ → Result Drawn Stop
+drawn_by_old_log plan log =
+    told_by plan None (path_told (tree_of plan) (start_of plan) log)
+    (log_reading (tree_of plan) (start_of plan) plan.head log)
+
+-- the stratum of a number, counted from 0, where the plan has one
+abbrev pub stratum_at : Plan → ℕ → Result ℕ Stop
+stratum_at plan number =
+    let strata = length (parts plan).strata in
+    if nat_le number strata then Ok (number - 1) else Err (Refused (NoStratum number strata))
+
+-- the section of stratum h in a log of version 2
+abbrev pub alone : Plan → ℕ → Coverage
+alone plan h = one_of (parts plan) h
+
+abbrev pub drawn_by_section : Plan → ℕ → List ℕ → Result Drawn Stop
+drawn_by_section plan h log =
+    let tree = covered_tree (alone plan h) in
+    let start = covered_start (alone plan h) in
+    told_by plan (Some h) (section_told tree start (h + 1) log)
+    (section_reading tree start plan.head (h + 1) log)
 
 -- ---- the order of work
 
@@ -165,6 +192,11 @@ plan_stage job fs = design_stage job.design fs >>= λ read. frame_stage read job
 unfoldable pub drawn_stage : Plan → Source → Files → Result Drawn Stop
 drawn_stage plan (BySeed seed) fs = drawn_by_seed plan seed
 drawn_stage plan (ByLog log) fs = content_of log fs >>= drawn_by_log plan
+drawn_stage plan (ByOldLog log) fs = content_of log fs >>= drawn_by_old_log plan
+drawn_stage plan (BySection log number) fs = do
+  h ← stratum_at plan number
+  bytes ← content_of log fs
+  drawn_by_section plan h bytes
 drawn_stage plan (ByTape tape) fs = do
   bytes ← content_of tape fs
   values ← or_fault tape_status (tape_of bytes)

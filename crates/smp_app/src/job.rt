@@ -2,16 +2,17 @@
 
 ghost use Rattle.std.specs.Prelude.{◌≡◌, IfOk};
 ghost use Rattle.smp_words.specs.Words.{IsAsked};
-ghost use Rattle.smp_words.specs.declared.command.Command.TheVariants.{Demo, Draw, Quick, Replay};
+ghost use Rattle.smp_words.specs.declared.command.Command.TheVariants.{Demo, Draw, Migrate, Quick, Replay};
 ghost use Rattle.smp_app.specs.declared.job.DesignSource.TheVariants as DesignSource;
 ghost use Rattle.smp_app.specs.declared.job.FrameSource.TheVariants as FrameSource;
-ghost use Rattle.smp_app.specs.Commands.{FrameHeld, Held, Lists, job_of, source_of};
+ghost use Rattle.smp_app.specs.Commands.{FrameHeld, Held, Lists, job_of, log_source, source_of};
 ghost use Rattle.smp_app.specs.Stages.{IsJob, draw_view, job_view, file_view, plan_text, drawn_text};
 
 use smp_cases::demo_key;
 use smp_frac::{NoMemory, Text};
 use smp_words::{
-    Chance, Command, DemoArguments, DesignArguments, DrawArguments, QuickArguments, ReplayArguments,
+    Chance, Command, DemoArguments, DesignArguments, DrawArguments, MigrateArguments,
+    QuickArguments, ReplayArguments,
 };
 use std::alloc::Global;
 
@@ -51,7 +52,7 @@ pub enum DrawnText {
     Ids,
     /// The lines of the steps.
     Steps,
-    /// The log: its head, the lines of the steps, and its end.
+    /// The log: its head, the steps of a stratum after the other, and its end.
     Log,
     /// The drawn units with their weights.
     Sample,
@@ -59,6 +60,8 @@ pub enum DrawnText {
     Report,
     /// The same in the words of the demonstration, whose log is replayed first.
     Summary,
+    /// In how many steps they were drawn.
+    Migrated,
 }
 
 /// Where the draws of a command come from.
@@ -70,6 +73,10 @@ pub enum DrawSource<'a> {
     Seed([u8; 32]),
     /// From the steps that the log in the file of this name tells.
     Log(&'a Text),
+    /// The same, where the log is to be of version 1.
+    OldLog(&'a Text),
+    /// From the steps that the log in the file of this name, of version 2, tells of one stratum alone, counted from 1.
+    Section(&'a Text, u32),
 }
 
 impl<'a> DrawSource<'a> {
@@ -79,6 +86,16 @@ impl<'a> DrawSource<'a> {
         match chance {
             Chance::Tape(name) => DrawSource::Tape(name),
             Chance::Seed(seed) => DrawSource::Seed(*seed),
+        }
+    }
+
+    // A log, or one stratum of it.
+    fn of_log(name: &'a Text, stratum: Option<u32>) -> DrawSource<'a>
+        ensures { draw_view result ≡ log_source name.now stratum }
+    {
+        match stratum {
+            None => DrawSource::Log(name),
+            Some(number) => DrawSource::Section(name, number),
         }
     }
 }
@@ -130,6 +147,7 @@ impl<'a> Job<'a> {
             Command::Quick(arguments) => quick_job(alloc, arguments),
             Command::Draw(arguments) => draw_job(alloc, arguments),
             Command::Replay(arguments) => replay_job(alloc, arguments),
+            Command::Migrate(arguments) => migrate_job(alloc, arguments),
             Command::Probs(arguments) => Ok(listing(arguments, PlanText::Probabilities)),
             Command::Check(arguments) => Ok(listing(arguments, PlanText::Accepted)),
             Command::Demo(arguments) => Ok(demo_job(alloc, arguments)),
@@ -185,9 +203,27 @@ fn replay_job<'a>(alloc: Global, arguments: &'a ReplayArguments) -> Result<Job<'
         design: DesignSource::Held(&arguments.design),
         frame: FrameSource::Held(&arguments.frame),
         work: Work::Draws {
-            from: DrawSource::Log(&arguments.log),
+            from: DrawSource::of_log(&arguments.log, arguments.stratum),
             files,
             put: DrawnText::Report,
+        },
+    })
+}
+
+fn migrate_job<'a>(alloc: Global, arguments: &'a MigrateArguments) -> Result<Job<'a>, NoMemory>
+    requires { IsAsked (Migrate arguments.now) }
+    ensures job { IfOk result (λ job. job_view job ≡ job_of (Migrate arguments.now)) }
+    ensures is_job { IfOk result IsJob }
+{
+    let mut files = Vec::new(alloc);
+    files.push(drawn_file(&arguments.to, DrawnText::Log))?;
+    Ok(Job {
+        design: DesignSource::Held(&arguments.design),
+        frame: FrameSource::Held(&arguments.frame),
+        work: Work::Draws {
+            from: DrawSource::OldLog(&arguments.log),
+            files,
+            put: DrawnText::Migrated,
         },
     })
 }

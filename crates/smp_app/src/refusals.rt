@@ -54,6 +54,9 @@ fn line_for(alloc: Global, status: &Status) -> Result<Option<String>, AllocError
         Status::LogDiffers { line } => {
             Ok(Some(format!(in alloc; "error 11 log differs at line {line}\n")?))
         }
+        Status::NoStratum { number, strata } => {
+            Ok(Some(format!(in alloc; "error 16 stratum {number} of {strata}\n")?))
+        }
         Status::Done | Status::ReadFault | Status::WriteFault | Status::NoMemory => Ok(None),
     }
 }
@@ -63,7 +66,7 @@ fn usage_line(alloc: Global) -> Result<String, AllocError>
 {
     String::from_str(
         alloc,
-        "error 2 usage: sampler COMMAND [OPTIONS], COMMAND is quick, draw, replay, probs, check or demo\n",
+        "error 2 usage: sampler COMMAND [OPTIONS], COMMAND is quick, draw, replay, migrate, probs, check or demo\n",
     )
 }
 

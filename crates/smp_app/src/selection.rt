@@ -1,19 +1,20 @@
-ghost use Rattle.std.specs.Prelude.{◌≡◌, ◌∷◌, [], IfOk, IfErr};
+ghost use Rattle.std.specs.Prelude.{◌≡◌, ◌∷◌, [], ◌+◌, ◌^◌, ◌<◌, ◌≤◌, length, None, Some, IfOk, IfErr};
 ghost use Rattle.smp_tape.specs.Laws.Tapes.{tape_source};
 ghost use Rattle.smp_split.specs.Runs.{run};
 ghost use Rattle.smp_app.specs.Commands.{source_names};
 ghost use Rattle.smp_twostage.specs.Selections as Selections;
+ghost use Rattle.smp_twostage.specs.Covered.{StartsAlone};
 ghost use Rattle.smp_twostage.specs.Starts.{StartsWhole};
 ghost use Rattle.smp_app.specs.Plans.{tree_of, start_of};
-ghost use Rattle.smp_app.specs.Verdict.{drawn_by_log, drawn_by_seed, drawn_from, drawn_stage, values_left, values_taken};
+ghost use Rattle.smp_app.specs.Verdict.{drawn_by_log, drawn_by_old_log, drawn_by_section, drawn_by_seed, drawn_from, drawn_stage, stratum_at, values_left, values_taken};
 ghost use Rattle.smp_app.specs.Codes.{class_of};
-ghost use Rattle.smp_app.specs.Stages.{Follows, FollowsEnd, EndsAs, EndsAsTold, IsOfContent, Reads, IsPlanned, IsWalked, IsSelection, draw_view, stopped_status, told, plan_view, selection_view, result_view};
+ghost use Rattle.smp_app.specs.Stages.{Follows, FollowsEnd, EndsAs, EndsAsTold, IsOfContent, IsSourceInRanges, Reads, IsPlanned, IsWalked, IsSelection, draw_view, end_told, stopped_status, told, plan_view, selection_view, walked_view, result_view};
 
 use crate::Status;
 use crate::job::DrawSource;
 use crate::plan::{FramePlan, read_input};
 use smp_io::Store;
-use smp_log::{ReplayFault, replay_into};
+use smp_log::{ReplayFault, old_replay_into, replay_into, replay_section_into};
 use smp_methods::AnyState;
 use smp_sieve::{ChaChaWords, Sieve};
 use smp_split::{Lines, Splitting, WalkFault, selected_units, walk};
@@ -33,19 +34,22 @@ pub enum Stopped {
     NoMemory,
 }
 
-/// The whole selection by a plan, the state at which a walk ended, and how it ended: at a leaf, with the lines of its steps, or before.
+/// The selection by a plan, of all strata or of the one with this number, the state at which a walk ended, and how it ended: at a leaf, with
+/// the lines of its steps, or before.
 #[derive(Drop)]
 pub struct Walked<'a> {
     pub whole: Whole<'a>,
+    pub only: Option<usize>,
     pub state: StagesState<AnyState>,
     pub end: Result<Lines, Stopped>,
 }
 
-/// What is drawn: the whole selection, the done state at which a walk ended, the rows that it selects, in frame order, and the lines of its
-/// steps.
+/// What is drawn: the selection, of all strata or of the one with this number, the done state at which a walk ended, the rows that it selects,
+/// in frame order, and the lines of its steps.
 #[derive(Drop)]
 pub struct Selection<'a> {
     pub whole: Whole<'a>,
+    pub only: Option<usize>,
     pub state: StagesState<AnyState>,
     pub rows: Vec<usize>,
     pub lines: Lines,
@@ -59,34 +63,62 @@ fn walk_from<'a, D: Draws>(
     draws: &mut D,
 ) -> Walked<'a>
     requires planned { IsPlanned plan.now }
-    requires whole { started.whole ≡ plan.now.plan }
+    requires whole { started.whole ≡ Selections.all_of plan.now.plan }
     requires state { started.state ≡ Selections.start_of plan.now.plan }
     requires starts { StartsWhole plan.now.plan started.state }
+    ensures only { result.only ≡ None }
     ensures ends { EndsAs (plan_view plan.now)
         (run D.source (tree_of (plan_view plan.now)) (start_of (plan_view plan.now)) draws.old)
         draws.new result.state result.end }
-    ensures walked { IfOk result.end (IsWalked (plan_view plan.now) result) }
+    ensures walked { IfOk result.end (λ path. IsWalked (plan_view plan.now) result.whole
+        (walked_view (plan_view plan.now) result path)) }
 {
     let StartedWhole { whole, mut state } = started;
     let mut lines = Lines::new(alloc);
     match walk(&whole, &mut state, draws, &mut lines) {
         Ok(()) => {
             let end = Ok(lines);
-            Walked { whole, state, end }
+            Walked {
+                whole,
+                only: None,
+                state,
+                end,
+            }
         }
         Err(WalkFault::Draw(fault)) => {
             let bound = whole.bound(&state);
             let end = Err(Stopped::Draw { fault, bound });
-            Walked { whole, state, end }
+            Walked {
+                whole,
+                only: None,
+                state,
+                end,
+            }
         }
         Err(WalkFault::NoMemory) => {
             let end = Err(Stopped::NoMemory);
-            Walked { whole, state, end }
+            Walked {
+                whole,
+                only: None,
+                state,
+                end,
+            }
         }
     }
 }
 
-// Goes along the steps of a log from a plan's start.
+// The end of a replay, by its answer and the lines that it told.
+fn end_told(told: Result<(), ReplayFault>, lines: Lines) -> Result<Lines, Stopped>
+    ensures { result ≡ end_told told lines }
+{
+    match told {
+        Ok(()) => Ok(lines),
+        Err(ReplayFault::Differs { line }) => Err(Stopped::Log { line }),
+        Err(ReplayFault::NoMemory) => Err(Stopped::NoMemory),
+    }
+}
+
+// Goes along the steps of a log of either version from a plan's start.
 fn walk_by_log<'a>(
     alloc: Global,
     plan: &'a FramePlan,
@@ -94,27 +126,84 @@ fn walk_by_log<'a>(
     log: &[u8],
 ) -> Walked<'a>
     requires planned { IsPlanned plan.now }
-    requires whole { started.whole ≡ plan.now.plan }
+    requires whole { started.whole ≡ Selections.all_of plan.now.plan }
     requires state { started.state ≡ Selections.start_of plan.now.plan }
     requires starts { StartsWhole plan.now.plan started.state }
-    ensures ends { EndsAsTold (plan_view plan.now) log.now result.state result.end }
-    ensures walked { IfOk result.end (IsWalked (plan_view plan.now) result) }
+    ensures only { result.only ≡ None }
+    ensures ends { EndsAsTold (plan_view plan.now) None
+        (drawn_by_log (plan_view plan.now) log.now) result.state result.end }
+    ensures walked { IfOk result.end (λ path. IsWalked (plan_view plan.now) result.whole
+        (walked_view (plan_view plan.now) result path)) }
 {
     let StartedWhole { whole, mut state } = started;
     let mut lines = Lines::new(alloc);
-    match replay_into(&whole, &mut state, &plan.head, log, &mut lines) {
-        Ok(()) => {
-            let end = Ok(lines);
-            Walked { whole, state, end }
-        }
-        Err(ReplayFault::Differs { line }) => {
-            let end = Err(Stopped::Log { line });
-            Walked { whole, state, end }
-        }
-        Err(ReplayFault::NoMemory) => {
-            let end = Err(Stopped::NoMemory);
-            Walked { whole, state, end }
-        }
+    let told = replay_into(&whole, &mut state, &plan.head, log, &mut lines);
+    Walked {
+        whole,
+        only: None,
+        state,
+        end: end_told(told, lines),
+    }
+}
+
+// Goes along the steps of a log of version 1 from a plan's start.
+fn walk_by_old_log<'a>(
+    alloc: Global,
+    plan: &'a FramePlan,
+    started: StartedWhole<'a>,
+    log: &[u8],
+) -> Walked<'a>
+    requires planned { IsPlanned plan.now }
+    requires whole { started.whole ≡ Selections.all_of plan.now.plan }
+    requires state { started.state ≡ Selections.start_of plan.now.plan }
+    requires starts { StartsWhole plan.now.plan started.state }
+    ensures only { result.only ≡ None }
+    ensures ends { EndsAsTold (plan_view plan.now) None
+        (drawn_by_old_log (plan_view plan.now) log.now) result.state result.end }
+    ensures walked { IfOk result.end (λ path. IsWalked (plan_view plan.now) result.whole
+        (walked_view (plan_view plan.now) result path)) }
+{
+    let StartedWhole { whole, mut state } = started;
+    let mut lines = Lines::new(alloc);
+    let told = old_replay_into(&whole, &mut state, &plan.head, log, &mut lines);
+    Walked {
+        whole,
+        only: None,
+        state,
+        end: end_told(told, lines),
+    }
+}
+
+// Goes along the steps of one stratum in a log of version 2, from the start of the stratum alone.
+fn walk_by_section<'a>(
+    alloc: Global,
+    plan: &'a FramePlan,
+    started: StartedWhole<'a>,
+    stratum: usize,
+    log: &[u8],
+) -> Walked<'a>
+    requires planned { IsPlanned plan.now }
+    requires stratum { stratum < length plan.now.plan.strata }
+    requires room { stratum < 2 ^ 32 }
+    requires whole { started.whole ≡ Selections.one_of plan.now.plan stratum }
+    requires state { started.state
+        ≡ Selections.covered_start (Selections.one_of plan.now.plan stratum) }
+    requires starts { StartsAlone plan.now.plan stratum started.state }
+    ensures only { result.only ≡ Some stratum }
+    ensures ends { EndsAsTold (plan_view plan.now) (Some stratum)
+        (drawn_by_section (plan_view plan.now) stratum log.now) result.state result.end }
+    ensures walked { IfOk result.end (λ path. IsWalked (plan_view plan.now) result.whole
+        (walked_view (plan_view plan.now) result path)) }
+{
+    let StartedWhole { whole, mut state } = started;
+    let mut lines = Lines::new(alloc);
+    let number = stratum + 1;
+    let told = replay_section_into(&whole, &mut state, &plan.head, number, log, &mut lines);
+    Walked {
+        whole,
+        only: Some(stratum),
+        state,
+        end: end_told(told, lines),
     }
 }
 
@@ -152,14 +241,20 @@ fn selection_at<'a>(
     taken: u64,
     left: u64,
 ) -> Result<Selection<'a>, Status>
-    requires { IfOk walked.end (IsWalked (plan_view plan.now) walked) }
-    ensures follows { FollowsEnd (plan_view plan.now)
+    requires { IfOk walked.end (λ path. IsWalked (plan_view plan.now) walked.whole
+        (walked_view (plan_view plan.now) walked path)) }
+    ensures follows { FollowsEnd (plan_view plan.now) walked.entry.only
         (result_view (selection_view (plan_view plan.now)) result)
         walked.entry.state walked.entry.end taken left }
     ensures kinds { IfErr result (λ error. IsOfContent (class_of error) error) }
     ensures selection { IfOk result (IsSelection (plan_view plan.now)) }
 {
-    let Walked { whole, state, end } = walked;
+    let Walked {
+        whole,
+        only,
+        state,
+        end,
+    } = walked;
     let lines = match end {
         Ok(lines) => lines,
         Err(stopped) => return Err(refusal(stopped, taken)),
@@ -170,6 +265,7 @@ fn selection_at<'a>(
     let rows = selected_units(alloc, &whole, &state)?;
     Ok(Selection {
         whole,
+        only,
         state,
         rows,
         lines,
@@ -212,6 +308,62 @@ fn select_by_seed<'a>(
     selection_at(alloc, plan, walked, 0, 0)
 }
 
+// Selects by a plan what a log of version 1 tells.
+fn select_by_old_log<'a>(
+    alloc: Global,
+    plan: &'a FramePlan,
+    log: &[u8],
+) -> Result<Selection<'a>, Status>
+    requires { IsPlanned plan.now }
+    ensures follows { Follows (result_view (selection_view (plan_view plan.now)) result)
+        (drawn_by_old_log (plan_view plan.now) log.now) }
+    ensures kinds { IfErr result (λ error. IsOfContent (class_of error) error) }
+    ensures selection { IfOk result (IsSelection (plan_view plan.now)) }
+{
+    let started = Whole::start(alloc, &plan.plan)?;
+    let walked = walk_by_old_log(alloc, plan, started, log);
+    selection_at(alloc, plan, walked, 0, 0)
+}
+
+// The stratum of a number, counted from 1. A number that passes that of the strata is refused.
+fn stratum_at(plan: &FramePlan, number: u32) -> Result<usize, Status>
+    requires planned { IsPlanned plan.now }
+    requires number { 1 ≤ number }
+    ensures follows { Follows result (stratum_at (plan_view plan.now) number) }
+    ensures kinds { IfErr result (λ error. IsOfContent (class_of error) error) }
+    ensures within { IfOk result (λ stratum. stratum < length plan.now.plan.strata) }
+    ensures small { IfOk result (λ stratum. stratum < 2 ^ 32) }
+{
+    let strata = plan.plan.strata();
+    if number as usize > strata {
+        return Err(Status::NoStratum {
+            number,
+            strata: strata as u32,
+        });
+    }
+    Ok(number as usize - 1)
+}
+
+// Selects by a plan what the section of one stratum tells in a log of version 2. No other stratum has a state.
+fn select_by_section<'a>(
+    alloc: Global,
+    plan: &'a FramePlan,
+    stratum: usize,
+    log: &[u8],
+) -> Result<Selection<'a>, Status>
+    requires planned { IsPlanned plan.now }
+    requires stratum { stratum < length plan.now.plan.strata }
+    requires room { stratum < 2 ^ 32 }
+    ensures follows { Follows (result_view (selection_view (plan_view plan.now)) result)
+        (drawn_by_section (plan_view plan.now) stratum log.now) }
+    ensures kinds { IfErr result (λ error. IsOfContent (class_of error) error) }
+    ensures selection { IfOk result (IsSelection (plan_view plan.now)) }
+{
+    let started = Whole::only(alloc, &plan.plan, stratum)?;
+    let walked = walk_by_section(alloc, plan, started, stratum, log);
+    selection_at(alloc, plan, walked, 0, 0)
+}
+
 // Selects by a plan what a log tells.
 fn select_by_log<'a>(
     alloc: Global,
@@ -229,7 +381,8 @@ fn select_by_log<'a>(
     selection_at(alloc, plan, walked, 0, 0)
 }
 
-/// Selects by a plan, with the values of a tape or by the steps of a log, which is read first, or with the words of a seed.
+/// Selects by a plan, with the values of a tape or by the steps of a log, which is read first, or with the words of a seed. Where one stratum of a
+/// log is asked for that the plan hasn't, that comes before the log is read.
 #[tactic(auto, unfolding(crate::specs::Verdict::drawn_stage))]
 pub fn selection_from<'a, K: Store>(
     alloc: Global,
@@ -237,7 +390,8 @@ pub fn selection_from<'a, K: Store>(
     plan: &'a FramePlan,
     from: DrawSource,
 ) -> Result<Selection<'a>, Status>
-    requires { IsPlanned plan.now }
+    requires planned { IsPlanned plan.now }
+    requires from { IsSourceInRanges from }
     ensures reads { Reads (source_names (draw_view from.entry))
         (drawn_stage (plan_view plan.now) (draw_view from.entry))
         (result_view (selection_view (plan_view plan.now)) result)
@@ -255,6 +409,15 @@ pub fn selection_from<'a, K: Store>(
         DrawSource::Log(name) => {
             let bytes = read_input(alloc, store, name.as_str())?;
             select_by_log(alloc, plan, bytes.as_slice())
+        }
+        DrawSource::OldLog(name) => {
+            let bytes = read_input(alloc, store, name.as_str())?;
+            select_by_old_log(alloc, plan, bytes.as_slice())
+        }
+        DrawSource::Section(name, number) => {
+            let stratum = stratum_at(plan, number)?;
+            let bytes = read_input(alloc, store, name.as_str())?;
+            select_by_section(alloc, plan, stratum, bytes.as_slice())
         }
     }
 }

@@ -47,6 +47,11 @@ pub enum Status {
     LogDiffers {
         line: u64,
     },
+    /// The plan has no stratum of this number, but so many strata.
+    NoStratum {
+        number: u32,
+        strata: u32,
+    },
     /// A file couldn't be read.
     ReadFault,
     /// A file couldn't be written, or the result couldn't be put.
@@ -75,6 +80,7 @@ impl Status {
             Status::ReadFault => 12,
             Status::WriteFault => 13,
             Status::NoMemory => 14,
+            Status::NoStratum { .. } => 16,
         }
     }
 }

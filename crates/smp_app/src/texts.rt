@@ -1,14 +1,15 @@
-ghost use Rattle.std.specs.Prelude.{◌≡◌, ◌++◌, ◌∷◌, [], ◌+◌, ◌^◌, ◌<◌, true, length, map, slice_index_or, IfOk, OnOk, Some, codes, string_bytes};
+ghost use Rattle.std.specs.Prelude.{◌≡◌, ◌++◌, ◌∷◌, [], ◌+◌, ◌^◌, ◌<◌, true, length, map, slice_index_or, IfOk, IfSome, OnOk, Some, codes, string_bytes};
 ghost use Rattle.std.specs.Fmt.{decimal};
 ghost use Rattle.std.specs.List.{filter, range_with_len, slice_get};
 ghost use Rattle.smp_app.specs.Texts;
+ghost use Rattle.smp_app.specs.Plans.{rows_by};
 ghost use Rattle.smp_app.specs.Texts.{cube_lines, stratum_lines};
 ghost use Rattle.smp_app.specs.Stages as Stages;
 ghost use Rattle.smp_app.specs.Stages.{IsPlanned, IsSelection, plan_view, selection_view};
 ghost use Rattle.smp_design.specs.declared.method.Method.TheVariants.{Cube};
 ghost use Rattle.smp_frac.specs.Fractions.{fraction, fraction_text};
-ghost use Rattle.smp_twostage.specs.Selections.{BelongsToWhole, units_at, whole_tree};
-ghost use Rattle.smp_twostage.specs.Starts.{first_selected};
+ghost use Rattle.smp_twostage.specs.Covered.{covered_first};
+ghost use Rattle.smp_twostage.specs.Selections.{BelongsToCovered, covered_start, covered_tree, covers, units_at};
 ghost use Rattle.smp_weights.specs.Rows.{AddsRow, row};
 
 use crate::job::{DrawnText, PlanText};
@@ -52,12 +53,44 @@ impl DrawnText {
         match self {
             DrawnText::Ids => ids_text(alloc, plan, selection),
             DrawnText::Steps => step_lines(alloc, &selection.lines),
-            DrawnText::Log => log_bytes(alloc, &plan.head, &selection.lines),
+            DrawnText::Log => log_text(alloc, plan, selection),
             DrawnText::Sample => sample_text(alloc, plan, selection),
             DrawnText::Report => report_text(alloc, plan, selection),
             DrawnText::Summary => demo_text(alloc, plan, selection),
+            DrawnText::Migrated => migrated_text(alloc, selection.lines.as_slice().len()),
         }
     }
+}
+
+// The selection of all strata or of one alone once more, before its first step.
+fn started_again<'a>(
+    alloc: Global,
+    plan: &'a FramePlan,
+    only: Option<usize>,
+) -> Result<StartedWhole<'a>, NoMemory>
+    requires planned { IsPlanned plan.now }
+    requires only { IfSome only (λ stratum. stratum < length plan.now.plan.strata) }
+    ensures whole { IfOk result (λ started. started.whole
+        ≡ record { plan = plan.now.plan; only = only }) }
+    ensures state { IfOk result (λ started. started.state
+        ≡ covered_start (record { plan = plan.now.plan; only = only })) }
+    ensures belongs { IfOk result (λ started. BelongsToCovered started.whole started.state) }
+{
+    match only {
+        None => Whole::start(alloc, &plan.plan),
+        Some(stratum) => Whole::only(alloc, &plan.plan, stratum),
+    }
+}
+
+// The log: its head, the steps of a stratum after the other, and its end.
+fn log_text(alloc: Global, plan: &FramePlan, selection: &Selection) -> Result<Bytes, NoMemory>
+    requires planned { IsPlanned plan.now }
+    requires selection { IsSelection (plan_view plan.now) selection.now }
+    ensures { IfOk result (λ text. text
+        ≡ Texts.log_text (selection_view (plan_view plan.now) selection.now)) }
+{
+    let StartedWhole { whole, mut state } = started_again(alloc, plan, selection.only)?;
+    log_bytes(alloc, &whole, &mut state, &plan.head, &selection.lines)
 }
 
 // The ids of the drawn units: CSV with the header `id`, then an id a row, in frame order.
@@ -104,11 +137,45 @@ fn report_text(alloc: Global, plan: &FramePlan, selection: &Selection) -> Result
         ≡ Texts.report_text (selection_view (plan_view plan.now) selection.now)) }
 {
     let drawn = selection.rows.as_slice().len();
-    let units = plan.frame.units().len();
+    let units = row_count(plan, selection.only);
     let steps = selection.lines.as_slice().len();
     let mut report = format!(in alloc; "selected {drawn} of {units}\nsteps {steps}\n")?;
     push_cube_lines(alloc, &mut report, plan, selection)?;
     bytes_of(alloc, &report)
+}
+
+// How many rows stand in all strata, or in the one with this number.
+fn row_count(plan: &FramePlan, only: Option<usize>) -> usize
+    requires { IsPlanned plan.now }
+    ensures { result ≡ rows_by (plan_view plan.now) only }
+{
+    match only {
+        None => plan.frame.units().len(),
+        Some(stratum) => rows_in(plan, stratum),
+    }
+}
+
+fn rows_in(plan: &FramePlan, stratum: usize) -> usize
+    requires { IsPlanned plan.now }
+    ensures { result ≡ rows_by (plan_view plan.now) (Some stratum) }
+{
+    let units = plan.frame.units().len();
+    let mut rows = 0;
+    for row in 0..units {
+        if plan.plan.seat(row).stratum == stratum {
+            rows += 1;
+        }
+    }
+    rows
+}
+
+// What is put of a log that was written anew.
+fn migrated_text(alloc: Global, steps: usize) -> Result<Bytes, NoMemory>
+    ensures { IfOk result (λ text. text
+        ≡ codes "migrated " ++ (decimal steps ++ codes " steps\n")) }
+{
+    let migrated = format!(in alloc; "migrated {steps} steps\n")?;
+    bytes_of(alloc, &migrated)
 }
 
 // The summary of the demonstration, once the log of the draw was replayed.
@@ -134,8 +201,8 @@ fn replay_own_log(alloc: Global, plan: &FramePlan, selection: &Selection) -> Res
     requires planned { IsPlanned plan.now }
     requires selection { IsSelection (plan_view plan.now) selection.now }
 {
-    let log = log_bytes(alloc, &plan.head, &selection.lines)?;
-    let StartedWhole { whole, mut state } = Whole::start(alloc, &plan.plan)?;
+    let log = log_text(alloc, plan, selection)?;
+    let StartedWhole { whole, mut state } = started_again(alloc, plan, selection.only)?;
     match replay(&whole, &mut state, &plan.head, log.as_slice()) {
         Ok(()) => Ok(()),
         Err(_) => unreachable!(),
@@ -151,8 +218,9 @@ fn lefts_text(alloc: Global, plan: &FramePlan, selection: &Selection) -> Result<
 {
     let mut text = String::new(alloc);
     for stratum in 0..plan.plan.strata() {
-        let left = selection.whole.left(&selection.state, stratum);
-        push_left(&mut text, left)?;
+        if selection.whole.covers(stratum) {
+            push_left(&mut text, selection.whole.left(&selection.state, stratum))?;
+        }
     }
     Ok(text)
 }
@@ -195,7 +263,9 @@ fn push_strata_lines(
         ++ cube_lines Cube (selection_view (plan_view plan.now) selection.now)) }
 {
     for number in 0..plan.plan.strata() {
-        push_stratum_lines(alloc, text, plan, selection, number)?;
+        if selection.whole.covers(number) {
+            push_stratum_lines(alloc, text, plan, selection, number)?;
+        }
     }
     Ok(())
 }
@@ -211,6 +281,7 @@ fn push_stratum_lines(
     requires selection { IsSelection (plan_view plan.now) selection.now }
     requires cube { plan.now.design.method ≡ Cube }
     requires number { number < length plan.now.plan.strata }
+    requires covered { covers selection.now.whole number ≡ true }
     requires room { number + 1 < 2 ^ 64 }
     ensures { OnOk result (string_bytes text.new ≡ string_bytes text.old
         ++ stratum_lines (selection_view (plan_view plan.now) selection.now) number) }
@@ -237,12 +308,12 @@ fn drawn_units(
     stratum: usize,
     units: usize,
 ) -> Result<Vec<usize>, NoMemory>
-    requires state { BelongsToWhole selection.now.whole selection.now.state }
-    requires done { (whole_tree selection.now.whole).done selection.now.state ≡ true }
-    requires stratum { stratum < length selection.now.whole.strata }
-    requires units { units ≡ length (units_at (slice_get selection.now.whole.strata stratum)) }
+    requires state { BelongsToCovered selection.now.whole selection.now.state }
+    requires done { (covered_tree selection.now.whole).done selection.now.state ≡ true }
+    requires stratum { covers selection.now.whole stratum ≡ true }
+    requires units { units ≡ length (units_at (slice_get selection.now.whole.plan.strata stratum)) }
     ensures { IfOk result (λ drawn. drawn.items
-        ≡ filter (first_selected selection.now.whole selection.now.state.states stratum)
+        ≡ filter (covered_first selection.now.whole selection.now.state.states stratum)
         (range_with_len 0 units)) }
 {
     let mut drawn = Vec::new(alloc);

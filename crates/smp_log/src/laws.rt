@@ -5,16 +5,21 @@ use crate::Head;
 use smp_split::Splitting;
 use smp_tape::Draws;
 
-/// The log of the path of a run, over whichever draws, is genuine, so [`replay`](crate::replay) accepts what was drawn.
+/// The log of the path of a run, over whichever draws, is genuine, so [`old_replay`](crate::old_replay) accepts what was drawn.
 /// It runs nothing: its contract is the theorem.
-pub fn runs_are_genuine<S: Splitting, D: Draws>(run: &S, state: &S::State, draws: &D, head: &Head)
+pub fn old_runs_are_genuine<S: Splitting, D: Draws>(
+    run: &S,
+    state: &S::State,
+    draws: &D,
+    head: &Head,
+)
     requires { S.belongs run.now state.now }
     ensures { IsRunGenuine D.source (S.tree run.now) state.now draws.now head.now }
 {}
 
-/// A genuine log tells its path, and so its leaf and the number of its steps. The answer of [`replay`](crate::replay) is
+/// A genuine log tells its path, and so its leaf and the number of its steps. The answer of [`old_replay`](crate::old_replay) is
 /// a function of the bytes, and the right one. Nothing comes of the call: its contract is the theorem.
-pub fn logs_are_unambiguous<S: Splitting>(run: &S, state: &S::State, head: &Head, log: &[u8])
+pub fn old_logs_are_unambiguous<S: Splitting>(run: &S, state: &S::State, head: &Head, log: &[u8])
     requires { S.belongs run.now state.now }
     ensures path { IsUnambiguous (S.tree run.now) state.now head.now log.now }
     ensures reading { IsExactReading (S.tree run.now) state.now head.now log.now }

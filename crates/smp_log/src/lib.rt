@@ -22,16 +22,16 @@ mod writing;
 
 pub use fault::{LogFault, MigrateFault, ReplayFault};
 pub use head::{Head, log_head};
-pub use laws::{logs_are_unambiguous, runs_are_genuine};
+pub use laws::{old_logs_are_unambiguous, old_runs_are_genuine};
 pub use lone_section::{replay_section, replay_section_into};
 pub use migrating::migrate;
-pub use replaying::{replay, replay_into};
+pub use replaying::{old_replay, old_replay_into};
 pub use section_laws::{
-    any_logs_are_unambiguous, sectioned_runs_are_genuine, sections_are_replayed_alone,
+    logs_are_unambiguous, runs_are_genuine, section_answers_are_exact, sections_are_replayed_alone,
 };
-pub use section_writing::sectioned_log_bytes;
-pub use versions::{replay_any, replay_any_into};
-pub use writing::{log_bytes, step_lines};
+pub use section_writing::log_bytes;
+pub use versions::{replay, replay_into};
+pub use writing::{old_log_bytes, step_lines};
 
 #[cfg(test)]
 mod section_tests;

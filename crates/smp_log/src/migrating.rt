@@ -5,8 +5,8 @@ ghost use Rattle.smp_log.specs.SectionLogs.{sectioned_log_text};
 ghost use Rattle.smp_log.specs.Told.{path_told};
 ghost use Rattle.smp_log.specs.declared.fault.MigrateFault.TheVariants as MigrateFault;
 
-use crate::section_writing::sectioned_log_bytes;
-use crate::{Head, MigrateFault, ReplayFault, replay_into};
+use crate::section_writing::log_bytes;
+use crate::{Head, MigrateFault, ReplayFault, old_replay_into};
 use smp_frac::Bytes;
 use smp_split::{Lines, Sections};
 use std::alloc::Global;
@@ -39,12 +39,12 @@ pub fn migrate<S: Sections>(
         (log_reading (S.tree run.now) first.old head.now log.now) }
 {
     let mut lines = Lines::new(alloc);
-    match replay_into(run, first, head, log, &mut lines) {
+    match old_replay_into(run, first, head, log, &mut lines) {
         Ok(()) => {}
         Err(ReplayFault::Differs { line }) => return Err(MigrateFault::Differs { line }),
         Err(ReplayFault::NoMemory) => return Err(MigrateFault::NoMemory),
     }
-    match sectioned_log_bytes(alloc, run, second, head, &lines) {
+    match log_bytes(alloc, run, second, head, &lines) {
         Ok(text) => Ok(text),
         Err(_) => Err(MigrateFault::NoMemory),
     }

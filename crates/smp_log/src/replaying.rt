@@ -19,7 +19,7 @@ use smp_split::{NoTrace, Splitting, Trace};
 /// The state is then the leaf of that path. Otherwise [`LogFault::Differs`] names the line, counted from 1, behind the
 /// greatest number of whole lines with which a genuine log begins. Nothing more is then said of the state than that it
 /// belongs to the design.
-pub fn replay<S: Splitting>(
+pub fn old_replay<S: Splitting>(
     run: &S,
     state: &mut S::State,
     head: &Head,
@@ -37,17 +37,17 @@ pub fn replay<S: Splitting>(
     ensures reading { answer_at result state.new
         ≡ log_reading (S.tree run.now) state.old head.now log.now }
 {
-    match replay_into(run, state, head, log, &mut NoTrace) {
+    match old_replay_into(run, state, head, log, &mut NoTrace) {
         Ok(()) => Ok(()),
         Err(ReplayFault::Differs { line }) => Err(LogFault::Differs { line }),
         Err(ReplayFault::NoMemory) => unreachable!(),
     }
 }
 
-/// Replays a log as [`replay`] does, and tells each of its steps to a trace, in their order.
+/// Replays a log as [`old_replay`] does, and tells each of its steps to a trace, in their order.
 ///
 /// Want of memory comes only where the trace may refuse a line.
-pub fn replay_into<S: Splitting, T: Trace>(
+pub fn old_replay_into<S: Splitting, T: Trace>(
     run: &S,
     state: &mut S::State,
     head: &Head,

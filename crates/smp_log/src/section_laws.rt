@@ -8,22 +8,17 @@ use smp_split::{Sections, Splitting};
 use smp_tape::Draws;
 
 /// The log of version 2 of the path of a run, over whichever draws, is genuine, so
-/// [`replay_any`](crate::replay_any) accepts what was drawn. It runs nothing: its contract is the theorem.
-pub fn sectioned_runs_are_genuine<S: Sections, D: Draws>(
-    run: &S,
-    state: &S::State,
-    draws: &D,
-    head: &Head,
-)
+/// [`replay`](crate::replay) accepts what was drawn. It runs nothing: its contract is the theorem.
+pub fn runs_are_genuine<S: Sections, D: Draws>(run: &S, state: &S::State, draws: &D, head: &Head)
     requires { S.belongs run.now state.now }
     ensures { IsRunSectioned D.source (S.tree run.now) (S.sectioning run.now) state.now
         draws.now head.now }
 {}
 
 /// A log that is genuine in either version tells its path, and so its leaf and its steps. The answer of
-/// [`replay_any`](crate::replay_any) is a function of the bytes, and the right one. Nothing comes of the call: its
+/// [`replay`](crate::replay) is a function of the bytes, and the right one. Nothing comes of the call: its
 /// contract is the theorem.
-pub fn any_logs_are_unambiguous<S: Sections>(run: &S, state: &S::State, head: &Head, log: &[u8])
+pub fn logs_are_unambiguous<S: Sections>(run: &S, state: &S::State, head: &Head, log: &[u8])
     requires { S.belongs run.now state.now }
     ensures path { IsOnePathed (S.tree run.now) (S.sectioning run.now) state.now head.now log.now }
     ensures reading { IsExactAnswer

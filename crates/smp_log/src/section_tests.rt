@@ -221,7 +221,7 @@ fn line_of(answer: Result<(), LogFault>) -> u64 {
 
 // The line at which a replay of either version differs, or 0.
 fn whole_line(lots: &Lots, log: &[u8]) -> u64 {
-    line_of(replay_any(lots, &mut Drawn::none(), &log_head(b"abc", b""), log))
+    line_of(replay(lots, &mut Drawn::none(), &log_head(b"abc", b""), log))
 }
 
 // The line at which the second section differs, or 0, where it is drawn by these lots alone.
@@ -251,7 +251,7 @@ fn drawn_lines(alloc: Global, lots: &Lots, values: &[u128]) -> Result<Lines, Fai
     let mut state = Drawn::none();
     let mut tape = Tape::from_values(alloc, values)?;
     let mut lines = Lines::new(alloc);
-    sectioned_runs_are_genuine(lots, &state, &tape, &log_head(b"abc", b""));
+    runs_are_genuine(lots, &state, &tape, &log_head(b"abc", b""));
     walk(lots, &mut state, &mut tape, &mut lines)?;
     Ok(lines)
 }
@@ -261,8 +261,8 @@ fn drawn_lines(alloc: Global, lots: &Lots, values: &[u128]) -> Result<Lines, Fai
 fn is_log_of(alloc: Global, lots: &Lots, values: &[u128], end: &[u8]) -> Result<bool, Fail> {
     let head = log_head(b"abc", b"");
     let lines = drawn_lines(alloc, lots, values)?;
-    let old = log_bytes(alloc, &head, &lines)?;
-    let new = sectioned_log_bytes(alloc, lots, &mut Drawn::none(), &head, &lines)?;
+    let old = old_log_bytes(alloc, &head, &lines)?;
+    let new = log_bytes(alloc, lots, &mut Drawn::none(), &head, &lines)?;
     let text = behind_head(alloc, end)?;
     let again = migrated(alloc, lots, old.as_slice())?;
     let replayed = whole_line(lots, old.as_slice()) == 0;

@@ -14,7 +14,7 @@ use std::alloc::{AllocError, Global};
 ///
 /// After `Ok` the state is the leaf of that path. After want of memory nothing is said of it but that it belongs to the
 /// design.
-pub fn sectioned_log_bytes<S: Sections>(
+pub fn log_bytes<S: Sections>(
     alloc: Global,
     run: &S,
     state: &mut S::State,

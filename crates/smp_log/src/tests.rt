@@ -1,4 +1,4 @@
-use super::{Head, LogFault, log_bytes, log_head, replay};
+use super::{Head, LogFault, log_head, old_log_bytes, old_replay};
 use smp_pivotal::Pivotal;
 use smp_prob::{Order, requested};
 use smp_split::{Lines, selected_units, walk};
@@ -58,7 +58,7 @@ fn behind_head(alloc: Global, end: &[u8]) -> Result<Vec<u8>, Fail> {
 fn replayed(alloc: Global, head: &Head, log: &[u8]) -> Result<(Vec<usize>, u64), Fail> {
     let design = four_sizes(alloc)?;
     let mut state = design.start(alloc)?;
-    match replay(&design, &mut state, head, log) {
+    match old_replay(&design, &mut state, head, log) {
         Ok(()) => Ok((selected_units(alloc, &design, &state)?, 0)),
         Err(LogFault::Differs { line }) => Ok((Vec::new(alloc), line)),
     }
@@ -74,7 +74,7 @@ fn logs_are_written(rt: HostRuntime) -> Result<(), Fail> {
     walk(&design, &mut state, &mut tape, &mut path)?;
     let head = log_head(b"abc", b"");
     assert_eq!(rt; head.as_slice(), HEAD);
-    let log = log_bytes(alloc, &head, &path)?;
+    let log = old_log_bytes(alloc, &head, &path)?;
     assert_eq!(rt; log.as_slice(), behind_head(alloc, STEPS)?.as_slice());
     assert_eq!(rt; log.as_slice().len(), 193);
 

@@ -11,7 +11,7 @@ ghost use Rattle.smp_log.specs.declared.fault.ReplayFault.TheVariants as ReplayF
 
 use crate::lines::behind;
 use crate::section_replaying::replay_sections_into;
-use crate::{Head, LogFault, ReplayFault, replay_into};
+use crate::{Head, LogFault, ReplayFault, old_replay_into};
 use smp_split::{NoTrace, Sections, Trace};
 
 /// Replays a log of version 1 or 2 from the state in which it began, as a design's `start` gives it. The log is read once,
@@ -20,7 +20,7 @@ use smp_split::{NoTrace, Sections, Trace};
 /// `Ok` comes exactly where the log is genuine for this head and state: where it is the log of the path of a full tape, of
 /// one of the versions. The state is then the leaf of that path. Otherwise [`LogFault::Differs`] names the line, counted
 /// from 1, behind the greatest number of whole lines with which a genuine log of either version begins.
-pub fn replay_any<S: Sections>(
+pub fn replay<S: Sections>(
     run: &S,
     state: &mut S::State,
     head: &Head,
@@ -40,17 +40,17 @@ pub fn replay_any<S: Sections>(
     ensures reading { answer_at result state.new
         ≡ any_reading (S.tree run.now) (S.sectioning run.now) state.old head.now log.now }
 {
-    match replay_any_into(run, state, head, log, &mut NoTrace) {
+    match replay_into(run, state, head, log, &mut NoTrace) {
         Ok(()) => Ok(()),
         Err(ReplayFault::Differs { line }) => Err(LogFault::Differs { line }),
         Err(ReplayFault::NoMemory) => unreachable!(),
     }
 }
 
-/// Replays a log as [`replay_any`] does, and tells each of its steps to a trace, in their order.
+/// Replays a log as [`replay`] does, and tells each of its steps to a trace, in their order.
 ///
 /// Want of memory comes only where the trace may refuse a line.
-pub fn replay_any_into<S: Sections, T: Trace>(
+pub fn replay_into<S: Sections, T: Trace>(
     run: &S,
     state: &mut S::State,
     head: &Head,
@@ -78,7 +78,7 @@ pub fn replay_any_into<S: Sections, T: Trace>(
     if is_sectioned(log) {
         replay_sections_into(run, state, head, log, trace)
     } else {
-        replay_into(run, state, head, log, trace)
+        old_replay_into(run, state, head, log, trace)
     }
 }
 

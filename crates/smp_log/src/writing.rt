@@ -8,7 +8,7 @@ use smp_split::{Kind, Lines};
 use std::alloc::{AllocError, Global};
 
 /// The log of a path: the head, a line for each step, and how many steps there were.
-pub fn log_bytes(alloc: Global, head: &Head, lines: &Lines) -> Result<Bytes, NoMemory>
+pub fn old_log_bytes(alloc: Global, head: &Head, lines: &Lines) -> Result<Bytes, NoMemory>
     ensures { IfOk result (λ text. text ≡ log_text head.now lines.now) }
 {
     let mut text = Bytes::new(alloc);

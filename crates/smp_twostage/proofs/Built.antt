@@ -33,3 +33,9 @@ module _ (plan : Parts) where
       more ∙ ap (λ ns. ns ++ length stages ∷ []) so_far
       ∙ ap (λ xs. map (first_number plan) (range_with_len 0 h) ++ length xs ∷ []) are
       ∙ sym (map-range_with_len_more (first_number plan) 0 h h (omega arith))
+
+  -- and that of all stages
+  pub last_number : (h : ℕ) (done new : List ℕ) (stages : List (Stage Selecting)) → done ≡ map (first_number plan) (range_with_len 0 h) → stages ≡ stages_below plan h → new ≡ done ++ length stages ∷ [] → new ≡ map (first_number plan) (range_with_len 0 (suc h))
+  last_number h done new stages so_far are more =
+      let on : h + 1 ≡ suc h = omega arith in
+      next_number h done new stages so_far are more ∙ ap (λ n. map (first_number plan) (range_with_len 0 n)) on

@@ -1,9 +1,12 @@
 pub mod Values
 pub mod Columns
 pub mod Cubes
+pub mod Sizes
 pub mod Inside
 pub mod Started
 pub mod Built
 pub mod Seats
 pub mod Positive
+pub mod Found
+pub mod Alone
 pub mod Starts

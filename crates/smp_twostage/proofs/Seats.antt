@@ -1,17 +1,20 @@
 -- The seat of each row, from its place in the plan.
-use Rattle.std.proofs.Common.{◌≡◌, ℕ, suc, ◌+◌, ◌<◌, true, List, [], ◌∷◌, ◌++◌, length, map, Option, Some, None, arith, refl, sym, ap, subst, ◌∙◌}
+use Rattle.std.proofs.Common.{◌≡◌, ◌≢◌, ℕ, suc, ◌+◌, ◌<◌, true, false, List, [], ◌∷◌, ◌++◌, length, map, Option, Some, None, arith, refl, sym, ap, subst, ◌∙◌}
 use Rattle.std.specs.Prelude.{is_some}
-use Rattle.std.specs.List.{range_with_len}
+use Rattle.std.specs.List.{range_with_len, slice_get}
+use Rattle.std.proofs.lemmas.Bool.{eq-eqb, ne_eqb}
 use Rattle.std.proofs.lemmas.List.FromFn.{map-range_with_len_more}
 use Rattle.std.proofs.lemmas.Option.{slice_get_within}
 use Rattle.smp_prob.specs.declared.requests.Request.{Request}
 use Rattle.smp_design.specs.declared.method.Method.{Method}
 use Rattle.smp_stages.specs.declared.places.Seat as seats
+use Rattle.smp_stages.specs.declared.places.Seat.TheVariants.{Nowhere}
 use Rattle.smp_strata.specs.Plans.{Parts}
 use Rattle.smp_strata.specs.Seats.{IsSeat}
 use Rattle.smp_strata.specs.declared.strata.Seat.{Seat}
 use Rattle.smp_twostage.specs.Plans.{CanBeDrawn}
-use Rattle.smp_twostage.specs.Selections.{first_number, place_of, seat_by, seat_of, stages_of}
+use Rattle.smp_twostage.specs.Selections.{first_number, is_of_stratum, parts_by, place_of, seat_alone, seat_by, seat_of, stages_of}
+use Rattle.smp_twostage.specs.Laws.Covered.{alone_there}
 use Rattle.smp_twostage.specs.Laws.Numbering.{second_there}
 use Rattle.smp_twostage.specs.Laws.Places.{StandsIn, place_is_seat}
 use Rattle.smp_twostage.specs.Laws.Staged.{place_stands, seconds_in}
@@ -47,3 +50,43 @@ module _ (plan : Parts) (drawable : CanBeDrawn plan) (row : ℕ) (l : row < plan
       let here : seat ≡ seat_of plan (place_of plan.strata row) = is ∙ ap (seat_of plan) (sym place_is) in
       more ∙ ap (λ xs. xs ++ seat ∷ []) so_far ∙ ap (λ s. map (λ r. seat_of plan (place_of plan.strata r)) (range_with_len 0 row) ++ s ∷ []) here
       ∙ sym (map-range_with_len_more (λ r. seat_of plan (place_of plan.strata r)) 0 row row (omega arith))
+
+  -- ---- where stratum h is drawn alone
+
+  module _ (h : ℕ) where
+    its : p.stratum ≡ h → is_of_stratum plan h row ≡ true
+    its is = eq-eqb (place_of plan.strata row).stratum h (ap (λ (place : Seat). place.stratum) place_is ∙ is)
+
+    other : p.stratum ≢ h → is_of_stratum plan h row ≡ false
+    other ne = ne_eqb (place_of plan.strata row).stratum h (λ e. ne (ap (λ (place : Seat). place.stratum) (sym place_is) ∙ e))
+
+    alone_room_for : p.stratum ≡ h → (method : Method) → plan.second ≡ Some method → (request : Option Request) → stands.unit.second ≡ request → is_some request ≡ true → suc (0 + p.unit) < length (stages_of (parts_by plan (Some h)))
+    alone_room_for is method second (Some request) asks some =
+        slice_get_within (stages_of (parts_by plan (Some h))) (suc (0 + p.unit)) _
+        (second_there (parts_by plan (Some h)) 0 stands.stratum (alone_there plan h stands.stratum (ap (slice_get plan.strata) (sym is) ∙ stands.is_stratum)) method second
+        (seconds_in plan drawable method second p.stratum stands.stratum stands.is_stratum) p.unit stands.unit stands.is_unit request asks)
+    alone_room_for is method second None asks some = absurd (cc)
+
+    alone_room_by : p.stratum ≡ h → (method : Option Method) → plan.second ≡ method → is_some method ≡ true → suc (0 + p.unit) < length (stages_of (parts_by plan (Some h)))
+    alone_room_by is (Some method) second some = alone_room_for is method second stands.unit.second refl (seconds_in plan drawable method second p.stratum stands.stratum stands.is_stratum p.unit stands.unit stands.is_unit)
+    alone_room_by is None second some = absurd (cc)
+
+    pub alone_room : p.stratum ≡ h → is_some plan.second ≡ true → suc (0 + p.unit) < length (stages_of (parts_by plan (Some h)))
+    alone_room is = alone_room_by is plan.second refl
+
+    next_made : (done new : List seats.Seat) (seat : seats.Seat) → done ≡ map (seat_alone plan h) (range_with_len 0 row) → seat ≡ seat_alone plan h row → new ≡ done ++ seat ∷ [] → new ≡ map (seat_alone plan h) (range_with_len 0 (row + 1))
+    next_made done new seat so_far is more =
+        more ∙ ap (λ xs. xs ++ seat ∷ []) so_far ∙ ap (λ s. map (seat_alone plan h) (range_with_len 0 row) ++ s ∷ []) is
+        ∙ sym (map-range_with_len_more (seat_alone plan h) 0 row row (omega arith))
+
+    pub next_its : (done new : List seats.Seat) (seat : seats.Seat) → done ≡ map (seat_alone plan h) (range_with_len 0 row) → p.stratum ≡ h → seat ≡ seat_by plan.second 0 p
+        → new ≡ done ++ seat ∷ [] → new ≡ map (seat_alone plan h) (range_with_len 0 (row + 1))
+    next_its done new seat so_far stratum is more =
+        let here : seat_alone plan h row ≡ seat_by plan.second 0 (place_of plan.strata row) = rw (its stratum) refl in
+        next_made done new seat so_far (is ∙ ap (seat_by plan.second 0) (sym place_is) ∙ sym here) more
+
+    pub next_other : (done new : List seats.Seat) (seat : seats.Seat) → done ≡ map (seat_alone plan h) (range_with_len 0 row) → p.stratum ≢ h → seat ≡ Nowhere
+        → new ≡ done ++ seat ∷ [] → new ≡ map (seat_alone plan h) (range_with_len 0 (row + 1))
+    next_other done new seat so_far stratum is more =
+        let here : seat_alone plan h row ≡ Nowhere = rw (other stratum) refl in
+        next_made done new seat so_far (is ∙ sym here) more

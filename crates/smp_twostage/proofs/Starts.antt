@@ -33,6 +33,7 @@ use Rattle.smp_twostage.specs.Starts.{StartsWhole, FirstSelects, SecondSelects, 
 use Rattle.smp_twostage.specs.Laws.Numbering.{first_there, second_there}
 use Rattle.smp_twostage.specs.Laws.Staged.{length_seats, none_in, seconds_in}
 use Rattle.smp_twostage.proofs.Cubes.{drawn_by_cube}
+use Rattle.smp_twostage.proofs.Sizes.{firsts_around}
 use Rattle.smp_twostage.proofs.Values.{row_value_is}
 
 pub each_belongs : (stages : List (Stage Selecting)) (states : List AnyState) → EachStarts stages states → EachBelongs tree_of belongs_to stages states
@@ -169,6 +170,7 @@ module _ (plan : Parts) (drawable : CanBeDrawn plan) (states : List AnyState) (e
         (sum_same (length (seats_of plan)) _ _ (λ row l. known_term asked same x row (omega (arith, l, length_seats plan drawable)))));
     firsts = firsts;
     seconds = seconds plan.second refl;
+    around = λ other h s is. firsts_around plan drawable other states each h s is starts.paths;
     cubes = drawn_by_cube plan drawable;
     paths = subst (λ (qs : List AnyState). AtEachLeaf (whole_tree plan) start (λ path leaf. GoesByStages tree_of (stages_of plan) qs path leaf.states)) states_are starts.paths;
   }

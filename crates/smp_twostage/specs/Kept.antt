@@ -1,5 +1,5 @@
 -- What the code keeps on the way. No public clause cites it.
-use Rattle.std.specs.Prelude.{◌≡◌, ℕ, true, All, IfSome, IsTrue, is_some, List, Some, length, map}
+use Rattle.std.specs.Prelude.{◌≡◌, ℕ, suc, true, All, IfSome, IsTrue, is_some, List, Some, length, map}
 use Rattle.std.specs.List.{range_with_len, slice_get}
 use Rattle.smp_split.specs.Counts.{AddsUp}
 use Rattle.smp_values.specs.Starts.{IsWhole}
@@ -9,11 +9,12 @@ use Rattle.smp_methods.specs.declared.any.AnyState.{AnyState}
 use Rattle.smp_methods.specs.Designs.{first_state, method_of}
 use Rattle.smp_stages.specs.declared.places.Stage.{Stage}
 use Rattle.smp_methods.specs.Procedures.{procedure_of}
+use Rattle.smp_methods.specs.Starts.{SelectsAround}
 use Rattle.smp_strata.specs.Bounds.{IsStratum}
 use Rattle.smp_strata.specs.Plans.{Parts}
 use Rattle.smp_strata.specs.declared.strata.Stratum.{Stratum}
 use Rattle.smp_twostage.specs.Plans.{TakesRows}
-use Rattle.smp_twostage.specs.Selections.{Selecting, belongs_to, first_number}
+use Rattle.smp_twostage.specs.Selections.{Coverage, Selecting, belongs_to, covered_parts, first_number, strata_count}
 
 -- a stratum of a plan that can be drawn
 pub record IsPlanned (plan : Parts) (s : Stratum) : Type 0 where
@@ -24,16 +25,19 @@ pub record IsPlanned (plan : Parts) (s : Stratum) : Type 0 where
   pub whole : IsTrue (row plan.method).draws_whole → IsWhole s.request
   pub counted : All (λ u. length u.values ≡ columns) s.units
 
--- the number of each stratum's first stage
-abbrev pub first_numbers : Parts → List ℕ
-first_numbers plan = map (first_number plan) (range_with_len 0 (length plan.strata))
+-- the number of the first stage of each stratum that is covered, and then that of all stages
+abbrev pub first_numbers : Coverage → List ℕ
+first_numbers c =
+    map (first_number (covered_parts c)) (range_with_len 0 (suc (strata_count c)))
 
--- A stage in its first state: each free unit has the value that is requested of it. They add up to the number of draws, where that is whole.
+-- A stage in its first state: each free unit has the value that is requested of it. They add up to the number of draws, where that is whole,
+-- and each leaf selects a whole number of units around their sum.
 pub record StageStarts (s : Selecting) (state : AnyState) : Type 0 where
   pub is : state ≡ first_state s.design
   pub member : belongs_to s state
   pub serves : Serves s.request (method_of s.design).tree state
   pub adds_up : IsWhole s.request → AddsUp (method_of s.design).tree s.request.r state
+  pub around : SelectsAround s.design state
 
 -- each stage is in its first state
 pub record EachStarts (stages : List (Stage Selecting)) (states : List AnyState) : Type 0 where

@@ -3,4 +3,5 @@ pub mod Lists
 pub mod Places
 pub mod Numbering
 pub mod Staged
+pub mod Covered
 pub mod Wholes

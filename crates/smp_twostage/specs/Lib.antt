@@ -2,5 +2,6 @@ pub mod Selections
 pub mod Plans
 pub mod Cubes
 pub mod Starts
+pub mod Covered
 pub mod Kept
 pub mod Laws

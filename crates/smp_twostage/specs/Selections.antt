@@ -1,10 +1,11 @@
 -- The whole selection by a plan, in stages. Strata are drawn in order of first appearance. In each its first stage units are drawn, and then,
 -- where there is a second stage, rows within each of those that were drawn, certain ones among them (Särndal, Swensson and Wretman 1992).
-use Rattle.std.specs.Prelude.{ℕ, zero, Bool, suc, ◌+◌, ℤ, nat_eq, List, [], ◌∷◌, ◌++◌, length, map, Option, Some, None, unwrap_or, slice_index_or}
+use Rattle.std.specs.Prelude.{ℕ, zero, Bool, true, suc, ◌+◌, ℤ, nat_eq, nat_lt, ◌&&◌, if◌then◌else◌, List, [], ◌∷◌, ◌++◌, length, map, take, drop, Option, Some, None, unwrap_or, slice_index_or}
 use Rattle.std.specs.List.{slice_get, list_any, position_or_len, range_with_len}
 use Rattle.smp_prob.specs.declared.orders.Order.{Order}
 use Rattle.smp_prob.specs.declared.orders.Order.TheVariants.{Frame}
 use Rattle.smp_prob.specs.declared.requests.Request.{Request}
+use Rattle.smp_split.specs.Sectioning.{Sectioning}
 use Rattle.smp_split.specs.Trees.{Tree}
 use Rattle.smp_rows.specs.Rows.{rows_tree, BelongsToRows}
 use Rattle.smp_design.specs.declared.method.Method.{Method}
@@ -19,8 +20,9 @@ use Rattle.smp_strata.specs.declared.strata.First as unit
 use Rattle.smp_strata.specs.declared.strata.Seat as place
 use Rattle.smp_strata.specs.declared.strata.Stratum as stratum
 use Rattle.smp_stages.specs.declared.places.Seat.{Seat}
-use Rattle.smp_stages.specs.declared.places.Seat.TheVariants.{First, Second}
+use Rattle.smp_stages.specs.declared.places.Seat.TheVariants.{Nowhere, First, Second}
 use Rattle.smp_stages.specs.declared.places.Stage.{Stage}
+use Rattle.smp_stages.specs.OwnStages.{sections_by}
 use Rattle.smp_stages.specs.Stages.{Progress, IsUnderWay, progress, staged_tree}
 use Rattle.smp_twostage.specs.Plans.{CanBeDrawn}
 
@@ -155,6 +157,81 @@ place_of strata row =
 abbrev pub seats_of : Parts → List Seat
 seats_of plan = map (λ row. seat_of plan (place_of plan.strata row)) (range_with_len 0 plan.rows)
 
+-- the states from which the stages start
+abbrev pub states_of : Parts → List AnyState
+states_of plan = map (λ stage. first_state stage.design.design) (stages_of plan)
+
+-- ---- all strata, or one alone
+
+-- a plan, and the number of the stratum that is drawn alone; where there is none, all are drawn
+pub record Coverage : Type 0 where
+  pub plan : Parts
+  pub only : Option ℕ
+
+abbrev pub all_of : Parts → Coverage
+all_of plan = record { plan = plan; only = None }
+
+abbrev pub one_of : Parts → ℕ → Coverage
+one_of plan h = record { plan = plan; only = Some h }
+
+-- whether stratum h of the plan is drawn, and how many are
+abbrev pub is_only : Option ℕ → ℕ → Bool
+is_only None h = true
+is_only (Some only) h = nat_eq h only
+
+abbrev pub covers : Coverage → ℕ → Bool
+covers c h = nat_lt h (length c.plan.strata) && is_only c.only h
+
+abbrev pub count_by : Option ℕ → ℕ → ℕ
+count_by None n = n
+count_by (Some h) n = 1
+
+abbrev pub strata_count : Coverage → ℕ
+strata_count c = count_by c.only (length c.plan.strata)
+
+-- the plan, without the strata that aren't drawn
+abbrev pub parts_by : Parts → Option ℕ → Parts
+parts_by plan None = plan
+parts_by plan (Some h) = record plan { strata = take 1 (drop h plan.strata) }
+
+abbrev pub covered_parts : Coverage → Parts
+covered_parts c = parts_by c.plan c.only
+
+-- the stages, and the state before the first step
+abbrev pub covered_stages : Coverage → List (Stage Selecting)
+covered_stages c = stages_of (covered_parts c)
+
+abbrev pub covered_start : Coverage → Progress AnyState
+covered_start c = progress tree_of (covered_stages c) (states_of (covered_parts c))
+
+-- the seats of the rows; where stratum h is drawn alone, rows of other strata have none
+abbrev pub is_of_stratum : Parts → ℕ → ℕ → Bool
+is_of_stratum plan h row = nat_eq (place_of plan.strata row).stratum h
+
+abbrev pub seat_alone : Parts → ℕ → ℕ → Seat
+seat_alone plan h row =
+    if is_of_stratum plan h row then seat_by plan.second 0 (place_of plan.strata row) else Nowhere
+
+abbrev pub seats_by : Parts → Option ℕ → List Seat
+seats_by plan None = seats_of plan
+seats_by plan (Some h) = map (seat_alone plan h) (range_with_len 0 plan.rows)
+
+abbrev pub covered_seats : Coverage → List Seat
+covered_seats c = seats_by c.plan c.only
+
+-- the draw tree, whose units are the rows of the frame
+abbrev pub covered_tree : Coverage → Tree (Progress AnyState)
+covered_tree c = staged_tree tree_of (covered_stages c) (covered_seats c)
+
+-- the state is one of the selection by a plan that can be drawn
+pub record BelongsToCovered (c : Coverage) (state : Progress AnyState) : Type 0 where
+  pub drawable : CanBeDrawn c.plan
+  pub member : IsUnderWay tree_of belongs_to (covered_stages c) state
+
+-- each stratum that is drawn is a section
+abbrev pub strata_sections : Coverage → Sectioning (Progress AnyState)
+strata_sections c = sections_by (first_number (covered_parts c)) (strata_count c)
+
 -- ---- the whole selection
 
 -- the draw tree, whose units are the rows of the frame
@@ -162,13 +239,8 @@ abbrev pub whole_tree : Parts → Tree (Progress AnyState)
 whole_tree plan = staged_tree tree_of (stages_of plan) (seats_of plan)
 
 -- the state is one of the selection by a plan that can be drawn
-pub record BelongsToWhole (plan : Parts) (state : Progress AnyState) : Type 0 where
-  pub drawable : CanBeDrawn plan
-  pub member : IsUnderWay tree_of belongs_to (stages_of plan) state
-
--- the states from which the stages start, and the whole selection
-abbrev pub states_of : Parts → List AnyState
-states_of plan = map (λ stage. first_state stage.design.design) (stages_of plan)
+abbrev pub BelongsToWhole : Parts → Progress AnyState → Type 0
+BelongsToWhole plan = BelongsToCovered (all_of plan)
 
 abbrev pub start_of : Parts → Progress AnyState
 start_of plan = progress tree_of (stages_of plan) (states_of plan)

@@ -1,13 +1,14 @@
 -- What the whole selection by a plan starts with.
-use Rattle.std.specs.Prelude.{◌≡◌, ℕ, zero, suc, ◌+◌, ◌<◌, Bool, true, false, cond, ℤ, pos, negsuc, List, length, Option, Some}
+use Rattle.std.specs.Prelude.{◌≡◌, ◌≢◌, ℕ, zero, suc, ◌+◌, ◌<◌, Bool, true, false, cond, ℤ, pos, negsuc, List, length, Option, Some}
 use Rattle.std.specs.List.{count_by, range_with_len, slice_get}
+use Rattle.smp_fractions.specs.Bounds.{IsAround}
 use Rattle.smp_fractions.specs.Fractions.{Fraction, Same, integer, inverse, times, sum_below}
 use Rattle.smp_split.specs.Means.{mean, inclusion_probability}
 use Rattle.smp_split.specs.Paths.{AtEachLeaf, Entry}
 use Rattle.smp_design.specs.declared.method.Method.TheVariants.{Cube}
 use Rattle.smp_prob.specs.declared.requests.Request.{Request}
 use Rattle.smp_methods.specs.declared.any.AnyState.{AnyState}
-use Rattle.smp_strata.specs.Draws.{IsFor}
+use Rattle.smp_strata.specs.Draws.{IsFor, expected_firsts}
 use Rattle.smp_strata.specs.Plans.{Parts}
 use Rattle.smp_strata.specs.Seats.{seat_fraction}
 use Rattle.smp_strata.specs.declared.strata.First as unit
@@ -72,6 +73,13 @@ FirstSelects plan start h s n =
     AtEachLeaf (whole_tree plan) start (λ path leaf.
     count_by (first_selected plan leaf.states h) (range_with_len 0 (length s.units)) ≡ n)
 
+-- at each leaf as many of them are selected as are expected of the stratum, or, where that isn't whole, one of the two whole numbers around it
+abbrev pub FirstSelectsAround : Parts → Progress AnyState → ℕ → stratum.Stratum → Type 0
+FirstSelectsAround plan start h s =
+    AtEachLeaf (whole_tree plan) start (λ path leaf.
+    IsAround (count_by (first_selected plan leaf.states h) (range_with_len 0 (length s.units)))
+    (expected_firsts s))
+
 -- at each leaf at which unit k of stratum h is selected, n of its rows are
 abbrev pub SecondSelects : Parts → Progress AnyState → ℕ → ℕ → unit.First → ℕ → Type 0
 SecondSelects plan start h k u n =
@@ -101,6 +109,10 @@ pub record StartsWhole (plan : Parts) (start : Progress AnyState) : Type 0 where
   pub seconds : (h k n : ℕ) (s : stratum.Stratum) (u : unit.First) (request : Request)
       → slice_get plan.strata h ≡ Some s → slice_get s.units k ≡ Some u → u.second ≡ Some request
       → IsFor request (length u.rows) n → SecondSelects plan start h k u n
+  -- By every method but the cube, as many of a stratum's first stage units are selected as their probabilities add up to, and where these
+  -- have no whole sum, one of the two whole numbers around it.
+  pub around : plan.method ≢ Cube → (h : ℕ) (s : stratum.Stratum) → slice_get plan.strata h ≡ Some s
+      → FirstSelectsAround plan start h s
   -- A path to a leaf is made of the stages' own paths, one after another.
   pub paths : AtEachLeaf (whole_tree plan) start
       (λ path leaf. GoesByStages tree_of (stages_of plan) (states_of plan) path leaf.states)

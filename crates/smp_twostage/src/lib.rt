@@ -4,6 +4,8 @@
 //! stage units are drawn, and then, where there is a second stage, rows within each of those that were drawn. `specs/Selections.antt` says
 //! which stages these are, and `specs/Starts.antt` what holds of a selection from its start: each row's probability of selection is exactly
 //! the one that the plan gives it, and the estimator of Horvitz and Thompson has no bias.
+//!
+//! Each stratum is a section of it. One stratum can be drawn alone: `specs/Covered.antt` says that this selection is a part of the whole one.
 #![tactic(auto)]
 
 mod made;

@@ -1,6 +1,6 @@
 //! The stages of a plan, each with the state that it starts from.
 
-ghost use Rattle.std.specs.Prelude.{◌≡◌, ◌++◌, ◌∷◌, [], true, is_some, None, Some, All, IfOk, OnOk, length, map, slice_index_or};
+ghost use Rattle.std.specs.Prelude.{◌≡◌, ◌<◌, ◌++◌, ◌∷◌, [], true, is_some, None, Some, All, IfOk, OnOk, length, map, slice_index_or};
 ghost use Rattle.smp_prob.specs.Requests.{IsRequest};
 ghost use Rattle.smp_prob.specs.Standings.{IsRising};
 ghost use Rattle.smp_methods.specs.Designs.{design_of};
@@ -9,7 +9,7 @@ ghost use Rattle.smp_strata.specs.Bounds.{IsFirst};
 ghost use Rattle.smp_twostage.specs.Kept.{EachStarts, IsPlanned, StageStarts, first_numbers};
 ghost use Rattle.smp_twostage.specs.Plans.{CanBeDrawn, TakesRows};
 ghost use Rattle.smp_twostage.specs.Selections as Selections;
-ghost use Rattle.smp_twostage.specs.Selections.{first_stage, procedure, stage_by, stages_in, stages_of, stages_within};
+ghost use Rattle.smp_twostage.specs.Selections.{all_of, covered_stages, first_stage, one_of, procedure, stage_by, stages_in, stages_of, stages_within};
 
 use crate::StageDesign;
 use smp_design::{Method, Order};
@@ -218,7 +218,7 @@ impl<'a> Made<'a> {
         }
     }
 
-    /// Adds the stages of all strata, and gives the number of each stratum's first stage.
+    /// Adds the stages of all strata, and gives the number of each stratum's first stage, and then that of all stages.
     pub(crate) fn push_strata(
         &mut self,
         alloc: Global,
@@ -229,13 +229,38 @@ impl<'a> Made<'a> {
         requires plan { CanBeDrawn plan.now }
         ensures stages { OnOk result (self.new.stages.items ≡ stages_of plan.now) }
         ensures each { OnOk result (EachStarts self.new.stages.items self.new.states.items) }
-        ensures firsts { IfOk result (λ firsts. firsts.items ≡ first_numbers plan.now) }
+        ensures firsts { IfOk result (λ firsts. firsts.items ≡ first_numbers (all_of plan.now)) }
     {
         let mut firsts = Vec::new(alloc);
         for number in 0..plan.strata() {
             firsts.push(self.stages.len())?;
             self.push_stratum(alloc, plan, plan.stratum(number))?;
         }
+        firsts.push(self.stages.len())?;
+        Ok(firsts)
+    }
+
+    /// Adds the stages of one stratum alone, and gives the same of it.
+    pub(crate) fn push_alone(
+        &mut self,
+        alloc: Global,
+        plan: &'a Plan,
+        stratum: usize,
+    ) -> Result<Vec<usize>, NoMemory>
+        requires none { self.old.stages.items ≡ [] }
+        requires no_states { self.old.states.items ≡ [] }
+        requires plan { CanBeDrawn plan.now }
+        requires stratum { stratum < length plan.now.strata }
+        ensures stages { OnOk result
+            (self.new.stages.items ≡ covered_stages (one_of plan.now stratum)) }
+        ensures each { OnOk result (EachStarts self.new.stages.items self.new.states.items) }
+        ensures firsts { IfOk result
+            (λ firsts. firsts.items ≡ first_numbers (one_of plan.now stratum)) }
+    {
+        let mut firsts = Vec::new(alloc);
+        firsts.push(0)?;
+        self.push_stratum(alloc, plan, plan.stratum(stratum))?;
+        firsts.push(self.stages.len())?;
         Ok(firsts)
     }
 }

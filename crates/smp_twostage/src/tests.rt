@@ -2,13 +2,13 @@
 
 ghost use Rattle.std.specs.Prelude.{◌≡◌, true, IfOk, IfSome};
 ghost use Rattle.smp_twostage.specs.Plans.{CanBeDrawn, TakesRows};
-ghost use Rattle.smp_twostage.specs.Selections.{BelongsToWhole, whole_tree};
+ghost use Rattle.smp_twostage.specs.Selections.{BelongsToCovered, all_of, covered_tree};
 
 use super::*;
 use smp_design::{Method, Order, read_design};
 use smp_frame::read_frame;
 use smp_methods::Procedure;
-use smp_split::{Kind, Lines, Splitting, selected_units, walk};
+use smp_split::{Kind, Lines, NoTrace, Sections, Splitting, selected_units, walk};
 use smp_strata::{Plan, accept};
 use smp_tape::Tape;
 use std::alloc::Global;
@@ -38,19 +38,19 @@ fn plan_of(rt: &impl Abort, alloc: Global, design: &str, frame: &str) -> Result<
 }
 
 // The selection at its end. Stops where it doesn't take this path, or doesn't select these rows then.
-fn draw<'a>(
+fn walked<'a>(
     rt: &impl Abort,
     alloc: Global,
-    plan: &'a Plan,
+    started: StartedWhole<'a>,
     path: &[(Kind, u128, u128)],
     rows: &[usize],
 ) -> Result<StartedWhole<'a>, Fail>
-    requires { CanBeDrawn plan.now }
-    ensures plan { IfOk result (λ drawn. drawn.whole ≡ plan.now) }
-    ensures member { IfOk result (λ drawn. BelongsToWhole plan.now drawn.state) }
-    ensures done { IfOk result (λ drawn. (whole_tree plan.now).done drawn.state ≡ true) }
+    requires { BelongsToCovered started.whole started.state }
+    ensures whole { IfOk result (λ drawn. drawn.whole ≡ started.entry.whole) }
+    ensures member { IfOk result (λ drawn. BelongsToCovered drawn.whole drawn.state) }
+    ensures done { IfOk result (λ drawn. (covered_tree drawn.whole).done drawn.state ≡ true) }
 {
-    let StartedWhole { whole, mut state } = Whole::start(alloc, plan)?;
+    let StartedWhole { whole, mut state } = started;
     let mut values = Vec::new(alloc);
     for &(_, bound, value) in path {
         if bound > 1 {
@@ -62,17 +62,65 @@ fn draw<'a>(
     walk(&whole, &mut state, &mut tape, &mut lines)?;
     assert_eq!(rt; lines.as_slice(), path);
     assert!(rt; whole.done(&state));
+    assert_eq!(rt; whole.section(&state), whole.sections());
     assert_eq!(rt; selected_units(alloc, &whole, &state)?.as_slice(), rows);
     Ok(StartedWhole { whole, state })
 }
 
-// Whether a first stage unit of a stratum was drawn.
-fn is_first(rt: &impl Abort, plan: &Plan, drawn: &StartedWhole, stratum: usize, unit: usize) -> bool
-    requires plan { drawn.now.whole ≡ plan.now }
-    requires member { BelongsToWhole plan.now drawn.now.state }
-    requires done { (whole_tree plan.now).done drawn.now.state ≡ true }
+// The whole selection at its end.
+fn draw<'a>(
+    rt: &impl Abort,
+    alloc: Global,
+    plan: &'a Plan,
+    path: &[(Kind, u128, u128)],
+    rows: &[usize],
+) -> Result<StartedWhole<'a>, Fail>
+    requires { CanBeDrawn plan.now }
+    ensures whole { IfOk result (λ drawn. drawn.whole ≡ all_of plan.now) }
+    ensures member { IfOk result (λ drawn. BelongsToCovered drawn.whole drawn.state) }
+    ensures done { IfOk result (λ drawn. (covered_tree drawn.whole).done drawn.state ≡ true) }
+{
+    walked(rt, alloc, Whole::start(alloc, plan)?, path, rows)
+}
+
+// Stops where the selection of one stratum alone doesn't take this path, doesn't select these rows then, or covers another stratum.
+fn draw_alone(
+    rt: &impl Abort,
+    alloc: Global,
+    plan: &Plan,
+    stratum: usize,
+    path: &[(Kind, u128, u128)],
+    rows: &[usize],
+) -> Result<(), Fail>
+    requires { CanBeDrawn plan.now }
 {
     assert!(rt; stratum < plan.strata());
+    let drawn = walked(rt, alloc, Whole::only(alloc, plan, stratum)?, path, rows)?;
+    assert_eq!(rt; drawn.whole.sections(), 1);
+    for number in 0..3 {
+        assert_eq!(rt; drawn.whole.covers(number), number == stratum);
+    }
+    Ok(())
+}
+
+// The section in which the whole selection stops, where it has these values alone.
+fn section_after(alloc: Global, plan: &Plan, values: &[u128]) -> Result<usize, Fail>
+    requires { CanBeDrawn plan.now }
+{
+    let StartedWhole { whole, mut state } = Whole::start(alloc, plan)?;
+    let mut tape = Tape::from_values(alloc, values)?;
+    let _stop = walk(&whole, &mut state, &mut tape, &mut NoTrace);
+    Ok(whole.section(&state))
+}
+
+// Whether a first stage unit of a stratum was drawn.
+fn is_first(rt: &impl Abort, plan: &Plan, drawn: &StartedWhole, stratum: usize, unit: usize) -> bool
+    requires plan { drawn.now.whole.plan ≡ plan.now }
+    requires member { BelongsToCovered drawn.now.whole drawn.now.state }
+    requires done { (covered_tree drawn.now.whole).done drawn.now.state ≡ true }
+{
+    assert!(rt; stratum < plan.strata());
+    assert!(rt; drawn.whole.covers(stratum));
     assert!(rt; unit < plan.stratum(stratum).units.as_slice().len());
     drawn.whole.first(&drawn.state, stratum, unit)
 }
@@ -96,6 +144,25 @@ fn strata_in_order_of_first_appearance(rt: HostRuntime) -> Result<(), Fail> {
     let plan = plan_of(&rt, alloc, SIZES, frame)?;
     let path = [(Kind::System, 3, 1), (Kind::System, 7, 0)];
     draw(&rt, alloc, &plan, path.as_slice(), &[1, 2, 3, 5, 8])?;
+    draw_alone(&rt, alloc, &plan, 0, &[(Kind::System, 3, 1)], &[3])?;
+    draw_alone(&rt, alloc, &plan, 1, &[(Kind::System, 7, 0)], &[1, 2, 5, 8])?;
+    Ok(())
+}
+
+#[test]
+fn sections_of_strata(rt: HostRuntime) -> Result<(), Fail> {
+    let alloc = rt.alloc();
+    let frame = "id,s\nb1,B\na1,A\na2,A\nb2,B\na3,A\na4,A\na5,A\nb3,B\na6,A\na7,A\n";
+    let plan = plan_of(&rt, alloc, SIZES, frame)?;
+    assert_eq!(rt; section_after(alloc, &plan, &[])?, 0);
+    assert_eq!(rt; section_after(alloc, &plan, &[1])?, 1);
+    assert_eq!(rt; section_after(alloc, &plan, &[1, 0])?, 2);
+    // A has certain units alone, so its section is empty
+    let frame = "id,s\na1,A\na2,A\nb1,B\na3,A\na4,A\nb2,B\n";
+    let plan = plan_of(&rt, alloc, SIZES, frame)?;
+    assert_eq!(rt; section_after(alloc, &plan, &[])?, 1);
+    assert_eq!(rt; section_after(alloc, &plan, &[0])?, 2);
+    draw_alone(&rt, alloc, &plan, 0, &[], &[0, 1, 3, 4])?;
     Ok(())
 }
 
@@ -166,6 +233,15 @@ fn villages_in_strata(rt: HostRuntime) -> Result<(), Fail> {
             assert_eq!(rt; is_first(&rt, &plan, &drawn, stratum, unit), wanted[place]);
         }
     }
+    assert_eq!(rt; section_after(alloc, &plan, &[0])?, 0);
+    assert_eq!(rt; section_after(alloc, &plan, &[0, 1])?, 1);
+    assert_eq!(rt; section_after(alloc, &plan, &[1, 0, 1, 1, 1])?, 1);
+    let of_south = [
+        (Kind::Pivot, 2, 1),
+        (Kind::Pivot, 2, 1),
+        (Kind::Pivot, 3, 2),
+    ];
+    draw_alone(&rt, alloc, &plan, 1, of_south.as_slice(), &[8])?;
     Ok(())
 }
 
@@ -187,7 +263,9 @@ fn cubes_within_strata(rt: HostRuntime) -> Result<(), Fail> {
         (Kind::Flight, 4, 0),
     ];
     let drawn = draw(&rt, alloc, &plan, path.as_slice(), &[1, 4, 6, 7])?;
+    assert!(rt; drawn.whole.covers(0));
     assert_eq!(rt; drawn.whole.left(&drawn.state, 0), 2);
+    assert!(rt; drawn.whole.covers(1));
     assert_eq!(rt; drawn.whole.left(&drawn.state, 1), 0);
     Ok(())
 }

@@ -3,54 +3,59 @@
 ghost use Rattle.std.specs.Prelude.{◌≡◌, ◌∷◌, [], ◌<◌, ◌^◌, suc, ◌+◌, true, is_some, None, Some, IfOk, length, map};
 ghost use Rattle.std.specs.List.{slice_get};
 ghost use Rattle.smp_methods.specs.Designs.{left_at};
+ghost use Rattle.smp_stages.specs.Starts.{StartsInStages};
 ghost use Rattle.smp_strata.specs.declared.strata.Stratum.{Stratum};
-ghost use Rattle.smp_twostage.specs.Kept.{first_numbers};
-ghost use Rattle.smp_twostage.specs.Laws.Wholes.{whole_lawful};
+ghost use Rattle.smp_twostage.specs.Covered.{StartsAlone, covered_first, covered_left, covered_number};
+ghost use Rattle.smp_twostage.specs.Kept.{EachStarts, first_numbers};
+ghost use Rattle.smp_twostage.specs.Laws.Wholes.{covered_lawful, strata_sectioned};
 ghost use Rattle.smp_twostage.specs.Plans.{CanBeDrawn};
 ghost use Rattle.smp_twostage.specs.Selections as Selections;
-ghost use Rattle.smp_twostage.specs.Selections.{BelongsToWhole, first_number, seat_by, start_of, units_at, whole_tree};
-ghost use Rattle.smp_twostage.specs.Starts.{StartsWhole, first_selected, left_in};
+ghost use Rattle.smp_twostage.specs.Selections.{BelongsToCovered, all_of, belongs_to, covered_parts, covered_seats, covered_stages, covered_start, covered_tree, covers, first_number, one_of, seat_by, start_of, states_of, strata_sections, tree_of, units_at};
+ghost use Rattle.smp_twostage.specs.Starts.{StartsWhole};
 
 use crate::StageDesign;
 use crate::made::Made;
 use smp_design::Method;
 use smp_frac::NoMemory;
 use smp_methods::AnyState;
-use smp_split::{Kind, Splitting};
+use smp_split::{Kind, Sections, Splitting};
 use smp_stages::{Place, Seat, Stages, StagesState};
 use smp_strata::Plan;
 use std::alloc::Global;
 use std::marker::Model;
 
-/// The whole selection by a plan, in one stage or in two (Särndal, Swensson and Wretman 1992): a design whose units are the rows of the frame,
-/// counted from 0. It is seen as the plan.
+/// The selection by a plan, in one stage or in two (Särndal, Swensson and Wretman 1992): a design whose units are the rows of the frame, counted
+/// from 0. It covers all strata of the plan, or one alone. It is seen as the plan and the number of that stratum.
 ///
 /// Strata are drawn in order of first appearance. In each its first stage units are drawn, by the plan's method and in its order. Where the
 /// plan has a second method, rows are then drawn by it within each of the units that were drawn, in frame order, one unit after another.
 /// A row is selected where its first stage unit is and, with a second stage, where the row is within that unit.
+///
+/// Each stratum that it covers is a section of it.
 #[derive(Drop)]
 pub struct Whole<'a> {
     plan: &'a Plan,
+    only: Option<usize>,
     stages: Stages<StageDesign<'a>>,
     firsts: Vec<usize>,
 }
 
 impl<'a> Model for Whole<'a> {
     ghost use Rattle.std.specs.Prelude.{◌≡◌};
-    ghost use Rattle.smp_strata.specs.Plans.{Parts};
     ghost use Rattle.smp_twostage.specs.Kept.{first_numbers};
-    ghost use Rattle.smp_twostage.specs.Selections.{seats_of, stages_of};
+    ghost use Rattle.smp_twostage.specs.Selections.{Coverage, covered_seats, covered_stages};
 
-    ghost Value = { Parts };
+    ghost Value = { Coverage };
 
-    ghost view = { λ w. w.plan.now };
+    ghost view = { λ w. record { plan = w.plan.now; only = w.only } };
 
-    ghost invariant = { λ w. (w.stages.stages.items ≡ stages_of w.plan.now)
-        × (w.stages.seats.items ≡ seats_of w.plan.now)
-        × (w.firsts.items ≡ first_numbers w.plan.now) };
+    ghost invariant = { λ w.
+        (w.stages.stages.items ≡ covered_stages (record { plan = w.plan.now; only = w.only }))
+        × (w.stages.seats.items ≡ covered_seats (record { plan = w.plan.now; only = w.only }))
+        × (w.firsts.items ≡ first_numbers (record { plan = w.plan.now; only = w.only })) };
 }
 
-/// The whole selection by a plan, and the state before its first step.
+/// The selection by a plan, and the state before its first step.
 #[derive(Drop)]
 pub struct StartedWhole<'a> {
     /// The design.
@@ -89,7 +94,7 @@ fn seats_of(
 ) -> Result<Vec<Seat>, NoMemory>
     requires plan { CanBeDrawn plan.now }
     requires stages { stages ≡ length (Selections.stages_of plan.now) }
-    requires firsts { firsts.now ≡ first_numbers plan.now }
+    requires firsts { firsts.now ≡ first_numbers (all_of plan.now) }
     ensures { IfOk result (λ seats. seats.items ≡ Selections.seats_of plan.now) }
 {
     let second = plan.second();
@@ -101,16 +106,76 @@ fn seats_of(
     Ok(seats)
 }
 
+// The seats of the rows of a plan, in frame order, where one stratum is drawn alone.
+fn seats_alone(
+    alloc: Global,
+    plan: &Plan,
+    stages: usize,
+    stratum: usize,
+) -> Result<Vec<Seat>, NoMemory>
+    requires plan { CanBeDrawn plan.now }
+    requires stages { stages ≡ length (covered_stages (one_of plan.now stratum)) }
+    ensures { IfOk result (λ seats. seats.items ≡ covered_seats (one_of plan.now stratum)) }
+{
+    let second = plan.second();
+    let mut seats = Vec::new(alloc);
+    for row in 0..plan.rows() {
+        let place = plan.seat(row);
+        if place.stratum == stratum {
+            seats.push(seat_by(second, 0, place))?;
+        } else {
+            seats.push(Seat::Nowhere)?;
+        }
+    }
+    Ok(seats)
+}
+
+// The selection that has these stages, in which its rows have these seats.
+fn started<'a>(
+    plan: &'a Plan,
+    only: Option<usize>,
+    made: Made<'a>,
+    firsts: Vec<usize>,
+    seats: Vec<Seat>,
+) -> StartedWhole<'a>
+    requires plan { CanBeDrawn plan.now }
+    requires stages { made.stages.items
+        ≡ covered_stages (record { plan = plan.now; only = only }) }
+    requires each { EachStarts made.stages.items made.states.items }
+    requires firsts { firsts.items ≡ first_numbers (record { plan = plan.now; only = only }) }
+    requires seats { seats.items ≡ covered_seats (record { plan = plan.now; only = only }) }
+    ensures whole { result.whole ≡ record { plan = plan.now; only = only } }
+    ensures state { result.state ≡ covered_start (record { plan = plan.now; only = only }) }
+    ensures each { EachStarts (covered_stages (record { plan = plan.now; only = only }))
+        (states_of (covered_parts (record { plan = plan.now; only = only }))) }
+    ensures starts { StartsInStages tree_of belongs_to
+        (covered_stages (record { plan = plan.now; only = only }))
+        (covered_seats (record { plan = plan.now; only = only }))
+        (states_of (covered_parts (record { plan = plan.now; only = only }))) result.state }
+{
+    let Made { stages, states } = made;
+    let stages = Stages::new(stages, seats);
+    let state = stages.start(states);
+    let whole = Whole {
+        plan,
+        only,
+        stages,
+        firsts,
+    };
+    StartedWhole { whole, state }
+}
+
 impl<'a> Whole<'a> {
     /// The whole selection by a plan, before its first step. The methods have to take the columns of values that the plan's units have; the
     /// second one takes none.
     ///
     /// From this state each row is selected with exactly the probability that the plan gives it, and the estimator of Horvitz and Thompson (1952)
-    /// has no bias. All states are made here, so no later step takes memory; where there is too little of it, the answer is [`NoMemory`], the
-    /// only error.
+    /// has no bias. By every method but the cube, as many first stage units of a stratum are selected as their probabilities add up to, or, where
+    /// these have no whole sum, one of the two whole numbers around it. All states are made here, so no later step takes memory; where there is
+    /// too little of it, the answer is [`NoMemory`], the only error.
     pub fn start(alloc: Global, plan: &'a Plan) -> Result<StartedWhole<'a>, NoMemory>
         requires { CanBeDrawn plan.now }
-        ensures plan { IfOk result (λ started. started.whole ≡ plan.now) }
+        ensures plan { IfOk result (λ started. started.whole ≡ all_of plan.now) }
         ensures state { IfOk result (λ started. started.state ≡ start_of plan.now) }
         ensures starts { IfOk result (λ started. StartsWhole plan.now started.state) }
     {
@@ -120,25 +185,62 @@ impl<'a> Whole<'a> {
         };
         let firsts = made.push_strata(alloc, plan)?;
         let seats = seats_of(alloc, plan, made.stages.len(), firsts.as_slice())?;
-        let Made { stages, states } = made;
-        let stages = Stages::new(stages, seats);
-        let state = stages.start(states);
-        let whole = Whole {
-            plan,
-            stages,
-            firsts,
+        Ok(started(plan, None, made, firsts, seats))
+    }
+
+    /// The selection of one stratum alone, before its first step. Strata are counted from 0, in order of first appearance. It has one section.
+    /// Its units are still the rows of the frame, and those of other strata are never selected.
+    ///
+    /// It is a part of the whole selection, and makes the steps that the whole makes in this stratum. Each row of the stratum is selected with
+    /// exactly the probability that the plan gives it. No state of another stratum is made. Where there is too little memory, the answer is
+    /// [`NoMemory`], the only error.
+    pub fn only(alloc: Global, plan: &'a Plan, stratum: usize) -> Result<StartedWhole<'a>, NoMemory>
+        requires plan { CanBeDrawn plan.now }
+        requires stratum { stratum < length plan.now.strata }
+        ensures whole { IfOk result (λ started. started.whole ≡ one_of plan.now stratum) }
+        ensures state { IfOk result
+            (λ started. started.state ≡ covered_start (one_of plan.now stratum)) }
+        ensures starts { IfOk result (λ started. StartsAlone plan.now stratum started.state) }
+    {
+        let mut made = Made {
+            stages: Vec::new(alloc),
+            states: Vec::new(alloc),
         };
-        Ok(StartedWhole { whole, state })
+        let firsts = made.push_alone(alloc, plan, stratum)?;
+        let seats = seats_alone(alloc, plan, made.stages.len(), stratum)?;
+        Ok(started(plan, Some(stratum), made, firsts, seats))
+    }
+
+    /// Whether a stratum of the plan is covered. Strata are counted from 0, in order of first appearance.
+    pub fn covers(&self, stratum: usize) -> bool
+        ensures { result ≡ covers self.now stratum }
+    {
+        match self.only {
+            Some(only) => stratum < self.plan.strata() && stratum == only,
+            None => stratum < self.plan.strata(),
+        }
+    }
+
+    // The number of the first stage of a stratum.
+    fn first_stage(&self, stratum: usize) -> usize
+        requires { covers self.now stratum ≡ true }
+        ensures { result
+            ≡ first_number (covered_parts self.now) (covered_number self.now stratum) }
+    {
+        match self.only {
+            Some(_) => 0,
+            None => self.firsts[stratum],
+        }
     }
 
     /// How many first stage units of a stratum were undecided where the landing of its cube began (Deville and Tillé 2004): 0 as long as it
     /// hasn't begun, 0 where no unit was left for it, and 0 by any other method. Strata are counted from 0, in order of first appearance.
     pub fn left(&self, state: &StagesState<AnyState>, stratum: usize) -> u32
-        requires state { BelongsToWhole self.now state.now }
-        requires stratum { stratum < length self.now.strata }
-        ensures { result ≡ left_in self.now state.now.states stratum }
+        requires state { BelongsToCovered self.now state.now }
+        requires stratum { covers self.now stratum ≡ true }
+        ensures { result ≡ covered_left self.now state.now.states stratum }
     {
-        let stage = self.firsts[stratum];
+        let stage = self.first_stage(stratum);
         self.stages.stages[stage]
             .design
             .left(state.stage_state(stage))
@@ -147,13 +249,13 @@ impl<'a> Whole<'a> {
     /// Whether a first stage unit of a stratum is selected, in a done state. Strata are counted from 0, and so are the units of each stratum,
     /// both in order of first appearance.
     pub fn first(&self, state: &StagesState<AnyState>, stratum: usize, unit: usize) -> bool
-        requires state { BelongsToWhole self.now state.now }
-        requires done { (whole_tree self.now).done state.now ≡ true }
-        requires stratum { stratum < length self.now.strata }
-        requires unit { unit < length (units_at (slice_get self.now.strata stratum)) }
-        ensures { result ≡ first_selected self.now state.now.states stratum unit }
+        requires state { BelongsToCovered self.now state.now }
+        requires done { (covered_tree self.now).done state.now ≡ true }
+        requires stratum { covers self.now stratum ≡ true }
+        requires unit { unit < length (units_at (slice_get self.now.plan.strata stratum)) }
+        ensures { result ≡ covered_first self.now state.now.states stratum unit }
     {
-        let stage = self.firsts[stratum];
+        let stage = self.first_stage(stratum);
         self.stages.is_selected_in(state, Place { stage, unit })
     }
 }
@@ -161,11 +263,11 @@ impl<'a> Whole<'a> {
 impl<'a> Splitting for Whole<'a> {
     type State = StagesState<AnyState>;
 
-    ghost tree = { λ plan. whole_tree plan };
+    ghost tree = { λ c. covered_tree c };
 
-    ghost belongs = { λ plan. BelongsToWhole plan };
+    ghost belongs = { λ c. BelongsToCovered c };
 
-    ghost lawful = { λ plan. whole_lawful plan };
+    ghost lawful = { λ c. covered_lawful c };
 
     fn units(&self) -> usize {
         self.stages.units()
@@ -189,5 +291,23 @@ impl<'a> Splitting for Whole<'a> {
 
     fn selected(&self, state: &StagesState<AnyState>, unit: usize) -> bool {
         self.stages.selected(state, unit)
+    }
+}
+
+impl<'a> Sections for Whole<'a> {
+    ghost sectioning = { λ c. strata_sections c };
+
+    ghost sectioned = { λ c. strata_sectioned c };
+
+    fn sections(&self) -> usize {
+        match self.only {
+            Some(_) => 1,
+            None => self.plan.strata(),
+        }
+    }
+
+    fn section(&self, state: &StagesState<AnyState>) -> usize {
+        let at = state.at();
+        self.firsts.as_slice().partition_point(|first| *first <= at) - 1
     }
 }

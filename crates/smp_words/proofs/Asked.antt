@@ -5,9 +5,9 @@ use Rattle.std.specs.Str.{bytes_eq}
 use Rattle.std.proofs.lemmas.Bool.{and_parts, leb-true}
 use Rattle.smp_lines.specs.Decimals.{number_below}
 use Rattle.smp_words.specs.declared.command.DesignArguments.{DesignArguments}
-use Rattle.smp_words.specs.declared.command.Command.TheVariants.{Probs, Check}
+use Rattle.smp_words.specs.declared.command.Command.TheVariants.{Migrate, Probs, Check}
 use Rattle.smp_words.specs.declared.command.Chance.TheVariants.{Seed}
-use Rattle.smp_words.specs.Words.{Given, DrawFiles, IsAsked, ◌>>=◌, when, in_range, number_from, all_distinct, is_empty, none_given, seed_from, have_own_names, most_quick_units, least_demo_units, most_demo_units, draw_command, replay_command, quick_words, quick, demo_words, demo, design_arguments, draw_files, draw_by, draw, replay, by_name, command_given}
+use Rattle.smp_words.specs.Words.{Given, DrawFiles, IsAsked, ◌>>=◌, when, in_range, number_from, all_distinct, is_empty, has_only, options_for, seed_from, have_own_names, most_quick_units, least_demo_units, most_demo_units, most_strata, stratum_from, draw_command, replay_command, quick_words, demo_words, design_arguments, draw_files, draw_by, draw, replay, migrate, by_name, command_given}
 
 -- ---- what holds of something that may not be there
 
@@ -31,6 +31,10 @@ module _ {A : Type 0} (P : A → Type 0) where
   some_map : {B : Type 0} (f : B → A) (o : Option B) → IfSome o (λ x. P (f x)) → IfSome (option_map f o) P
   some_map f (Some x) h = h
   some_map f None h = tt
+
+if_some : {A : Type 0} (P Q : A → Type 0) (o : Option A) → IfSome o P → ((x : A) → P x → Q x) → IfSome o Q
+if_some P Q (Some x) p h = h x p
+if_some P Q None p h = tt
 
 -- ---- numbers in a range
 
@@ -72,8 +76,25 @@ draw_asked files None (Some seed) =
 draw_asked files None None = tt
 draw_asked files (Some tape) (Some seed) = tt
 
-replay_asked : (files : DrawFiles) → IfSome (when (have_own_names files) (Some (replay_command files))) IsAsked
-replay_asked files = when_some IsAsked (have_own_names files) (Some (replay_command files)) (λ apart. record { distinct = apart; sized = tt })
+abbrev WithinStrata : Option ℕ → Type 0
+WithinStrata stratum = IfSome stratum (Between 1 most_strata)
+
+stratum_ranged : (number : Option (List ℕ)) → IfSome (stratum_from number) WithinStrata
+stratum_ranged (Some number) = some_map WithinStrata Some (number_from 1 most_strata number) (number_ranged 1 most_strata number)
+stratum_ranged None = tt
+
+replay_asked : (files : DrawFiles) (number : Option (List ℕ)) → IfSome (when (have_own_names files) (option_map (replay_command files) (stratum_from number))) IsAsked
+replay_asked files number =
+    when_some IsAsked (have_own_names files) (option_map (replay_command files) (stratum_from number)) (λ apart.
+    some_map IsAsked (replay_command files) (stratum_from number)
+    (if_some WithinStrata (λ stratum. IsAsked (replay_command files stratum)) (stratum_from number) (stratum_ranged number) (λ stratum within. record { distinct = apart; sized = within })))
+
+migrate_asked : (g : Given) → IfSome (migrate g) IsAsked
+migrate_asked g =
+    when_some IsAsked (is_empty g.rest) _ (λ alone.
+    some_then IsAsked g.design _ (λ design. some_then IsAsked g.frame _ (λ frame. some_then IsAsked g.log _ (λ log. some_then IsAsked g.to _ (λ to.
+    when_some IsAsked (all_distinct (design ∷ frame ∷ log ∷ to ∷ [])) (Some (Migrate (record { design = design; frame = frame; log = log; to = to })))
+    (λ apart. record { distinct = apart; sized = tt }))))))
 
 -- the two files have names of their own
 abbrev Apart : DesignArguments → Type 0
@@ -81,15 +102,11 @@ Apart arguments = all_distinct (arguments.design ∷ arguments.frame ∷ []) ≡
 
 design_apart : (g : Given) → IfSome (design_arguments g) Apart
 design_apart g =
-    when_some Apart (is_empty g.rest && none_given (g.tape ∷ g.seed ∷ g.log ∷ g.sample ∷ []))
+    when_some Apart (is_empty g.rest)
     (g.design >>= λ design. g.frame >>= λ frame. when (all_distinct (design ∷ frame ∷ [])) (Some (record { design = design; frame = frame })))
     (λ only. some_then Apart g.design (λ design. g.frame >>= λ frame. when (all_distinct (design ∷ frame ∷ [])) (Some (record { design = design; frame = frame })))
     (λ design. some_then Apart g.frame (λ frame. when (all_distinct (design ∷ frame ∷ [])) (Some (record { design = design; frame = frame })))
     (λ frame. when_some Apart (all_distinct (design ∷ frame ∷ [])) (Some (record { design = design; frame = frame })) (λ apart. apart))))
-
-if_some : {A : Type 0} (P Q : A → Type 0) (o : Option A) → IfSome o P → ((x : A) → P x → Q x) → IfSome o Q
-if_some P Q (Some x) p h = h x p
-if_some P Q None p h = tt
 
 probs_asked : (g : Given) → IfSome (design_arguments g) (λ arguments. IsAsked (Probs arguments))
 probs_asked g = if_some Apart _ (design_arguments g) (design_apart g) (λ arguments apart. record { distinct = apart; sized = tt })
@@ -99,14 +116,15 @@ check_asked g = if_some Apart _ (design_arguments g) (design_apart g) (λ argume
 
 named_asked : (name : List ℕ) (g : Given) → IfSome (by_name name g) IsAsked
 named_asked name g =
-    either_some IsAsked (bytes_eq name (codes "quick")) (quick g) _ (when_some IsAsked (none_given (g.design ∷ g.frame ∷ g.tape ∷ g.seed ∷ g.log ∷ g.sample ∷ [])) (quick_words g.rest) (λ none. quick_asked g.rest))
+    either_some IsAsked (bytes_eq name (codes "quick")) (quick_words g.rest) _ (quick_asked g.rest)
     (either_some IsAsked (bytes_eq name (codes "draw")) (draw g) _ (some_then IsAsked (draw_files g) (λ files. draw_by files g.tape g.seed) (λ files. draw_asked files g.tape g.seed))
-    (either_some IsAsked (bytes_eq name (codes "replay")) (replay g) _ (when_some IsAsked (none_given (g.tape ∷ g.seed ∷ [])) _ (λ none. some_then IsAsked (draw_files g) _ (λ files. replay_asked files)))
+    (either_some IsAsked (bytes_eq name (codes "replay")) (replay g) _ (some_then IsAsked (draw_files g) _ (λ files. replay_asked files g.stratum))
+    (either_some IsAsked (bytes_eq name (codes "migrate")) (migrate g) _ (migrate_asked g)
     (either_some IsAsked (bytes_eq name (codes "probs")) (option_map Probs (design_arguments g)) _ (some_map IsAsked Probs (design_arguments g) (probs_asked g))
     (either_some IsAsked (bytes_eq name (codes "check")) (option_map Check (design_arguments g)) _ (some_map IsAsked Check (design_arguments g) (check_asked g))
-    (either_some IsAsked (bytes_eq name (codes "demo")) (demo g) None (when_some IsAsked (none_given (g.design ∷ g.frame ∷ g.tape ∷ g.seed ∷ g.log ∷ g.sample ∷ [])) (demo_words g.rest) (λ none. demo_asked g.rest))
-    tt)))))
+    (either_some IsAsked (bytes_eq name (codes "demo")) (demo_words g.rest) None (demo_asked g.rest)
+    tt))))))
 
 pub given_asked : (g : Given) → IfSome (command_given g) IsAsked
 unfolding command_given
-given_asked g = some_then IsAsked g.command _ (λ name. named_asked name g)
+given_asked g = some_then IsAsked g.command _ (λ name. when_some IsAsked (has_only (options_for name) g) (by_name name g) (λ taken. named_asked name g))

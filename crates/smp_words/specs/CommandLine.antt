@@ -17,20 +17,21 @@ rest_rule = record (new_rule (codes "rest")) { action = Some Append; range = Som
 abbrev pub plain_app : App
 plain_app = let a = new_app (codes "sampler") in record a { top = record a.top { disable_help_flag = true; disable_version_flag = true } }
 
-abbrev pub with_option : App → List ℕ → App
-with_option app name = with_rule app (option_rule name)
+-- with options of these names
+abbrev pub with_options : App → List (List ℕ) → App
+with_options app [] = app
+with_options app (name ∷ names) = with_options (with_rule app (option_rule name)) names
 
 abbrev pub with_positionals : App → App
 with_positionals app = with_rule (with_rule app command_rule) rest_rule
 
-abbrev pub with_inputs : App → App
-with_inputs app = with_option (with_option (with_option (with_option app (codes "design")) (codes "frame")) (codes "tape")) (codes "seed")
-
-abbrev pub with_outputs : App → App
-with_outputs app = with_option (with_option app (codes "log")) (codes "sample")
+-- the names of all options
+abbrev pub option_names : List (List ℕ)
+option_names =
+    codes "design" ∷ codes "frame" ∷ codes "tape" ∷ codes "seed" ∷ codes "log" ∷ codes "sample" ∷ codes "stratum" ∷ codes "to" ∷ []
 
 abbrev pub sampler_app : App
-sampler_app = with_outputs (with_inputs (with_positionals plain_app))
+sampler_app = with_options (with_positionals plain_app) option_names
 
 -- the matches where no fault is found, and else nothing
 abbrev pub without_fault : Kinds → List Row → Option (List Row)

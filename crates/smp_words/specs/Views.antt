@@ -22,7 +22,16 @@ given_view g = record {
   seed = option_view g.seed;
   log = option_view g.log;
   sample = option_view g.sample;
+  stratum = option_view g.stratum;
+  to = option_view g.to;
 }
+
+abbrev pub names_view : List (Bor (List ℕ)) → List (List ℕ)
+names_view names = map (λ name. name.now) names
+
+-- an option: its name, and its value where it is there
+abbrev pub named_view : Bor (List ℕ) × Option (Bor (List ℕ)) → List ℕ × Option (List ℕ)
+named_view option = (option.0.now, option_view option.1)
 
 abbrev pub files_view : draw_files.DrawFiles → DrawFiles
 files_view files = record { design = files.design.now; frame = files.frame.now; log = files.log.now; sample = files.sample.now }

@@ -1,5 +1,5 @@
 -- What the words of a command line ask for: the table of the commands.
-use Rattle.std.specs.Prelude.{◌≡◌, ℕ, ◌^◌, ◌≤◌, List, [], ◌∷◌, ◌++◌, Bool, true, false, not, ◌&&◌, nat_le, Option, Some, None, Result, Ok, Err, option_map, unwrap_or, if◌then◌else◌, codes}
+use Rattle.std.specs.Prelude.{◌≡◌, ℕ, ◌^◌, ◌≤◌, List, [], ◌∷◌, ◌++◌, Bool, true, false, not, ◌&&◌, nat_le, Option, Some, None, Result, Ok, Err, option_map, unwrap_or, if◌then◌else◌, IfSome, codes}
 use Rattle.std.specs.List.{list_any, list_all}
 use Rattle.std.specs.Str.{bytes_eq}
 use Rattle.clap.specs.Words.{Row, first_of, all_of}
@@ -9,7 +9,7 @@ use Rattle.smp_lines.specs.Decimals.{number_below}
 use Rattle.smp_words.specs.CommandLine.{words_of}
 use Rattle.smp_words.specs.declared.command.DesignArguments.{DesignArguments}
 use Rattle.smp_words.specs.declared.command.Command.{Command}
-use Rattle.smp_words.specs.declared.command.Command.TheVariants.{Quick, Draw, Replay, Probs, Check, Demo}
+use Rattle.smp_words.specs.declared.command.Command.TheVariants.{Quick, Draw, Replay, Migrate, Probs, Check, Demo}
 use Rattle.smp_words.specs.declared.command.Chance.{Chance}
 use Rattle.smp_words.specs.declared.command.Chance.TheVariants.{Tape, Seed}
 
@@ -23,6 +23,8 @@ pub record Given : Type 0 where
   pub seed : Option (List ℕ)
   pub log : Option (List ℕ)
   pub sample : Option (List ℕ)
+  pub stratum : Option (List ℕ)
+  pub to : Option (List ℕ)
 
 abbrev pub given_of : List Row → Given
 given_of rows = record {
@@ -34,7 +36,15 @@ given_of rows = record {
   seed = first_of (codes "seed") rows;
   log = first_of (codes "log") rows;
   sample = first_of (codes "sample") rows;
+  stratum = first_of (codes "stratum") rows;
+  to = first_of (codes "to") rows;
 }
+
+-- every option: its name, and its value where it is there
+abbrev pub options_of : Given → List (List ℕ × Option (List ℕ))
+options_of g =
+    (codes "design", g.design) ∷ (codes "frame", g.frame) ∷ (codes "tape", g.tape) ∷ (codes "seed", g.seed)
+    ∷ (codes "log", g.log) ∷ (codes "sample", g.sample) ∷ (codes "stratum", g.stratum) ∷ (codes "to", g.to) ∷ []
 
 infixl 10 ◌>>=◌
 abbrev pub ◌>>=◌ : {A B : Type 0} → Option A → (A → Option B) → Option B
@@ -46,13 +56,17 @@ abbrev pub when : {A : Type 0} → Bool → Option A → Option A
 when true x = x
 when false x = None
 
--- no such option is there
-abbrev pub is_absent : Option (List ℕ) → Bool
-is_absent None = true
-is_absent (Some value) = false
+-- an option has one of these names, or isn't there
+abbrev pub is_among : List (List ℕ) → List ℕ × Option (List ℕ) → Bool
+is_among names (name, Some value) = list_any (bytes_eq name) names
+is_among names (name, None) = true
 
-abbrev pub none_given : List (Option (List ℕ)) → Bool
-none_given options = list_all is_absent options
+abbrev pub are_among : List (List ℕ) → List (List ℕ × Option (List ℕ)) → Bool
+are_among names options = list_all (is_among names) options
+
+-- every option that is there has one of these names
+abbrev pub has_only : List (List ℕ) → Given → Bool
+has_only names g = are_among names (options_of g)
 
 abbrev pub is_empty : List (List ℕ) → Bool
 is_empty [] = true
@@ -90,9 +104,6 @@ quick_words (frame ∷ n ∷ tape ∷ out ∷ []) =
     when (all_distinct (frame ∷ tape ∷ out ∷ [])) (number_from 1 most_quick_units n >>= λ size. Some (Quick (record { frame = frame; n = size; tape = tape; out = out })))
 quick_words other = None
 
-abbrev pub quick : Given → Option Command
-quick g = when (none_given (g.design ∷ g.frame ∷ g.tape ∷ g.seed ∷ g.log ∷ g.sample ∷ [])) (quick_words g.rest)
-
 -- the fewest and the most units of the frame that `demo` makes
 abbrev pub least_demo_units : ℕ
 least_demo_units = 30
@@ -108,12 +119,9 @@ demo_words (n ∷ seed ∷ []) = do
   Some (Demo (record { n = units; seed = start }))
 demo_words other = None
 
-abbrev pub demo : Given → Option Command
-demo g = when (none_given (g.design ∷ g.frame ∷ g.tape ∷ g.seed ∷ g.log ∷ g.sample ∷ [])) (demo_words g.rest)
-
--- the files of a design and a frame, and no others
+-- the files of a design and a frame
 abbrev pub design_arguments : Given → Option DesignArguments
-design_arguments g = when (is_empty g.rest && none_given (g.tape ∷ g.seed ∷ g.log ∷ g.sample ∷ [])) (do
+design_arguments g = when (is_empty g.rest) (do
   design ← g.design
   frame ← g.frame
   when (all_distinct (design ∷ frame ∷ [])) (Some (record { design = design; frame = frame })))
@@ -159,32 +167,61 @@ draw_by files (Some tape) (Some seed) = None
 abbrev pub draw : Given → Option Command
 draw g = draw_files g >>= λ files. draw_by files g.tape g.seed
 
-abbrev pub replay_command : DrawFiles → Command
-replay_command files = Replay (record {
+-- the most strata, and so the greatest number of one
+abbrev pub most_strata : ℕ
+most_strata = 200000
+
+-- the number of a stratum, from 1 to 200,000, where one is given
+abbrev pub stratum_from : Option (List ℕ) → Option (Option ℕ)
+stratum_from (Some number) = option_map Some (number_from 1 most_strata number)
+stratum_from None = Some None
+
+abbrev pub replay_command : DrawFiles → Option ℕ → Command
+replay_command files stratum = Replay (record {
   design = files.design;
   frame = files.frame;
   log = files.log;
   sample = files.sample;
+  stratum = stratum;
 })
 
 abbrev pub replay : Given → Option Command
-replay g = when (none_given (g.tape ∷ g.seed ∷ []))
-    (draw_files g >>= λ files. when (have_own_names files) (Some (replay_command files)))
+replay g = draw_files g >>= λ files. when (have_own_names files) (option_map (replay_command files) (stratum_from g.stratum))
+
+-- the files of a design, a frame, a log and the log that is written of it
+abbrev pub migrate : Given → Option Command
+migrate g = when (is_empty g.rest) (do
+  design ← g.design
+  frame ← g.frame
+  log ← g.log
+  to ← g.to
+  when (all_distinct (design ∷ frame ∷ log ∷ to ∷ [])) (Some (Migrate (record { design = design; frame = frame; log = log; to = to }))))
+
+-- the options that a command takes
+abbrev pub options_for : List ℕ → List (List ℕ)
+options_for name =
+    if bytes_eq name (codes "draw") then codes "design" ∷ codes "frame" ∷ codes "tape" ∷ codes "seed" ∷ codes "log" ∷ codes "sample" ∷ []
+    else if bytes_eq name (codes "replay") then codes "design" ∷ codes "frame" ∷ codes "log" ∷ codes "sample" ∷ codes "stratum" ∷ []
+    else if bytes_eq name (codes "migrate") then codes "design" ∷ codes "frame" ∷ codes "log" ∷ codes "to" ∷ []
+    else if bytes_eq name (codes "probs") then codes "design" ∷ codes "frame" ∷ []
+    else if bytes_eq name (codes "check") then codes "design" ∷ codes "frame" ∷ []
+    else []
 
 -- what stands beside the word of a command
 abbrev pub by_name : List ℕ → Given → Option Command
 by_name name g =
-    if bytes_eq name (codes "quick") then quick g
+    if bytes_eq name (codes "quick") then quick_words g.rest
     else if bytes_eq name (codes "draw") then draw g
     else if bytes_eq name (codes "replay") then replay g
+    else if bytes_eq name (codes "migrate") then migrate g
     else if bytes_eq name (codes "probs") then option_map Probs (design_arguments g)
     else if bytes_eq name (codes "check") then option_map Check (design_arguments g)
-    else if bytes_eq name (codes "demo") then demo g
+    else if bytes_eq name (codes "demo") then demo_words g.rest
     else None
 
--- what is given asks for
+-- what is given asks for: a command that takes each option that is there
 unfoldable pub command_given : Given → Option Command
-command_given g = g.command >>= λ name. by_name name g
+command_given g = g.command >>= λ name. when (has_only (options_for name) g) (by_name name g)
 
 -- the command that some words give, the program's name first
 unfoldable pub command_of : List (List ℕ) → Option Command
@@ -202,6 +239,7 @@ abbrev pub inputs_of : Command → List (List ℕ)
 inputs_of (Quick arguments) = arguments.frame ∷ arguments.tape ∷ []
 inputs_of (Draw arguments) = arguments.design ∷ arguments.frame ∷ tape_names arguments.chance
 inputs_of (Replay arguments) = arguments.design ∷ arguments.frame ∷ arguments.log ∷ []
+inputs_of (Migrate arguments) = arguments.design ∷ arguments.frame ∷ arguments.log ∷ []
 inputs_of (Probs arguments) = arguments.design ∷ arguments.frame ∷ []
 inputs_of (Check arguments) = arguments.design ∷ arguments.frame ∷ []
 inputs_of (Demo arguments) = []
@@ -210,15 +248,18 @@ abbrev pub outputs_of : Command → List (List ℕ)
 outputs_of (Quick arguments) = arguments.out ∷ []
 outputs_of (Draw arguments) = arguments.log ∷ arguments.sample ∷ []
 outputs_of (Replay arguments) = arguments.sample ∷ []
+outputs_of (Migrate arguments) = arguments.to ∷ []
 outputs_of other = []
 
--- how many units a command itself asks for
+-- the units that a command itself asks for, or its stratum
 abbrev pub IsSized : Command → Type 0
 IsSized (Quick arguments) = (1 ≤ arguments.n) × (arguments.n ≤ most_quick_units)
+IsSized (Replay arguments) = IfSome arguments.stratum (λ number. (1 ≤ number) × (number ≤ most_strata))
 IsSized (Demo arguments) = (least_demo_units ≤ arguments.n) × (arguments.n ≤ most_demo_units)
 IsSized other = Unit {0}
 
--- No two files of a command have the same name. `quick` asks for 1 to 200,000 units, and `demo` for 30 to 100,000.
+-- No two files of a command have the same name. `quick` asks for 1 to 200,000 units, `demo` for 30 to 100,000, and `replay` for all strata or
+-- one with a number from 1 to 200,000.
 pub record IsAsked (command : Command) : Type 0 where
   pub distinct : all_distinct (inputs_of command ++ outputs_of command) ≡ true
   pub sized : IsSized command

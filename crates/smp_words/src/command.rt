@@ -50,6 +50,21 @@ pub struct ReplayArguments {
     pub log: Text,
     /// The name of the file that the sample is written to.
     pub sample: Text,
+    /// Its stratum alone, counted from 1; all where it isn't there.
+    pub stratum: Option<u32>,
+}
+
+/// What the command `migrate` is to do.
+#[derive(Drop)]
+pub struct MigrateArguments {
+    /// The name of the design's file.
+    pub design: Text,
+    /// The name of the frame's file.
+    pub frame: Text,
+    /// The name of the file that the log is read from.
+    pub log: Text,
+    /// The name of the file that the new log is written to.
+    pub to: Text,
 }
 
 /// What the command `demo` is to do.
@@ -79,6 +94,8 @@ pub enum Command {
     Draw(DrawArguments),
     /// Select again what a log tells.
     Replay(ReplayArguments),
+    /// Write a log of version 1 as one of version 2.
+    Migrate(MigrateArguments),
     /// List the requested probabilities.
     Probs(DesignArguments),
     /// Say whether a design and a frame are accepted.

@@ -2,8 +2,9 @@
 
 ghost use Rattle.std.specs.Prelude.{◌≡◌, IfOk, map, option_map, string_bytes, false};
 ghost use Rattle.clap.specs.Words.{app_of, rule_of, rows_of, found_of, first_of, all_of};
+ghost use Rattle.smp_words.specs.Views.{names_view};
 ghost use Rattle.smp_words.specs.CommandLine;
-ghost use Rattle.smp_words.specs.CommandLine.{command_rule, rest_rule, option_rule, plain_app, sampler_app, words_of};
+ghost use Rattle.smp_words.specs.CommandLine.{command_rule, rest_rule, option_rule, with_options, plain_app, sampler_app, words_of};
 
 use clap::error::ErrorKind;
 use clap::{Arg, ArgAction, ArgMatches, Command};
@@ -47,30 +48,32 @@ fn with_positionals<'a>(alloc: Global, command: Command<'a>) -> Result<Command<'
     command.arg(command_arg(alloc))?.arg(rest_arg(alloc))
 }
 
-fn with_inputs<'a>(alloc: Global, command: Command<'a>) -> Result<Command<'a>, AllocError>
-    ensures { IfOk result (λ c. app_of c ≡ CommandLine.with_inputs (app_of command.entry)) }
+fn add_options<'a>(
+    alloc: Global,
+    command: Command<'a>,
+    names: &[&'a str],
+) -> Result<Command<'a>, AllocError>
+    ensures { IfOk result (λ c.
+        app_of c ≡ with_options (app_of command.entry) (names_view names.now)) }
 {
-    command
-        .arg(option_arg(alloc, "design"))?
-        .arg(option_arg(alloc, "frame"))?
-        .arg(option_arg(alloc, "tape"))?
-        .arg(option_arg(alloc, "seed"))
-}
-
-fn with_outputs<'a>(alloc: Global, command: Command<'a>) -> Result<Command<'a>, AllocError>
-    ensures { IfOk result (λ c. app_of c ≡ CommandLine.with_outputs (app_of command.entry)) }
-{
-    command
-        .arg(option_arg(alloc, "log"))?
-        .arg(option_arg(alloc, "sample"))
+    let mut command = command;
+    for name in names {
+        command = command.arg(option_arg(alloc, *name))?;
+    }
+    Ok(command)
 }
 
 fn sampler_command<'a>(alloc: Global) -> Result<Command<'a>, AllocError>
     ensures { IfOk result (λ c. app_of c ≡ sampler_app) }
 {
     let command = with_positionals(alloc, plain_command(alloc))?;
-    let command = with_inputs(alloc, command)?;
-    with_outputs(alloc, command)
+    add_options(
+        alloc,
+        command,
+        &[
+            "design", "frame", "tape", "seed", "log", "sample", "stratum", "to",
+        ],
+    )
 }
 
 /// What clap finds in the words of a command line, the program's name first. `None` where it finds a fault in them.

@@ -1,12 +1,13 @@
 //! What a command line gives.
 
-ghost use Rattle.std.specs.Prelude.{◌≡◌, ◌∷◌, [], map};
+ghost use Rattle.std.specs.Prelude.{◌≡◌, map};
 ghost use Rattle.std.specs.List.{list_any};
 ghost use Rattle.std.specs.Str.{bytes_eq};
 ghost use Rattle.clap.specs.Words.{rows_of, found_of};
-ghost use Rattle.smp_words.specs.Views.{given_view, option_view};
+ghost use Rattle.smp_words.specs.CommandLine.{option_names};
+ghost use Rattle.smp_words.specs.Views.{given_view, named_view, names_view};
 ghost use Rattle.smp_words.specs.Words;
-ghost use Rattle.smp_words.specs.Words.{given_of, none_given, all_distinct, is_absent, number_from, seed_from};
+ghost use Rattle.smp_words.specs.Words.{given_of, options_of, has_only, all_distinct, number_from, seed_from};
 
 use crate::command_line::{value_of, values_of};
 use clap::ArgMatches;
@@ -24,6 +25,8 @@ pub(crate) struct Given<'b, 'a> {
     pub(crate) seed: Option<&'a str>,
     pub(crate) log: Option<&'a str>,
     pub(crate) sample: Option<&'a str>,
+    pub(crate) stratum: Option<&'a str>,
+    pub(crate) to: Option<&'a str>,
 }
 
 impl<'b, 'a> Given<'b, 'a> {
@@ -39,6 +42,8 @@ impl<'b, 'a> Given<'b, 'a> {
             seed: value_of(matches, "seed"),
             log: value_of(matches, "log"),
             sample: value_of(matches, "sample"),
+            stratum: value_of(matches, "stratum"),
+            to: value_of(matches, "to"),
         }
     }
 
@@ -52,27 +57,37 @@ impl<'b, 'a> Given<'b, 'a> {
         }
     }
 
-    /// No option is given.
-    pub(crate) fn has_no_option(&self) -> bool
-        ensures { result ≡ none_given ((given_view self.now).design ∷ (given_view self.now).frame ∷ (given_view self.now).tape ∷ (given_view self.now).seed ∷ (given_view self.now).log ∷ (given_view self.now).sample ∷ []) }
+    // Every option: its name, and its value where it is there.
+    fn options(&self) -> [(&'static str, Option<&'a str>); 8]
+        ensures options { map named_view result ≡ options_of (given_view self.now) }
+        ensures names { map (λ option. option.0.now) result ≡ option_names }
     {
-        are_absent(&[
-            self.design,
-            self.frame,
-            self.tape,
-            self.seed,
-            self.log,
-            self.sample,
-        ])
+        [
+            ("design", self.design),
+            ("frame", self.frame),
+            ("tape", self.tape),
+            ("seed", self.seed),
+            ("log", self.log),
+            ("sample", self.sample),
+            ("stratum", self.stratum),
+            ("to", self.to),
+        ]
+    }
+
+    /// Every option that is there has one of these names.
+    pub(crate) fn has_only(&self, names: &[&str]) -> bool
+        ensures { result ≡ has_only (names_view names.now) (given_view self.now) }
+    {
+        are_among(names, &self.options())
     }
 }
 
-/// None of the options is there.
-pub(crate) fn are_absent(options: &[Option<&str>]) -> bool
-    ensures { result ≡ none_given (map option_view options.now) }
+// Every one of the options that is there has one of the names.
+fn are_among(names: &[&str], options: &[(&str, Option<&str>)]) -> bool
+    ensures { result ≡ Words.are_among (names_view names.now) (map named_view options.now) }
 {
-    for option in options {
-        if option.is_some() {
+    for (name, value) in options {
+        if value.is_some() && !contains_name(names, name) {
             return false;
         }
     }

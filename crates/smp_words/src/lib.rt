@@ -9,6 +9,7 @@ mod given;
 mod words;
 
 pub use command::{
-    Chance, Command, DemoArguments, DesignArguments, DrawArguments, QuickArguments, ReplayArguments,
+    Chance, Command, DemoArguments, DesignArguments, DrawArguments, MigrateArguments,
+    QuickArguments, ReplayArguments,
 };
 pub use words::command_from;

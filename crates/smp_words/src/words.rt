@@ -1,14 +1,15 @@
 //! The table of the commands.
 
 ghost use Rattle.std.specs.Prelude.{◌≡◌, map, IfOk, IfSome, Some, None, string_bytes, option_map};
-ghost use Rattle.smp_words.specs.Views.{given_view, files_view};
+ghost use Rattle.smp_words.specs.Views.{given_view, option_view, names_view, files_view};
 ghost use Rattle.smp_words.specs.Words;
-ghost use Rattle.smp_words.specs.Words.{command_of, command_given, draw_by, have_own_names, IsAsked};
+ghost use Rattle.smp_words.specs.Words.{command_of, command_given, quick_words, demo_words, draw_by, have_own_names, IsAsked};
 
 use crate::command_line::matches_from;
-use crate::given::{Given, are_absent, are_distinct, number_from, seed_from};
+use crate::given::{Given, are_distinct, number_from, seed_from};
 use crate::{
-    Chance, Command, DemoArguments, DesignArguments, DrawArguments, QuickArguments, ReplayArguments,
+    Chance, Command, DemoArguments, DesignArguments, DrawArguments, MigrateArguments,
+    QuickArguments, ReplayArguments,
 };
 use smp_frac::{NoMemory, Text};
 use std::alloc::Global;
@@ -18,6 +19,8 @@ const MAX_QUICK_UNITS: u128 = 200_000;
 const MIN_DEMO_UNITS: u128 = 30;
 
 const MAX_DEMO_UNITS: u128 = 100_000;
+
+const MAX_STRATA: u128 = 200_000;
 
 const MAX_DEMO_SEED: u128 = u64::MAX as u128;
 
@@ -39,8 +42,21 @@ fn command_given(alloc: Global, given: &Given) -> Result<Option<Command>, NoMemo
     ensures command { IfOk result (λ command. command ≡ command_given (given_view given.now)) }
 {
     match given.command {
-        Some(name) => by_name(alloc, name, given),
-        None => Ok(None),
+        Some(name) if given.has_only(options_for(name)) => by_name(alloc, name, given),
+        _ => Ok(None),
+    }
+}
+
+// The names of the options that a command takes.
+fn options_for(name: &str) -> &'static [&'static str]
+    ensures { names_view result.now ≡ Words.options_for name.now }
+{
+    match name {
+        "draw" => &["design", "frame", "tape", "seed", "log", "sample"],
+        "replay" => &["design", "frame", "log", "sample", "stratum"],
+        "migrate" => &["design", "frame", "log", "to"],
+        "probs" | "check" => &["design", "frame"],
+        _ => &[],
     }
 }
 
@@ -51,6 +67,7 @@ fn by_name(alloc: Global, name: &str, given: &Given) -> Result<Option<Command>, 
         "quick" => quick(alloc, given),
         "draw" => draw(alloc, given),
         "replay" => replay(alloc, given),
+        "migrate" => migrate(alloc, given),
         "probs" => Ok(design_arguments(alloc, given)?.map(Command::Probs)),
         "check" => Ok(design_arguments(alloc, given)?.map(Command::Check)),
         "demo" => Ok(demo(given)),
@@ -59,11 +76,8 @@ fn by_name(alloc: Global, name: &str, given: &Given) -> Result<Option<Command>, 
 }
 
 fn quick(alloc: Global, given: &Given) -> Result<Option<Command>, NoMemory>
-    ensures { IfOk result (λ command. command ≡ Words.quick (given_view given.now)) }
+    ensures { IfOk result (λ command. command ≡ quick_words (given_view given.now).rest) }
 {
-    if !given.has_no_option() {
-        return Ok(None);
-    }
     match given.rest {
         Some([frame, n, tape, out]) if are_distinct(&[frame, tape, out]) => {
             let Some(n) = number_from(1, MAX_QUICK_UNITS, n) else {
@@ -81,11 +95,8 @@ fn quick(alloc: Global, given: &Given) -> Result<Option<Command>, NoMemory>
 }
 
 fn demo(given: &Given) -> Option<Command>
-    ensures { result ≡ Words.demo (given_view given.now) }
+    ensures { result ≡ demo_words (given_view given.now).rest }
 {
-    if !given.has_no_option() {
-        return None;
-    }
     let rest = given.rest?;
     let [n, seed] = rest else {
         return None;
@@ -98,7 +109,7 @@ fn demo(given: &Given) -> Option<Command>
 fn design_arguments(alloc: Global, given: &Given) -> Result<Option<DesignArguments>, NoMemory>
     ensures { IfOk result (λ arguments. arguments ≡ Words.design_arguments (given_view given.now)) }
 {
-    if !given.has_no_rest() || !are_absent(&[given.tape, given.seed, given.log, given.sample]) {
+    if !given.has_no_rest() {
         return Ok(None);
     }
     let Some(design) = given.design else {
@@ -198,16 +209,50 @@ fn draw_command(alloc: Global, files: &DrawFiles, chance: Chance) -> Result<Comm
 fn replay(alloc: Global, given: &Given) -> Result<Option<Command>, NoMemory>
     ensures { IfOk result (λ command. command ≡ Words.replay (given_view given.now)) }
 {
-    if !are_absent(&[given.tape, given.seed]) {
+    let Some(files) = draw_files(given) else {
+        return Ok(None);
+    };
+    if !files.are_distinct() {
         return Ok(None);
     }
-    match draw_files(given) {
-        Some(files) if files.are_distinct() => Ok(Some(Command::Replay(ReplayArguments {
-            design: Text::from_str(alloc, files.design)?,
-            frame: Text::from_str(alloc, files.frame)?,
-            log: Text::from_str(alloc, files.log)?,
-            sample: Text::from_str(alloc, files.sample)?,
-        }))),
+    let Some(stratum) = stratum_from(given.stratum) else {
+        return Ok(None);
+    };
+    Ok(Some(Command::Replay(ReplayArguments {
+        design: Text::from_str(alloc, files.design)?,
+        frame: Text::from_str(alloc, files.frame)?,
+        log: Text::from_str(alloc, files.log)?,
+        sample: Text::from_str(alloc, files.sample)?,
+        stratum,
+    })))
+}
+
+// The number of a stratum, where one is given. `None` where it isn't one from 1 to 200,000.
+fn stratum_from(number: Option<&str>) -> Option<Option<u32>>
+    ensures { result ≡ Words.stratum_from (option_view number.entry) }
+{
+    match number {
+        None => Some(None),
+        Some(number) => Some(Some(number_from(1, MAX_STRATA, number)? as u32)),
+    }
+}
+
+fn migrate(alloc: Global, given: &Given) -> Result<Option<Command>, NoMemory>
+    ensures { IfOk result (λ command. command ≡ Words.migrate (given_view given.now)) }
+{
+    if !given.has_no_rest() {
+        return Ok(None);
+    }
+    match (given.design, given.frame, given.log, given.to) {
+        (Some(design), Some(frame), Some(log), Some(to))
+            if are_distinct(&[design, frame, log, to]) => {
+            Ok(Some(Command::Migrate(MigrateArguments {
+                design: Text::from_str(alloc, design)?,
+                frame: Text::from_str(alloc, frame)?,
+                log: Text::from_str(alloc, log)?,
+                to: Text::from_str(alloc, to)?,
+            })))
+        }
         _ => Ok(None),
     }
 }

@@ -14,7 +14,7 @@ use Rattle.smp_strata.specs.declared.strata.Stratum.{Stratum}
 use Rattle.smp_twostage.specs.Selections.{Selecting, first_stage, second_stage, stage_by, stage_within, stages_within, stages_in, stages_below, stages_of, first_number}
 use Rattle.smp_twostage.specs.Laws.Lists.{slice_get_left, slice_get_right}
 
-less_or_same : (m n : ℕ) → m ≤ suc n → (m ≤ n) ⊎ (m ≡ suc n)
+pub less_or_same : (m n : ℕ) → m ≤ suc n → (m ≤ n) ⊎ (m ≡ suc n)
 less_or_same m n h =
     elim (cases_eq m (suc n)) [
       | inl same ↦ inr same

@@ -60,9 +60,40 @@ module _ (plan : Parts) where
   staged_in xs staged (Some s) = staged_within plan xs s staged (length s.units) (omega arith)
   staged_in xs staged None = subst (λ stages. IsStaged tree_of stages []) (sym (append-nil xs)) staged
 
-  staged_below : (n : ℕ) → IsStaged tree_of (stages_below plan n) []
+  pub staged_below : (n : ℕ) → IsStaged tree_of (stages_below plan n) []
   staged_below zero = none_staged tree_of
   staged_below (suc n) = staged_in (stages_below plan n) (staged_below n) (slice_get plan.strata n)
+
+-- ---- the seat of a row that stands in stratum h
+
+module _ (plan : Parts) (h : ℕ) (place : Seat) (s : Stratum) (u : First) (row : ℕ) (is_stratum : slice_get plan.strata h ≡ Some s) (is_unit : slice_get s.units place.unit ≡ Some u) (is_row : slice_get u.rows place.place ≡ Some row)
+    (seconds : (method : Method) → plan.second ≡ Some method → HaveSeconds s.units) where
+  abbrev at : ℕ
+  at = first_number plan h
+
+  pub first_seat : (method : Option Method) → plan.second ≡ method → (unit : Place) → seat.First unit ≡ seat_by method at place → IsFirstUnit tree_of (stages_of plan) unit
+  first_seat None second unit is =
+      let there = first_there plan h s is_stratum in
+      let same : ◌≡◌ {A = Place} unit (record { stage = at; unit = place.unit }) = cc in
+      subst (IsFirstUnit tree_of (stages_of plan)) (sym same)
+      (record { unit = rw there (slice_get_within s.units place.unit u is_unit); first = ap within_of there })
+  first_seat (Some method) second unit is = absurd (cc)
+
+  within_seat : (method : Method) → plan.second ≡ Some method → (request : Option Request) → u.second ≡ request → is_some request ≡ true
+      → IsUnitWithin tree_of (stages_of plan) (record { stage = at; unit = place.unit }) (record { stage = suc (at + place.unit); unit = place.place })
+  within_seat method second (Some request) asks some =
+      let there = second_there plan h s is_stratum method second (seconds method second) place.unit u is_unit request asks in
+      record { unit = rw there (slice_get_within u.rows place.place row is_row); within = ap within_of there }
+  within_seat method second None asks some = absurd (cc)
+
+  pub second_seat : (method : Option Method) → plan.second ≡ method → (first second : Place) → seat.Second first second ≡ seat_by method at place → IsUnitWithin tree_of (stages_of plan) first second
+  second_seat (Some method) is_method first second is =
+      let same_first : ◌≡◌ {A = Place} first (record { stage = at; unit = place.unit }) = cc in
+      let same_second : ◌≡◌ {A = Place} second (record { stage = suc (at + place.unit); unit = place.place }) = cc in
+      subst (λ f. IsUnitWithin tree_of (stages_of plan) f second) (sym same_first)
+      (subst (IsUnitWithin tree_of (stages_of plan) (record { stage = at; unit = place.unit })) (sym same_second)
+      (within_seat method is_method u.second refl (seconds method is_method place.unit u is_unit)))
+  second_seat None is_method first second is = absurd (cc)
 
 -- ---- and the rows have seats in them
 
@@ -107,40 +138,21 @@ module _ (plan : Parts) (drawable : CanBeDrawn plan) where
       let inside : row < plan.rows = omega (arith, slice_get_within (seats_of plan) row seat at, length_seats) in
       record { inside = inside; is = same_Some seat (seat_of plan (place_of plan.strata row)) (sym at ∙ seat_at row inside); place = place_stands row inside }
 
+module _ (plan : Parts) (drawable : CanBeDrawn plan) where
   module _ (row : ℕ) (here : StandsIn plan.strata row (place_of plan.strata row)) where
-    abbrev place : Seat
-    place = place_of plan.strata row
+    first_in : (unit : Place) → seat.First unit ≡ seat_of plan (place_of plan.strata row) → IsFirstUnit tree_of (stages_of plan) unit
+    first_in =
+        first_seat plan (place_of plan.strata row).stratum (place_of plan.strata row) here.stratum here.unit row here.is_stratum here.is_unit here.is_row
+        (λ method second. seconds_in plan drawable method second (place_of plan.strata row).stratum here.stratum here.is_stratum) plan.second refl
 
-    abbrev at : ℕ
-    at = first_number plan place.stratum
-
-    first_seat : (method : Option Method) → plan.second ≡ method → (unit : Place) → seat.First unit ≡ seat_by method at place → IsFirstUnit tree_of (stages_of plan) unit
-    first_seat None second unit is =
-        let there = first_there plan place.stratum here.stratum here.is_stratum in
-        let same : ◌≡◌ {A = Place} unit (record { stage = at; unit = place.unit }) = cc in
-        subst (IsFirstUnit tree_of (stages_of plan)) (sym same)
-        (record { unit = rw there (slice_get_within here.stratum.units place.unit here.unit here.is_unit); first = ap within_of there })
-    first_seat (Some method) second unit is = absurd (cc)
-
-    within_seat : (method : Method) → plan.second ≡ Some method → (request : Option Request) → here.unit.second ≡ request → is_some request ≡ true
-        → IsUnitWithin tree_of (stages_of plan) (record { stage = at; unit = place.unit }) (record { stage = suc (at + place.unit); unit = place.place })
-    within_seat method second (Some request) asks some =
-        let there = second_there plan place.stratum here.stratum here.is_stratum method second (seconds_in method second place.stratum here.stratum here.is_stratum) place.unit here.unit here.is_unit request asks in
-        record { unit = rw there (slice_get_within here.unit.rows place.place row here.is_row); within = ap within_of there }
-    within_seat method second None asks some = absurd (cc)
-
-    second_seat : (method : Option Method) → plan.second ≡ method → (first second : Place) → seat.Second first second ≡ seat_by method at place → IsUnitWithin tree_of (stages_of plan) first second
-    second_seat (Some method) is_method first second is =
-        let same_first : ◌≡◌ {A = Place} first (record { stage = at; unit = place.unit }) = cc in
-        let same_second : ◌≡◌ {A = Place} second (record { stage = suc (at + place.unit); unit = place.place }) = cc in
-        subst (λ f. IsUnitWithin tree_of (stages_of plan) f second) (sym same_first)
-        (subst (IsUnitWithin tree_of (stages_of plan) (record { stage = at; unit = place.unit })) (sym same_second)
-        (within_seat method is_method here.unit.second refl (seconds_in method is_method place.stratum here.stratum here.is_stratum place.unit here.unit here.is_unit)))
-    second_seat None is_method first second is = absurd (cc)
+    second_in : (first second : Place) → seat.Second first second ≡ seat_of plan (place_of plan.strata row) → IsUnitWithin tree_of (stages_of plan) first second
+    second_in =
+        second_seat plan (place_of plan.strata row).stratum (place_of plan.strata row) here.stratum here.unit row here.is_stratum here.is_unit here.is_row
+        (λ method asks. seconds_in plan drawable method asks (place_of plan.strata row).stratum here.stratum here.is_stratum) plan.second refl
 
   pub whole_staged : IsStaged tree_of (stages_of plan) (seats_of plan)
   whole_staged = record {
     within = (staged_below plan (length plan.strata)).within;
-    first = λ row unit at. let is = sits row (seat.First unit) at in first_seat row is.place plan.second refl unit is.is;
-    second = λ row first second at. let is = sits row (seat.Second first second) at in second_seat row is.place plan.second refl first second is.is;
+    first = λ row unit at. let is = sits plan drawable row (seat.First unit) at in first_in row is.place unit is.is;
+    second = λ row first second at. let is = sits plan drawable row (seat.Second first second) at in second_in row is.place first second is.is;
   }

@@ -10,4 +10,5 @@ returns-clause-is_job c =
       distinct = first_distinct (a.frame ∷ a.tape ∷ []) (a.out ∷ []) c.requires.distinct;
       design = quick_is_design a.n c.requires.sized.0 c.requires.sized.1;
       frame = tt;
+      work = tt;
     }

@@ -1,12 +1,12 @@
-use Rattle.std.proofs.Common.{◌≡◌, Err, refl, ap, sym, subst, true, ◌∙◌}
+use Rattle.std.proofs.Common.{Err, ap, sym, subst}
 use Rattle.smp_tape.specs.declared.draws.DrawFault.{DrawFault}
+use Rattle.smp_log.proofs.Paths.{run_full_path}
 use Rattle.smp_split.specs.Runs.{run}
-use Rattle.smp_split.specs.Trees.{Tree}
-use Rattle.smp_methods.specs.declared.any.AnyState.{AnyState}
-use Rattle.smp_stages.specs.Stages.{Progress}
+use Rattle.smp_twostage.specs.Selections.{BelongsToCovered, covered_tree}
+use Rattle.smp_twostage.specs.Laws.Wholes.{covered_lawful}
 use Rattle.smp_app.specs.Plans.{tree_of, start_of}
 use Rattle.smp_app.specs.Stages.{RefusedAt, plan_view}
-use Rattle.smp_app.proofs.Selections.{belongs, told_is, tree_is, start_is, leaf_is, stop_is, ends_at_leaf, ends_refused, drawn_from}
+use Rattle.smp_app.proofs.Selections.{belongs, told_is, tree_is, start_is, stop_is, ends_at_leaf, ends_refused, walked_all}
 use Rattle.smp_app.proofs.selection.walk_from.Goals as goal
 
 pub walk-requires : goal.walk-requires
@@ -24,16 +24,11 @@ pub returns-in-Ok-clause-walked : goal.returns-in-Ok-clause-walked
 returns-in-Ok-clause-walked g c =
     let plan = c.args.plan.now in
     let whole = c.args.started.whole in
-    let here = belongs plan whole c.requires.whole c.args.started.state c.requires.starts in
+    let start = c.args.started.state in
     let walked = c.in-Ok.ensures.arrived in
-    let end = leaf_is g.D.Draws.source whole c.args.started.state here c.args.draws.now c.walk.new.state walked.path c.walk.new.draws walked.ran in
-    record {
-      whole = c.requires.whole ∙ c.requires.planned.parts_are;
-      belongs = c.walk.ensures.belongs;
-      done = subst (λ (t : Tree (Progress AnyState)). t.done c.walk.new.state ≡ true) (tree_is plan c.requires.planned whole c.requires.whole) end.done;
-      drawn = drawn_from plan c.requires.planned whole c.requires.whole c.args.started.state c.requires.starts (start_is plan c.requires.planned c.args.started.state c.requires.state)
-          walked.path c.walk.new.state end.leads end.done _ refl refl (told_is (rw c.new-lines.ensures at walked.told));
-    }
+    let here = belongs plan whole c.requires.whole start c.requires.starts in
+    let full = run_full_path (covered_tree whole) (BelongsToCovered whole) (covered_lawful whole) start c.walk.new.state walked.path here g.D.Draws.source c.args.draws.now c.walk.new.draws walked.ran in
+    walked_all plan c.requires.planned whole c.requires.whole start c.requires.starts c.requires.state c.walk.new.state c.walk.ensures.belongs walked.path _ full (told_is (rw c.new-lines.ensures at walked.told))
 
 pub bound-bound-requires-clause-going : goal.bound-bound-requires-clause-going
 bound-bound-requires-clause-going g c =

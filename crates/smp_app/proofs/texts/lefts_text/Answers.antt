@@ -1,41 +1,42 @@
-use Rattle.std.proofs.Common.{◌≡◌, ℕ, ◌<◌, ◌++◌, length, get_or, arith, ap, ◌∙◌, codes}
+use Rattle.std.proofs.Common.{◌≡◌, ℕ, ◌<◌, ◌≤◌, ◌++◌, true, false, length, arith, sym, ap, ◌∙◌, codes}
 use Rattle.std.specs.Prelude.{string_bytes}
 use Rattle.std.specs.Fmt.{decimal}
-use Rattle.std.specs.List.{range_with_len}
-use Rattle.std.proofs.lemmas.List.FromFn.{get_or-range_with_len, length-range_with_len}
-use Rattle.smp_balance.proofs.Told.{last_line, next_line}
 use Rattle.smp_strata.specs.Plans.{Parts}
-use Rattle.smp_twostage.specs.Starts.{left_in}
-use Rattle.smp_app.specs.Plans.{parts}
+use Rattle.smp_twostage.specs.Covered.{covered_left}
+use Rattle.smp_twostage.specs.Selections.{Coverage, covers}
+use Rattle.smp_app.specs.Plans.{covered, parts}
 use Rattle.smp_app.specs.Stages.{plan_view, selection_view}
-use Rattle.smp_app.specs.Texts.{left_text}
+use Rattle.smp_app.specs.Texts.{left_text, lefts_text}
+use Rattle.smp_app.proofs.Written.{line_more, line_passed, lines_all}
+use Rattle.smp_app.proofs.texts.lefts_text.Goals.{then-covers+in_ok-push_left, else-covers}
 use Rattle.smp_app.proofs.texts.lefts_text.Goals as goal
-
-pub left-left-requires-clause-stratum : goal.left-left-requires-clause-stratum
-left-left-requires-clause-stratum c =
-    let plan = c.args.plan.now in
-    let count : length plan.plan.strata ≡ length (parts (plan_view plan)).strata = ap (λ (p : Parts). length p.strata) c.requires.planned.parts_are in
-    let whole : length c.args.selection.now.whole.strata ≡ length (parts (plan_view plan)).strata = ap (λ (p : Parts). length p.strata) c.requires.selection.whole in
-    omega (arith, c.loop-stratum-test.true, c.strata-stratum-end.ensures, count, whole)
 
 pub loop-stratum-preserved : goal.loop-stratum-preserved
 loop-stratum-preserved c =
     let plan = c.args.plan.now in
     let selection = c.args.selection.now in
     let drawn = selection_view (plan_view plan) selection in
-    let count : length plan.plan.strata ≡ length (parts (plan_view plan)).strata = ap (λ (p : Parts). length p.strata) c.requires.planned.parts_are in
-    let within : c.loop-stratum.stratum < length (parts (plan_view plan)).strata = omega (arith, c.loop-stratum-test.true, c.strata-stratum-end.ensures, count) in
-    let numbers = range_with_len 0 (length (parts (plan_view plan)).strata) in
-    let at : get_or numbers c.loop-stratum.stratum 0 ≡ c.loop-stratum.stratum = omega (arith, get_or-range_with_len 0 (length (parts (plan_view plan)).strata) c.loop-stratum.stratum 0 within) in
-    let left : c.left-left.result ≡ left_in (parts (plan_view plan)) selection.state.states c.loop-stratum.stratum =
-    c.left-left.ensures ∙ ap (λ (p : Parts). left_in p selection.state.states c.loop-stratum.stratum) c.requires.selection.whole in
-    next_line (left_text drawn) numbers c.loop-stratum.stratum c.loop-stratum.stratum (string_bytes c.loop-stratum.text) _ _
-    (omega (arith, within, length-range_with_len 0 (length (parts (plan_view plan)).strata))) at
-    (c.in_ok-push_left.ensures ∙ ap (λ (n : ℕ). string_bytes c.loop-stratum.text ++ (codes " " ++ decimal n)) left) c.loop-stratum.invariant
+    let n = length (parts (plan_view plan)).strata in
+    let i = c.loop-stratum.stratum in
+    let old = string_bytes c.loop-stratum.text in
+    let within : i < n = omega (arith, c.loop-stratum-test.true, c.strata-stratum-end.ensures, ap (λ (p : Parts). length p.strata) c.requires.planned.parts_are) in
+    let seen : covers selection.whole i ≡ covers (covered drawn) i = ap (λ (w : Coverage). covers w i) c.requires.selection.whole in
+    elim c.if-covers.branch [
+      | then-covers+in_ok-push_left w ↦
+          (let passes : covers (covered drawn) i ≡ true = sym seen ∙ sym c.covers.ensures ∙ w.if-covers.true in
+          let left : w.left.result ≡ covered_left (covered drawn) selection.state.states i = w.left.ensures ∙ ap (λ (o : Coverage). covered_left o selection.state.states i) c.requires.selection.whole in
+          line_more (left_text drawn) (covers (covered drawn)) n i old (lefts_text drawn) within passes _
+          (ap string_bytes w.text-is ∙ w.in_ok-push_left.ensures ∙ ap (λ (k : ℕ). old ++ (codes " " ++ decimal k)) left) c.loop-stratum.invariant)
+      | else-covers w ↦
+          (let fails : covers (covered drawn) i ≡ false = sym seen ∙ sym c.covers.ensures ∙ w.if-covers.false in
+          let same = line_passed (left_text drawn) (covers (covered drawn)) n i old (lefts_text drawn) within fails c.loop-stratum.invariant in
+          rw w.text-is same)
+    ]
 
 pub returns : goal.returns
 returns c =
     let plan = c.args.plan.now in
-    let count : length plan.plan.strata ≡ length (parts (plan_view plan)).strata = ap (λ (p : Parts). length p.strata) c.requires.planned.parts_are in
-    last_line (left_text (selection_view (plan_view plan) c.args.selection.now)) (range_with_len 0 (length (parts (plan_view plan)).strata)) c.loop-stratum.stratum (string_bytes c.loop-stratum.text) _
-    (omega (arith, c.loop-stratum-test.false, c.strata-stratum-end.ensures, count, length-range_with_len 0 (length (parts (plan_view plan)).strata))) c.loop-stratum.invariant
+    let drawn = selection_view (plan_view plan) c.args.selection.now in
+    let n = length (parts (plan_view plan)).strata in
+    let ended : n ≤ c.loop-stratum.stratum = omega (arith, c.loop-stratum-test.false, c.strata-stratum-end.ensures, ap (λ (p : Parts). length p.strata) c.requires.planned.parts_are) in
+    lines_all (left_text drawn) (covers (covered drawn)) n c.loop-stratum.stratum (string_bytes c.loop-stratum.text) _ ended c.loop-stratum.invariant

@@ -1,13 +1,15 @@
-use Rattle.std.proofs.Common.{◌≡◌, ◌++◌, drop, length}
+use Rattle.std.proofs.Common.{◌≡◌, ◌++◌, length}
 use Rattle.std.specs.Prelude.{string_bytes}
-use Rattle.std.specs.List.{flat_map, range_with_len}
-use Rattle.smp_app.specs.Plans.{parts}
+use Rattle.smp_twostage.specs.Selections.{covers}
+use Rattle.smp_app.specs.Plans.{covered, parts}
 use Rattle.smp_app.specs.Stages.{plan_view, selection_view}
 use Rattle.smp_app.specs.Texts.{left_text, lefts_text}
+use Rattle.smp_app.proofs.Written.{lines_from}
 use Rattle.smp_app.proofs.texts.lefts_text.Given as goal
 
+-- the text so far, and that of the other strata that are covered
 abbrev pub invariant-loop-stratum : goal.invariant-loop-stratum
 invariant-loop-stratum l =
     let drawn = selection_view (plan_view l.plan) l.selection in
-    string_bytes l.text ++ flat_map (left_text drawn) (drop l.stratum (range_with_len 0 (length (parts (plan_view l.plan)).strata)))
+    string_bytes l.text ++ lines_from (left_text drawn) (covers (covered drawn)) (length (parts (plan_view l.plan)).strata) l.stratum
     ≡ lefts_text drawn

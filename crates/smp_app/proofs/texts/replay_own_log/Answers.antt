@@ -1,20 +1,20 @@
-use Rattle.std.proofs.Common.{Err, sym, ap, subst, ◌∙◌}
-use Rattle.smp_log.specs.Genuine.{IsFullPath}
-use Rattle.smp_split.specs.Trees.{Tree}
-use Rattle.smp_methods.specs.declared.any.AnyState.{AnyState}
-use Rattle.smp_stages.specs.Stages.{Progress}
-use Rattle.smp_twostage.specs.Selections.{whole_tree}
-use Rattle.smp_app.specs.Plans.{start_of}
-use Rattle.smp_app.specs.Stages.{plan_view}
-use Rattle.smp_app.proofs.Selections.{tree_is, start_is, never_differs}
+use Rattle.std.proofs.Common.{Err, sym, ap, ◌∙◌}
+use Rattle.smp_twostage.specs.Selections.{covered_tree, strata_sections}
+use Rattle.smp_app.proofs.Selections.{own_path, own_strata, own_text, never_differs}
 use Rattle.smp_app.proofs.texts.replay_own_log.Goals as goal
+
+pub started_again-requires-clause-only : goal.started_again-requires-clause-only
+started_again-requires-clause-only c =
+    let selection = c.args.selection.now in
+    own_strata c.args.plan.now c.requires.planned selection.only selection.state selection.lines c.requires.selection.drawn
 
 pub unreachable-requires : goal.unreachable-requires
 unreachable-requires c =
     let plan = c.args.plan.now in
     let selection = c.args.selection.now in
-    let full : IsFullPath (whole_tree c.in_ok-whole.field-0.whole) c.in_ok-whole.field-0.state selection.lines selection.state =
-    subst (λ (s : Progress AnyState). IsFullPath (whole_tree c.in_ok-whole.field-0.whole) s selection.lines selection.state) (sym (start_is plan c.requires.planned c.in_ok-whole.field-0.state c.in_ok-whole.ensures.state))
-    (subst (λ (t : Tree (Progress AnyState)). IsFullPath t (start_of (plan_view plan)) selection.lines selection.state) (sym (tree_is plan c.requires.planned c.in_ok-whole.field-0.whole c.in_ok-whole.ensures.plan)) c.requires.selection.drawn.full) in
-    never_differs (whole_tree c.in_ok-whole.field-0.whole) c.in_ok-whole.field-0.state plan.head selection.lines selection.state full c.as_slice.result.now (c.as_slice.ensures ∙ c.in_ok-log.ensures) c.in-Err.field-0
+    let own = c.in_ok-whole.field-0.whole in
+    let start = c.in_ok-whole.field-0.state in
+    let full = own_path plan c.requires.planned selection.only selection.state selection.lines c.requires.selection.drawn own c.in_ok-whole.ensures.whole start c.in_ok-whole.ensures.state in
+    let text = own_text plan c.requires.planned selection.only selection.state selection.lines c.requires.selection.drawn own c.in_ok-whole.ensures.whole start c.in_ok-whole.ensures.state in
+    never_differs (covered_tree own) (strata_sections own) start plan.head selection.lines selection.state full c.as_slice.result.now (c.as_slice.ensures ∙ c.in_ok-log.ensures ∙ sym text) c.in-Err.field-0
     (λ line is. c.in-Err.ensures.differs line (ap Err is))

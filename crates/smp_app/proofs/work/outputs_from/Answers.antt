@@ -44,3 +44,16 @@ returns-clause-named g c =
     let drawn = selection_view (plan_view c.in_ok-plan.plan) c.in_ok-selection-in-Draws.selection in
     rw c.in-Draws.is
     (ap (λ (o : Outputs). names_of o.files) (rw c.as_slice.ensures.value at c.in_ok-drawn_outputs-in-Draws.ensures) ∙ names_written drawn _)
+
+pub returns-clause-exact : goal.returns-clause-exact
+returns-clause-exact g c fs held =
+    let reads = c.in_ok-plan.ensures.reads in
+    let plan = plan_view c.in_ok-plan.plan in
+    let selection = c.in_ok-selection-in-Draws.selection in
+    rw c.in-Draws.is (record {
+      plan = plan;
+      planned = reads.follows fs held;
+      drawn = selection_view plan selection;
+      is_drawn = c.in_ok-selection-in-Draws.ensures.reads.follows fs (reads.same ∙ held);
+      by_plan = c.in_ok-selection-in-Draws.ensures.selection.drawn;
+    })

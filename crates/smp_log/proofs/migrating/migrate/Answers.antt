@@ -14,12 +14,12 @@ returns-in-Err-Differs-clause-differs g c line is =
 same_lines : (p q : List Entry) → ◌≡◌ {A = Option (List Entry)} (Some p) (Some q) → p ≡ q
 same_lines p q h = cc
 
-pub returns-in-Ok-sectioned_log_bytes-clause-leaf : goal.returns-in-Ok-sectioned_log_bytes-clause-leaf
-returns-in-Ok-sectioned_log_bytes-clause-leaf g c =
+pub returns-in-Ok-log_bytes-clause-leaf : goal.returns-in-Ok-log_bytes-clause-leaf
+returns-in-Ok-log_bytes-clause-leaf g c =
     let tree = g.S.Splitting.tree c.args.run.now in
     let told = c.in-Ok.ensures.genuine in
-    let lines : c.replay_into.new.trace ≡ path_told tree c.args.first.now c.args.log.now = same_lines _ _ (c.in-Ok.ensures.told ∙ ap (λ (none : List Entry). Some (none ++ path_told tree c.args.first.now c.args.log.now)) c.new-lines.ensures) in
-    let written : IsFullPath tree c.args.first.now c.replay_into.new.trace c.sectioned_log_bytes.new.state =
-    subst (λ s. IsFullPath tree s c.replay_into.new.trace c.sectioned_log_bytes.new.state) c.requires.second c.in-Ok-sectioned_log_bytes.ensures.leaf in
-    one_end tree (g.S.Splitting.belongs c.args.run.now) (g.met.S.Splitting.lawful c.args.run.now) c.args.first.now c.sectioned_log_bytes.new.state c.replay_into.new.state c.replay_into.new.trace told.genuine.path c.requires.first
+    let lines : c.old_replay_into.new.trace ≡ path_told tree c.args.first.now c.args.log.now = same_lines _ _ (c.in-Ok.ensures.told ∙ ap (λ (none : List Entry). Some (none ++ path_told tree c.args.first.now c.args.log.now)) c.new-lines.ensures) in
+    let written : IsFullPath tree c.args.first.now c.old_replay_into.new.trace c.log_bytes.new.state =
+    subst (λ s. IsFullPath tree s c.old_replay_into.new.trace c.log_bytes.new.state) c.requires.second c.in-Ok-log_bytes.ensures.leaf in
+    one_end tree (g.S.Splitting.belongs c.args.run.now) (g.met.S.Splitting.lawful c.args.run.now) c.args.first.now c.log_bytes.new.state c.old_replay_into.new.state c.old_replay_into.new.trace told.genuine.path c.requires.first
     written told.genuine.full (lines ∙ told.told)

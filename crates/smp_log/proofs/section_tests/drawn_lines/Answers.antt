@@ -11,6 +11,6 @@ pub returns : goal.returns
 returns c =
     let a = c.in_ok-walk.ensures.arrived in
     let tree = lots_tree c.args.lots.now.kind c.args.lots.now.highest.items in
-    let is : HasLeaf tree c.none-state.result a.path = (c.sectioned_runs_are_genuine.ensures a.path c.walk.new.state c.walk.new.draws a.ran).has_leaf in
+    let is : HasLeaf tree c.none-state.result a.path = (c.runs_are_genuine.ensures a.path c.walk.new.state c.walk.new.draws a.ran).has_leaf in
     let same : c.walk.new.trace ≡ a.path = same_lines c.walk.new.trace a.path (a.told ∙ ap (λ (old : List Entry). Some (old ++ a.path)) c.new-lines.ensures) in
     subst (λ s. HasLeaf tree s c.walk.new.trace) c.none-state.ensures (subst (λ (path : List Entry). HasLeaf tree c.none-state.result path) (sym same) is)

@@ -1,8 +1,9 @@
-use Rattle.std.proofs.Common.{◌≡◌, ◌<◌, [], ◌∷◌, ◌++◌, Some, length, arith, rules, refl, sym, ap, ◌∙◌}
-use Rattle.std.specs.List.{slice_get}
+use Rattle.std.proofs.Common.{◌≡◌, ◌<◌, suc, [], ◌∷◌, ◌++◌, Some, length, map, arith, rules, refl, sym, ap, ◌∙◌}
+use Rattle.std.specs.List.{range_with_len, slice_get}
 use Rattle.std.specs.Vec.{vec_len}
 use Rattle.std.proofs.lemmas.Option.{slice_get_read}
-use Rattle.smp_twostage.proofs.Built.{next_below, next_number}
+use Rattle.smp_twostage.specs.Selections.{first_number}
+use Rattle.smp_twostage.proofs.Built.{last_number, next_below, next_number}
 use Rattle.smp_twostage.proofs.made.Made.push_strata.Goals as goal
 
 pub loop-number-preserved : goal.loop-number-preserved
@@ -16,3 +17,12 @@ loop-number-preserved c =
       firsts = next_number c.args.plan.now c.loop-number.number c.loop-number.firsts.items c.push.new.self.items c.loop-number.self.stages.items c.loop-number.invariant.firsts c.loop-number.invariant.stages
           (c.in_ok-push.ensures.items ∙ ap (λ n. c.loop-number.firsts.items ++ n ∷ []) (c.len.ensures ∙ sym len));
     }
+
+pub returns-clause-firsts : goal.returns-clause-firsts
+returns-clause-firsts c =
+    let plan = c.args.plan.now in
+    let all : c.loop-number.number ≡ length plan.strata = omega (arith, c.loop-number-test.false, c.strata-number-end.ensures) in
+    let len : length c.loop-number.self.stages.items ≡ vec_len c.loop-number.self.stages = search rules in
+    last_number plan c.loop-number.number c.loop-number.firsts.items c.push-2.new.self.items c.loop-number.self.stages.items c.loop-number.invariant.firsts c.loop-number.invariant.stages
+    (c.in_ok-push-2.ensures.items ∙ ap (λ n. c.loop-number.firsts.items ++ n ∷ []) (c.len-2.ensures ∙ sym len))
+    ∙ ap (λ n. map (first_number plan) (range_with_len 0 (suc n))) all

@@ -6,7 +6,7 @@ use Rattle.smp_twostage.proofs.Inside.{member, tree_is}
 use Rattle.smp_twostage.proofs.whole.WholeSplitting.bound.Goals as goal
 
 pub bound-requires-clause-state : goal.bound-requires-clause-state
-bound-requires-clause-state c = member c.args.self.now c.self.inside.plan.now c.self.view_is c.self.inside.stages.stages.items c.self.invariant.0 c.args.state.now c.requires.state.member
+bound-requires-clause-state c = member c.args.self.now (record { plan = c.self.inside.plan.now; only = c.self.inside.only }) c.self.view_is c.self.inside.stages.stages.items c.self.invariant.0 c.args.state.now c.requires.state.member
 
 pub returns : goal.returns
-returns c = subst (λ (t : Tree (Progress AnyState)). c.bound.result ≡ weight_sum (t.parts c.args.state.now)) (tree_is c.args.self.now c.self.inside.plan.now c.self.view_is c.self.inside.stages.stages.items c.self.invariant.0 c.self.inside.stages.seats.items c.self.invariant.1) c.bound.ensures
+returns c = subst (λ (t : Tree (Progress AnyState)). c.bound.result ≡ weight_sum (t.parts c.args.state.now)) (tree_is c.args.self.now (record { plan = c.self.inside.plan.now; only = c.self.inside.only }) c.self.view_is c.self.inside.stages.stages.items c.self.invariant.0 c.self.inside.stages.seats.items c.self.invariant.1) c.bound.ensures

@@ -2,4 +2,4 @@ use Rattle.smp_twostage.proofs.Inside.{member}
 use Rattle.smp_twostage.proofs.whole.WholeSplitting.kind.Goals as goal
 
 pub kind-requires-clause-state : goal.kind-requires-clause-state
-kind-requires-clause-state c = member c.args.self.now c.self.inside.plan.now c.self.view_is c.self.inside.stages.stages.items c.self.invariant.0 c.args.state.now c.requires.state.member
+kind-requires-clause-state c = member c.args.self.now (record { plan = c.self.inside.plan.now; only = c.self.inside.only }) c.self.view_is c.self.inside.stages.stages.items c.self.invariant.0 c.args.state.now c.requires.state.member

@@ -1,0 +1,22 @@
+use Rattle.std.proofs.Common.{◌≡◌, ℕ, List, IfOk, subst}
+use Rattle.smp_app.proofs.Selections.{own_leaf, own_strata, own_text}
+use Rattle.smp_app.proofs.texts.log_text.Goals as goal
+
+pub started_again-requires-clause-only : goal.started_again-requires-clause-only
+started_again-requires-clause-only c =
+    let selection = c.args.selection.now in
+    own_strata c.args.plan.now c.requires.planned selection.only selection.state selection.lines c.requires.selection.drawn
+
+pub log_bytes-requires-clause-path : goal.log_bytes-requires-clause-path
+log_bytes-requires-clause-path c =
+    let selection = c.args.selection.now in
+    own_leaf c.args.plan.now c.requires.planned selection.only selection.state selection.lines c.requires.selection.drawn
+    c.in_ok-whole.field-0.whole c.in_ok-whole.ensures.whole c.in_ok-whole.field-0.state c.in_ok-whole.ensures.state
+
+pub returns : goal.returns
+returns c =
+    let selection = c.args.selection.now in
+    subst (λ (t : List ℕ). IfOk c.log_bytes.result (λ text. text ≡ t))
+    (own_text c.args.plan.now c.requires.planned selection.only selection.state selection.lines c.requires.selection.drawn
+    c.in_ok-whole.field-0.whole c.in_ok-whole.ensures.whole c.in_ok-whole.field-0.state c.in_ok-whole.ensures.state)
+    c.log_bytes.ensures.text

@@ -1,0 +1,74 @@
+-- By every method but the cube, the first stage of a stratum selects one of the whole numbers of units around the expected one.
+use Rattle.std.proofs.Common.{◌≡◌, ◌≢◌, ℕ, true, List, length, Some, arith, refl, subst}
+use Rattle.std.specs.List.{slice_get}
+use Rattle.std.proofs.lemmas.Option.{slice_get_within}
+use Rattle.smp_fractions.specs.Bounds.{IsAround}
+use Rattle.smp_fractions.specs.Fractions.{Same, whole, times}
+use Rattle.smp_fractions.proofs.Around.{around_same}
+use Rattle.smp_fractions.proofs.Fractions.{same_sym, same_trans, one-times, sum_same}
+use Rattle.smp_prob.specs.Standings.{asked_fraction}
+use Rattle.smp_split.specs.Counts.{LeavesSelectAround, selected_count}
+use Rattle.smp_split.specs.Means.{value_sum}
+use Rattle.smp_split.specs.Paths.{AtEachLeaf}
+use Rattle.smp_rows.proofs.Around.{rows_around}
+use Rattle.smp_rows.proofs.Asked.{value_is_asked}
+use Rattle.smp_design.specs.declared.method.Method.TheVariants.{Cube}
+use Rattle.smp_methods.specs.declared.any.AnyState.{AnyState}
+use Rattle.smp_methods.specs.declared.procedure.Procedure.{Procedure}
+use Rattle.smp_methods.specs.Designs.{method_of}
+use Rattle.smp_methods.proofs.Ways.{around_unless, not_cube}
+use Rattle.smp_stages.specs.Paths.{GoesByStages, IsStagePath}
+use Rattle.smp_stages.specs.Stages.{is_drawn, progress}
+use Rattle.smp_stages.specs.Laws.Reads.{some_within}
+use Rattle.smp_strata.specs.Draws.{expected_firsts}
+use Rattle.smp_strata.specs.Plans.{Parts}
+use Rattle.smp_strata.specs.declared.strata.Stratum.{Stratum}
+use Rattle.smp_twostage.specs.Kept.{EachStarts, StageStarts}
+use Rattle.smp_twostage.specs.Plans.{CanBeDrawn}
+use Rattle.smp_twostage.specs.Selections.{Selecting, column_count, first_number, first_stage, free_values, procedure, stages_of, tree_of, whole_tree}
+use Rattle.smp_twostage.specs.Starts.{FirstSelectsAround}
+use Rattle.smp_twostage.specs.Laws.Numbering.{first_there}
+use Rattle.smp_twostage.proofs.Columns.{is_planned}
+
+module _ (plan : Parts) (drawable : CanBeDrawn plan) (other : plan.method ≢ Cube) (states : List AnyState) (each : EachStarts (stages_of plan) states)
+    (h : ℕ) (s : Stratum) (is : slice_get plan.strata h ≡ Some s) where
+  abbrev at : ℕ
+  at = first_number plan h
+
+  abbrev own : Selecting
+  own = (first_stage plan s).design
+
+  there : slice_get (stages_of plan) at ≡ Some (first_stage plan s)
+  there = first_there plan h s is
+
+  abbrev first : (state : AnyState) × (slice_get states at ≡ Some state)
+  first = some_within states at (let within = slice_get_within (stages_of plan) at (first_stage plan s) there in omega (arith, each.paired, within))
+
+  starts : StageStarts own first.0
+  starts = each.each at (first_stage plan s) first.0 there first.1
+
+  -- the values of its units add up to the expected number
+  expected : Same (value_sum (tree_of own) (λ _. whole 1) first.0) (expected_firsts s)
+  expected =
+      sum_same (length s.units) (λ k. times (whole 1) ((tree_of own).value first.0 k)) (asked_fraction s.request)
+      (λ k _. same_trans (one-times ((tree_of own).value first.0 k)) (value_is_asked (length s.units) s.request (method_of own.design).tree first.0 starts.serves k))
+
+  own_around : LeavesSelectAround (tree_of own) first.0
+  own_around =
+      let over = (is_planned plan drawable h s is).stratum.over in
+      let way : Procedure = procedure plan.method plan.order (column_count s) in
+      rows_around (length s.units) s.request (λ u l. over.free u 0 l) over.apart (method_of own.design).tree starts.member.paired (method_of own.design).belongs first.0
+      (around_unless way s.request (free_values s) first.0 (not_cube plan.method plan.order (column_count s) other) starts.around)
+
+  module _ (start_paths : AtEachLeaf (whole_tree plan) (progress tree_of (stages_of plan) states) (λ path leaf. GoesByStages tree_of (stages_of plan) states path leaf.states)) where
+    pub firsts_around : FirstSelectsAround plan (progress tree_of (stages_of plan) states) h s
+    firsts_around path leaf leads done =
+        let goes = start_paths path leaf leads done in
+        let within = slice_get_within (stages_of plan) at (first_stage plan s) there in
+        let last = some_within leaf.states at (omega (arith, goes.paired, within)) in
+        let drawn : is_drawn tree_of (stages_of plan) leaf.states at ≡ true = rw there refl in
+        let part : IsStagePath true (tree_of own) first.0 (goes.part at) last.0 =
+        subst (λ b. IsStagePath b (tree_of own) first.0 (goes.part at) last.0) drawn (goes.each at (first_stage plan s) first.0 last.0 there first.1 last.1) in
+        let around : IsAround (selected_count (tree_of own) last.0) (expected_firsts s) =
+        around_same (selected_count (tree_of own) last.0) (same_sym expected) (own_around (goes.part at) last.0 part.0 part.1) in
+        rw (drawn, there, last.1) around

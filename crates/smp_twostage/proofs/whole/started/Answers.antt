@@ -1,0 +1,42 @@
+use Rattle.std.proofs.Common.{◌≡◌, List, ap, subst, ◌∙◌}
+use Rattle.smp_methods.specs.declared.any.AnyState.{AnyState}
+use Rattle.smp_stages.specs.declared.places.Stage.{Stage}
+use Rattle.smp_stages.specs.Starts.{StartsInStages}
+use Rattle.smp_stages.specs.Stages.{progress}
+use Rattle.smp_twostage.specs.Kept.{EachStarts}
+use Rattle.smp_twostage.specs.Laws.Covered.{covered_staged}
+use Rattle.smp_twostage.specs.Selections.{Coverage, Selecting, belongs_to, covered_parts, covered_seats, covered_stages, states_of, tree_of}
+use Rattle.smp_twostage.proofs.Starts.{each_belongs, states_are}
+use Rattle.smp_twostage.proofs.whole.started.Goals as goal
+
+pub new-stages-requires : goal.new-stages-requires
+new-stages-requires c = rw (c.requires.stages, c.requires.seats) (covered_staged (record { plan = c.args.plan.now; only = c.args.only }) c.requires.plan)
+
+pub start-state-requires : goal.start-state-requires
+start-state-requires c = rw c.new-stages.ensures.stages (each_belongs _ _ c.requires.each)
+
+each_of : (coverage : Coverage) (stages : List (Stage Selecting)) (states : List AnyState) → stages ≡ covered_stages coverage → EachStarts stages states → EachStarts (covered_stages coverage) states
+each_of coverage stages states are each = subst (λ (all : List (Stage Selecting)). EachStarts all states) are each
+
+are_of : (coverage : Coverage) (stages : List (Stage Selecting)) (states : List AnyState) → stages ≡ covered_stages coverage → EachStarts stages states → states ≡ states_of (covered_parts coverage)
+are_of coverage stages states are each = states_are (covered_stages coverage) states (each_of coverage stages states are each)
+
+pub returns-clause-state : goal.returns-clause-state
+returns-clause-state c =
+    let states = c.args.made.states.items in
+    c.start-state.ensures.state
+    ∙ ap (λ (stages : List (Stage Selecting)). progress tree_of stages states) (c.new-stages.ensures.stages ∙ c.requires.stages)
+    ∙ ap (progress tree_of (covered_stages (record { plan = c.args.plan.now; only = c.args.only }))) (are_of (record { plan = c.args.plan.now; only = c.args.only }) c.args.made.stages.items states c.requires.stages c.requires.each)
+
+pub returns-clause-each : goal.returns-clause-each
+returns-clause-each c =
+    subst (EachStarts (covered_stages (record { plan = c.args.plan.now; only = c.args.only }))) (are_of (record { plan = c.args.plan.now; only = c.args.only }) c.args.made.stages.items c.args.made.states.items c.requires.stages c.requires.each)
+    (each_of (record { plan = c.args.plan.now; only = c.args.only }) c.args.made.stages.items c.args.made.states.items c.requires.stages c.requires.each)
+
+pub returns-clause-starts : goal.returns-clause-starts
+returns-clause-starts c =
+    let stages_same = c.new-stages.ensures.stages ∙ c.requires.stages in
+    let seats_same = c.new-stages.ensures.seats ∙ c.requires.seats in
+    let starts : StartsInStages tree_of belongs_to (covered_stages (record { plan = c.args.plan.now; only = c.args.only })) (covered_seats (record { plan = c.args.plan.now; only = c.args.only })) c.args.made.states.items c.start-state.result = rw (stages_same, seats_same) at c.start-state.ensures.starts in
+    subst (λ (states : List AnyState). StartsInStages tree_of belongs_to (covered_stages (record { plan = c.args.plan.now; only = c.args.only })) (covered_seats (record { plan = c.args.plan.now; only = c.args.only })) states c.start-state.result)
+    (are_of (record { plan = c.args.plan.now; only = c.args.only }) c.args.made.stages.items c.args.made.states.items c.requires.stages c.requires.each) starts
