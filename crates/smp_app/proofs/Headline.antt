@@ -448,6 +448,7 @@ module _ (a : DrawArguments) (fs : Files) (before now : Outside) (words : List (
         path_is = sym (written_genuine plan drawn by).1;
         put = work.written ∙ ap (λ (o : Outputs). with_bytes o.put before.written) outputs;
         firsts = by.firsts;
+        around = by.around;
         seconds = by.seconds;
         probabilities = subst HasProbabilities (sym by.plan_is) by.probabilities;
         balance = by.balance;

@@ -1,13 +1,17 @@
 -- What is selected by a tape or by a seed is what the verdict draws, with the requested probabilities.
-use Rattle.std.proofs.Common.{◌≡◌, ℕ, ◌<◌, List, length, Option, Some, None, Result, Ok, Err, true, refl, sym, ap, subst, ◌∙◌, arith, inr}
+use Rattle.std.proofs.Common.{◌≡◌, ◌≢◌, ℕ, ◌<◌, List, length, Option, Some, None, Result, Ok, Err, true, refl, sym, ap, subst, ◌∙◌, arith, inr}
 use Rattle.std.specs.Prelude.{◌+◌, IfOk, IfSome, OnOk, is_some, option_map}
 use Rattle.std.specs.List.{count_by, range_with_len, slice_get}
 use Rattle.std.proofs.lemmas.List.Elements.{All-get_or}
 use Rattle.std.proofs.lemmas.Option.{slice_get_within, get_or_from_slice_get}
-use Rattle.smp_fractions.specs.Fractions.{Same, integer, sum_below}
+use Rattle.smp_fractions.specs.Bounds.{IsAround}
+use Rattle.smp_fractions.specs.Fractions.{Fraction, Same, integer, sum_below}
+use Rattle.smp_fractions.proofs.Around.{around_same}
 use Rattle.smp_split.specs.Means.{mean, inclusion_probability}
 use Rattle.smp_fractions.proofs.Fractions.{same_sym, same_trans}
 use Rattle.smp_prob.specs.declared.requests.Request.{Request}
+use Rattle.smp_prob.specs.Given.{expected_size}
+use Rattle.smp_design.specs.declared.method.Method.TheVariants.{Cube}
 use Rattle.smp_tape.specs.Sources.{Source}
 use Rattle.smp_tape.specs.declared.draws.DrawFault.{DrawFault}
 use Rattle.smp_log.specs.Answers.{AnswersAs, log_reading}
@@ -29,8 +33,8 @@ use Rattle.smp_split.specs.Sectioning.{Sectioning}
 use Rattle.smp_design.specs.declared.design.Second as second
 use Rattle.smp_methods.specs.declared.any.AnyState.{AnyState}
 use Rattle.smp_stages.specs.Stages.{Progress}
-use Rattle.smp_strata.specs.Draws.{AreAsked, IsFor, SecondDraws}
-use Rattle.smp_strata.specs.Plans.{Parts}
+use Rattle.smp_strata.specs.Draws.{AreAsked, IsFor, SecondDraws, expected_firsts}
+use Rattle.smp_strata.specs.Plans.{Parts, first_probs}
 use Rattle.smp_strata.specs.declared.strata.First.{First}
 use Rattle.smp_strata.specs.declared.strata.Stratum.{Stratum}
 use Rattle.smp_twostage.specs.Selections as selections
@@ -186,6 +190,23 @@ module _ (plan : FramePlan) (planned : IsPlanned plan) where
       firsts_own : FirstsBy plan.plan
       firsts_own h n s is asked = starts.firsts h n s is ((planned.draws h s is).firsts n asked) path to leads done
 
+      abbrev AroundBy : Parts → Type 0
+      AroundBy p =
+          plan.design.method ≢ Cube → (h : ℕ) (s : Stratum) → slice_get p.strata h ≡ Some s
+          → IfSome plan.design.columns.prob (λ column. IsAround (count_by (first_selected p to.states h) (range_with_len 0 (length s.units))) (expected_size (first_probs plan.design plan.frame h)))
+
+      method_is : plan.plan.method ≡ plan.design.method
+      method_is = ap (λ (p : Parts). p.method) planned.parts_are
+
+      around_by : (prob : Option (List ℕ)) → (count : ℕ) (expected sum : Fraction) → IfSome prob (λ column. Same expected sum) → IsAround count expected → IfSome prob (λ column. IsAround count sum)
+      around_by (Some column) count expected sum same is = around_same count (same_sym same) is
+      around_by None count expected sum same is = tt
+
+      around_own : AroundBy plan.plan
+      around_own other h s is =
+          around_by plan.design.columns.prob _ (expected_firsts s) (expected_size (first_probs plan.design plan.frame h)) (planned.draws h s is).expected
+          (starts.around (λ e. other (sym method_is ∙ e)) h s is path to leads done)
+
       abbrev SecondsBy : Parts → Type 0
       SecondsBy p =
           (h k : ℕ) (s : Stratum) (u : First) (asked : second.Second) → slice_get p.strata h ≡ Some s → slice_get s.units k ≡ Some u → plan.design.second ≡ Some asked
@@ -218,6 +239,7 @@ module _ (plan : FramePlan) (planned : IsPlanned plan) where
             (subst (λ (t : Tree (Progress AnyState)). IsFullPath t state path to) (tree_is (all_of plan.plan) refl)
             (leads_full_path (whole_tree plan.plan) (BelongsToWhole plan.plan) (whole_lawful plan.plan) state to path (belongs plan (all_of plan.plan) refl state starts) leads done));
         firsts = subst FirstsBy planned.parts_are firsts_own;
+        around = subst AroundBy planned.parts_are around_own;
         seconds = subst SecondsBy planned.parts_are seconds_own;
         probabilities = probabilities_own;
         balance = keeps_balance plan planned path to (starts.paths path to leads done) starts.cubes;

@@ -1,8 +1,10 @@
 -- What holds of what a job draws.
-use Rattle.std.specs.Prelude.{◌≡◌, ℕ, ◌<◌, true, ℤ, length, Option, Some, None, Ok}
+use Rattle.std.specs.Prelude.{◌≡◌, ◌≢◌, IfSome, ℕ, ◌<◌, true, ℤ, length, Option, Some, None, Ok}
 use Rattle.std.specs.List.{count_by, range_with_len, slice_get}
 use Rattle.smp_io.specs.Store.{Files}
+use Rattle.smp_fractions.specs.Bounds.{IsAround}
 use Rattle.smp_fractions.specs.Fractions.{Fraction, Same, integer, sum_below}
+use Rattle.smp_prob.specs.Given.{expected_size}
 use Rattle.smp_split.specs.Means.{mean, inclusion_probability}
 use Rattle.smp_balance.specs.Balances.{IsBalanced}
 use Rattle.smp_balance.specs.Reports.{TellsColumn}
@@ -10,6 +12,7 @@ use Rattle.smp_design.specs.declared.design.Second as second
 use Rattle.smp_design.specs.declared.method.Method.TheVariants.{Cube}
 use Rattle.smp_log.specs.Genuine.{IsFullPath}
 use Rattle.smp_strata.specs.Draws.{AreAsked}
+use Rattle.smp_strata.specs.Plans.{first_probs}
 use Rattle.smp_strata.specs.declared.strata.First as first
 use Rattle.smp_strata.specs.declared.strata.Stratum.{Stratum}
 use Rattle.smp_stages.specs.Paths.{GoesByStages}
@@ -41,6 +44,18 @@ abbrev pub DrawsFirsts : Drawn → Type 0
 DrawsFirsts drawn =
     (h n : ℕ) (s : Stratum) → slice_get (parts drawn.plan).strata h ≡ Some s
     → AreAsked drawn.plan.design drawn.plan.units h n → firsts_drawn drawn h s ≡ n
+
+-- Where the design gives the probabilities, as many are drawn by every method but the cube as these add up to, or, where that isn't a whole
+-- number, one of the two whole numbers around it.
+abbrev pub IsDrawnAround : Drawn → ℕ → Stratum → Type 0
+IsDrawnAround drawn h s =
+    let sum = expected_size (first_probs drawn.plan.design drawn.plan.units h) in
+    IfSome drawn.plan.design.columns.prob (λ column. IsAround (firsts_drawn drawn h s) sum)
+
+abbrev pub DrawsAround : Drawn → Type 0
+DrawsAround drawn =
+    drawn.plan.design.method ≢ Cube → (h : ℕ) (s : Stratum)
+    → slice_get (parts drawn.plan).strata h ≡ Some s → IsDrawnAround drawn h s
 
 -- with a second stage, as many rows of each of these as it asks for
 abbrev pub DrawsSeconds : Drawn → Type 0
@@ -106,6 +121,7 @@ pub record IsDrawnBy (plan : Plan) (drawn : Drawn) : Type 0 where
   pub start : BelongsToWhole (parts plan) (start_of plan)
   pub full : IsFullPath (tree_of plan) (start_of plan) drawn.path drawn.leaf
   pub firsts : DrawsFirsts drawn
+  pub around : DrawsAround drawn
   pub seconds : DrawsSeconds drawn
   pub probabilities : HasProbabilities plan
   pub balance : KeepsBalance drawn

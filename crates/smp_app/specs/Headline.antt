@@ -22,7 +22,7 @@ use Rattle.smp_twostage.specs.Selections.{covered_start, covered_tree, is_of_str
 use Rattle.smp_app.specs.declared.status.Status.{Status}
 use Rattle.smp_app.specs.declared.status.Status.TheVariants as status
 use Rattle.smp_app.specs.Plans.{Plan, Drawn, parts, tree_of, start_of, sections_of, drawn_rows}
-use Rattle.smp_app.specs.Draws.{DrawsFirsts, DrawsSeconds, HasProbabilities, IsDrawnBy, KeepsBalance}
+use Rattle.smp_app.specs.Draws.{DrawsFirsts, DrawsAround, DrawsSeconds, HasProbabilities, IsDrawnBy, KeepsBalance}
 use Rattle.smp_app.specs.Texts.{log_text, sample_text, report_text, migrated_text}
 use Rattle.smp_app.specs.Verdict.{alone, drawn_by_tape, drawn_by_seed}
 use Rattle.smp_app.specs.Deliveries.{with_files}
@@ -75,6 +75,9 @@ pub record IsExactDraw (a : DrawArguments) (fs : Files) (before now : Outside) :
   -- each of those.
   pub firsts : DrawsFirsts drawn
   pub seconds : DrawsSeconds drawn
+  -- Where the design gives the probabilities, as many are drawn by every method but the cube as these add up to, or one of the two whole
+  -- numbers around it.
+  pub around : DrawsAround drawn
   -- Over draws that are uniform below each bound that is asked for, the probability that a row is selected is exactly the one that is
   -- requested of it, and the estimator of Horvitz and Thompson has no bias.
   pub probabilities : HasProbabilities drawn.plan
