@@ -113,6 +113,7 @@ def without_shortcuts(stands_on):
 def crates():
     with open(os.path.join(TOP, "crates.txt"), encoding="utf-8") as file:
         named = [it.partition(":") for it in file if it.strip() and not it.startswith("#")]
+    named = [it for it in named if not it[0].endswith("_tests")]
     known = {name.strip() for name, _, _ in named}
     stands_on = {name.strip(): [it for it in below.split() if it in known] for name, _, below in named}
     rows = levels(stands_on)
@@ -155,7 +156,7 @@ def crates():
             parts += [box(place[it] - wide / 2, y[it] - high / 2, wide, high), text(place[it], y[it] + 4.5, it if short != it and short in known else short)]
         else:
             parts.append(line(place[it], y[it] - high / 2, place[it], y[it] + high / 2))
-    parts.append(text(width / 2, height - 14, "A line leads down to a crate that one stands on. Lines that follow from others are left out, and so is smp_ in front of most names.",
+    parts.append(text(width / 2, height - 14, "A line leads down to a crate that one stands on. Lines that follow from others are left out, and so are the crates of tests, and smp_ in front of most names.",
                       kind="small"))
     return picture("The crates", width, height, parts)
 

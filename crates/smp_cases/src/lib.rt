@@ -13,6 +13,3 @@ pub use demo::{demo_design, demo_frame, demo_key};
 pub use fault::CaseFault;
 pub use running::{needs_columns, run_case};
 pub use table::{CASES, Case};
-
-#[cfg(test)]
-mod tests;

@@ -18,6 +18,3 @@ pub use fault::DesignFault;
 pub use method::Method;
 pub use reading::read_design;
 pub use smp_prob::Order;
-
-#[cfg(test)]
-mod tests;

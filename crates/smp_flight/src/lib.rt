@@ -24,8 +24,6 @@ mod reaches;
 mod shapes;
 mod states;
 mod steps;
-#[cfg(test)]
-mod tests;
 mod values;
 mod windows;
 

@@ -20,6 +20,3 @@ pub use fault::FrameFault;
 pub use frame::{Frame, Unit};
 pub use numbers::Numbers;
 pub use reading::read_frame;
-
-#[cfg(test)]
-mod tests;

@@ -19,6 +19,3 @@ pub use mem_store::MemStore;
 pub use out_sink::OutSink;
 pub use sink::Sink;
 pub use store::Store;
-
-#[cfg(test)]
-mod tests;

@@ -8,6 +8,3 @@ mod decimals;
 
 pub use cuts::cut_before;
 pub use decimals::{is_decimal, number};
-
-#[cfg(test)]
-mod tests;

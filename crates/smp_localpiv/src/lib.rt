@@ -15,8 +15,6 @@ mod any;
 mod design;
 mod dimensions;
 mod state;
-#[cfg(test)]
-mod tests;
 
 pub use crate::any::{AnyLocalPivotal, AnyLocalState};
 pub use crate::design::LocalPivotal;

@@ -9,5 +9,3 @@ pub mod Told
 pub mod SectionLogs
 pub mod SectionReading
 pub mod LoneSections
-pub mod Lots
-pub mod Laws

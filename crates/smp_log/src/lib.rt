@@ -32,8 +32,3 @@ pub use section_laws::{
 pub use section_writing::log_bytes;
 pub use versions::{replay, replay_into};
 pub use writing::{old_log_bytes, step_lines};
-
-#[cfg(test)]
-mod section_tests;
-#[cfg(test)]
-mod tests;

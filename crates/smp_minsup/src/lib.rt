@@ -9,8 +9,6 @@
 mod design;
 mod ranked;
 mod state;
-#[cfg(test)]
-mod tests;
 
 pub use crate::design::MinimumSupport;
 pub use crate::state::SupportState;

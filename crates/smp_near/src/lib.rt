@@ -12,8 +12,6 @@ mod points;
 mod region;
 mod regions;
 mod searches;
-#[cfg(test)]
-mod tests;
 mod tree;
 
 pub use crate::points::{NoMemory, Points};

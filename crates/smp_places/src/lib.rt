@@ -8,8 +8,6 @@
 mod amounts;
 mod middle;
 mod sums;
-#[cfg(test)]
-mod tests;
 
 pub use crate::amounts::Amounts;
 pub use crate::middle::middle_of;

@@ -10,8 +10,6 @@ mod proportional;
 mod requests;
 mod shapes;
 mod standings;
-#[cfg(test)]
-mod tests;
 
 pub use faults::{GivenFault, ProbFault};
 pub use lists::{Places, Shapes};

@@ -11,6 +11,3 @@ mod words;
 pub use chacha::ChaChaWords;
 pub use sieve::Sieve;
 pub use words::Words;
-
-#[cfg(test)]
-mod tests;

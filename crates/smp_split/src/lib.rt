@@ -16,6 +16,3 @@ pub use sections::Sections;
 pub use splitting::{Splitting, mean_is_value, selected_units};
 pub use trace::{Lines, NoMemory, NoTrace, Trace};
 pub use walking::{WalkFault, walk};
-
-#[cfg(test)]
-mod tests;

@@ -14,8 +14,6 @@ mod laws;
 mod places;
 mod stages;
 mod state;
-#[cfg(test)]
-mod tests;
 
 pub use laws::{own_stages_are_a_part, stages_go_by_sections};
 pub use places::{Place, Seat, Stage};

@@ -17,8 +17,6 @@ mod plan;
 mod sizes;
 mod strata;
 mod sums;
-#[cfg(test)]
-mod tests;
 
 pub use acceptance::accept;
 pub use misfit::Misfit;

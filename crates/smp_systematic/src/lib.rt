@@ -8,8 +8,6 @@
 mod design;
 mod sample;
 mod state;
-#[cfg(test)]
-mod tests;
 
 pub use crate::design::{Systematic, draws_of_units};
 pub use crate::state::SystematicState;

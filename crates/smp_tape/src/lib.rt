@@ -9,6 +9,3 @@ mod tape;
 pub use draws::{DrawFault, Draws};
 pub use fault::TapeFault;
 pub use tape::{NoMemory, Tape};
-
-#[cfg(test)]
-mod tests;

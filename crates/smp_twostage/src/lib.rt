@@ -10,8 +10,6 @@
 
 mod made;
 mod stage;
-#[cfg(test)]
-mod tests;
 mod whole;
 
 pub use stage::StageDesign;

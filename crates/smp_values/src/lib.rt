@@ -8,8 +8,6 @@
 mod orders;
 mod pairs;
 mod steps;
-#[cfg(test)]
-mod tests;
 mod values;
 
 pub use orders::unit_order;

@@ -10,6 +10,3 @@ mod weights;
 pub use rows::CsvRows;
 pub use sample::{push_sample_row, sample_bytes, sample_rows};
 pub use totals::estimate;
-
-#[cfg(test)]
-mod tests;

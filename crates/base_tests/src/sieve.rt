@@ -1,0 +1,100 @@
+use smp_sieve::{ChaChaWords, Sieve, Words};
+use smp_tape::{DrawFault, Draws, Tape};
+use std::alloc::{AllocError, Global};
+use std::marker::Model;
+use std::test::Fail;
+
+// The words of a tape, and 0 behind them.
+#[derive(Drop)]
+struct Given {
+    tape: Tape,
+}
+
+impl Model for Given {
+    ghost use Rattle.smp_tape.specs.Tapes.{Values};
+
+    ghost Value = { Values };
+
+    ghost view = { λ a. a.tape };
+}
+
+impl Words for Given {
+    ghost use Rattle.smp_sieve.specs.Laws.Given.{given_stream};
+
+    ghost stream = { given_stream };
+
+    fn word(&mut self) -> u32 {
+        match self.tape.below(1 << 32) {
+            Ok(word) => word as u32,
+            Err(_) => 0,
+        }
+    }
+}
+
+// So many pairs of the words 5 and 1, and then the words 7, 2 and 3.
+fn behind_pairs(alloc: Global, pairs: u32) -> Result<Vec<u128>, AllocError> {
+    let mut words = Vec::new(alloc);
+    for _ in 0..pairs {
+        words.push(5)?;
+        words.push(1)?;
+    }
+    words.push(7)?;
+    words.push(2)?;
+    words.push(3)?;
+    Ok(words)
+}
+
+// 2^32, below which each word is a candidate, and the next bound, whose candidates are the lowest 33 bits of two words.
+const WORD: u128 = 4294967296;
+
+const WIDE: u128 = 4294967297;
+
+#[test]
+fn given_words_are_sieved(rt: HostRuntime) -> Result<(), Fail> {
+    let alloc = rt.alloc();
+    let rejected = Err(DrawFault::Rejected { bound: WIDE });
+    // the pairs that come first, the bound, the draw, and the word that is next then
+    let cases: [(u32, u128, Result<u128, DrawFault>, u128); 9] = [
+        (1, 1, Ok(0), 5),
+        (1, WORD, Ok(5), 1),
+        (0, WORD, Ok(7), 2),
+        (0, WIDE, Ok(7), 3),
+        (1, WIDE, Ok(7), 3),
+        (255, WIDE, Ok(7), 3),
+        (256, WIDE, rejected, 7),
+        (257, WIDE, rejected, 5),
+        (1, 6, Ok(5), 1),
+    ];
+    for (pairs, bound, wanted, next) in cases {
+        let words = behind_pairs(alloc, pairs)?;
+        let mut sieve = Sieve::new(Given {
+            tape: Tape::from_values(alloc, words.as_slice())?,
+        });
+        assert_eq!(rt; sieve.below(bound), wanted, "{pairs} {bound}");
+        assert_eq!(rt; sieve.below(WORD), Ok(next), "{pairs} {bound}");
+    }
+    Ok(())
+}
+
+// The first words of the first two blocks for a key of zeros but for its last byte: vectors 1 to 3 of appendix A.1 of
+// RFC 8439, as little endian words.
+#[test]
+fn words_of_keys_are_the_published_ones(rt: HostRuntime) -> Result<(), Fail> {
+    let cases: [(u8, u32, [u32; 4]); 3] = [
+        (0, 0, [0xade0b876, 0x903df1a0, 0xe56a5d40, 0x28bd8653]),
+        (0, 16, [0xbee7079f, 0x7a385155, 0x7c97ba98, 0x0d082d73]),
+        (1, 16, [0x2452eb3a, 0x9249f8ec, 0x8d829d9b, 0xddd4ceb1]),
+    ];
+    for (last, before, wanted) in cases {
+        let mut key = [0; 32];
+        key[31] = last;
+        let mut words = ChaChaWords::new(key);
+        for _ in 0..before {
+            words.word();
+        }
+        for word in wanted {
+            assert_eq!(rt; words.word(), word, "{last} {before}");
+        }
+    }
+    Ok(())
+}

@@ -1,0 +1,106 @@
+use smp_cases::{CASES, CaseFault, demo_design, demo_frame, needs_columns, run_case};
+use smp_design::Method;
+use smp_tape::DrawFault;
+use std::alloc::Global;
+use std::test::Fail;
+
+fn run(
+    alloc: Global,
+    method: Method,
+    sizes: &[u32],
+    n: u32,
+    tape: &[u128],
+) -> Option<Result<u64, CaseFault>> {
+    let small = sizes.iter().all(|&size| size < 1 << 31);
+    if needs_columns(method) || sizes.len() > 64 || n == 0 || !small {
+        return None;
+    }
+    Some(run_case(alloc, method, sizes, n, tape))
+}
+
+fn mask_of(places: &[u32]) -> u64 {
+    places
+        .iter()
+        .fold(0, |mask, &place| mask | 1u64.wrapping_shl(place))
+}
+
+#[test]
+fn cases_draw_their_units(rt: HostRuntime) {
+    for case in CASES {
+        let drawn = run(rt.alloc(), case.method, case.sizes, case.n, case.tape);
+        assert_eq!(rt; drawn, Some(Ok(mask_of(case.drawn))), "{case:?}");
+    }
+    let too_many = CaseFault::TooMany { positive: 2 };
+    let faults: [(u32, &[u128], CaseFault); 3] = [
+        (3, &[], too_many),
+        (1, &[], CaseFault::Draw(DrawFault::Short)),
+        (1, &[0, 0], CaseFault::Long { left: 1 }),
+    ];
+    for (n, tape, fault) in faults {
+        let answer = run(rt.alloc(), Method::Pivotal, &[1, 1], n, tape);
+        assert_eq!(rt; answer, Some(Err(fault)), "{n} {tape:?}");
+    }
+}
+
+// Whether a text begins with a header and then these rows.
+fn begins(text: &[u8], header: &str, rows: &str) -> bool {
+    match text.strip_prefix(header.as_bytes()) {
+        Some(rest) => rest.starts_with(rows.as_bytes()),
+        None => false,
+    }
+}
+
+#[test]
+fn the_demonstration_has_its_input(rt: HostRuntime) -> Result<(), Fail> {
+    let alloc = rt.alloc();
+    let header = "id,region,area,herd,workers\n";
+    let frames = [
+        (
+            30,
+            0,
+            563,
+            "u1,r1,1808,3,18\nu2,r2,5237,254,12\n",
+            "\nu30,r0,7657,233,6\n",
+        ),
+        (
+            30,
+            u64::MAX,
+            570,
+            "u1,r1,2489,128,18\nu2,r2,7603,330,8\n",
+            "\nu30,r0,9534,128,1\n",
+        ),
+        (
+            200,
+            7,
+            3779,
+            "u1,r1,5279,398,14\nu2,r2,8674,238,20\n",
+            "\nu200,r2,9451,282,9\n",
+        ),
+        (
+            100_000,
+            1,
+            2_110_826,
+            "u1,r1,4775,132,17\nu2,r2,2871,432,16\n",
+            "\nu100000,r1,2519,313,4\n",
+        ),
+    ];
+    for (n, seed, length, first, last) in frames {
+        assert!(rt; n >= 30 && n <= 100_000);
+        let frame = demo_frame(alloc, n, seed)?;
+        let text = frame.as_slice();
+        assert_eq!(rt; text.len(), length, "{n} {seed}");
+        assert!(rt;
+            begins(text, header, first) && text.ends_with(last.as_bytes()),
+            "{n} {seed}"
+        );
+    }
+    let design = demo_design(alloc, 34)?;
+    let wanted = "version = 1\n\
+        method = \"cube\"\n\
+        id = \"id\"\n\
+        stratum = \"region\"\n\
+        balance = [\"area\", \"herd\", \"workers\"]\n\
+        n = 6\n";
+    assert_eq!(rt; design.as_slice(), wanted.as_bytes());
+    Ok(())
+}
