@@ -3,8 +3,10 @@
 ghost use Rattle.std.specs.Prelude.{◌≡◌, ◌^◌, ◌<◌, ◌≤◌, true, false, length, map, slice_index, EachIndex, IfOk, []};
 ghost use Rattle.smp_cases.specs.Cases as Cases;
 ghost use Rattle.smp_cases.specs.Cases.{Answers, drawn, mask, verdict};
+ghost use Rattle.smp_methods.specs.Designs.{method_of};
 ghost use Rattle.smp_methods.specs.Starts.{IsStarted};
 ghost use Rattle.smp_prob.specs.Requests.{IsRequest};
+ghost use Rattle.smp_rows.specs.Rows.{BelongsToRows, rows_tree};
 ghost use Rattle.smp_split.specs.Counts.{selected_units};
 ghost use Rattle.smp_values.specs.Starts.{IsWhole};
 
@@ -102,6 +104,30 @@ fn draw<S: Splitting>(
     Ok(mask_of(design, state))
 }
 
+// Draws the units of a request, the certain ones among them, by a design that was started for its free units.
+fn draw_all(
+    alloc: Global,
+    started: Started,
+    request: &Request,
+    units: usize,
+    values: &[u128],
+) -> Result<u64, CaseFault>
+    requires few { units ≤ 64 }
+    requires belongs { BelongsToRows request.now (method_of started.design).tree
+        (method_of started.design).belongs started.state }
+    ensures { Answers result
+        (drawn (rows_tree units request.now (method_of started.design).tree)
+        started.state values.now) }
+{
+    let Started { design, mut state } = started;
+    let rows = Rows {
+        design,
+        request,
+        rows: units,
+    };
+    draw(alloc, &rows, &mut state, values)
+}
+
 /// Draws `n` units, with probabilities in proportion to size, by a method and the values of a tape, and answers the mask of the
 /// drawn units: bit i stands for the unit with `sizes[i]`, and the certain units are among them. The method takes the units in the
 /// order in which their sizes stand.
@@ -130,13 +156,8 @@ pub fn run_case(
         Err(ProbFault::TooMany { positive }) => return Err(CaseFault::TooMany { positive }),
         Err(ProbFault::NoMemory) => return Err(CaseFault::NoMemory),
     };
-    let Ok(Started { design, mut state }) = start(alloc, method, &request) else {
-        return Err(CaseFault::NoMemory);
-    };
-    let rows = Rows {
-        design,
-        request: &request,
-        rows: sizes.len(),
-    };
-    draw(alloc, &rows, &mut state, tape)
+    match start(alloc, method, &request) {
+        Ok(started) => draw_all(alloc, started, &request, sizes.len(), tape),
+        Err(_) => Err(CaseFault::NoMemory),
+    }
 }
