@@ -1,15 +1,17 @@
-ghost use Rattle.std.specs.Prelude.{◌≡◌, ◌≤◌, map, string_bytes};
+ghost use Rattle.std.specs.Prelude.{◌≡◌, ◌≤◌, ℕ, List, Some, map, string_bytes};
+ghost use Rattle.smp_words.specs.Words.{IsAsked, command_of};
 ghost use Rattle.smp_app.specs.Answers.{IsAnswer, outside};
 ghost use Rattle.smp_app.specs.Headline.{Headline};
 ghost use Rattle.smp_app.specs.Codes.{class_of};
-ghost use Rattle.smp_app.specs.Stages.{WorkSays};
+ghost use Rattle.smp_app.specs.Commands.{job_for};
+ghost use Rattle.smp_app.specs.Stages.{IsJob, WorkSays, job_view};
 
 use crate::Status;
 use crate::job::Job;
 use crate::refusals::report;
 use crate::work::outputs_from;
 use smp_io::{Sink, Store, StoreFault};
-use smp_words::command_from;
+use smp_words::{Command, command_from};
 use std::alloc::Global;
 
 /// Does what the words of a command line ask for, the program's name first, and answers how it went.
@@ -57,16 +59,43 @@ fn work<K: Store, S: Sink>(alloc: Global, words: &[String], store: &mut K, out: 
         (outside K.files K.read_faults K.write_faults S.written S.faults store.new out.new) }
     ensures puts { S.faults out.old ≤ S.faults out.new }
 {
-    let command = match command_from(alloc, words) {
-        Ok(Some(command)) => command,
-        Ok(None) => return Status::Usage,
-        Err(_) => return Status::NoMemory,
-    };
-    let job = match Job::of(alloc, &command) {
-        Ok(job) => job,
-        Err(_) => return Status::NoMemory,
-    };
-    let outputs = match outputs_from(alloc, store, &job) {
+    match command_from(alloc, words) {
+        Ok(Some(command)) => carry_out(alloc, &command, store, out),
+        Ok(None) => Status::Usage,
+        Err(_) => Status::NoMemory,
+    }
+}
+
+// The work of a command, of any words that are this command.
+fn carry_out<K: Store, S: Sink>(
+    alloc: Global,
+    command: &Command,
+    store: &mut K,
+    out: &mut S,
+) -> Status
+    requires { IsAsked command.now }
+    ensures says { (words : List (List ℕ)) → command_of words ≡ Some command.now
+        → WorkSays (class_of result) result words
+        (outside K.files K.read_faults K.write_faults S.written S.faults store.old out.old)
+        (outside K.files K.read_faults K.write_faults S.written S.faults store.new out.new) }
+    ensures puts { S.faults out.old ≤ S.faults out.new }
+{
+    match Job::of(alloc, command) {
+        Ok(job) => do_job(alloc, &job, store, out),
+        Err(_) => Status::NoMemory,
+    }
+}
+
+// The work of a job, of any words that ask for it.
+fn do_job<K: Store, S: Sink>(alloc: Global, job: &Job, store: &mut K, out: &mut S) -> Status
+    requires { IsJob job.now }
+    ensures says { (words : List (List ℕ)) → job_for words ≡ Some (job_view job.now)
+        → WorkSays (class_of result) result words
+        (outside K.files K.read_faults K.write_faults S.written S.faults store.old out.old)
+        (outside K.files K.read_faults K.write_faults S.written S.faults store.new out.new) }
+    ensures puts { S.faults out.old ≤ S.faults out.new }
+{
+    let outputs = match outputs_from(alloc, store, job) {
         Ok(outputs) => outputs,
         Err(status) => return status,
     };
