@@ -387,7 +387,8 @@ fn entries_and_denominators_at_their_gates(rt: HostRuntime) -> Result<(), Fail> 
     Ok(())
 }
 
-/// The values by the plain program: numerators of all units over one denominator, and each of them moved with each move. The first denominator is kept.
+/// The values by the plain program: numerators of all units over one denominator, and each of them moved with each move.
+/// The first denominator is kept.
 #[derive(Drop)]
 struct Plain {
     numer: Vec<u128>,
