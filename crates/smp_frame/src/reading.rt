@@ -1,13 +1,14 @@
 ghost use Rattle.std.specs.Prelude.{◌≡◌, length, IfOk};
-ghost use Rattle.smp_frame.specs.Frames.{frame_of};
+ghost use Rattle.smp_frame.specs.Frames.{frame_of, units_of};
 ghost use Rattle.smp_frame.specs.Bounds.{HaveValues, IsFrame};
+ghost use Rattle.smp_frame.specs.Kept.Readers.{IsReading, rows_left};
 ghost use Rattle.smp_frame.specs.Reads.{Reads};
 
 use crate::layout::layout_of;
 use crate::records::{is_text, next_record, reader_of};
 use crate::units::units_left;
 use crate::{Columns, Frame, FrameFault};
-use csv::ByteRecord;
+use csv::{ByteRecord, Reader};
 use std::alloc::Global;
 
 /// Reads the asked columns of a frame: a text of CSV, with commas and double quotes, in which a header names the
@@ -40,14 +41,30 @@ fn frame_in(alloc: Global, bytes: &[u8], columns: &Columns) -> Result<Frame, Fra
 {
     let mut reader = reader_of(alloc, bytes);
     let mut header = ByteRecord::new(alloc);
-    if !next_record(&mut reader, &mut header)? {
+    frame_left(alloc, columns, &mut reader, &mut header)
+}
+
+// The frame of the records that a reader has left, of which the first is the header.
+fn frame_left(
+    alloc: Global,
+    columns: &Columns,
+    reader: &mut Reader<&[u8]>,
+    header: &mut ByteRecord,
+) -> Result<Frame, FrameFault>
+    requires { IsReading reader.old }
+    ensures { Reads result (units_of columns.now (rows_left reader.old)) }
+{
+    if !next_record(reader, header)? {
         return Err(FrameFault::NoHeader);
     }
-    if !is_text(&header) {
+    if !is_text(header) {
         return Err(FrameFault::NotText { row: 0 });
     }
-    let layout = layout_of(alloc, columns, &header)?;
-    let units = units_left(alloc, &layout, &mut reader)?;
+    // The layout is let go before the answer is looked at.
+    let units = {
+        let layout = layout_of(alloc, columns, header)?;
+        units_left(alloc, &layout, reader)
+    }?;
     if units.is_empty() {
         return Err(FrameFault::NoRows);
     }

@@ -32,17 +32,35 @@ pub(crate) fn units_left(
     let mut row = ByteRecord::new(alloc);
     let mut seen = IndexSet::new(alloc);
     let mut units = Vec::new(alloc);
+    add_units(alloc, layout, reader, &mut row, &mut seen, &mut units)?;
+    Ok(units)
+}
+
+// Adds the unit of each row that a reader has left.
+fn add_units(
+    alloc: Global,
+    layout: &Layout,
+    reader: &mut Reader<&[u8]>,
+    row: &mut ByteRecord,
+    seen: &mut IndexSet<String>,
+    units: &mut Vec<Unit>,
+) -> Result<(), FrameFault>
+    requires reading { IsReading reader.old }
+    requires unseen { seen.old.keys ≡ [] }
+    requires none { units.old.items ≡ [] }
+    ensures { Gives (λ _. units.new.items) result (units_from layout.now 1 [] (rows_left reader.old)) }
+{
     for number in 1..=MAX_ROWS {
-        if !next_record(reader, &mut row)? {
-            return Ok(units);
+        if !next_record(reader, row)? {
+            return Ok(());
         }
-        let unit = unit_of(alloc, layout, number, &mut seen, &row)?;
+        let unit = unit_of(alloc, layout, number, seen, row)?;
         units.push(unit)?;
     }
-    if next_record(reader, &mut row)? {
+    if next_record(reader, row)? {
         return Err(FrameFault::TooManyRows);
     }
-    Ok(units)
+    Ok(())
 }
 
 // The unit of a row with this number. Its id is then among those that were seen.

@@ -1,7 +1,7 @@
 use Rattle.std.proofs.Common.{◌≡◌, true, nat_le, ◌∙◌, rules, map, string_bytes}
 use Rattle.smp_frame.specs.Limits.{max_rows}
 use Rattle.smp_frame.proofs.NextUnit.{next_unit}
-use Rattle.smp_frame.proofs.units.units_left.Goals as goal
+use Rattle.smp_frame.proofs.units.add_units.Goals as goal
 
 pub loop-number-preserved : goal.loop-number-preserved
 loop-number-preserved c =

@@ -2,7 +2,7 @@ use Rattle.std.proofs.Common.{◌≡◌, [], map, string_bytes}
 use Rattle.smp_frame.specs.Frames.{units_from}
 use Rattle.smp_frame.specs.Kept.Readers.{IsReading, rows_left}
 use Rattle.smp_frame.proofs.Front.{with_front}
-use Rattle.smp_frame.proofs.units.units_left.Given as goal
+use Rattle.smp_frame.proofs.units.add_units.Given as goal
 
 abbrev pub invariant-loop-number : goal.invariant-loop-number
 invariant-loop-number l =
