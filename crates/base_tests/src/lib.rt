@@ -1,4 +1,5 @@
-//! Tests of the lowest crates: numbers, lines, tapes, seeds, trees over places, files, probabilities and weights.
+//! Tests of the lowest crates, of what no case of `crates/cases` can show: numbers near 2^126 and 2^128, the published words of
+//! keys and draws that are refused, the tree of points beside a search over all of them, and a sample that is written at once.
 //!
 //! They call the crates as any other crate does. They stand here, since a crate with tests is proved a second time with them.
 #![tactic(auto)]
@@ -6,22 +7,8 @@
 #[cfg(test)]
 mod frac;
 #[cfg(test)]
-mod io;
-#[cfg(test)]
-mod lines;
-#[cfg(test)]
 mod near;
 #[cfg(test)]
-mod places;
-#[cfg(test)]
-mod prob;
-#[cfg(test)]
 mod sieve;
-#[cfg(test)]
-mod split;
-#[cfg(test)]
-mod tape;
-#[cfg(test)]
-mod values;
 #[cfg(test)]
 mod weights;

@@ -1,6 +1,8 @@
+ghost use Rattle.std.specs.Prelude.{◌^◌, ◌<◌, ◌≤◌};
+
 use smp_sieve::{ChaChaWords, Sieve, Words};
 use smp_tape::{DrawFault, Draws, Tape};
-use std::alloc::{AllocError, Global};
+use std::alloc::Global;
 use std::marker::Model;
 use std::test::Fail;
 
@@ -31,27 +33,29 @@ impl Words for Given {
     }
 }
 
-// So many pairs of the words 5 and 1, and then the words 7, 2 and 3.
-fn behind_pairs(alloc: Global, pairs: u32) -> Result<Vec<u128>, AllocError> {
-    let mut words = Vec::new(alloc);
-    for _ in 0..pairs {
-        words.push(5)?;
-        words.push(1)?;
-    }
-    words.push(7)?;
-    words.push(2)?;
-    words.push(3)?;
-    Ok(words)
-}
-
 // 2^32, below which each word is a candidate, and the next bound, whose candidates are the lowest 33 bits of two words.
 const WORD: u128 = 4294967296;
 
 const WIDE: u128 = 4294967297;
 
+// A draw below this bound, and then one of a word, where so many pairs of the words 5 and 1 come first, and then the words 7, 2
+// and 3.
+fn two_draws(alloc: Global, pairs: u32, bound: u128) -> Result<[Result<u128, DrawFault>; 2], Fail>
+    requires positive { 1 ≤ bound }
+    requires narrow { bound < 2 ^ 126 }
+{
+    let mut words = Vec::new(alloc);
+    for _ in 0..pairs {
+        words.extend_from_slice(&[5, 1])?;
+    }
+    words.extend_from_slice(&[7, 2, 3])?;
+    let tape = Tape::from_values(alloc, words.as_slice())?;
+    let mut sieve = Sieve::new(Given { tape });
+    Ok([sieve.below(bound), sieve.below(WORD)])
+}
+
 #[test]
 fn given_words_are_sieved(rt: HostRuntime) -> Result<(), Fail> {
-    let alloc = rt.alloc();
     let rejected = Err(DrawFault::Rejected { bound: WIDE });
     // the pairs that come first, the bound, the draw, and the word that is next then
     let cases: [(u32, u128, Result<u128, DrawFault>, u128); 9] = [
@@ -66,12 +70,8 @@ fn given_words_are_sieved(rt: HostRuntime) -> Result<(), Fail> {
         (1, 6, Ok(5), 1),
     ];
     for (pairs, bound, wanted, next) in cases {
-        let words = behind_pairs(alloc, pairs)?;
-        let mut sieve = Sieve::new(Given {
-            tape: Tape::from_values(alloc, words.as_slice())?,
-        });
-        assert_eq!(rt; sieve.below(bound), wanted, "{pairs} {bound}");
-        assert_eq!(rt; sieve.below(WORD), Ok(next), "{pairs} {bound}");
+        let draws = two_draws(rt.alloc(), pairs, bound)?;
+        assert_eq!(rt; draws, [wanted, Ok(next)], "{pairs} {bound}");
     }
     Ok(())
 }
