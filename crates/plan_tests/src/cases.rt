@@ -26,20 +26,22 @@ fn mask_of(places: &[u32]) -> u64 {
 
 #[test]
 fn cases_draw_their_units(rt: HostRuntime) {
-    for case in CASES {
-        let drawn = run(rt.alloc(), case.method, case.sizes, case.n, case.tape);
-        assert_eq!(rt; drawn, Some(Ok(mask_of(case.drawn))), "{case:?}");
+    let alloc = rt.alloc();
+    for case in &CASES {
+        let drawn = run(alloc, case.method, case.sizes, case.n, case.tape);
+        assert!(rt; drawn == Some(Ok(mask_of(case.drawn))), "{case:?}");
     }
-    let too_many = CaseFault::TooMany { positive: 2 };
-    let faults: [(u32, &[u128], CaseFault); 3] = [
-        (3, &[], too_many),
-        (1, &[], CaseFault::Draw(DrawFault::Short)),
-        (1, &[0, 0], CaseFault::Long { left: 1 }),
-    ];
-    for (n, tape, fault) in faults {
-        let answer = run(rt.alloc(), Method::Pivotal, &[1, 1], n, tape);
-        assert_eq!(rt; answer, Some(Err(fault)), "{n} {tape:?}");
-    }
+}
+
+#[test]
+fn faults_are_told(rt: HostRuntime) {
+    let alloc = rt.alloc();
+    let too_many = run(alloc, Method::Pivotal, &[1, 1], 3, &[]);
+    assert!(rt; too_many == Some(Err(CaseFault::TooMany { positive: 2 })));
+    let short = run(alloc, Method::Pivotal, &[1, 1], 1, &[]);
+    assert!(rt; short == Some(Err(CaseFault::Draw(DrawFault::Short))));
+    let long = run(alloc, Method::Pivotal, &[1, 1], 1, &[0, 0]);
+    assert!(rt; long == Some(Err(CaseFault::Long { left: 1 })));
 }
 
 // Whether a text begins with a header and then these rows.
@@ -84,11 +86,11 @@ fn the_demonstration_has_its_input(rt: HostRuntime) -> Result<(), Fail> {
             "\nu100000,r1,2519,313,4\n",
         ),
     ];
-    for (n, seed, length, first, last) in frames {
+    for &(n, seed, length, first, last) in &frames {
         assert!(rt; n >= 30 && n <= 100_000);
         let frame = demo_frame(alloc, n, seed)?;
         let text = frame.as_slice();
-        assert_eq!(rt; text.len(), length, "{n} {seed}");
+        assert!(rt; text.len() == length, "{n} {seed}");
         assert!(rt;
             begins(text, header, first) && text.ends_with(last.as_bytes()),
             "{n} {seed}"

@@ -1,17 +1,10 @@
-//! Tests of strata, stages, whole selections, logs and the cases of the demonstration.
+//! Tests of the worked cases, of the demonstration's input and of the writing of logs of version 1.
 //!
-//! They call the crates as any other crate does. They stand here, since a crate with tests is proved a second time with them.
+//! They call the crates as any other crate does. They stand here, since a crate with tests is proved a second time with them. What a command
+//! reaches of strata, stages, whole selections and logs is shown by the cases of `crates/cases`.
 #![tactic(auto)]
 
 #[cfg(test)]
 mod cases;
 #[cfg(test)]
 mod log;
-#[cfg(test)]
-mod sections;
-#[cfg(test)]
-mod stages;
-#[cfg(test)]
-mod strata;
-#[cfg(test)]
-mod twostage;
