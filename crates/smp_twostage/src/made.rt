@@ -125,9 +125,9 @@ impl<'a> Made<'a> {
         ensures each { OnOk result (EachStarts self.new.stages.items self.new.states.items) }
     {
         let StartedStage { design, state } = started;
-        self.stages.push(Stage { design, within })?;
+        let kept = self.stages.push(Stage { design, within });
         self.states.push(state)?;
-        Ok(())
+        Ok(kept?)
     }
 
     // Adds the first stage of a stratum.
