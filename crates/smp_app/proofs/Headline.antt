@@ -433,11 +433,11 @@ module _ (a : DrawArguments) (fs : Files) (before now : Outside) (words : List (
   drawn_work work =
       let exact : IsDraw draw_job (source_of a.chance) fs = work.exact in
       let plan = exact.plan in
-      let drawn = exact.drawn in
+      let drawn = exact.from_plan.drawn in
       let from = read_plan a.design a.frame fs plan (read a.design a.frame fs plan exact.planned) in
-      let chance = by_chance plan a.chance fs drawn exact.is_drawn in
-      let by = by_whole plan drawn chance.same.only_so exact.by_plan in
-      let outputs = outputs_are words draw_job fs before now (source_of a.chance) draw_files report_text plan drawn draw_asked refl exact.planned exact.is_drawn work in
+      let chance = by_chance plan a.chance fs drawn exact.from_plan.is_drawn in
+      let by = by_whole plan drawn chance.same.only_so exact.from_plan.by_plan in
+      let outputs = outputs_are words draw_job fs before now (source_of a.chance) draw_files report_text plan drawn draw_asked refl exact.planned exact.from_plan.is_drawn work in
       record {
         drawn = drawn;
         read = subst (IsReadPlan a.design a.frame fs) (sym chance.same.by_plan) from;
@@ -481,18 +481,18 @@ module _ (a : ReplayArguments) (fs : Files) (before now : Outside) (words : List
         let same : done.job ≡ replay_job source = some_same _ _ (sym done.asked ∙ replay_asked) in
         subst (λ (j : Job). IsWork words j fs before now) same (done.done fs told)
 
-    replay_outputs : (work : IsWork words (replay_job source) fs before now) (exact : IsDraw (replay_job source) source fs) → work.outputs ≡ outputs_by replay_files report_text exact.drawn
-    replay_outputs work exact = outputs_are words (replay_job source) fs before now source replay_files report_text exact.plan exact.drawn replay_asked refl exact.planned exact.is_drawn work
+    replay_outputs : (work : IsWork words (replay_job source) fs before now) (exact : IsDraw (replay_job source) source fs) → work.outputs ≡ outputs_by replay_files report_text exact.from_plan.drawn
+    replay_outputs work exact = outputs_are words (replay_job source) fs before now source replay_files report_text exact.plan exact.from_plan.drawn replay_asked refl exact.planned exact.from_plan.is_drawn work
 
   replayed_work : a.stratum ≡ None → IsWork words (replay_job (ByLog a.log)) fs before now → IsExactReplay a fs before now
   replayed_work none work =
       let exact : IsDraw (replay_job (ByLog a.log)) (ByLog a.log) fs = work.exact in
       let plan = exact.plan in
-      let drawn = exact.drawn in
+      let drawn = exact.from_plan.drawn in
       let from = read_plan a.design a.frame fs plan (read a.design a.frame fs plan exact.planned) in
-      let logged = by_log plan a.log fs drawn exact.is_drawn in
+      let logged = by_log plan a.log fs drawn exact.from_plan.is_drawn in
       let told = told_so plan None (path_told (tree_of plan) (start_of plan) logged.log) (any_reading (tree_of plan) (sections_of plan) (start_of plan) plan.head logged.log) drawn logged.tells in
-      let by = by_whole plan drawn told.same.only_so exact.by_plan in
+      let by = by_whole plan drawn told.same.only_so exact.from_plan.by_plan in
       let any = any_log plan by.start (head_so a.design a.frame fs plan from) logged.log drawn logged.tells in
       let outputs = replay_outputs (ByLog a.log) (ap (log_source a.log) none) work exact in
       record {
@@ -527,12 +527,12 @@ module _ (a : ReplayArguments) (fs : Files) (before now : Outside) (words : List
     section_work number work =
         let exact : IsDraw (replay_job (BySection a.log (h + 1))) (BySection a.log (h + 1)) fs = work.exact in
         let plan = exact.plan in
-        let drawn = exact.drawn in
+        let drawn = exact.from_plan.drawn in
         let from = read_plan a.design a.frame fs plan (read a.design a.frame fs plan exact.planned) in
-        let logged = by_section plan a.log (h + 1) h fs drawn refl exact.is_drawn in
+        let logged = by_section plan a.log (h + 1) h fs drawn refl exact.from_plan.is_drawn in
         let own = alone plan h in
         let told = told_so plan (Some h) (section_told (covered_tree own) (covered_start own) (h + 1) logged.log) (section_reading (covered_tree own) (covered_start own) plan.head (h + 1) logged.log) drawn logged.tells in
-        let by : IsDrawnAlone plan h drawn = subst (λ (o : Option ℕ). IsDrawnOf o plan drawn) told.same.only_so exact.by_plan in
+        let by : IsDrawnAlone plan h drawn = subst (λ (o : Option ℕ). IsDrawnOf o plan drawn) told.same.only_so exact.from_plan.by_plan in
         let lone = section_log plan (head_so a.design a.frame fs plan from) h by.there by.starts logged.log drawn logged.tells in
         let seen : covered drawn ≡ own = ap (λ (p : Plan). record { plan = parts p; only = drawn.only }) lone.same.by_plan ∙ ap (λ (o : Option ℕ). record { plan = parts plan; only = o }) lone.same.only_so in
         let of_plan : Sectioned drawn plan logged.log = record {
@@ -578,13 +578,13 @@ module _ (a : MigrateArguments) (fs : Files) (before now : Outside) (words : Lis
   migrated_work work =
       let exact : IsDraw migrate_job (ByOldLog a.log) fs = work.exact in
       let plan = exact.plan in
-      let drawn = exact.drawn in
+      let drawn = exact.from_plan.drawn in
       let from = read_plan a.design a.frame fs plan (read a.design a.frame fs plan exact.planned) in
-      let logged = by_old_log plan a.log fs drawn exact.is_drawn in
+      let logged = by_old_log plan a.log fs drawn exact.from_plan.is_drawn in
       let told = told_so plan None (path_told (tree_of plan) (start_of plan) logged.log) (log_reading (tree_of plan) (start_of plan) plan.head logged.log) drawn logged.tells in
-      let by = by_whole plan drawn told.same.only_so exact.by_plan in
+      let by = by_whole plan drawn told.same.only_so exact.from_plan.by_plan in
       let old = old_log plan by.start (head_so a.design a.frame fs plan from) logged.log drawn logged.tells in
-      let outputs = outputs_are words migrate_job fs before now (ByOldLog a.log) migrate_files migrated_text plan drawn migrate_asked refl exact.planned exact.is_drawn work in
+      let outputs = outputs_are words migrate_job fs before now (ByOldLog a.log) migrate_files migrated_text plan drawn migrate_asked refl exact.planned exact.from_plan.is_drawn work in
       record {
         drawn = drawn;
         all = told.same.only_so;

@@ -19,7 +19,8 @@ use Rattle.smp_frame.specs.Frames.{frame_of}
 use Rattle.smp_strata.specs.declared.misfit.Misfit.{Misfit}
 use Rattle.smp_strata.specs.declared.misfit.Misfit.TheVariants as misfits
 use Rattle.smp_app.specs.Plans.{Plan, Drawn}
-use Rattle.smp_app.specs.Commands.{DesignSource, Held, Given, Made, FrameSource, FrameHeld, FrameMade, DrawnFile, Job, design_names, frame_names, plan_inputs, written_by}
+use Rattle.smp_app.specs.Commands.{DesignSource, Held, Given, Made, FrameSource, FrameHeld, FrameMade, DrawnFile, Work, Lists, Draws, Job, design_names, frame_names, plan_inputs, written_by}
+use Rattle.smp_app.specs.Draws.{IsExactFrom, IsExactWork}
 use Rattle.smp_app.specs.Deliveries.{names_of}
 use Rattle.smp_app.specs.Verdict.{Stop, Refused, ReadDesign, ◌>>=◌, without, frame_content, design_stage, frame_stage, plan_of, plan_stage}
 use Rattle.smp_app.specs.Codes.{Class, IsDone, IsUsage, IsRefusal, IsReadFault, IsWriteFault, IsNoMemory, class_of, design_status, misfit_status}
@@ -159,6 +160,12 @@ module _ {A B : Type 0} (inputs others : List (List ℕ)) (stage : Files → Res
     reads = λ name. omega (arith, first.reads name, second.reads name);
     writes = λ name. omega (arith, first.writes name, second.writes name);
   }
+
+-- ---- what is drawn by the plan of a job
+
+pub exact_work : (job : Job) (work : Work) (plan : Plan) (fs : Files) → plan_stage job fs ≡ Ok plan → IsExactFrom plan work fs → IsExactWork job work fs
+exact_work job (Lists text) plan fs planned exact = tt
+exact_work job (Draws source files put) plan fs planned exact = record { plan = plan; planned = planned; from_plan = exact }
 
 -- ---- what is written of what is drawn has its name
 

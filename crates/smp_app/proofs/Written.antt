@@ -45,7 +45,7 @@ all_rows line xs i written text whole ended is so_far =
     ap Some (sym (append-nil text) ∙ ap (λ tail. text ++ tail) (sym rest)) ∙ ap (option_map (λ before. before ++ flat_map line (drop i xs))) (sym is) ∙ so_far in
     cc
 
-if_ok : {T E : Type 0} (r : Result T E) (P Q : T → Type 0) → ((x : T) → P x → Q x) → IfOk r P → IfOk r Q
+pub if_ok : {T E : Type 0} (r : Result T E) (P Q : T → Type 0) → ((x : T) → P x → Q x) → IfOk r P → IfOk r Q
 if_ok (Ok x) P Q f p = f x p
 if_ok (Err e) P Q f p = tt
 

@@ -141,13 +141,21 @@ abbrev pub IsDrawnOf : Option ℕ → Plan → Drawn → Type 0
 IsDrawnOf None plan drawn = IsDrawnBy plan drawn
 IsDrawnOf (Some h) plan drawn = IsDrawnAlone plan h drawn
 
--- what a source draws by the plan of a job
-pub record IsDraw (job : Job) (source : Source) (fs : Files) : Type 0 where
-  pub plan : Plan
-  pub planned : plan_stage job fs ≡ Ok plan
+-- what a source draws by a plan
+pub record IsDrawFrom (plan : Plan) (source : Source) (fs : Files) : Type 0 where
   pub drawn : Drawn
   pub is_drawn : drawn_stage plan source fs ≡ Ok drawn
   pub by_plan : IsDrawnOf drawn.only plan drawn
+
+-- what it draws by the plan of a job
+pub record IsDraw (job : Job) (source : Source) (fs : Files) : Type 0 where
+  pub plan : Plan
+  pub planned : plan_stage job fs ≡ Ok plan
+  pub from_plan : IsDrawFrom plan source fs
+
+abbrev pub IsExactFrom : Plan → Work → Files → Type 0
+IsExactFrom plan (Lists text) fs = Unit {0}
+IsExactFrom plan (Draws source files put) fs = IsDrawFrom plan source fs
 
 abbrev pub IsExactWork : Job → Work → Files → Type 0
 IsExactWork job (Lists text) fs = Unit {0}

@@ -3,6 +3,7 @@ use Rattle.std.specs.Prelude.{◌≡◌, ◌≤◌, ◌⊎◌, ℕ, List, map, C
 use Rattle.smp_io.specs.Counts.{Rose, NeverFalls}
 use Rattle.smp_io.specs.Sink.{with_bytes, AppendsFront}
 use Rattle.smp_io.specs.Store.{Files}
+use Rattle.smp_frac.specs.declared.memory.NoMemory as memory
 use Rattle.smp_frame.specs.Bounds.{IsFrame}
 use Rattle.smp_log.specs.declared.fault.ReplayFault.{ReplayFault}
 use Rattle.smp_log.specs.declared.fault.ReplayFault.TheVariants as replays
@@ -329,3 +330,8 @@ pub data PutsLine (refusal answer : Status) (line : List ℕ) (before now : Put)
 abbrev pub Reports : Option (List ℕ) → Status → Status → Put → Put → Type 0
 Reports (Some line) refusal answer before now = PutsLine refusal answer line before now
 Reports None refusal answer before now = (answer ≡ refusal) × (now ≡ before)
+
+-- a refusal whose line is put or was to be put, unless memory ran out
+abbrev pub kept_status : Status → Result (Unit {0}) memory.NoMemory → Status
+kept_status refusal (Ok done) = refusal
+kept_status refusal (Err error) = status.NoMemory

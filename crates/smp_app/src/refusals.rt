@@ -1,10 +1,11 @@
 ghost use Rattle.std.specs.Prelude.{◌≡◌, ◌≤◌, None, Ok, IfOk, option_map, string_bytes};
 ghost use Rattle.smp_app.specs.FaultLines;
 ghost use Rattle.smp_app.specs.FaultLines.{fault_line, design_line, frame_line, misfit_line};
-ghost use Rattle.smp_app.specs.Stages.{Reports, put_by};
+ghost use Rattle.smp_app.specs.Stages.{Reports, kept_status, put_by};
 
 use crate::Status;
 use smp_design::DesignFault;
+use smp_frac::NoMemory;
 use smp_frame::FrameFault;
 use smp_io::{Sink, StoreFault};
 use smp_strata::Misfit;
@@ -16,13 +17,24 @@ pub fn report<S: Sink>(alloc: Global, status: Status, out: &mut S) -> Status
         (put_by S.written S.faults out.old) (put_by S.written S.faults out.new) }
     ensures puts { S.faults out.old ≤ S.faults out.new }
 {
-    match line_for(alloc, &status) {
-        Ok(None) => status,
-        Ok(Some(line)) => match out.put(line.as_bytes()) {
-            Ok(()) | Err(StoreFault::Failed) => status,
-            Err(StoreFault::NoMemory) => Status::NoMemory,
+    match put_line(alloc, &status, out) {
+        Ok(()) => status,
+        Err(NoMemory) => Status::NoMemory,
+    }
+}
+
+// Puts the line of a refusal, where it has one. The refusal stands where the put fails.
+fn put_line<S: Sink>(alloc: Global, status: &Status, out: &mut S) -> Result<(), NoMemory>
+    ensures line { Reports (fault_line status.now) status.now (kept_status status.now result)
+        (put_by S.written S.faults out.old) (put_by S.written S.faults out.new) }
+    ensures puts { S.faults out.old ≤ S.faults out.new }
+{
+    match line_for(alloc, status)? {
+        None => Ok(()),
+        Some(line) => match out.put(line.as_bytes()) {
+            Ok(()) | Err(StoreFault::Failed) => Ok(()),
+            Err(StoreFault::NoMemory) => Err(NoMemory),
         },
-        Err(_) => Status::NoMemory,
     }
 }
 

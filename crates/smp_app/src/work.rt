@@ -1,10 +1,10 @@
 ghost use Rattle.std.specs.Prelude.{◌≡◌, map, IfOk, Some, Ok};
 ghost use Rattle.smp_io.specs.Store.{Files};
-ghost use Rattle.smp_app.specs.Commands.{inputs_of, outputs_of, written_by, outputs_by};
-ghost use Rattle.smp_app.specs.Verdict.{outputs_stage};
-ghost use Rattle.smp_app.specs.Draws.{IsExact};
+ghost use Rattle.smp_app.specs.Commands.{drawn_names, inputs_of, outputs_of, written_by, written_names, outputs_by};
+ghost use Rattle.smp_app.specs.Verdict.{outputs_stage, work_stage};
+ghost use Rattle.smp_app.specs.Draws.{IsExact, IsExactFrom};
 ghost use Rattle.smp_app.specs.Deliveries.{outputs_view, names_of};
-ghost use Rattle.smp_app.specs.Stages.{Reads, IsJob, IsPlanned, IsSelection, told, job_view, file_view, drawn_text, plan_view, selection_view, result_view};
+ghost use Rattle.smp_app.specs.Stages.{Reads, IsJob, IsPlanned, IsSelection, IsWorkInRanges, told, job_view, work_view, file_view, drawn_text, plan_view, selection_view, result_view};
 
 use crate::job::{DrawnFile, DrawnText, Job, Work};
 use crate::plan::{FramePlan, plan_from};
@@ -27,14 +27,35 @@ pub fn outputs_from<K: Store>(alloc: Global, store: &mut K, job: &Job) -> Result
         ≡ outputs_of (job_view job.now)) }
 {
     let plan = plan_from(alloc, store, job)?;
-    match &job.work {
+    work_outputs(alloc, store, &job.work, &plan)
+}
+
+// Goes on from the plan, which is only lent, so that it is let go in one place.
+fn work_outputs<K: Store>(
+    alloc: Global,
+    store: &mut K,
+    work: &Work,
+    plan: &FramePlan,
+) -> Result<Outputs, Status>
+    requires planned { IsPlanned plan.now }
+    requires ranges { IsWorkInRanges work.now }
+    ensures reads { Reads (drawn_names (work_view work.now))
+        (work_stage (work_view work.now) (plan_view plan.now)) (result_view outputs_view result)
+        (told K.files K.read_faults K.write_faults store.old)
+        (told K.files K.read_faults K.write_faults store.new) }
+    ensures exact { (fs : Files) → K.files store.old ≡ Some fs
+        → IfOk result (λ _. IsExactFrom (plan_view plan.now) (work_view work.now) fs) }
+    ensures named { IfOk result (λ outputs. names_of (outputs_view outputs).files
+        ≡ written_names (work_view work.now)) }
+{
+    match work {
         Work::Lists(text) => Ok(Outputs {
             files: Vec::new(alloc),
-            put: text.bytes(alloc, &plan)?,
+            put: text.bytes(alloc, plan)?,
         }),
         Work::Draws { from, files, put } => {
-            let selection = selection_from(alloc, store, &plan, *from)?;
-            Ok(drawn_outputs(alloc, files.as_slice(), *put, &plan, &selection)?)
+            let selection = selection_from(alloc, store, plan, *from)?;
+            Ok(drawn_outputs(alloc, files.as_slice(), *put, plan, &selection)?)
         }
     }
 }

@@ -1,59 +1,20 @@
-use Rattle.std.proofs.Common.{◌≡◌, ℕ, List, map, Ok, Err, [], ap, subst, ◌∙◌, arith, rules}
-use Rattle.std.proofs.lemmas.List.{append-nil}
-use Rattle.smp_app.specs.declared.status.Status.TheVariants.{NoMemory}
-use Rattle.smp_app.specs.Commands.{source_names, Draws, plan_inputs, outputs_by}
-use Rattle.smp_app.specs.Verdict.{plan_stage, work_stage, drawn_stage}
-use Rattle.smp_app.specs.Deliveries.{Outputs, names_of}
-use Rattle.smp_app.specs.Stages.{Reads, told, draw_view, job_view, drawn_text, file_view, plan_view, selection_view}
-use Rattle.smp_app.proofs.Stages.{goes_on, stops, plan_ignores, names_written}
+use Rattle.std.proofs.Common.{◌∙◌}
+use Rattle.smp_app.specs.Commands.{plan_inputs, drawn_names}
+use Rattle.smp_app.specs.Verdict.{plan_stage, work_stage}
+use Rattle.smp_app.specs.Stages.{job_view, plan_view}
+use Rattle.smp_app.proofs.Stages.{goes_on, plan_ignores, exact_work}
+use Rattle.smp_app.proofs.Written.{if_ok}
 use Rattle.smp_app.proofs.work.outputs_from.Goals as goal
 
-pub returns-in_err-selection-in-Draws-clause-reads : goal.returns-in_err-selection-in-Draws-clause-reads
-returns-in_err-selection-in-Draws-clause-reads g c =
+pub returns-clause-reads : goal.returns-clause-reads
+returns-clause-reads g c =
     let job = job_view c.args.job.now in
-    let error = c.in_err-selection-in-Draws.field-0.0 in
-    let ends : c.from_residual-in_err-selection-in-Draws.result ≡ Err error = search (rules, c.from_residual-in_err-selection-in-Draws.ensures) in
-    let plan = plan_view c.in_ok-plan.plan in
-    let source = draw_view c.in-Draws.from in
-    let files = map file_view c.in-Draws.files.items in
-    let put = drawn_text c.in-Draws.put in
-    let selected =
-    subst (λ (names : List (List ℕ)). Reads names (work_stage (Draws source files put) plan) (Err error) (told g.K.Store.files g.K.Store.read_faults g.K.Store.write_faults c.plan_from.new.store) (told g.K.Store.files g.K.Store.read_faults g.K.Store.write_faults c.selection_from.new.store))
-    (append-nil (source_names source))
-    (stops (source_names source) [] (drawn_stage plan source) (λ drawn fs. Ok (outputs_by files put drawn)) _ _ error c.in_err-selection-in-Draws.ensures.reads) in
-    rw (ends, c.in-Draws.is)
-    (goes_on (plan_inputs job) (source_names source) (plan_stage job) (work_stage (Draws source files put)) _ _ _ plan _ c.in_ok-plan.ensures.reads selected
-    (rw c.in-Draws.is at c.requires.distinct) (plan_ignores job))
-
-pub returns-in_err-drawn_outputs-in-Draws-clause-reads : goal.returns-in_err-drawn_outputs-in-Draws-clause-reads
-returns-in_err-drawn_outputs-in-Draws-clause-reads g c =
-    let ends : c.from_residual-in_err-drawn_outputs-in-Draws.result ≡ Err NoMemory = search (rules, c.from_residual-in_err-drawn_outputs-in-Draws.ensures) in
-    let first = c.in_ok-plan.ensures.reads in
-    let second = c.in_ok-selection-in-Draws.ensures.reads in
-    rw ends (record {
-      follows = λ fs told. tt;
-      kinds = tt;
-      cause = tt;
-      same = second.same ∙ first.same;
-      reads = λ name. omega (arith, first.reads name, second.reads name);
-      writes = λ name. omega (arith, first.writes name, second.writes name);
-    })
-
-pub returns-clause-named : goal.returns-clause-named
-returns-clause-named g c =
-    let drawn = selection_view (plan_view c.in_ok-plan.plan) c.in_ok-selection-in-Draws.selection in
-    rw c.in-Draws.is
-    (ap (λ (o : Outputs). names_of o.files) (rw c.as_slice.ensures.value at c.in_ok-drawn_outputs-in-Draws.ensures) ∙ names_written drawn _)
+    goes_on (plan_inputs job) (drawn_names job.work) (plan_stage job) (work_stage job.work) _ _ _ (plan_view c.in_ok-plan.plan) _
+    c.in_ok-plan.ensures.reads c.work_outputs.ensures.reads c.requires.distinct (plan_ignores job)
 
 pub returns-clause-exact : goal.returns-clause-exact
 returns-clause-exact g c fs held =
+    let job = job_view c.args.job.now in
     let reads = c.in_ok-plan.ensures.reads in
-    let plan = plan_view c.in_ok-plan.plan in
-    let selection = c.in_ok-selection-in-Draws.selection in
-    rw c.in-Draws.is (record {
-      plan = plan;
-      planned = reads.follows fs held;
-      drawn = selection_view plan selection;
-      is_drawn = c.in_ok-selection-in-Draws.ensures.reads.follows fs (reads.same ∙ held);
-      by_plan = c.in_ok-selection-in-Draws.ensures.selection.drawn;
-    })
+    if_ok c.work_outputs.result _ _ (λ outputs from. exact_work job job.work (plan_view c.in_ok-plan.plan) fs (reads.follows fs held) from)
+    (c.work_outputs.ensures.exact fs (reads.same ∙ held))

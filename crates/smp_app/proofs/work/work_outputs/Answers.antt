@@ -1,0 +1,50 @@
+use Rattle.std.proofs.Common.{◌≡◌, ℕ, List, map, Ok, Err, [], ap, subst, ◌∙◌, rules}
+use Rattle.std.proofs.lemmas.List.{append-nil}
+use Rattle.smp_app.specs.declared.status.Status.TheVariants.{NoMemory}
+use Rattle.smp_app.specs.Commands.{source_names, Draws, outputs_by}
+use Rattle.smp_app.specs.Verdict.{work_stage, drawn_stage}
+use Rattle.smp_app.specs.Deliveries.{Outputs, names_of}
+use Rattle.smp_app.specs.Stages.{Reads, told, draw_view, drawn_text, file_view, plan_view, selection_view}
+use Rattle.smp_app.proofs.Stages.{stops, names_written}
+use Rattle.smp_app.proofs.work.work_outputs.Goals as goal
+
+pub returns-in_err-selection-in-Draws-clause-reads : goal.returns-in_err-selection-in-Draws-clause-reads
+returns-in_err-selection-in-Draws-clause-reads g c =
+    let error = c.in_err-selection-in-Draws.field-0.0 in
+    let ends : c.from_residual-in_err-selection-in-Draws.result ≡ Err error = search (rules, c.from_residual-in_err-selection-in-Draws.ensures) in
+    let plan = plan_view c.args.plan.now in
+    let source = draw_view c.in-Draws.from in
+    let files = map file_view c.in-Draws.files.items in
+    let put = drawn_text c.in-Draws.put in
+    rw (ends, c.in-Draws.is)
+    (subst (λ (names : List (List ℕ)). Reads names (work_stage (Draws source files put) plan) (Err error) (told g.K.Store.files g.K.Store.read_faults g.K.Store.write_faults c.args.store.now) (told g.K.Store.files g.K.Store.read_faults g.K.Store.write_faults c.selection_from.new.store))
+    (append-nil (source_names source))
+    (stops (source_names source) [] (drawn_stage plan source) (λ drawn fs. Ok (outputs_by files put drawn)) _ _ error c.in_err-selection-in-Draws.ensures.reads))
+
+pub returns-in_err-drawn_outputs-in-Draws-clause-reads : goal.returns-in_err-drawn_outputs-in-Draws-clause-reads
+returns-in_err-drawn_outputs-in-Draws-clause-reads g c =
+    let ends : c.from_residual-in_err-drawn_outputs-in-Draws.result ≡ Err NoMemory = search (rules, c.from_residual-in_err-drawn_outputs-in-Draws.ensures) in
+    let reads = c.in_ok-selection-in-Draws.ensures.reads in
+    rw ends (record {
+      follows = λ fs told. tt;
+      kinds = tt;
+      cause = tt;
+      same = reads.same;
+      reads = reads.reads;
+      writes = reads.writes;
+    })
+
+pub returns-in_ok-drawn_outputs-in-Draws-clause-named : goal.returns-in_ok-drawn_outputs-in-Draws-clause-named
+returns-in_ok-drawn_outputs-in-Draws-clause-named g c =
+    let drawn = selection_view (plan_view c.args.plan.now) c.in_ok-selection-in-Draws.selection in
+    rw c.in-Draws.is
+    (ap (λ (o : Outputs). names_of o.files) (rw c.as_slice.ensures.value at c.in_ok-drawn_outputs-in-Draws.ensures) ∙ names_written drawn _)
+
+pub returns-in_ok-drawn_outputs-in-Draws-clause-exact : goal.returns-in_ok-drawn_outputs-in-Draws-clause-exact
+returns-in_ok-drawn_outputs-in-Draws-clause-exact g c fs held =
+    let selection = c.in_ok-selection-in-Draws.selection in
+    rw c.in-Draws.is (record {
+      drawn = selection_view (plan_view c.args.plan.now) selection;
+      is_drawn = c.in_ok-selection-in-Draws.ensures.reads.follows fs held;
+      by_plan = c.in_ok-selection-in-Draws.ensures.selection.drawn;
+    })
