@@ -125,6 +125,7 @@ impl<'a> Made<'a> {
         ensures each { OnOk result (EachStarts self.new.stages.items self.new.states.items) }
     {
         let StartedStage { design, state } = started;
+        // Both are moved before either is looked at: where the first push failed, the state would be let go here.
         let kept = self.stages.push(Stage { design, within });
         self.states.push(state)?;
         Ok(kept?)
