@@ -1,13 +1,12 @@
-ghost use Rattle.std.specs.Prelude.{◌≡◌, IfOk, OnOk, string_bytes};
+ghost use Rattle.std.specs.Prelude.{◌≡◌, ◌++◌, IfOk, OnOk};
 ghost use Rattle.smp_log.specs.Genuine.{IsFullPath};
-ghost use Rattle.smp_log.specs.SectionLogs as SectionLogs;
-ghost use Rattle.smp_log.specs.SectionLogs.{HasLeaf, sectioned_log_text};
+ghost use Rattle.smp_log.specs.SectionLogs.{HasLeaf, done_text, sectioned_log_text, stratum_text};
 
 use crate::Head;
-use crate::writing::{end_text, step_text};
+use crate::writing::{push_end, push_step};
 use smp_frac::{Bytes, NoMemory};
 use smp_split::{Lines, Sections};
-use std::alloc::{AllocError, Global};
+use std::alloc::Global;
 
 /// The log of version 2 of a path, from the state in which it began: the head, a section after the other, and how many
 /// steps there were. The lines are the path of a full tape.
@@ -35,30 +34,34 @@ pub fn log_bytes<S: Sections>(
     let mut taken = 0;
     for section in 0..run.sections() {
         let number = section as u64 + 1;
-        text.push_all(stratum_text(alloc, number, taken)?.as_bytes())?;
+        push_stratum(alloc, &mut text, number, taken)?;
         let mut own = 0;
         while run.section(state) == section {
             let step = steps[next];
-            text.push_all(step_text(alloc, &step)?.as_bytes())?;
+            push_step(alloc, &mut text, &step)?;
             run.advance(state, step.2);
             next += 1;
             own += 1;
             taken += (step.1 > 1) as u64;
         }
-        text.push_all(done_text(alloc, number, own)?.as_bytes())?;
+        push_done(alloc, &mut text, number, own)?;
     }
-    text.push_all(end_text(alloc, next)?.as_bytes())?;
+    push_end(alloc, &mut text, next)?;
     Ok(text)
 }
 
-fn stratum_text(alloc: Global, number: u64, place: u64) -> Result<String, AllocError>
-    ensures { IfOk result (λ line. string_bytes line ≡ SectionLogs.stratum_text number place) }
+// The opening line of a section.
+fn push_stratum(alloc: Global, text: &mut Bytes, number: u64, place: u64) -> Result<(), NoMemory>
+    ensures { OnOk result (text.new ≡ text.old ++ stratum_text number place) }
 {
-    format!(in alloc; "stratum {number} {place}\n")
+    let line = format!(in alloc; "stratum {number} {place}\n")?;
+    text.push_all(line.as_bytes())
 }
 
-fn done_text(alloc: Global, number: u64, steps: u64) -> Result<String, AllocError>
-    ensures { IfOk result (λ line. string_bytes line ≡ SectionLogs.done_text number steps) }
+// Its last line.
+fn push_done(alloc: Global, text: &mut Bytes, number: u64, steps: u64) -> Result<(), NoMemory>
+    ensures { OnOk result (text.new ≡ text.old ++ done_text number steps) }
 {
-    format!(in alloc; "done {number} {steps}\n")
+    let line = format!(in alloc; "done {number} {steps}\n")?;
+    text.push_all(line.as_bytes())
 }

@@ -1,6 +1,5 @@
 ghost use Rattle.std.specs.Prelude.{◌≡◌, ◌++◌, IfOk, OnOk, string_bytes};
-ghost use Rattle.smp_log.specs.Logs as Logs;
-ghost use Rattle.smp_log.specs.Logs.{log_text, steps_text};
+ghost use Rattle.smp_log.specs.Logs.{end_text, log_text, step_text, steps_text};
 
 use crate::Head;
 use smp_frac::{Bytes, NoMemory};
@@ -14,7 +13,7 @@ pub fn old_log_bytes(alloc: Global, head: &Head, lines: &Lines) -> Result<Bytes,
     let mut text = Bytes::new(alloc);
     text.push_all(head.as_slice())?;
     push_steps(alloc, &mut text, lines.as_slice())?;
-    text.push_all(end_text(alloc, lines.as_slice().len())?.as_bytes())?;
+    push_end(alloc, &mut text, lines.as_slice().len())?;
     Ok(text)
 }
 
@@ -31,20 +30,32 @@ fn push_steps(alloc: Global, text: &mut Bytes, steps: &[(Kind, u128, u128)]) -> 
     ensures { OnOk result (text.new ≡ text.old ++ steps_text steps.now) }
 {
     for step in steps {
-        text.push_all(step_text(alloc, step)?.as_bytes())?;
+        push_step(alloc, text, step)?;
     }
     Ok(())
 }
 
-pub(crate) fn step_text(alloc: Global, step: &(Kind, u128, u128)) -> Result<String, AllocError>
-    ensures { IfOk result (λ line. string_bytes line ≡ Logs.step_text step.now) }
+pub(crate) fn push_step(
+    alloc: Global,
+    text: &mut Bytes,
+    step: &(Kind, u128, u128),
+) -> Result<(), NoMemory>
+    ensures { OnOk result (text.new ≡ text.old ++ step_text step.now) }
+{
+    let line = step_line(alloc, step)?;
+    text.push_all(line.as_bytes())
+}
+
+fn step_line(alloc: Global, step: &(Kind, u128, u128)) -> Result<String, AllocError>
+    ensures { IfOk result (λ line. string_bytes line ≡ step_text step.now) }
 {
     let (kind, bound, value) = *step;
     format!(in alloc; "{} {bound} {value}\n", kind.word())
 }
 
-pub(crate) fn end_text(alloc: Global, steps: usize) -> Result<String, AllocError>
-    ensures { IfOk result (λ line. string_bytes line ≡ Logs.end_text steps) }
+pub(crate) fn push_end(alloc: Global, text: &mut Bytes, steps: usize) -> Result<(), NoMemory>
+    ensures { OnOk result (text.new ≡ text.old ++ end_text steps) }
 {
-    format!(in alloc; "end {steps}\n")
+    let line = format!(in alloc; "end {steps}\n")?;
+    text.push_all(line.as_bytes())
 }

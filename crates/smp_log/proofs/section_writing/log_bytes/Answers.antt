@@ -18,8 +18,8 @@ loop-section-init g c = first (g.S.Splitting.tree c.args.run.now) (g.S.Splitting
 pub loop-step-init : goal.loop-step-init
 loop-step-init g c =
     let less : c.loop-section.section < (g.S.Sections.sectioning c.args.run.now).count = subst (λ n. c.loop-section.section < n) c.sections-section-end.ensures c.loop-section-test.true in
-    let more : c.push_all-in-loop-section.new.self ≡ c.loop-section.text ++ stratum_text (c.loop-section.section + 1) c.loop-section.taken = c.in_ok-push_all-2.ensures.ok ∙ ap (λ b. c.loop-section.text ++ b) (c.as_bytes.ensures.value ∙ c.in_ok-stratum_text.ensures) in
-    enters (g.S.Splitting.tree c.args.run.now) (g.S.Splitting.belongs c.args.run.now) (g.met.S.Splitting.lawful c.args.run.now) (g.S.Sections.sectioning c.args.run.now) (g.met.S.Sections.sectioned c.args.run.now) c.args.state.now c.requires.state c.args.head.now c.args.lines.now c.loop-section.section c.loop-section.taken c.loop-section.next c.loop-section.state c.loop-section.text c.push_all-in-loop-section.new.self c.loop-section.invariant less more
+    let more : c.push_stratum.new.text ≡ c.loop-section.text ++ stratum_text (c.loop-section.section + 1) c.loop-section.taken = c.in_ok-push_stratum.ensures in
+    enters (g.S.Splitting.tree c.args.run.now) (g.S.Splitting.belongs c.args.run.now) (g.met.S.Splitting.lawful c.args.run.now) (g.S.Sections.sectioning c.args.run.now) (g.met.S.Sections.sectioned c.args.run.now) c.args.state.now c.requires.state c.args.head.now c.args.lines.now c.loop-section.section c.loop-section.taken c.loop-section.next c.loop-section.state c.loop-section.text c.push_stratum.new.text c.loop-section.invariant less more
 
 pub bounds-steps-next : goal.bounds-steps-next
 bounds-steps-next g c =
@@ -47,20 +47,20 @@ loop-step-preserved g c =
     let line : Entry = get_or c.as_slice-steps.result.now c.loop-step.next (Order, 0, 0) in
     let is_line : line ≡ get_or c.args.lines.now c.loop-step.next line = ap (λ ls. get_or ls c.loop-step.next (Order, 0, 0)) c.as_slice-steps.ensures ∙ get_or_default c.args.lines.now c.loop-step.next (Order, 0, 0) line within in
     let has = has_step (g.S.Splitting.tree c.args.run.now) (g.S.Splitting.belongs c.args.run.now) (g.met.S.Splitting.lawful c.args.run.now) (g.S.Sections.sectioning c.args.run.now) (g.met.S.Sections.sectioned c.args.run.now) c.args.state.now c.requires.state c.args.head.now c.args.lines.now c.loop-section.section c.loop-step.taken c.loop-step.next c.loop-step.own c.loop-step.state c.loop-step.text c.loop-step.invariant line within is_line in
-    let more : c.push_all-in-loop-step.new.self ≡ c.loop-step.text ++ step_text line = c.in_ok-push_all-3.ensures.ok ∙ ap (λ b. c.loop-step.text ++ b) (c.as_bytes-in-loop-step.ensures.value ∙ c.in_ok-step_text.ensures) in
-    rw (bool_cond (ltb 1 line.1), c.advance.ensures) (steps_on (g.S.Splitting.tree c.args.run.now) (g.S.Splitting.belongs c.args.run.now) (g.met.S.Splitting.lawful c.args.run.now) (g.S.Sections.sectioning c.args.run.now) (g.met.S.Sections.sectioned c.args.run.now) c.args.state.now c.requires.state c.args.head.now c.args.lines.now c.loop-section.section c.loop-step.taken c.loop-step.next c.loop-step.own c.loop-step.state c.loop-step.text c.loop-step.invariant line c.push_all-in-loop-step.new.self here has within more)
+    let more : c.push_step.new.text ≡ c.loop-step.text ++ step_text line = c.in_ok-push_step.ensures in
+    rw (bool_cond (ltb 1 line.1), c.advance.ensures) (steps_on (g.S.Splitting.tree c.args.run.now) (g.S.Splitting.belongs c.args.run.now) (g.met.S.Splitting.lawful c.args.run.now) (g.S.Sections.sectioning c.args.run.now) (g.met.S.Sections.sectioned c.args.run.now) c.args.state.now c.requires.state c.args.head.now c.args.lines.now c.loop-section.section c.loop-step.taken c.loop-step.next c.loop-step.own c.loop-step.state c.loop-step.text c.loop-step.invariant line c.push_step.new.text here has within more)
 
 pub loop-section-preserved : goal.loop-section-preserved
 loop-section-preserved g c =
     let away : (g.S.Sections.sectioning c.args.run.now).of c.loop-step.state ≢ c.loop-section.section = λ e. c.loop-step-test.false (c.section.ensures ∙ e) in
-    let more : c.push_all-in-loop-section-2.new.self ≡ c.loop-step.text ++ done_text (c.loop-section.section + 1) c.loop-step.own = c.in_ok-push_all-4.ensures.ok ∙ ap (λ b. c.loop-step.text ++ b) (c.as_bytes-in-loop-section.ensures.value ∙ c.in_ok-done_text.ensures) in
-    leaves (g.S.Splitting.tree c.args.run.now) (g.S.Splitting.belongs c.args.run.now) (g.met.S.Splitting.lawful c.args.run.now) (g.S.Sections.sectioning c.args.run.now) (g.met.S.Sections.sectioned c.args.run.now) c.args.state.now c.requires.state c.args.head.now c.args.lines.now c.loop-section.section c.loop-step.taken c.loop-step.next c.loop-step.own c.loop-step.state c.loop-step.text c.loop-step.invariant c.push_all-in-loop-section-2.new.self away more
+    let more : c.push_done.new.text ≡ c.loop-step.text ++ done_text (c.loop-section.section + 1) c.loop-step.own = c.in_ok-push_done.ensures in
+    leaves (g.S.Splitting.tree c.args.run.now) (g.S.Splitting.belongs c.args.run.now) (g.met.S.Splitting.lawful c.args.run.now) (g.S.Sections.sectioning c.args.run.now) (g.met.S.Sections.sectioned c.args.run.now) c.args.state.now c.requires.state c.args.head.now c.args.lines.now c.loop-section.section c.loop-step.taken c.loop-step.next c.loop-step.own c.loop-step.state c.loop-step.text c.loop-step.invariant c.push_done.new.text away more
 
 pub returns-clause-text : goal.returns-clause-text
 returns-clause-text g c =
     let high : (g.S.Sections.sectioning c.args.run.now).count ≤ c.loop-section.section = subst (λ n. n ≤ c.loop-section.section) c.sections-section-end.ensures c.loop-section-test.false in
-    let more : c.push_all-2.new.self ≡ c.loop-section.text ++ end_text c.loop-section.next = c.in_ok-push_all-5.ensures.ok ∙ ap (λ b. c.loop-section.text ++ b) (c.as_bytes-2.ensures.value ∙ c.in_ok-end_text.ensures) in
-    whole_log (g.S.Splitting.tree c.args.run.now) (g.S.Splitting.belongs c.args.run.now) (g.met.S.Splitting.lawful c.args.run.now) (g.S.Sections.sectioning c.args.run.now) (g.met.S.Sections.sectioned c.args.run.now) c.args.state.now c.requires.state c.args.head.now c.args.lines.now c.loop-section.section c.loop-section.taken c.loop-section.next c.loop-section.state c.loop-section.text c.loop-section.invariant high c.push_all-2.new.self more
+    let more : c.push_end.new.text ≡ c.loop-section.text ++ end_text c.loop-section.next = c.in_ok-push_end.ensures in
+    whole_log (g.S.Splitting.tree c.args.run.now) (g.S.Splitting.belongs c.args.run.now) (g.met.S.Splitting.lawful c.args.run.now) (g.S.Sections.sectioning c.args.run.now) (g.met.S.Sections.sectioned c.args.run.now) c.args.state.now c.requires.state c.args.head.now c.args.lines.now c.loop-section.section c.loop-section.taken c.loop-section.next c.loop-section.state c.loop-section.text c.loop-section.invariant high c.push_end.new.text more
 
 pub returns-clause-leaf : goal.returns-clause-leaf
 returns-clause-leaf g c =

@@ -1,6 +1,6 @@
 use Rattle.std.proofs.Common.{◌++◌, ◌∷◌, List, ℕ, [], ap, Result, Ok, Err, IfOk, ◌∙◌}
 use Rattle.std.specs.Fmt.{decimal}
-use Rattle.smp_log.proofs.writing.step_text.Goals as goal
+use Rattle.smp_log.proofs.writing.step_line.Goals as goal
 
 if_ok : {T E : Type 0} (r : Result T E) (P Q : T → Type 0) → ((x : T) → P x → Q x) → IfOk r P → IfOk r Q
 if_ok (Ok x) P Q f p = f x p
