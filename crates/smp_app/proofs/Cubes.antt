@@ -42,17 +42,17 @@ use Rattle.smp_strata.proofs.Members.{count_all}
 use Rattle.smp_strata.specs.declared.strata.First.{First}
 use Rattle.smp_strata.specs.declared.strata.Stratum.{Stratum}
 use Rattle.smp_twostage.specs.Cubes.{IsDrawnByCube, balancing}
-use Rattle.smp_twostage.specs.Selections.{tree_of as stage_tree, first_number, stages_of, states_of}
+use Rattle.smp_twostage.specs.Selections.{tree_of as stage_tree, first_number, stages_of, states_of, covers}
 use Rattle.smp_twostage.specs.Kept.{IsPlanned as IsPlannedStratum}
 use Rattle.smp_twostage.specs.Plans.{CanBeDrawn}
 use Rattle.smp_twostage.specs.Covered.{covered_first}
-use Rattle.smp_twostage.specs.Selections.{covers}
 use Rattle.smp_twostage.specs.Starts.{first_selected}
 use Rattle.smp_twostage.proofs.Columns.{is_planned}
 use Rattle.smp_twostage.proofs.Cubes.{cube_selected}
-use Rattle.smp_app.specs.declared.plan.FramePlan.{FramePlan}
-use Rattle.smp_app.specs.Plans.{Plan, parts, Drawn, covered}
-use Rattle.smp_app.specs.Stages.{IsPlanned, plan_view}
+use Rattle.smp_plan.specs.declared.plan.FramePlan.{FramePlan}
+use Rattle.smp_plan.specs.Plans.{Plan, parts}
+use Rattle.smp_app.specs.Drawn.{Drawn, covered}
+use Rattle.smp_plan.specs.Planned.{IsPlanned, plan_view}
 use Rattle.smp_app.specs.Draws.{KeepsBalance}
 use Rattle.smp_app.specs.Texts.{drawn_stratum}
 use Rattle.smp_app.proofs.Alone.{covered_open}

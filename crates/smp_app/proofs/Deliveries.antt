@@ -5,6 +5,7 @@ use Rattle.smp_io.specs.Counts.{Rose, NeverFalls}
 use Rattle.smp_io.specs.Store.{Files, OthersStay}
 use Rattle.smp_app.specs.declared.outputs.OutputFile.{OutputFile}
 use Rattle.smp_app.specs.Deliveries.{Outputs, StopsAtFile, StopsAt, AtFile, AtPut, AtPlace, FailsAtFile, SomeRose, names_of, with_files}
+use Rattle.smp_plan.proofs.Steps.{rose_since}
 
 pub on_err : {T E : Type 0} (result : Result T E) (P : Type 0) → P → OnErr result P
 on_err (Ok x) P p = tt
@@ -19,9 +20,6 @@ split_at : (files : List OutputFile) (i : ℕ) (file : OutputFile) → i < lengt
 split_at [] i file within is = absurd (omega arith)
 split_at (f ∷ files) zero file within is = ap (λ (x : OutputFile). x ∷ files) is
 split_at (f ∷ files) (suc i) file within is = ap (λ (rest : List OutputFile). f ∷ rest) (split_at files i file (omega arith) is)
-
-pub rose_since : (first before now : ℕ) → first ≤ before → Rose before now → Rose first now
-rose_since first before now le rose = omega arith
 
 module _ (files : List OutputFile) (i : ℕ) (file : OutputFile) (within : i < length files) (is : file ≡ get_or files i file) where
   pub stops_at : (told before now : Option Files) → before ≡ option_map (with_files (take i files)) told → OthersStay file.name before now → StopsAtFile files told now

@@ -4,19 +4,23 @@ use Rattle.std.specs.Prelude.{is_some, is_ok}
 use Rattle.smp_io.specs.Counts.{Rose, NeverFalls}
 use Rattle.smp_io.specs.Sink.{with_bytes, AppendsFront}
 use Rattle.smp_io.specs.Store.{Files}
-use Rattle.smp_app.specs.declared.status.Status.{Status}
-use Rattle.smp_app.specs.declared.status.Status.TheVariants as status
+use Rattle.smp_status.specs.declared.status.Status.{Status}
+use Rattle.smp_status.specs.declared.status.Status.TheVariants as status
 use Rattle.smp_words.specs.declared.command.Command.{Command}
 use Rattle.smp_words.specs.Words.{command_of}
-use Rattle.smp_app.specs.Codes.{Class, IsDone, IsUsage, IsRefusal, IsReadFault, IsWriteFault, IsNoMemory, class_of}
-use Rattle.smp_app.specs.FaultLines.{fault_line, line_by}
+use Rattle.smp_status.specs.Codes.{Class, IsDone, IsUsage, IsRefusal, IsReadFault, IsWriteFault, IsNoMemory, class_of}
+use Rattle.smp_status.specs.FaultLines.{fault_line, line_by}
 use Rattle.smp_app.specs.Commands.{Job, job_of, job_for, inputs_of, outputs_of}
-use Rattle.smp_app.specs.Verdict.{Refused, ◌>>=◌, or_refused, without, outputs_stage, verdict}
+use Rattle.smp_plan.specs.Stops.{Refused, ◌>>=◌, or_refused, without}
+use Rattle.smp_app.specs.Verdict.{outputs_stage, verdict}
 use Rattle.smp_app.specs.Draws.{IsExact}
-use Rattle.smp_app.specs.Stages.{IsErrorOf, IsOfInputs, IsCaused, ReadCause, Refusing, WorkSays, Put, PutsLine, Whole, Cut, OutOfMemory, Reports}
+use Rattle.smp_plan.specs.Reads.{IsErrorOf, IsCaused, ReadCause}
+use Rattle.smp_status.specs.Reports.{IsOfInputs, Put, PutsLine, Whole, Cut, OutOfMemory, Reports}
+use Rattle.smp_app.specs.Stages.{Refusing, WorkSays}
 use Rattle.smp_app.specs.Deliveries.{Outputs, SomeRose, names_of, with_files, StopsAt, FailsAt}
 use Rattle.smp_app.specs.Answers.{Outside, Untouched, Done, RefusesBy, Refusal, Stopped, WriteFault, NoMemory, Says, Undisturbed, IsVerdict, UsageOnly, IsAnswer}
-use Rattle.smp_app.proofs.Deliveries.{rose_since, place_since, place_rose}
+use Rattle.smp_plan.proofs.Steps.{rose_since}
+use Rattle.smp_app.proofs.Deliveries.{place_since, place_rose}
 
 -- ---- the verdict of a job
 

@@ -47,15 +47,18 @@ use Rattle.smp_log.proofs.LoneExact.{exact_section}
 use Rattle.smp_log.proofs.PartSections.{replayed_alone}
 use Rattle.smp_log.proofs.Telling.{genuine_told}
 use Rattle.smp_log.proofs.TwoVersions.{any_told, exact_any}
-use Rattle.smp_app.specs.declared.status.Status.{Status}
-use Rattle.smp_app.specs.declared.status.Status.TheVariants as status
-use Rattle.smp_app.specs.declared.status.Status.TheVariants.{NoStratum, TapeLong}
-use Rattle.smp_app.specs.Codes.{class_of, design_status, frame_status, tape_status}
-use Rattle.smp_app.specs.Plans.{Plan, Drawn, parts, tree_of, start_of, sections_of, covered, drawn_rows}
+use Rattle.smp_status.specs.declared.status.Status.{Status}
+use Rattle.smp_status.specs.declared.status.Status.TheVariants as status
+use Rattle.smp_status.specs.declared.status.Status.TheVariants.{NoStratum, TapeLong}
+use Rattle.smp_status.specs.Codes.{class_of, design_status, frame_status, tape_status}
+use Rattle.smp_plan.specs.Plans.{Plan, parts}
+use Rattle.smp_app.specs.Drawn.{Drawn, tree_of, start_of, sections_of, covered, drawn_rows}
 use Rattle.smp_app.specs.Texts.{log_text, sample_text, report_text, migrated_text}
-use Rattle.smp_app.specs.Commands.{Held, FrameHeld, DrawnFile, ByLog, ByOldLog, BySection, Draws, Job, source_of, log_source, job_of, job_for, outputs_by}
+use Rattle.smp_plan.specs.Inputs.{Held, FrameHeld, ReadDesign, unless_misfit, design_stage, frame_stage, plan_stage}
+use Rattle.smp_app.specs.Commands.{DrawnFile, ByLog, ByOldLog, BySection, Draws, Job, source_of, log_source, job_of, job_for, outputs_by}
 use Rattle.smp_app.specs.Commands as drawing
-use Rattle.smp_app.specs.Verdict.{Stop, Refused, ReadDesign, ◌>>=◌, content, or_fault, unless_misfit, values_taken, values_left, no_words, drawn_at, drawn_of, drawn_by_tape, drawn_by_seed, alone, stratum_at, told_by, drawn_by_log, drawn_by_old_log, drawn_by_section, design_stage, frame_stage, plan_stage, drawn_stage, outputs_stage}
+use Rattle.smp_plan.specs.Stops.{Stop, Refused, ◌>>=◌, content, or_fault}
+use Rattle.smp_app.specs.Verdict.{values_taken, values_left, no_words, drawn_at, drawn_of, drawn_by_tape, drawn_by_seed, alone, stratum_at, told_by, drawn_by_log, drawn_by_old_log, drawn_by_section, drawn_stage, outputs_stage}
 use Rattle.smp_app.specs.Deliveries.{Outputs, with_files}
 use Rattle.smp_app.specs.Draws.{IsDraw, IsDrawnAlone, IsDrawnBy, IsDrawnOf, HasProbabilities}
 use Rattle.smp_app.specs.Answers.{Outside, Says, IsWork, Done}
@@ -386,7 +389,7 @@ some_same x y h = cc
 
 -- the outputs of a job that draws are those of what it draws
 outputs_are : (words : List (List ℕ)) (job : Job) (fs : Files) (before now : Outside) (source : drawing.Source) (files : List DrawnFile) (put : Drawn → List ℕ) (plan : Plan) (drawn : Drawn)
-    → job_for words ≡ Some job → job.work ≡ Draws source files put → plan_stage job fs ≡ Ok plan → drawn_stage plan source fs ≡ Ok drawn → (work : IsWork words job fs before now) → work.outputs ≡ outputs_by files put drawn
+    → job_for words ≡ Some job → job.work ≡ Draws source files put → plan_stage job.design job.frame fs ≡ Ok plan → drawn_stage plan source fs ≡ Ok drawn → (work : IsWork words job fs before now) → work.outputs ≡ outputs_by files put drawn
 outputs_are words job fs before now source files put plan drawn asked work_is planned_is drawn_is work =
     let staged : outputs_stage job fs ≡ Ok (outputs_by files put drawn) = rw (planned_is, work_is, drawn_is) refl in
     ok_same _ _ (sym work.accepted ∙ verdict_of words job asked fs ∙ staged)

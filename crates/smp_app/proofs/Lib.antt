@@ -1,9 +1,8 @@
 pub mod Alone
-pub mod Designs
+pub mod Cubes
 pub mod Deliveries
 pub mod Ends
 pub mod Headline
 pub mod Selections
 pub mod Stages
 pub mod Written
-pub mod Cubes

@@ -44,13 +44,16 @@ use Rattle.smp_twostage.specs.Starts.{StartsWhole, first_selected, known, row_fr
 use Rattle.smp_twostage.specs.Laws.Places.{place_is_seat}
 use Rattle.smp_twostage.specs.Laws.Staged.{seconds_in}
 use Rattle.smp_twostage.specs.Laws.Wholes.{covered_lawful, whole_lawful}
-use Rattle.smp_app.specs.declared.plan.FramePlan.{FramePlan}
-use Rattle.smp_app.specs.Stages.{IsPlanned, IsWalked, EndsAsTold, RefusedAt, end_told, plan_view}
+use Rattle.smp_plan.specs.declared.plan.FramePlan.{FramePlan}
+use Rattle.smp_plan.specs.Planned.{IsPlanned, plan_view}
+use Rattle.smp_app.specs.Stages.{IsWalked, EndsAsTold, RefusedAt, end_told}
 use Rattle.smp_app.specs.Draws.{IsDrawnBy, IsDrawnOf, HasProbabilities}
-use Rattle.smp_app.specs.Plans.{Plan, parts, tree_of, start_of, row_probability, Drawn, covered}
+use Rattle.smp_plan.specs.Plans.{Plan, parts, row_probability}
+use Rattle.smp_app.specs.Drawn.{tree_of, start_of, Drawn, covered}
 use Rattle.smp_app.specs.Texts.{log_text}
 use Rattle.smp_app.proofs.Cubes.{keeps_balance}
-use Rattle.smp_app.specs.Verdict.{Stop, alone, told_by, drawn_by_log, drawn_by_old_log, drawn_by_section}
+use Rattle.smp_plan.specs.Stops.{Stop}
+use Rattle.smp_app.specs.Verdict.{alone, told_by, drawn_by_log, drawn_by_old_log, drawn_by_section}
 
 -- the entries that were told
 pub told_is : {path lines : List Entry} → Some lines ≡ Some path → lines ≡ path

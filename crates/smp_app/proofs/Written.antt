@@ -22,10 +22,12 @@ use Rattle.smp_twostage.specs.Laws.Places.{place_is_seat}
 use Rattle.smp_weights.specs.Rows.{AddsRow, row}
 use Rattle.smp_weights.specs.Sample.{sample_row}
 use Rattle.smp_weights.proofs.Written.{row_added}
-use Rattle.smp_app.specs.declared.plan.FramePlan.{FramePlan}
+use Rattle.smp_plan.specs.declared.plan.FramePlan.{FramePlan}
 use Rattle.smp_app.specs.declared.selection.Selection.{Selection}
-use Rattle.smp_app.specs.Plans.{Plan, parts, row_id, row_probability, covered, drawn_rows}
-use Rattle.smp_app.specs.Stages.{IsPlanned, IsSelection, plan_view, selection_view}
+use Rattle.smp_plan.specs.Plans.{Plan, parts, row_id, row_probability}
+use Rattle.smp_app.specs.Drawn.{covered, drawn_rows}
+use Rattle.smp_plan.specs.Planned.{IsPlanned, plan_view}
+use Rattle.smp_app.specs.Stages.{IsSelection, selection_view}
 use Rattle.smp_app.proofs.Alone.{covered_positive, seats_long}
 
 -- the row of one more element

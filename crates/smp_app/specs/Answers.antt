@@ -5,12 +5,13 @@ use Rattle.smp_io.specs.Sink.{with_bytes, AppendsFront}
 use Rattle.smp_io.specs.Store.{Files}
 use Rattle.smp_words.specs.declared.command.Command.{Command}
 use Rattle.smp_words.specs.Words.{command_of}
-use Rattle.smp_app.specs.declared.status.Status.{Status}
-use Rattle.smp_app.specs.declared.status.Status.TheVariants.{Usage}
-use Rattle.smp_app.specs.Codes.{Class, IsDone, IsUsage, IsRefusal, IsReadFault, IsWriteFault, IsNoMemory, class_of}
-use Rattle.smp_app.specs.FaultLines.{fault_line}
+use Rattle.smp_status.specs.declared.status.Status.{Status}
+use Rattle.smp_status.specs.declared.status.Status.TheVariants.{Usage}
+use Rattle.smp_status.specs.Codes.{Class, IsDone, IsUsage, IsRefusal, IsReadFault, IsWriteFault, IsNoMemory, class_of}
+use Rattle.smp_status.specs.FaultLines.{fault_line}
 use Rattle.smp_app.specs.Commands.{Job, job_for, inputs_of, outputs_of}
-use Rattle.smp_app.specs.Verdict.{Stop, Refused, Missing, without, verdict}
+use Rattle.smp_plan.specs.Stops.{Stop, Refused, Missing, without}
+use Rattle.smp_app.specs.Verdict.{verdict}
 use Rattle.smp_app.specs.Draws.{IsExact}
 use Rattle.smp_app.specs.Deliveries.{Outputs, SomeRose, names_of, with_files, StopsAt, AtPlace}
 

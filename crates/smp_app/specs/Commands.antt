@@ -1,27 +1,17 @@
 -- The table of the commands: what each reads, how it draws, and what it writes and puts.
 use Rattle.std.specs.Prelude.{ℕ, List, [], ◌∷◌, ◌++◌, map, Option, Some, None, option_map}
-use Rattle.smp_design.specs.declared.design.Design.{Design}
 use Rattle.smp_words.specs.declared.command.Command.{Command}
 use Rattle.smp_words.specs.declared.command.Command.TheVariants as commands
 use Rattle.smp_words.specs.declared.command.Chance.{Chance}
 use Rattle.smp_words.specs.declared.command.Chance.TheVariants.{Tape, Seed}
 use Rattle.smp_words.specs.Words.{command_of}
 use Rattle.smp_app.specs.declared.outputs.OutputFile.{OutputFile}
-use Rattle.smp_app.specs.Plans.{Plan, Drawn, quick_design}
+use Rattle.smp_plan.specs.Plans.{Plan, quick_design}
+use Rattle.smp_app.specs.Drawn.{Drawn}
 use Rattle.smp_app.specs.Texts.{ids_text, steps_text, log_text, sample_text, report_text, migrated_text, demo_text, probabilities_text, accepted_text}
 use Rattle.smp_app.specs.Deliveries.{Outputs}
 use Rattle.smp_cases.specs.Demo.{demo_design_text, demo_frame_text, demo_key}
-
--- where the design of a command stands: in a file of this name, or with the command, as a design or as the bytes of one
-pub data DesignSource : Type 0 where
-  Held : List ℕ → DesignSource
-  Given : Design → DesignSource
-  Made : List ℕ → DesignSource
-
--- where its frame stands: in a file of this name, or with the command, as its bytes
-pub data FrameSource : Type 0 where
-  FrameHeld : List ℕ → FrameSource
-  FrameMade : List ℕ → FrameSource
+use Rattle.smp_plan.specs.Inputs.{DesignSource, FrameSource, input_names, Held, Given, Made, FrameHeld, FrameMade}
 
 -- a file that is written, by its name: a text of what is drawn
 pub record DrawnFile : Type 0 where
@@ -104,15 +94,6 @@ job_for words = option_map job_of (command_of words)
 
 -- ---- what a job reads and writes
 
-abbrev pub design_names : DesignSource → List (List ℕ)
-design_names (Held name) = name ∷ []
-design_names (Given design) = []
-design_names (Made bytes) = []
-
-abbrev pub frame_names : FrameSource → List (List ℕ)
-frame_names (FrameHeld name) = name ∷ []
-frame_names (FrameMade bytes) = []
-
 abbrev pub source_names : Source → List (List ℕ)
 source_names (ByTape name) = name ∷ []
 source_names (BySeed seed) = []
@@ -125,11 +106,8 @@ drawn_names (Lists text) = []
 drawn_names (Draws source files put) = source_names source
 
 -- the names of the files that are read, in the order of work
-abbrev pub plan_inputs : Job → List (List ℕ)
-plan_inputs job = design_names job.design ++ frame_names job.frame
-
 abbrev pub inputs_of : Job → List (List ℕ)
-inputs_of job = plan_inputs job ++ drawn_names job.work
+inputs_of job = input_names job.design job.frame ++ drawn_names job.work
 
 -- the names of the files that are written, in their order
 abbrev pub written_names : Work → List (List ℕ)

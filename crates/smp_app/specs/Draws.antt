@@ -20,10 +20,12 @@ use Rattle.smp_twostage.specs.Cubes.{IsDrawnByCube, balancing}
 use Rattle.smp_twostage.specs.Covered.{StartsAlone}
 use Rattle.smp_twostage.specs.Selections.{BelongsToWhole, covered_start, covered_tree, tree_of as stage_tree, first_number, stages_of, states_of}
 use Rattle.smp_twostage.specs.Starts.{first_selected, known, second_selected, weighted}
-use Rattle.smp_app.specs.Plans.{Plan, parts, row_probability, tree_of, start_of, Drawn}
+use Rattle.smp_plan.specs.Plans.{Plan, parts, row_probability}
+use Rattle.smp_app.specs.Drawn.{tree_of, start_of, Drawn}
 use Rattle.smp_app.specs.Texts.{drawn_stratum}
 use Rattle.smp_app.specs.Commands.{Source, Work, Lists, Draws, Job}
-use Rattle.smp_app.specs.Verdict.{alone, plan_stage, drawn_stage}
+use Rattle.smp_app.specs.Verdict.{alone, drawn_stage}
+use Rattle.smp_plan.specs.Inputs.{plan_stage}
 
 -- ---- how many are drawn
 
@@ -150,7 +152,7 @@ pub record IsDrawFrom (plan : Plan) (source : Source) (fs : Files) : Type 0 wher
 -- what it draws by the plan of a job
 pub record IsDraw (job : Job) (source : Source) (fs : Files) : Type 0 where
   pub plan : Plan
-  pub planned : plan_stage job fs ≡ Ok plan
+  pub planned : plan_stage job.design job.frame fs ≡ Ok plan
   pub from_plan : IsDrawFrom plan source fs
 
 abbrev pub IsExactFrom : Plan → Work → Files → Type 0

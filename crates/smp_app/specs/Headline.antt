@@ -19,9 +19,10 @@ use Rattle.smp_log.specs.Heads.{head_of}
 use Rattle.smp_log.specs.LoneSections.{HasSection}
 use Rattle.smp_log.specs.SectionLogs.{IsAnyGenuine, IsSectionedGenuine}
 use Rattle.smp_twostage.specs.Selections.{covered_start, covered_tree, is_of_stratum}
-use Rattle.smp_app.specs.declared.status.Status.{Status}
-use Rattle.smp_app.specs.declared.status.Status.TheVariants as status
-use Rattle.smp_app.specs.Plans.{Plan, Drawn, parts, tree_of, start_of, sections_of, drawn_rows}
+use Rattle.smp_status.specs.declared.status.Status.{Status}
+use Rattle.smp_status.specs.declared.status.Status.TheVariants as status
+use Rattle.smp_plan.specs.Plans.{Plan, parts}
+use Rattle.smp_app.specs.Drawn.{Drawn, tree_of, start_of, sections_of, drawn_rows}
 use Rattle.smp_app.specs.Draws.{DrawsFirsts, DrawsAround, DrawsSeconds, HasProbabilities, IsDrawnBy, KeepsBalance}
 use Rattle.smp_app.specs.Texts.{log_text, sample_text, report_text, migrated_text}
 use Rattle.smp_app.specs.Verdict.{alone, drawn_by_tape, drawn_by_seed}

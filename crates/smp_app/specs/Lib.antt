@@ -1,11 +1,9 @@
 pub mod Answers
-pub mod Codes
 pub mod Commands
 pub mod Deliveries
+pub mod Drawn
 pub mod Draws
-pub mod FaultLines
 pub mod Headline
-pub mod Plans
 pub mod Stages
 pub mod Texts
 pub mod Verdict

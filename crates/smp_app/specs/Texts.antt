@@ -17,7 +17,8 @@ use Rattle.smp_strata.specs.declared.strata.Stratum.{Stratum}
 use Rattle.smp_twostage.specs.Cubes.{balancing}
 use Rattle.smp_twostage.specs.Covered.{covered_first, covered_left}
 use Rattle.smp_twostage.specs.Selections.{covered_start, covered_tree, strata_sections}
-use Rattle.smp_app.specs.Plans.{Plan, parts, row_id, row_probability, Drawn, covered, covered_strata, rows_by, drawn_rows}
+use Rattle.smp_plan.specs.Plans.{Plan, parts, row_id, row_probability}
+use Rattle.smp_app.specs.Drawn.{Drawn, covered, covered_strata, rows_by, drawn_rows}
 
 -- ---- texts of a plan
 

@@ -1,6 +1,5 @@
 -- What a call is to answer, by its words and the files: the first refusal in the order of work, or what it is to write and put.
 use Rattle.std.specs.Prelude.{ℕ, ◌+◌, ◌-◌, List, [], length, ◌==◌, nat_le, Option, Some, None, Result, Ok, Err, if◌then◌else◌}
-use Rattle.std.specs.Str.{bytes_eq}
 use Rattle.smp_io.specs.Store.{Files}
 use Rattle.smp_tape.specs.Sources as sources
 use Rattle.smp_tape.specs.TapeText.{tape_of}
@@ -12,76 +11,28 @@ use Rattle.smp_sieve.specs.Keys.{Place, words_of_seed}
 use Rattle.smp_sieve.specs.Laws.Keys.{key_stream}
 use Rattle.smp_sieve.specs.Laws.Sieves.{sieve_source}
 use Rattle.smp_log.specs.Answers.{log_reading}
-use Rattle.smp_log.specs.Heads.{head_of}
 use Rattle.smp_log.specs.LoneSections.{section_reading, section_told}
 use Rattle.smp_log.specs.SectionReading.{any_reading}
 use Rattle.smp_log.specs.Told.{path_told}
 use Rattle.smp_split.specs.Trees.{weight_sum}
 use Rattle.smp_split.specs.Paths.{Entry}
 use Rattle.smp_split.specs.Runs.{Outcome, run, leaf, stopped}
-use Rattle.smp_frame.specs.Frames.{frame_of}
-use Rattle.smp_design.specs.Designs.{design_of}
-use Rattle.smp_design.specs.declared.design.Design.{Design}
 use Rattle.smp_methods.specs.declared.any.AnyState.{AnyState}
 use Rattle.smp_words.specs.Words.{command_of}
 use Rattle.smp_stages.specs.Stages.{Progress}
-use Rattle.smp_strata.specs.Misfits.{misfit_of}
-use Rattle.smp_strata.specs.declared.misfit.Misfit.{Misfit}
-use Rattle.smp_app.specs.declared.status.Status.{Status}
-use Rattle.smp_app.specs.declared.status.Status.TheVariants.{Usage, TapeShort, TapeValue, TapeLong, LogDiffers, NoStratum}
-use Rattle.smp_app.specs.declared.status.Status.TheVariants as status
-use Rattle.smp_app.specs.Codes.{design_status, frame_status, tape_status}
+use Rattle.smp_status.specs.declared.status.Status.{Status}
+use Rattle.smp_status.specs.declared.status.Status.TheVariants.{Usage, TapeShort, TapeValue, TapeLong, LogDiffers, NoStratum}
+use Rattle.smp_status.specs.declared.status.Status.TheVariants as status
+use Rattle.smp_status.specs.Codes.{tape_status}
 use Rattle.smp_app.specs.Deliveries.{Outputs}
 use Rattle.smp_twostage.specs.Selections.{Coverage, covered_start, covered_tree, one_of}
-use Rattle.smp_app.specs.Plans.{Plan, Drawn, parts, tree_of, start_of, sections_of}
-use Rattle.smp_app.specs.Commands.{DesignSource, Held, Given, Made, FrameSource, FrameHeld, FrameMade, Source, ByTape, BySeed, ByLog, ByOldLog, BySection, Work, Lists, Draws, Job, job_of, outputs_by}
+use Rattle.smp_plan.specs.Plans.{Plan, parts}
+use Rattle.smp_app.specs.Drawn.{Drawn, tree_of, start_of, sections_of}
+use Rattle.smp_plan.specs.Inputs.{plan_stage}
+use Rattle.smp_app.specs.Commands.{Source, ByTape, BySeed, ByLog, ByOldLog, BySection, Work, Lists, Draws, Job, job_of, outputs_by}
+use Rattle.smp_plan.specs.Stops.{Stop, ◌>>=◌, or_refused, or_fault, content_of, Refused}
 
--- why a call doesn't go on to its writes
-pub data Stop : Type 0 where
-  Refused : Status → Stop
-  Missing : List ℕ → Stop
-
-infixl 10 ◌>>=◌
-abbrev pub ◌>>=◌ : {A B E : Type 0} → Result A E → (A → Result B E) → Result B E
-(Ok x) >>= f = f x
-(Err e) >>= f = Err e
-
--- what there is, or a refusal
-abbrev pub or_refused : {A : Type 0} → Status → Option A → Result A Stop
-or_refused refusal (Some x) = Ok x
-or_refused refusal None = Err (Refused refusal)
-
--- what was read, or the refusal of its fault
-abbrev pub or_fault : {A Fault : Type 0} → (Fault → Status) → Result A Fault → Result A Stop
-or_fault status (Ok x) = Ok x
-or_fault status (Err fault) = Err (Refused (status fault))
-
--- the content under a name
-abbrev pub content : List ℕ → Option (List ℕ) → Result (List ℕ) Stop
-content name (Some bytes) = Ok bytes
-content name None = Err (Missing name)
-
-abbrev pub content_of : List ℕ → Files → Result (List ℕ) Stop
-content_of name fs = content name (fs name)
-
--- the files, but for this one
-abbrev pub without : List ℕ → Files → Files
-without name fs = λ other. if bytes_eq name other then None else fs other
-
--- ---- what is made of what was read
-
--- a design, and the bytes that it was read from
-pub record ReadDesign : Type 0 where
-  pub design : Design
-  pub bytes : List ℕ
-
--- the plan of a design and the rows of a frame, unless the frame doesn't serve the design
-abbrev pub unless_misfit : Plan → Option Misfit → Result Plan Stop
-unless_misfit plan None = Ok plan
-unless_misfit plan (Some misfit) = Err (Refused (status.Misfit misfit))
-
-abbrev pub plan_of : Plan → Result Plan Stop
-plan_of plan = unless_misfit plan (misfit_of plan.design plan.units)
+-- ---- what is drawn
 
 -- at a leaf, where so many values are left: what is drawn, unless there are some
 abbrev pub drawn_at : Drawn → ℕ → Result Drawn Stop
@@ -163,31 +114,6 @@ drawn_by_section plan h log =
 
 -- ---- the order of work
 
--- the design
-unfoldable pub design_stage : DesignSource → Files → Result ReadDesign Stop
-design_stage (Given design) fs = Ok (record { design = design; bytes = [] })
-design_stage (Made bytes) fs = do
-  design ← or_fault design_status (design_of bytes)
-  Ok (record { design = design; bytes = bytes })
-design_stage (Held name) fs = do
-  bytes ← content_of name fs
-  design ← or_fault design_status (design_of bytes)
-  Ok (record { design = design; bytes = bytes })
-
--- the frame, and the plan
-abbrev pub frame_content : FrameSource → Files → Result (List ℕ) Stop
-frame_content (FrameHeld name) fs = content_of name fs
-frame_content (FrameMade bytes) fs = Ok bytes
-
-unfoldable pub frame_stage : ReadDesign → FrameSource → Files → Result Plan Stop
-frame_stage read frame fs = do
-  bytes ← frame_content frame fs
-  units ← or_fault frame_status (frame_of read.design.columns bytes)
-  plan_of (record { design = read.design; units = units; head = head_of read.bytes bytes })
-
-abbrev pub plan_stage : Job → Files → Result Plan Stop
-plan_stage job fs = design_stage job.design fs >>= λ read. frame_stage read job.frame fs
-
 -- the tape or the log where there is one, and the draw
 unfoldable pub drawn_stage : Plan → Source → Files → Result Drawn Stop
 drawn_stage plan (BySeed seed) fs = drawn_by_seed plan seed
@@ -209,7 +135,8 @@ work_stage (Draws source files put) plan fs =
     drawn_stage plan source fs >>= λ drawn. Ok (outputs_by files put drawn)
 
 abbrev pub outputs_stage : Job → Files → Result Outputs Stop
-outputs_stage job fs = plan_stage job fs >>= λ plan. work_stage job.work plan fs
+outputs_stage job fs =
+    plan_stage job.design job.frame fs >>= λ plan. work_stage job.work plan fs
 
 -- the first refusal in the order of work, or what is to be written and put
 unfoldable pub verdict : List (List ℕ) → Files → Result Outputs Stop

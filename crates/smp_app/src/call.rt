@@ -2,15 +2,15 @@ ghost use Rattle.std.specs.Prelude.{◌≡◌, ◌≤◌, ℕ, List, Some, map, 
 ghost use Rattle.smp_words.specs.Words.{IsAsked, command_of};
 ghost use Rattle.smp_app.specs.Answers.{IsAnswer, outside};
 ghost use Rattle.smp_app.specs.Headline.{Headline};
-ghost use Rattle.smp_app.specs.Codes.{class_of};
+ghost use Rattle.smp_status.specs.Codes.{class_of};
 ghost use Rattle.smp_app.specs.Commands.{job_for};
 ghost use Rattle.smp_app.specs.Stages.{IsJob, WorkSays, job_view};
 
 use crate::Status;
 use crate::job::Job;
-use crate::refusals::report;
 use crate::work::outputs_from;
 use smp_io::{Sink, Store, StoreFault};
+use smp_status::report;
 use smp_words::{Command, command_from};
 use std::alloc::Global;
 

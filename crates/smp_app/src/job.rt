@@ -3,38 +3,20 @@
 ghost use Rattle.std.specs.Prelude.{◌≡◌, IfOk};
 ghost use Rattle.smp_words.specs.Words.{IsAsked};
 ghost use Rattle.smp_words.specs.declared.command.Command.TheVariants.{Demo, Draw, Migrate, Quick, Replay};
-ghost use Rattle.smp_app.specs.declared.job.DesignSource.TheVariants as DesignSource;
-ghost use Rattle.smp_app.specs.declared.job.FrameSource.TheVariants as FrameSource;
-ghost use Rattle.smp_app.specs.Commands.{FrameHeld, Held, Lists, job_of, log_source, source_of};
+ghost use Rattle.smp_plan.specs.declared.source.DesignSource.TheVariants as DesignSource;
+ghost use Rattle.smp_plan.specs.declared.source.FrameSource.TheVariants as FrameSource;
+ghost use Rattle.smp_plan.specs.Inputs.{FrameHeld, Held};
+ghost use Rattle.smp_app.specs.Commands.{Lists, job_of, log_source, source_of};
 ghost use Rattle.smp_app.specs.Stages.{IsJob, draw_view, job_view, file_view, plan_text, drawn_text};
 
 use smp_cases::demo_key;
 use smp_frac::{NoMemory, Text};
+use smp_plan::{DesignSource, FrameSource};
 use smp_words::{
     Chance, Command, DemoArguments, DesignArguments, DrawArguments, MigrateArguments,
     QuickArguments, ReplayArguments,
 };
 use std::alloc::Global;
-
-/// Where the design of a command stands.
-#[derive(Drop)]
-pub enum DesignSource<'a> {
-    /// In the file of this name.
-    Held(&'a Text),
-    /// With the command: the one of `quick`, for so many units.
-    Quick(u32),
-    /// With the command: the bytes of the one of `demo`, for a frame of so many units.
-    Demo(u32),
-}
-
-/// Where the frame of a command stands.
-#[derive(Clone, Copy)]
-pub enum FrameSource<'a> {
-    /// In the file of this name.
-    Held(&'a Text),
-    /// With the command: the bytes of the one of `demo`, with so many units, made of a seed.
-    Demo { n: u32, seed: u64 },
-}
 
 /// A text of a plan.
 #[derive(Clone, Copy, Debug, PartialEq, Eq)]

@@ -6,14 +6,10 @@
 mod call;
 mod job;
 mod outputs;
-mod plan;
-mod quick;
-mod refusals;
 mod selection;
-mod status;
 mod texts;
 mod work;
 
 pub use call::sampler;
 pub use outputs::{OutputFile, Outputs};
-pub use status::Status;
+pub use smp_status::Status;

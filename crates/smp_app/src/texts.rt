@@ -2,10 +2,11 @@ ghost use Rattle.std.specs.Prelude.{◌≡◌, ◌++◌, ◌∷◌, [], ◌+◌,
 ghost use Rattle.std.specs.Fmt.{decimal};
 ghost use Rattle.std.specs.List.{filter, range_with_len, slice_get};
 ghost use Rattle.smp_app.specs.Texts;
-ghost use Rattle.smp_app.specs.Plans.{rows_by};
+ghost use Rattle.smp_app.specs.Drawn.{rows_by};
 ghost use Rattle.smp_app.specs.Texts.{cube_lines, stratum_lines};
 ghost use Rattle.smp_app.specs.Stages as Stages;
-ghost use Rattle.smp_app.specs.Stages.{IsPlanned, IsSelection, plan_view, selection_view};
+ghost use Rattle.smp_plan.specs.Planned.{IsPlanned, plan_view};
+ghost use Rattle.smp_app.specs.Stages.{IsSelection, selection_view};
 ghost use Rattle.smp_design.specs.declared.method.Method.TheVariants.{Cube};
 ghost use Rattle.smp_frac.specs.Fractions.{fraction, fraction_text};
 ghost use Rattle.smp_twostage.specs.Covered.{covered_first};
@@ -13,12 +14,12 @@ ghost use Rattle.smp_twostage.specs.Selections.{BelongsToCovered, covered_start,
 ghost use Rattle.smp_weights.specs.Rows.{AddsRow, row};
 
 use crate::job::{DrawnText, PlanText};
-use crate::plan::FramePlan;
 use crate::selection::Selection;
 use smp_balance::{DrawnStratum, push_balance_lines};
 use smp_design::Method;
 use smp_frac::{Bytes, Frac, NoMemory, Text};
 use smp_log::{log_bytes, replay, step_lines};
+use smp_plan::FramePlan;
 use smp_strata::{First, asked};
 use smp_twostage::{StartedWhole, Whole};
 use smp_weights::{CsvRows, push_sample_row, sample_rows};
@@ -226,7 +227,8 @@ fn lefts_text(alloc: Global, plan: &FramePlan, selection: &Selection) -> Result<
 }
 
 fn push_left(text: &mut String, left: u32) -> Result<(), NoMemory>
-    ensures { OnOk result (string_bytes text.new ≡ string_bytes text.old ++ (codes " " ++ decimal left)) }
+    ensures { OnOk result (string_bytes text.new
+        ≡ string_bytes text.old ++ (codes " " ++ decimal left)) }
 {
     write!(text, " {left}")?;
     Ok(())
@@ -311,7 +313,8 @@ fn drawn_units(
     requires state { BelongsToCovered selection.now.whole selection.now.state }
     requires done { (covered_tree selection.now.whole).done selection.now.state ≡ true }
     requires stratum { covers selection.now.whole stratum ≡ true }
-    requires units { units ≡ length (units_at (slice_get selection.now.whole.plan.strata stratum)) }
+    requires units { units
+        ≡ length (units_at (slice_get selection.now.whole.plan.strata stratum)) }
     ensures { IfOk result (λ drawn. drawn.items
         ≡ filter (covered_first selection.now.whole selection.now.state.states stratum)
         (range_with_len 0 units)) }

@@ -4,14 +4,16 @@ ghost use Rattle.smp_app.specs.Commands.{drawn_names, inputs_of, outputs_of, wri
 ghost use Rattle.smp_app.specs.Verdict.{outputs_stage, work_stage};
 ghost use Rattle.smp_app.specs.Draws.{IsExact, IsExactFrom};
 ghost use Rattle.smp_app.specs.Deliveries.{outputs_view, names_of};
-ghost use Rattle.smp_app.specs.Stages.{Reads, IsJob, IsPlanned, IsSelection, IsWorkInRanges, told, job_view, work_view, file_view, drawn_text, plan_view, selection_view, result_view};
+ghost use Rattle.smp_plan.specs.Reads.{Reads, told, result_view};
+ghost use Rattle.smp_app.specs.Stages.{IsJob, IsSelection, IsWorkInRanges, job_view, work_view, file_view, drawn_text, selection_view};
+ghost use Rattle.smp_plan.specs.Planned.{IsPlanned, plan_view};
 
 use crate::job::{DrawnFile, DrawnText, Job, Work};
-use crate::plan::{FramePlan, plan_from};
 use crate::selection::{Selection, selection_from};
 use crate::{OutputFile, Outputs, Status};
 use smp_frac::NoMemory;
 use smp_io::Store;
+use smp_plan::{FramePlan, plan_from};
 use std::alloc::Global;
 
 /// Reads the inputs of a job, and does all of its work but to write and put its outputs.
@@ -26,7 +28,7 @@ pub fn outputs_from<K: Store>(alloc: Global, store: &mut K, job: &Job) -> Result
     ensures named { IfOk result (λ outputs. names_of (outputs_view outputs).files
         ≡ outputs_of (job_view job.now)) }
 {
-    let plan = plan_from(alloc, store, job)?;
+    let plan = plan_from(alloc, store, &job.design, job.frame)?;
     work_outputs(alloc, store, &job.work, &plan)
 }
 

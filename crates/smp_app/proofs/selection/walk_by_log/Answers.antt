@@ -3,7 +3,8 @@ use Rattle.smp_split.specs.Paths.{Entry}
 use Rattle.smp_log.specs.SectionLogs.{IsToldAny}
 use Rattle.smp_twostage.specs.Selections.{covered_tree, strata_sections}
 use Rattle.smp_app.specs.declared.selection.Stopped.{Stopped}
-use Rattle.smp_app.specs.Stages.{EndsAsTold, IsWalked, plan_view}
+use Rattle.smp_app.specs.Stages.{EndsAsTold, IsWalked}
+use Rattle.smp_plan.specs.Planned.{plan_view}
 use Rattle.smp_app.specs.Verdict.{drawn_by_log}
 use Rattle.smp_app.proofs.Selections.{any_stage, belongs, ends_told, on_both, own_is, start_is, told_holds, told_is, walked_all}
 use Rattle.smp_app.proofs.selection.walk_by_log.Goals as goal

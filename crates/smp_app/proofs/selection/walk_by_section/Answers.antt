@@ -4,7 +4,8 @@ use Rattle.smp_log.specs.LoneSections.{HasToldSection, section_told}
 use Rattle.smp_twostage.specs.Selections.{BelongsToCovered, Coverage, covered_start, covered_tree, one_of, strata_sections}
 use Rattle.smp_strata.specs.Plans.{Parts}
 use Rattle.smp_app.specs.declared.selection.Stopped.{Stopped}
-use Rattle.smp_app.specs.Stages.{EndsAsTold, IsWalked, plan_view}
+use Rattle.smp_app.specs.Stages.{EndsAsTold, IsWalked}
+use Rattle.smp_plan.specs.Planned.{plan_view}
 use Rattle.smp_app.specs.Verdict.{drawn_by_section}
 use Rattle.smp_app.proofs.Selections.{ends_told, on_both, section_stage, told_holds, told_is, walked_alone}
 use Rattle.smp_app.proofs.selection.walk_by_section.Goals as goal

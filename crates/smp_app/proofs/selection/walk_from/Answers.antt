@@ -4,8 +4,9 @@ use Rattle.smp_log.proofs.Paths.{run_full_path}
 use Rattle.smp_split.specs.Runs.{run}
 use Rattle.smp_twostage.specs.Selections.{BelongsToCovered, covered_tree}
 use Rattle.smp_twostage.specs.Laws.Wholes.{covered_lawful}
-use Rattle.smp_app.specs.Plans.{tree_of, start_of}
-use Rattle.smp_app.specs.Stages.{RefusedAt, plan_view}
+use Rattle.smp_app.specs.Drawn.{tree_of, start_of}
+use Rattle.smp_app.specs.Stages.{RefusedAt}
+use Rattle.smp_plan.specs.Planned.{plan_view}
 use Rattle.smp_app.proofs.Selections.{belongs, told_is, tree_is, start_is, stop_is, ends_at_leaf, ends_refused, walked_all}
 use Rattle.smp_app.proofs.selection.walk_from.Goals as goal
 

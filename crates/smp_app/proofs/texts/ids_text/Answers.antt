@@ -1,7 +1,7 @@
 use Rattle.std.proofs.Common.{ℕ, List, ap, rules, sym, ◌∙◌, ◌∷◌, []}
 use Rattle.smp_frame.specs.declared.frame.Unit as unit
 use Rattle.smp_weights.specs.Rows.{row}
-use Rattle.smp_app.specs.Stages.{plan_view}
+use Rattle.smp_plan.specs.Planned.{plan_view}
 use Rattle.smp_app.specs.Texts.{id_row}
 use Rattle.smp_app.proofs.Written.{next_row, id_is, drawn_below}
 use Rattle.smp_app.proofs.texts.ids_text.Goals as goal

@@ -4,8 +4,10 @@ use Rattle.std.specs.Fmt.{decimal}
 use Rattle.smp_strata.specs.Plans.{Parts}
 use Rattle.smp_twostage.specs.Covered.{covered_left}
 use Rattle.smp_twostage.specs.Selections.{Coverage, covers}
-use Rattle.smp_app.specs.Plans.{covered, parts}
-use Rattle.smp_app.specs.Stages.{plan_view, selection_view}
+use Rattle.smp_app.specs.Drawn.{covered}
+use Rattle.smp_plan.specs.Plans.{parts}
+use Rattle.smp_plan.specs.Planned.{plan_view}
+use Rattle.smp_app.specs.Stages.{selection_view}
 use Rattle.smp_app.specs.Texts.{left_text, lefts_text}
 use Rattle.smp_app.proofs.Written.{line_more, line_passed, lines_all}
 use Rattle.smp_app.proofs.texts.lefts_text.Goals.{then-covers+in_ok-push_left, else-covers}

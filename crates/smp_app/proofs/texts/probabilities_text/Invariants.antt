@@ -1,6 +1,6 @@
 use Rattle.std.proofs.Common.{◌≡◌, ◌++◌, drop, length, Some, option_map}
 use Rattle.std.specs.List.{flat_map, range_with_len}
-use Rattle.smp_app.specs.Stages.{plan_view}
+use Rattle.smp_plan.specs.Planned.{plan_view}
 use Rattle.smp_app.specs.Texts.{probability_row, probabilities_text}
 use Rattle.smp_app.proofs.texts.probabilities_text.Given as goal
 

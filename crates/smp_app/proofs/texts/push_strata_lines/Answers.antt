@@ -3,8 +3,10 @@ use Rattle.std.specs.Prelude.{string_bytes}
 use Rattle.smp_design.specs.declared.method.Method.TheVariants.{Cube}
 use Rattle.smp_strata.specs.Plans.{Parts}
 use Rattle.smp_twostage.specs.Selections.{Coverage, covers}
-use Rattle.smp_app.specs.Plans.{covered, parts}
-use Rattle.smp_app.specs.Stages.{plan_view, selection_view}
+use Rattle.smp_app.specs.Drawn.{covered}
+use Rattle.smp_plan.specs.Plans.{parts}
+use Rattle.smp_plan.specs.Planned.{plan_view}
+use Rattle.smp_app.specs.Stages.{selection_view}
 use Rattle.smp_app.specs.Texts.{cube_lines, stratum_lines}
 use Rattle.smp_app.proofs.Written.{line_more, line_passed, lines_all}
 use Rattle.smp_app.proofs.texts.push_strata_lines.Goals.{then-covers+in_ok-push_stratum_lines, else-covers}

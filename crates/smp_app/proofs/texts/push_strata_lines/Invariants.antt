@@ -2,8 +2,10 @@ use Rattle.std.proofs.Common.{◌≡◌, ◌++◌, length}
 use Rattle.std.specs.Prelude.{string_bytes}
 use Rattle.smp_design.specs.declared.method.Method.TheVariants.{Cube}
 use Rattle.smp_twostage.specs.Selections.{covers}
-use Rattle.smp_app.specs.Plans.{covered, parts}
-use Rattle.smp_app.specs.Stages.{plan_view, selection_view}
+use Rattle.smp_app.specs.Drawn.{covered}
+use Rattle.smp_plan.specs.Plans.{parts}
+use Rattle.smp_plan.specs.Planned.{plan_view}
+use Rattle.smp_app.specs.Stages.{selection_view}
 use Rattle.smp_app.specs.Texts.{cube_lines, stratum_lines}
 use Rattle.smp_app.proofs.Written.{lines_from}
 use Rattle.smp_app.proofs.texts.push_strata_lines.Given as goal

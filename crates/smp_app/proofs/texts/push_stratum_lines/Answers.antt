@@ -7,8 +7,10 @@ use Rattle.smp_strata.specs.Plans.{Parts}
 use Rattle.smp_strata.specs.declared.strata.First.{First}
 use Rattle.smp_twostage.specs.Covered.{covered_first, covered_left}
 use Rattle.smp_twostage.specs.Selections.{Coverage, covers}
-use Rattle.smp_app.specs.Plans.{covered, parts}
-use Rattle.smp_app.specs.Stages.{plan_view, selection_view}
+use Rattle.smp_app.specs.Drawn.{covered}
+use Rattle.smp_plan.specs.Plans.{parts}
+use Rattle.smp_plan.specs.Planned.{plan_view}
+use Rattle.smp_app.specs.Stages.{selection_view}
 use Rattle.smp_app.specs.Texts.{lines_at}
 use Rattle.smp_app.proofs.Cubes.{drawn_same, is_told}
 use Rattle.smp_app.proofs.texts.push_stratum_lines.Goals as goal

@@ -1,8 +1,8 @@
 use Rattle.std.proofs.Common.{◌<◌, true, false, length, arith, ◌∙◌}
 use Rattle.std.proofs.lemmas.Bool.{eq-eqb, ne_eqb}
 use Rattle.smp_twostage.specs.Selections.{is_of_stratum}
-use Rattle.smp_app.specs.Plans.{parts}
-use Rattle.smp_app.specs.Stages.{plan_view}
+use Rattle.smp_plan.specs.Plans.{parts}
+use Rattle.smp_plan.specs.Planned.{plan_view}
 use Rattle.smp_app.proofs.Written.{count_from, stands_in_its}
 use Rattle.smp_app.proofs.texts.rows_in.Goals.{then-seat-stratum, else-seat-stratum}
 use Rattle.smp_app.proofs.texts.rows_in.Goals as goal

@@ -1,0 +1,48 @@
+-- The draw that follows from a plan.
+use Rattle.std.specs.Prelude.{ℕ, List, length, Option, Some, None}
+use Rattle.std.specs.List.{count_by, filter, range_with_len}
+use Rattle.smp_split.specs.Trees.{Tree}
+use Rattle.smp_split.specs.Paths.{Entry}
+use Rattle.smp_split.specs.Counts.{selected_units}
+use Rattle.smp_split.specs.Sectioning.{Sectioning}
+use Rattle.smp_methods.specs.declared.any.AnyState.{AnyState}
+use Rattle.smp_stages.specs.Stages.{Progress}
+use Rattle.smp_twostage.specs.Selections as selections
+use Rattle.smp_twostage.specs.Selections.{Coverage, all_of, covered_tree, covers, is_of_stratum, strata_sections, whole_tree}
+use Rattle.smp_plan.specs.Plans.{Plan, parts}
+
+-- the draw tree, whose units are the rows of the frame, and the state from which a draw starts
+abbrev pub tree_of : Plan → Tree (Progress AnyState)
+tree_of plan = whole_tree (parts plan)
+
+abbrev pub start_of : Plan → Progress AnyState
+start_of plan = selections.start_of (parts plan)
+
+-- its sections: the strata
+abbrev pub sections_of : Plan → Sectioning (Progress AnyState)
+sections_of plan = strata_sections (all_of (parts plan))
+
+-- what is drawn by a plan, of all strata or of one alone: a leaf of the draw tree of these strata, and the path that leads there
+pub record Drawn : Type 0 where
+  pub plan : Plan
+  pub only : Option ℕ
+  pub leaf : Progress AnyState
+  pub path : List Entry
+
+-- the strata that it covers, and their numbers, counted from 0
+abbrev pub covered : Drawn → Coverage
+covered drawn = record { plan = parts drawn.plan; only = drawn.only }
+
+abbrev pub covered_strata : Drawn → List ℕ
+covered_strata drawn =
+    filter (covers (covered drawn)) (range_with_len 0 (length (parts drawn.plan).strata))
+
+-- how many rows stand in them
+abbrev pub rows_by : Plan → Option ℕ → ℕ
+rows_by plan None = length plan.units
+rows_by plan (Some h) =
+    count_by (is_of_stratum (parts plan) h) (range_with_len 0 (length plan.units))
+
+-- the rows that are drawn, in frame order
+abbrev pub drawn_rows : Drawn → List ℕ
+drawn_rows drawn = selected_units (covered_tree (covered drawn)) drawn.leaf

@@ -1,0 +1,86 @@
+-- The plan of a design can be drawn, and the design of `quick` is one.
+use Rattle.std.proofs.Common.{◌≡◌, ℕ, zero, suc, ◌≤◌, true, List, [], length, Option, Some, None, IfSome, arith, refl, sym, subst}
+use Rattle.std.specs.Prelude.{is_some, option_map, nat_le}
+use Rattle.std.proofs.lemmas.Bool.{le-leb}
+use Rattle.smp_prob.specs.declared.orders.Order.{Order}
+use Rattle.smp_frame.specs.declared.frame.Unit as unit
+use Rattle.std.specs.List.Sorted.{IsStrictlySortedBy}
+use Rattle.smp_design.specs.Values.{most_units}
+use Rattle.smp_design.specs.Bounds.{Ascend, IsDesign, least_values, most_values}
+use Rattle.smp_design.specs.Words.{row}
+use Rattle.smp_design.specs.declared.design.Design.{Design}
+use Rattle.smp_design.specs.declared.design.Second.{Second}
+use Rattle.smp_design.specs.declared.method.Method.{Method}
+use Rattle.smp_design.specs.declared.method.Method.TheVariants as method
+use Rattle.smp_methods.specs.Procedures.{procedure_of}
+use Rattle.smp_strata.specs.Bounds.{IsPlan}
+use Rattle.smp_strata.specs.Plans.{Parts, parts_of}
+use Rattle.smp_twostage.specs.Plans.{CanBeDrawn, TakesRows}
+use Rattle.smp_plan.specs.Plans.{quick_design}
+
+local_takes : (order : Order) (columns : ℕ) → 1 ≤ columns → columns ≤ 4 → is_some (procedure_of method.LocalPivotal order columns) ≡ true
+local_takes order zero some few = absurd (omega (arith, some))
+local_takes order (suc zero) some few = refl
+local_takes order (suc (suc zero)) some few = refl
+local_takes order (suc (suc (suc zero))) some few = refl
+local_takes order (suc (suc (suc (suc zero)))) some few = refl
+local_takes order (suc (suc (suc (suc (suc n))))) some few = absurd (omega (arith, few))
+
+takes : (m : Method) (order : Order) (columns : ℕ) → least_values (row m).needs ≤ columns → columns ≤ most_values (row m).needs → is_some (procedure_of m order columns) ≡ true
+unfolding row
+takes method.Pivotal order columns some few = refl
+takes method.Systematic order columns some few = refl
+takes method.MinimumSupport order columns some few = refl
+takes method.Brewer order columns some few = refl
+takes method.LocalPivotal order columns some few = local_takes order columns some few
+takes method.Cube order columns some few = let fits : nat_le columns 15 ≡ true = le-leb columns 15 few in rw fits refl
+
+takes_rows : (m : Method) → (row m).in_second ≡ true → TakesRows m
+unfolding row
+takes_rows method.Pivotal h = refl
+takes_rows method.Systematic h = refl
+takes_rows method.MinimumSupport h = refl
+takes_rows method.Brewer h = refl
+takes_rows method.LocalPivotal h = absurd (cc)
+takes_rows method.Cube h = absurd (cc)
+
+second_takes : (second : Option Second) → IfSome second (λ s. (row s.method).in_second ≡ true) → IfSome (option_map (λ s. s.method) second) TakesRows
+second_takes (Some second) h = takes_rows second.method h
+second_takes None h = tt
+
+module _ (design : Design) (units : List unit.Unit) (is : IsDesign design) where
+  parts_drawn : IsPlan (length design.columns.values) (parts_of design units) → CanBeDrawn (parts_of design units)
+  parts_drawn sound = record {
+    columns = length design.columns.values;
+    sound = sound;
+    method = takes design.method design.order (length design.columns.values) is.some_values is.few_values;
+    second = second_takes design.second is.second_method;
+  }
+
+  -- the plan of a design and a frame
+  pub can_be_drawn : (plan : Parts) → plan ≡ parts_of design units → IsPlan (length design.columns.values) plan → CanBeDrawn plan
+  can_be_drawn plan are sound = subst CanBeDrawn (sym are) (parts_drawn (subst (IsPlan (length design.columns.values)) are sound))
+
+none_ascend : Ascend []
+unfolding IsStrictlySortedBy
+none_ascend = tt
+
+pub quick_is_design : (n : ℕ) → 1 ≤ n → n ≤ most_units → IsDesign (quick_design n)
+unfolding row
+quick_is_design n some few = record {
+  version = (omega arith, omega arith);
+  size = (some, few);
+  quotas = λ k d l. absurd (omega (arith, l));
+  ascending = none_ascend;
+  one_size = refl;
+  prob = tt;
+  strata = tt;
+  order = λ e. absurd (cc);
+  some_values = omega arith;
+  few_values = omega arith;
+  second_size = tt;
+  second_method = tt;
+  second_first = tt;
+  psu = refl;
+  second_sizes = refl;
+}

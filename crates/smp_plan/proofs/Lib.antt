@@ -1,0 +1,4 @@
+pub mod Designs
+pub mod Inputs
+pub mod Names
+pub mod Steps

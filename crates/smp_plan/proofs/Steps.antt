@@ -1,0 +1,79 @@
+-- One stage of the work on the inputs after another.
+use Rattle.std.proofs.Common.{◌≡◌, ◌≤◌, ℕ, List, ◌++◌, Result, Ok, Err, refl, ap, ◌∙◌, arith, true, IfErr}
+use Rattle.smp_io.specs.Counts.{Rose}
+use Rattle.smp_io.specs.Store.{Files}
+use Rattle.smp_words.specs.Words.{all_distinct}
+use Rattle.smp_status.specs.declared.status.Status.{Status}
+use Rattle.smp_plan.specs.Stops.{Stop, ◌>>=◌, without}
+use Rattle.smp_status.specs.Codes.{Class, IsDone, IsUsage, IsRefusal, IsReadFault, IsWriteFault, IsNoMemory, class_of}
+use Rattle.smp_plan.specs.Reads.{Told, IsErrorOf, IsCaused, ReadCause, Reads}
+use Rattle.smp_plan.proofs.Names.{contains_left, contains_right, Apart, apart}
+
+pub rose_since : (first before now : ℕ) → first ≤ before → Rose before now → Rose first now
+rose_since first before now le rose = omega arith
+
+-- ---- a stage reads its inputs and no other file
+
+pub bind_same : {A B E : Type 0} (first : Result A E) (f g : A → Result B E) → ((x : A) → f x ≡ g x) → first >>= f ≡ first >>= g
+bind_same (Ok x) f g h = h x
+bind_same (Err e) f g h = refl
+
+abbrev pub Ignores : {A : Type 0} → (Files → Result A Stop) → List (List ℕ) → Type 0
+Ignores stage inputs = (name : List ℕ) → Apart name inputs → (fs : Files) → stage (without name fs) ≡ stage fs
+
+-- ---- a stage that goes on, and one that stops
+
+caused : {P Q : Type 0} (class : Class) → (P → Q) → IsCaused class P → IsCaused class Q
+caused IsReadFault f p = f p
+caused IsDone f p = tt
+caused IsUsage f p = tt
+caused IsRefusal f p = tt
+caused IsWriteFault f p = tt
+caused IsNoMemory f p = tt
+
+if_caused : {A : Type 0} {P Q : Type 0} (answer : Result A Status) → (P → Q) → IfErr answer (λ error. IsCaused (class_of error) P) → IfErr answer (λ error. IsCaused (class_of error) Q)
+if_caused (Ok x) f p = tt
+if_caused (Err error) f p = caused (class_of error) f p
+
+error_of : {A B : Type 0} (class : Class) (error : Status) (stage : Result A Stop) (next : A → Result B Stop) → IsErrorOf class error stage → IsErrorOf class error (stage >>= next)
+error_of IsReadFault error stage next h = tt
+error_of IsNoMemory error stage next h = tt
+error_of IsDone error stage next h = ap (λ s. s >>= next) h
+error_of IsUsage error stage next h = ap (λ s. s >>= next) h
+error_of IsRefusal error stage next h = ap (λ s. s >>= next) h
+error_of IsWriteFault error stage next h = ap (λ s. s >>= next) h
+
+module _ {A B : Type 0} (inputs others : List (List ℕ)) (stage : Files → Result A Stop) (next : A → Files → Result B Stop) (before mid : Told) where
+  abbrev pub and_next : Files → Result B Stop
+  and_next fs = stage fs >>= λ y. next y fs
+
+  pub stops : (error : Status) → Reads inputs stage (Err error) before mid → Reads (inputs ++ others) and_next (Err error) before mid
+  stops error reads = record {
+    follows = λ fs told. error_of (class_of error) error (stage fs) (λ y. next y fs) (reads.follows fs told);
+    kinds = reads.kinds;
+    cause = caused (class_of error) (λ cause. record {
+      name = cause.name;
+      is_input = contains_left inputs others cause.name cause.is_input;
+      rose = cause.rose;
+      first = λ fs told. rw (cause.first fs told) refl;
+    }) reads.cause;
+    same = reads.same;
+    reads = reads.reads;
+    writes = reads.writes;
+  }
+
+  pub goes_on : (now : Told) (x : A) (answer : Result B Status) → Reads inputs stage (Ok x) before mid → Reads others (next x) answer mid now → all_distinct (inputs ++ others) ≡ true → Ignores stage inputs
+      → Reads (inputs ++ others) and_next answer before now
+  goes_on now x answer first second distinct ignores = record {
+    follows = λ fs told. rw (first.follows fs told) (second.follows fs (first.same ∙ told));
+    kinds = second.kinds;
+    cause = if_caused answer (λ (cause : ReadCause others (next x) mid now). record {
+      name = cause.name;
+      is_input = contains_right inputs others cause.name cause.is_input;
+      rose = rose_since _ _ _ (first.reads cause.name) cause.rose;
+      first = λ fs told. rw (ignores cause.name (apart inputs others distinct cause.name cause.is_input) fs, first.follows fs told) (cause.first fs (first.same ∙ told));
+    }) second.cause;
+    same = second.same ∙ first.same;
+    reads = λ name. omega (arith, first.reads name, second.reads name);
+    writes = λ name. omega (arith, first.writes name, second.writes name);
+  }

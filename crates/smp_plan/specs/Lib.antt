@@ -1,0 +1,5 @@
+pub mod Inputs
+pub mod Planned
+pub mod Plans
+pub mod Reads
+pub mod Stops

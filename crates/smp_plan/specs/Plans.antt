@@ -1,0 +1,53 @@
+-- What a design asks of a frame.
+use Rattle.std.specs.Prelude.{ℕ, List, [], map, slice_index_or, Some, None, codes}
+use Rattle.smp_fractions.specs.Fractions.{Fraction}
+use Rattle.smp_frame.specs.declared.columns.Columns.{Columns}
+use Rattle.smp_frame.specs.declared.frame.Unit as unit
+use Rattle.smp_prob.specs.declared.orders.Order.TheVariants.{Frame}
+use Rattle.smp_design.specs.declared.design.Design.{Design}
+use Rattle.smp_design.specs.declared.method.Method.TheVariants.{Pivotal}
+use Rattle.smp_strata.specs.Asked.{row_fraction}
+use Rattle.smp_strata.specs.Plans.{Parts, parts_of}
+
+-- the design of `quick`: n units by pivotal steps in frame order, with the columns `id` and `size`
+abbrev pub quick_columns : Columns
+quick_columns = record {
+  id = codes "id";
+  stratum = None;
+  psu = None;
+  size = Some (codes "size");
+  second_size = None;
+  prob = None;
+  values = [];
+}
+
+abbrev pub quick_design : ℕ → Design
+quick_design n = record {
+  version = 1;
+  method = Pivotal;
+  order = Frame;
+  columns = quick_columns;
+  n = Some n;
+  sizes = [];
+  second = None;
+}
+
+-- ---- the plan
+
+-- a design, the rows of the frame of which it asks, and the first lines of a log, which name the bytes that both were read from
+pub record Plan : Type 0 where
+  pub design : Design
+  pub units : List unit.Unit
+  pub head : List ℕ
+
+-- the strata, their first stage units, and the requests over them
+abbrev pub parts : Plan → Parts
+parts plan = parts_of plan.design plan.units
+
+-- the probability that is asked for a row (Tillé 2006)
+abbrev pub row_probability : Plan → ℕ → Fraction
+row_probability plan row = row_fraction plan.design plan.units row
+
+-- the id of a row
+abbrev pub row_id : Plan → ℕ → List ℕ
+row_id plan row = slice_index_or (map (λ u. u.id) plan.units) row []

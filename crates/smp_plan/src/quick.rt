@@ -1,0 +1,38 @@
+//! The design of `quick`.
+
+ghost use Rattle.std.specs.Prelude.{◌≡◌, IfOk};
+ghost use Rattle.smp_plan.specs.Plans.{quick_columns, quick_design};
+
+use smp_design::{Design, Method, Order, Quotas};
+use smp_frac::{NoMemory, Text};
+use smp_frame::{Columns, Names};
+use std::alloc::Global;
+
+/// The design of `quick`: so many units by pivotal steps in frame order, with the columns `id` and `size`.
+pub(crate) fn quick_design(alloc: Global, n: u32) -> Result<Design, NoMemory>
+    ensures { IfOk result (λ design. design ≡ quick_design n) }
+{
+    Ok(Design {
+        version: 1,
+        method: Method::Pivotal,
+        order: Order::Frame,
+        columns: quick_columns(alloc)?,
+        n: Some(n),
+        sizes: Quotas::from_vec(Vec::new(alloc)),
+        second: None,
+    })
+}
+
+fn quick_columns(alloc: Global) -> Result<Columns, NoMemory>
+    ensures { IfOk result (λ columns. columns ≡ quick_columns) }
+{
+    Ok(Columns {
+        id: Text::from_str(alloc, "id")?,
+        stratum: None,
+        psu: None,
+        size: Some(Text::from_str(alloc, "size")?),
+        second_size: None,
+        prob: None,
+        values: Names::from_vec(Vec::new(alloc)),
+    })
+}

@@ -1,0 +1,3 @@
+pub mod Codes
+pub mod FaultLines
+pub mod Reports
