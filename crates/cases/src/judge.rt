@@ -3,7 +3,7 @@
 use smp_app::{Status, sampler};
 use smp_caseread::{Case, Differences, Wanted, WatchedStore, has_name};
 use smp_frac::{Bytes, NoMemory, Text};
-use smp_io::{MemSink, MemStore, Store, StoreFault};
+use smp_io::{MemSink, MemStore, Sink, Store, StoreFault};
 use std::alloc::Global;
 
 /// Calls `sampler` as a case says, and tells what differs from what the case wants. A call that ends for want of memory
@@ -59,11 +59,11 @@ fn seen_of(
 }
 
 // The code with which the call ends. What it promises is of no use to the judge, who looks for himself.
-fn code_of(
+fn code_of<K: Store, S: Sink>(
     alloc: Global,
     words: &[String],
-    store: &mut WatchedStore<MemStore>,
-    sink: &mut MemSink,
+    store: &mut K,
+    sink: &mut S,
 ) -> Result<u8, NoMemory> {
     match sampler(alloc, words, store, sink) {
         Status::NoMemory => Err(NoMemory),

@@ -2,8 +2,8 @@
 #![tactic(auto)]
 
 use smp_app::{Status, sampler};
-use smp_io::{FolderStore, OutSink};
-use std::alloc::AllocError;
+use smp_io::{FolderStore, OutSink, Sink, Store};
+use std::alloc::{AllocError, Global};
 use std::process::ExitCode;
 use std::{env, io};
 
@@ -21,12 +21,16 @@ fn command_words(rt: &HostRuntime) -> Result<Vec<String>, AllocError> {
     Ok(words)
 }
 
+// The exit code of the call that the words ask for. What the call promises stands in its own contract.
+fn code_of<K: Store, S: Sink>(alloc: Global, words: &[String], store: &mut K, out: &mut S) -> u8 {
+    sampler(alloc, words, store, out).code()
+}
+
 fn main(rt: HostRuntime) -> ExitCode {
     let Ok(words) = command_words(&rt) else {
         return ExitCode::from(Status::NoMemory.code());
     };
     let mut store = FolderStore::new(&rt);
     let mut out = OutSink::new(&rt);
-    let status = sampler(rt.alloc(), words.as_slice(), &mut store, &mut out);
-    ExitCode::from(status.code())
+    ExitCode::from(code_of(rt.alloc(), words.as_slice(), &mut store, &mut out))
 }
