@@ -34,7 +34,7 @@ abbrev pub frame_names : FrameSource → List (List ℕ)
 frame_names (FrameHeld name) = name ∷ []
 frame_names (FrameMade bytes) = []
 
--- in the order of work
+-- the files of both, in the order of work
 abbrev pub input_names : DesignSource → FrameSource → List (List ℕ)
 input_names design frame = design_names design ++ frame_names frame
 
