@@ -6,10 +6,12 @@ ghost use Rattle.smp_twostage.specs.Selections as Selections;
 ghost use Rattle.smp_twostage.specs.Covered.{StartsAlone};
 ghost use Rattle.smp_twostage.specs.Starts.{StartsWhole};
 ghost use Rattle.smp_app.specs.Drawn.{tree_of, start_of};
-ghost use Rattle.smp_app.specs.Verdict.{drawn_by_log, drawn_by_old_log, drawn_by_section, drawn_by_seed, drawn_from, drawn_stage, stratum_at, values_left, values_taken};
+ghost use Rattle.smp_app.specs.Verdict.{drawn_by_log, drawn_by_old_log, drawn_by_section, drawn_by_seed};
+ghost use Rattle.smp_app.specs.Verdict.{drawn_from, drawn_stage, stratum_at, values_left, values_taken};
 ghost use Rattle.smp_status.specs.Codes.{class_of};
 ghost use Rattle.smp_plan.specs.Reads.{Follows, Reads, told, result_view};
-ghost use Rattle.smp_app.specs.Stages.{FollowsEnd, EndsAs, EndsAsTold, IsSourceInRanges, IsWalked, IsSelection, draw_view, end_told, stopped_status, selection_view, walked_view};
+ghost use Rattle.smp_app.specs.Stages.{EndsAs, EndsAsTold, FollowsEnd, IsSelection, IsSourceInRanges, IsWalked};
+ghost use Rattle.smp_app.specs.Stages.{draw_view, end_told, selection_view, stopped_status, walked_view};
 ghost use Rattle.smp_status.specs.Reports.{IsOfContent};
 ghost use Rattle.smp_plan.specs.Planned.{IsPlanned, plan_view};
 

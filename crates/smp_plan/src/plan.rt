@@ -3,7 +3,8 @@ ghost use Rattle.smp_frame.specs.Bounds.{HaveValues, IsFrame};
 ghost use Rattle.smp_design.specs.Bounds.{IsDesign};
 ghost use Rattle.smp_words.specs.Words.{all_distinct};
 ghost use Rattle.smp_plan.specs.Stops.{content_of};
-ghost use Rattle.smp_plan.specs.Inputs.{design_names, frame_names, input_names, frame_content, plan_of, design_stage, frame_stage, plan_stage};
+ghost use Rattle.smp_plan.specs.Inputs.{design_names, frame_names, input_names};
+ghost use Rattle.smp_plan.specs.Inputs.{design_stage, frame_content, frame_stage, plan_of, plan_stage};
 ghost use Rattle.smp_plan.specs.Reads.{Reads, told, result_view};
 ghost use Rattle.smp_plan.specs.Planned.{GivesPlan, IsFrameInRanges, IsInRanges, IsPlanned, source_view, frame_view, read_view, plan_view};
 
