@@ -31,13 +31,17 @@ pub struct ReadDesign {
 /// from.
 #[derive(Drop)]
 pub struct FramePlan {
+    /// The design.
     pub design: Design,
+    /// The units of the frame, by the columns of the design.
     pub frame: Frame,
+    /// The strata, their first stage units and what is asked of each.
     pub plan: Plan,
+    /// The first lines of a log.
     pub head: Head,
 }
 
-/// Reads an input.
+/// Reads the file of this name. A failed read is `ReadFault`. No file changes.
 pub fn read_input<K: Store>(alloc: Global, store: &mut K, name: &str) -> Result<Bytes, Status>
     ensures { Reads (name.now ∷ []) (content_of name.now) result
         (told K.files K.read_faults K.write_faults store.old)
@@ -138,7 +142,10 @@ fn frame_plan<K: Store>(
     Ok(plan_for(alloc, read.design, frame, head)?)
 }
 
-/// Reads the design and then the frame, and plans what the design asks of the frame.
+/// Reads the design and then the frame, and plans what the design asks of the frame. Their files have different names.
+///
+/// The first fault of the design, the first of the frame or the first misfit of both is refused, in this order, and a failed read of one of
+/// them is `ReadFault`. No file changes.
 pub fn plan_from<K: Store>(
     alloc: Global,
     store: &mut K,
