@@ -1,11 +1,11 @@
 #!/usr/bin/env python3
 """Runs a command that proves crates, and prints the processor minutes that each crate took: its proof, its tests and its edits.
 
-    bench/gate.py rt ci > table.md            all crates from nothing, where nothing is kept: rt ci --anew
+    bench/gate.py rt ci > table.md            all crates from nothing
     bench/gate.py rt must-fail smp_near       what a part of it takes
 
-It looks at the processes below the command five times a second, so a process's last moment isn't counted. What is kept from earlier runs takes no
-time and isn't listed. The table is for CONTRIBUTING.md. It is no test.
+It looks at the processes below the command five times a second, so a process's last moment isn't counted. Where a kit keeps what passed, `rt ci --anew`
+counts all; what is kept takes no time and isn't listed. The table is for CONTRIBUTING.md. It is no test.
 """
 import collections
 import os
