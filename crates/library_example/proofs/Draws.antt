@@ -7,7 +7,7 @@ use Rattle.smp_prob.specs.Shares.{Shares}
 use Rattle.smp_prob.specs.Standings.{asked_fraction, IsRising}
 use Rattle.smp_prob.specs.declared.orders.Order.TheVariants.{Frame}
 use Rattle.smp_prob.specs.declared.requests.Request.{Request}
-use Rattle.smp_tape.specs.Laws.Tapes.{tape_source}
+use Rattle.smp_tape.specs.TapeSources.{tape_source}
 use Rattle.smp_tape.specs.Tapes.{Values, tape_of_values}
 use Rattle.smp_split.specs.Counts.{selected_units}
 use Rattle.smp_split.specs.Means.{inclusion_probability}

@@ -3,7 +3,7 @@ use Rattle.std.specs.Prelude.{◌≡◌, ℕ, List, [], length}
 use Rattle.smp_prob.specs.Requested.{requested_of}
 use Rattle.smp_prob.specs.Shares.{Shares}
 use Rattle.smp_prob.specs.declared.orders.Order.TheVariants.{Frame}
-use Rattle.smp_tape.specs.Laws.Tapes.{tape_source}
+use Rattle.smp_tape.specs.TapeSources.{tape_source}
 use Rattle.smp_tape.specs.Tapes.{Values, tape_of_values}
 use Rattle.smp_split.specs.Counts.{selected_units}
 use Rattle.smp_split.specs.Orders.{Ordered}

@@ -7,10 +7,10 @@ use Rattle.smp_io.specs.Sink.{with_bytes}
 use Rattle.smp_io.specs.Store.{Files}
 use Rattle.smp_tape.specs.TapeText.{tape_of}
 use Rattle.smp_tape.specs.Tapes.{tape_of_values}
-use Rattle.smp_tape.specs.Laws.Tapes.{tape_source}
+use Rattle.smp_tape.specs.TapeSources.{tape_source}
 use Rattle.smp_sieve.specs.Keys.{words_of_seed}
-use Rattle.smp_sieve.specs.Laws.Keys.{key_stream}
-use Rattle.smp_sieve.specs.Laws.Sieves.{sieve_source}
+use Rattle.smp_sieve.specs.SieveSources.{key_stream}
+use Rattle.smp_sieve.specs.SieveSources.{sieve_source}
 use Rattle.smp_split.specs.Counts.{selected_units}
 use Rattle.smp_split.specs.Paths.{Entry}
 use Rattle.smp_split.specs.Runs.{Outcome, leaf, stopped, run}

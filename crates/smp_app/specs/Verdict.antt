@@ -4,12 +4,12 @@ use Rattle.smp_io.specs.Store.{Files}
 use Rattle.smp_tape.specs.Sources as sources
 use Rattle.smp_tape.specs.TapeText.{tape_of}
 use Rattle.smp_tape.specs.Tapes.{Values, tape_of_values}
-use Rattle.smp_tape.specs.Laws.Tapes.{tape_source}
+use Rattle.smp_tape.specs.TapeSources.{tape_source}
 use Rattle.smp_tape.specs.declared.draws.DrawFault.{DrawFault}
 use Rattle.smp_tape.specs.declared.draws.DrawFault.TheVariants.{Short, TooBig, Rejected}
 use Rattle.smp_sieve.specs.Keys.{Place, words_of_seed}
-use Rattle.smp_sieve.specs.Laws.Keys.{key_stream}
-use Rattle.smp_sieve.specs.Laws.Sieves.{sieve_source}
+use Rattle.smp_sieve.specs.SieveSources.{key_stream}
+use Rattle.smp_sieve.specs.SieveSources.{sieve_source}
 use Rattle.smp_log.specs.Answers.{log_reading}
 use Rattle.smp_log.specs.LoneSections.{section_reading, section_told}
 use Rattle.smp_log.specs.SectionReading.{any_reading}

@@ -1,5 +1,5 @@
 ghost use Rattle.std.specs.Prelude.{◌≡◌, ◌∷◌, [], ◌+◌, ◌^◌, ◌<◌, ◌≤◌, length, None, Some, IfOk, IfErr};
-ghost use Rattle.smp_tape.specs.Laws.Tapes.{tape_source};
+ghost use Rattle.smp_tape.specs.TapeSources.{tape_source};
 ghost use Rattle.smp_split.specs.Runs.{run};
 ghost use Rattle.smp_app.specs.Commands.{source_names};
 ghost use Rattle.smp_twostage.specs.Selections as Selections;

@@ -13,9 +13,11 @@ use Rattle.smp_fractions.proofs.Fractions.{cancel}
 use Rattle.smp_kernel.specs.Vectors.{entry, IsZero, Within}
 use Rattle.smp_kernel.specs.Elimination.{cut, AreIndependent}
 use Rattle.smp_kernel.specs.Searches.{Search, found, none, too_wide, IsSearch}
-use Rattle.smp_kernel.proofs.SearchLaw.{search, search_is, together, one_answer, first_decide, few_enter}
+use Rattle.smp_flight.specs.Searches.{search, search_is}
+use Rattle.smp_kernel.proofs.SearchLaw.{together, one_answer, first_decide, few_enter}
 use Rattle.smp_kernel.proofs.Existence.{cut_short}
-use Rattle.smp_kernel.proofs.Reduce.{primitive_part, primitive_part_is, length-primitive_part}
+use Rattle.smp_kernel.specs.Reduced.{primitive_part}
+use Rattle.smp_kernel.proofs.Reduce.{primitive_part_is, length-primitive_part}
 use Rattle.smp_kernel.proofs.Primitive.{not_primitive}
 use Rattle.smp_kernel.proofs.Ring.{zero_of_product, positive_some}
 use Rattle.smp_kernel.proofs.FoundCircuits.{circuit_length, circuit_last, cut_circuit_short}

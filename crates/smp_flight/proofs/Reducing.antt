@@ -6,7 +6,8 @@ use Rattle.smp_kernel.specs.Vectors.{entry, IsZero, Within}
 use Rattle.smp_kernel.specs.Elimination.{cut}
 use Rattle.smp_kernel.specs.Reduced.{IsReduced, IsTooLong}
 use Rattle.smp_kernel.proofs.Ring.{positive_some, zero_of_product}
-use Rattle.smp_kernel.proofs.Reduce.{primitive_part, primitive_part_is, length-primitive_part, one_reduced, reduced_within}
+use Rattle.smp_kernel.specs.Reduced.{primitive_part}
+use Rattle.smp_kernel.proofs.Reduce.{primitive_part_is, length-primitive_part, one_reduced, reduced_within}
 use Rattle.smp_flight.specs.States.{Units, size, column, columns_of}
 use Rattle.smp_flight.specs.Moves.{sized}
 use Rattle.smp_flight.specs.Steps.{direction, entries_fit}

@@ -5,19 +5,21 @@ use Rattle.std.proofs.lemmas.List.{take-take}
 use Rattle.std.specs.Int.RustNames.{unsigned_abs}
 use Rattle.smp_kernel.specs.Vectors.{entry, IsZero, Within}
 use Rattle.smp_kernel.specs.Searches.{found}
-use Rattle.smp_kernel.proofs.SearchLaw.{search, search_is}
+use Rattle.smp_flight.specs.Searches.{search, search_is}
 use Rattle.smp_values.specs.Values.{fractional_units}
+use Rattle.smp_values.proofs.Units.{fractional_units_length}
 use Rattle.smp_flight.specs.States.{AreFirst, Flight, IsFlight, Tracked, Units, columns_of}
 use Rattle.smp_flight.specs.Moves.{IsLine, IsOrder, sized}
 use Rattle.smp_flight.specs.Steps.{move, wide, direction, entries_fit, next_along, next_of, next_on, next}
 use Rattle.smp_flight.specs.Statements.{Finds}
-use Rattle.smp_flight.specs.Answers.{Allows, answer_of, move_of}
+use Rattle.smp_flight.specs.Answers.{Allows, AreSearched, IsFirstMove, IsMoveOf, answer_of, move_of}
 use Rattle.smp_flight.specs.Kept.Lines.{IsPaddedIn}
 use Rattle.smp_flight.specs.declared.steps.Next.{Next as Answer}
 use Rattle.smp_flight.specs.declared.steps.Next.TheVariants as answers
 use Rattle.smp_flight.proofs.Entries.{frame_order, order_front}
 use Rattle.smp_flight.proofs.Firsts.{from_each}
 use Rattle.smp_flight.proofs.Fitting.{moves_within}
+use Rattle.smp_flight.proofs.Reordered.{independent_in_frame}
 use Rattle.smp_flight.proofs.Nexts.{circuit_within, direction_line, independent_columns, is_direction, known, next_on_front, some_sized}
 
 module _ (units : Units) (s : Flight) (is_flight : IsFlight units s) (us : List ℕ) (number : ℕ) (lu : number ≤ length us) (ok : IsOrder s.shares (take number us)) (w : List ℤ) (n : ℕ) (lw : n ≤ length w) (e : found (take n w) ≡ search s.rows (columns_of units (take number us))) (past : (i : ℕ) → n ≤ i → entry w i ≡ pos 0) where
@@ -56,21 +58,29 @@ module _ (units : Units) (s : Flight) (is_flight : IsFlight units s) (us : List 
   pub found_wide : entries_fit (direction units (take number us) (take n w)) ≡ false → wide ≡ next_on units (take number us) s
   found_wide h = (let f : wide ≡ next_along units.requested.den s.shares (direction units (take number us) (take n w)) = rw h refl in f) ∙ found_next
 
--- what an answer of the frame's order allows
-module _ (units : Units) (s : Tracked) (is_flight : IsFlight units s.flight) (first : AreFirst s.flight s.window) where
+-- what an answer of a search through some fractional units allows
+module _ (units : Units) (s : Tracked) (order : List ℕ) (a : AreSearched s order) where
+  pub allowed : (result : Answer) → answer_of result ≡ next_on units order s.flight → IsPaddedIn result → Allows (IsMoveOf units s) units s result
+  allowed (answers.Move m) e padded = record { order = order; is_order = a.is_order; is = sym e; padded = padded; few = omega (arith, a.enough); window = a.window }
+  allowed answers.Independent e padded = independent_in_frame units s.flight.shares s.flight.rows order a.is_order a.enough (independent_columns units s.flight order (sym e))
+  allowed answers.Wide e padded = tt
+
+-- and of one through the first fractional units
+module _ (s : Tracked) (first : AreFirst s.flight s.window) where
   abbrev front : List ℕ
   front = take (s.flight.rows + 1) (fractional_units s.flight.shares)
 
-  front_order : IsOrder s.flight.shares (take (s.flight.rows + 1) (fractional_units s.flight.shares))
-  front_order = order_front s.flight.shares (fractional_units s.flight.shares) (frame_order s.flight.shares) (s.flight.rows + 1)
+  pub front_searched : AreSearched s (take (s.flight.rows + 1) (fractional_units s.flight.shares))
+  front_searched = record {
+    is_order = order_front s.flight.shares (fractional_units s.flight.shares) (frame_order s.flight.shares) (s.flight.rows + 1);
+    enough = omega (arith, length-take (s.flight.rows + 1) (fractional_units s.flight.shares), fractional_units_length s.flight.shares);
+    window = first;
+  }
 
-  pub allowed : (result : Answer) → answer_of result ≡ next units s.flight → IsPaddedIn result → Allows units s result
-  allowed (answers.Move m) e padded =
+  pub allowed_first : (units : Units) → IsFlight units s.flight → (result : Answer) → answer_of result ≡ next units s.flight → Allows (IsMoveOf units s) units s result → Allows (IsFirstMove units s) units s result
+  allowed_first units is_flight (answers.Move m) e made =
       let is : next_on units front s.flight ≡ move (move_of m) = next_on_front units s.flight (fractional_units s.flight.shares) ∙ sym e in
-      let k = known units s.flight front is_flight front_order (move_of m) is in
-      record {
-        is_move = record { order = front; is_order = front_order; is = is; padded = padded; few = omega (arith, length-take (s.flight.rows + 1) (fractional_units s.flight.shares)); window = first };
-        first = from_each front (move_of m).direction.units (moves_within units s.flight front (move_of m) k);
-      }
-  allowed answers.Independent e padded = independent_columns units s.flight (fractional_units s.flight.shares) (sym e)
-  allowed answers.Wide e padded = tt
+      let k = known units s.flight front is_flight front_searched.is_order (move_of m) is in
+      record { is_move = made; first = from_each front (move_of m).direction.units (moves_within units s.flight front (move_of m) k) }
+  allowed_first units is_flight answers.Independent e made = made
+  allowed_first units is_flight answers.Wide e made = tt

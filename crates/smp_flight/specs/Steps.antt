@@ -5,13 +5,13 @@ use Rattle.std.specs.List.{range_with_len, list_all}
 use Rattle.std.specs.Int.RustNames.{unsigned_abs}
 use Rattle.smp_frac.specs.Divisors.{greatest_common_divisor}
 use Rattle.smp_kernel.specs.Searches.{Search, found, none, too_wide}
-use Rattle.smp_kernel.proofs.SearchLaw.{search}
-use Rattle.smp_kernel.proofs.Reduce.{primitive_part}
+use Rattle.smp_kernel.specs.Reduced.{primitive_part}
 use Rattle.smp_prob.specs.Shares.{Shares}
 use Rattle.smp_values.specs.Values.{fractional_units}
 use Rattle.smp_flight.specs.declared.lines.Ratio.{Ratio}
 use Rattle.smp_flight.specs.declared.reaches.Reach.{Reach}
 use Rattle.smp_flight.specs.States.{Units, Flight, columns_of}
+use Rattle.smp_flight.specs.Searches.{search}
 use Rattle.smp_flight.specs.Moves.{Line, Move, entry_of, sized, turned}
 
 -- the direction of the circuit w of the first of these units

@@ -2,7 +2,7 @@
 use Rattle.std.proofs.Common.{◌≡◌, ℕ, zero, ◌+◌, ◌*◌, ◌<◌, ◌≤◌, ◌^◌, List, ℤ, pos, ◌*ℤ◌, ◌<ℤ◌, length, arith, sym, subst, ap, ◌∙◌, refl, inl, inr, suc, [], ◌∷◌, le_of_suc-le-suc, eq-zero-or-pos}
 use Rattle.std.proofs.lemmas.Int.{ints, unsigned_abs-mul}
 use Rattle.std.proofs.lemmas.Bool.{cases_lt}
-use Rattle.std.proofs.lemmas.List.{get_or_past}
+use Rattle.std.proofs.lemmas.List.{get_or_past, get_or-map, length-map}
 use Rattle.std.specs.Int.RustNames.{unsigned_abs, int_div}
 use Rattle.smp_kernel.proofs.Quotients.{exact}
 use Rattle.smp_kernel.proofs.Limits.{Within-same}
@@ -16,7 +16,7 @@ use Rattle.std.proofs.lemmas.Nat.Gcd.{dvd_trans}
 use Rattle.smp_frac.specs.Divisors.{IsContent, IsContentOfFirst, greatest_common_divisor}
 use Rattle.smp_frac.proofs.Gcds.{IsGcd-greatest_common_divisor}
 use Rattle.smp_frac.proofs.Contents.{content_more}
-use Rattle.smp_kernel.specs.Reduced.{IsReduced, IsTooLong}
+use Rattle.smp_kernel.specs.Reduced.{IsReduced, IsTooLong, content_of_first, primitive_part, quotients}
 use lib.IntN.{*ℤ-zero}
 
 -- a divisor of a smaller number: that number is 0
@@ -52,20 +52,11 @@ is_reduced row g c some e l p =
     record { primitive = reduced_primitive row g c some e all; divisor = pos g; positive = (let k : 0 < g = content_positive row g c some in omega (arith, ints)); product = all }
 
 -- ---- the quotients
-quotients : ℕ → List ℤ → List ℤ
-quotients g [] = []
-quotients g (x ∷ xs) = int_div x (pos g) ∷ quotients g xs
-
 length_quotients : (g : ℕ) (row : List ℤ) → length (quotients g row) ≡ length row
-unfolding quotients
-length_quotients g [] = refl
-length_quotients g (x ∷ xs) = ap suc (length_quotients g xs)
+length_quotients g row = length-map row (λ e. int_div e (pos g))
 
 entry_quotients : (g : ℕ) (row : List ℤ) (j : ℕ) → j < length row → entry (quotients g row) j ≡ int_div (entry row j) (pos g)
-unfolding quotients
-entry_quotients g [] j l = absurd (omega arith)
-entry_quotients g (x ∷ xs) zero l = refl
-entry_quotients g (x ∷ xs) (suc j) l = entry_quotients g xs j (le_of_suc-le-suc l)
+entry_quotients g row j l = get_or-map (λ e. int_div e (pos g)) row j (pos 0) (pos 0) l
 
 same_factor : (g : ℕ) (a b : ℤ) → 0 < g → pos g *ℤ a ≡ pos g *ℤ b → unsigned_abs a ≡ unsigned_abs b
 same_factor g a b p e = cancel_left g (unsigned_abs a) (unsigned_abs b) p (sym (unsigned_abs-mul (pos g) a) ∙ ap unsigned_abs e ∙ unsigned_abs-mul (pos g) b)
@@ -84,28 +75,24 @@ too_long row g c some q j b pq large =
     }
 
 -- ---- every row that isn't 0 can be reduced
-content_first : (row : List ℤ) (n : ℕ) → (g : ℕ) × IsContentOfFirst n row g
-content_first row zero = (0, ((λ i l. absurd (omega arith)), (λ d h. dvd-zero d)))
+content_first : (row : List ℤ) (n : ℕ) → IsContentOfFirst n row (content_of_first n row)
+content_first row zero = ((λ i l. absurd (omega arith)), (λ d h. dvd-zero d))
 content_first row (suc n) =
-    let r = content_first row n in
-    let e : n + 1 ≡ suc n = omega arith in (
-      greatest_common_divisor r.0 (unsigned_abs (entry row n)),
-      subst (λ (m : ℕ). IsContentOfFirst m row (greatest_common_divisor r.0 (unsigned_abs (entry row n)))) e
-          (content_more row n r.0 (unsigned_abs (entry row n)) (greatest_common_divisor r.0 (unsigned_abs (entry row n))) refl r.1 (IsGcd-greatest_common_divisor r.0 (unsigned_abs (entry row n)))),
-    )
-
-pub primitive_part : List ℤ → List ℤ
-primitive_part row = quotients (content_first row (length row)).0 row
+    let g : ℕ = content_of_first n row in
+    let e : n + 1 ≡ suc n = omega arith in
+    subst (λ (m : ℕ). IsContentOfFirst m row (greatest_common_divisor g (unsigned_abs (entry row n)))) e
+    (content_more row n g (unsigned_abs (entry row n)) (greatest_common_divisor g (unsigned_abs (entry row n))) refl (content_first row n) (IsGcd-greatest_common_divisor g (unsigned_abs (entry row n))))
 
 pub length-primitive_part : (row : List ℤ) → length (primitive_part row) ≡ length row
 unfolding primitive_part
-length-primitive_part row = length_quotients (content_first row (length row)).0 row
+length-primitive_part row = length_quotients (content_of_first (length row) row) row
 
 pub primitive_part_is : (row : List ℤ) → (IsZero row → ⊥) → IsReduced row (primitive_part row)
 unfolding primitive_part
 primitive_part_is row some =
+    let g : ℕ = content_of_first (length row) row in
     let c = content_first row (length row) in
-    is_reduced row c.0 c.1 some (quotients c.0 row) (length_quotients c.0 row) (λ i l. ap (λ x. pos c.0 *ℤ x) (entry_quotients c.0 row i l) ∙ exact (entry row i) c.0 (c.1.0 i l))
+    is_reduced row g c some (quotients g row) (length_quotients g row) (λ i l. ap (λ x. pos g *ℤ x) (entry_quotients g row i l) ∙ exact (entry row i) g (c.0 i l))
 
 -- and has one reduced row
 pub one_reduced : (row e f : List ℤ) → IsReduced row e → IsReduced row f → (i : ℕ) → entry e i ≡ entry f i

@@ -2,7 +2,7 @@
 use Rattle.std.specs.Prelude.{◌≡◌, ℕ, ◌+◌, ◌≤◌, List, [], length}
 use Rattle.smp_tape.specs.Sources.{Source}
 use Rattle.smp_tape.specs.Tapes.{tape_of_values}
-use Rattle.smp_tape.specs.Laws.Tapes.{tape_source}
+use Rattle.smp_tape.specs.TapeSources.{tape_source}
 use Rattle.smp_split.specs.Trees.{Tree}
 use Rattle.smp_split.specs.Paths.{Entry}
 use Rattle.smp_split.specs.Runs.{Outcome, run}

@@ -3,10 +3,9 @@ use Rattle.std.proofs.Common.{◌≡◌, ℕ, List, Option, Some, None, refl, sy
 use Rattle.smp_split.specs.Methods.{Method}
 use Rattle.smp_split.specs.Parts.{moved}
 use Rattle.smp_split.specs.Trees.{Part, weight_sum, picked}
-use Rattle.smp_split.proofs.Methods.{embedded_method}
 use Rattle.smp_split.proofs.Parts.{weight_sum-moved, picked-moved}
 use Rattle.smp_methods.specs.declared.any.AnyState.{AnyState}
-use Rattle.smp_methods.specs.Designs.{Variant, method_among, variant}
+use Rattle.smp_methods.specs.Designs.{Variant, embedded_method, method_among, variant}
 use Rattle.smp_methods.specs.Kept.Alone.{IsStep, StepsAlone}
 
 -- the bound of the draw is the same

@@ -7,22 +7,24 @@ use Rattle.smp_prob.specs.declared.requests.Request.{Request}
 use Rattle.smp_split.specs.Counts.{AddsUp, LeavesSelect, LeavesSelectAround}
 use Rattle.smp_split.specs.Methods.{Starts}
 use Rattle.smp_split.specs.Trees.{Tree}
-use Rattle.smp_split.proofs.Embeds.{embedded_adds_up, embedded_around}
-use Rattle.smp_split.proofs.Methods.{embedded_starts}
+use Rattle.smp_split.proofs.Embeds.{adds_up_inside, embedded_adds_up, embedded_around, embedded_count}
+use Rattle.smp_split.proofs.Methods.{starts}
 use Rattle.smp_values.specs.Starts.{IsRequested, IsWhole}
 use Rattle.smp_values.proofs.Requests.{adds_to_draws}
 use Rattle.smp_methods.specs.declared.any.AnyDesign.{AnyDesign}
 use Rattle.smp_methods.specs.declared.any.AnyState.{AnyState}
 use Rattle.smp_methods.specs.declared.procedure.Procedure.{Procedure}
 use Rattle.smp_methods.specs.declared.procedure.Procedure.TheVariants as procedure
-use Rattle.smp_methods.specs.Designs.{Variant, design_of, first_state, method_among, method_of, state_among, variant, variant_of}
+use Rattle.smp_methods.specs.Designs.{Variant, design_of, embedded_method, first_state, method_among, method_of, state_among, variant, variant_of}
 use Rattle.smp_methods.specs.Kept.Alone.{AroundAlone, OwnAround, RequestedAlone, StartsAlone}
 use Rattle.smp_methods.specs.Procedures.{NeedsWhole}
 use Rattle.smp_methods.specs.Starts.{IsStarted, SelectsAround}
 
 -- what a method says of its start holds of the design among all methods
 starts_among : (v : Variant) → StartsAlone v → Starts (method_among v) (state_among v)
-starts_among (variant method design into out back) starts = embedded_starts into out back method design starts
+starts_among (variant method design into out back) start =
+    starts (embedded_method into out back method) (into design) (rw (back design) start.member)
+    (λ n adds. embedded_count into out method.tree back method.belongs n design (start.count n (adds_up_inside into out method.tree back method.belongs n design adds)))
 
 requested_among : (v : Variant) (request : Request) → RequestedAlone request v → IsRequested (method_among v).tree request (state_among v)
 requested_among (variant method design into out back) request here = record {

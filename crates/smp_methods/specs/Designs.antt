@@ -2,8 +2,9 @@
 -- lists: how it starts, and how its states stand among those of all methods.
 use Rattle.std.specs.Prelude.{◌≡◌, ℕ, ℤ, List, Option, Some, None, refl}
 use Rattle.smp_prob.specs.declared.requests.Request.{Request}
+use Rattle.smp_split.specs.Embeds.{embedded, BelongsInside}
 use Rattle.smp_split.specs.Methods.{Method}
-use Rattle.smp_split.proofs.Methods.{embedded_method}
+use Rattle.smp_split.proofs.Embeds.{embedded_lawful}
 use Rattle.smp_pivotal.specs.Method as pivotal
 use Rattle.smp_systematic.specs.Method as systematic
 use Rattle.smp_minsup.specs.Method as support
@@ -54,6 +55,16 @@ variant_of (designs.LocalPivotal s) = variant (local.method_of s) s states.Local
     (elim [ states.LocalPivotal state ↦ Some state | other ↦ None ]) (λ _. refl)
 variant_of (designs.Cube units) = variant (cube.method_of units) (cube.started units) states.Cube
     (elim [ states.Cube state ↦ Some state | other ↦ None ]) (λ _. refl)
+
+-- a method put into a larger type of states
+module _ {Inner Outer : Type 0} (into : Inner → Outer) (out : Outer → Option Inner)
+    (back : (i : Inner) → out (into i) ≡ Some i) (inner : Method Inner) where
+  abbrev pub embedded_method : Method Outer
+  embedded_method = record {
+    tree = embedded into out inner.tree;
+    belongs = BelongsInside into out inner.tree inner.belongs;
+    lawful = embedded_lawful into out inner.tree back inner.belongs inner.lawful;
+  }
 
 -- the method, and the design's first state, among those of all methods
 abbrev pub method_among : Variant → Method AnyState

@@ -3,7 +3,7 @@ use Rattle.std.proofs.Common.{◌≡◌, ℕ, zero, suc, ◌+◌, ◌%◌, ◌^�
 use Rattle.std.proofs.Math.Nat.{mod-add-mod}
 use Rattle.rand_chacha.specs.ChaCha.{word_at}
 use Rattle.smp_sieve.specs.Keys.{Place, key_word}
-use Rattle.smp_sieve.specs.Laws.Keys.{key_stream}
+use Rattle.smp_sieve.specs.SieveSources.{key_stream}
 use Rattle.smp_sieve.specs.Streams.{ahead, behind}
 
 abbrev at_place : List ℕ → ℕ → Place

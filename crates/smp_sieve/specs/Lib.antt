@@ -2,5 +2,6 @@ pub mod Streams
 pub mod Sieves
 pub mod Fair
 pub mod Keys
+pub mod SieveSources
 pub mod Given
 pub mod Laws

@@ -1,7 +1,7 @@
 ghost use Rattle.std.specs.Prelude.{◌≡◌, ℕ};
 ghost use Rattle.rand_chacha.specs.ChaCha.{key_of};
 ghost use Rattle.smp_sieve.specs.Keys.{key_word, words_of_seed};
-ghost use Rattle.smp_sieve.specs.Laws.Keys.{key_stream};
+ghost use Rattle.smp_sieve.specs.SieveSources.{key_stream};
 ghost use Rattle.smp_sieve.specs.Streams.{ahead};
 
 use crate::Words;
@@ -41,7 +41,7 @@ impl ChaChaWords {
 }
 
 impl Words for ChaChaWords {
-    ghost use Rattle.smp_sieve.specs.Laws.Keys.{key_stream};
+    ghost use Rattle.smp_sieve.specs.SieveSources.{key_stream};
 
     ghost stream = { key_stream };
 

@@ -1,6 +1,6 @@
 ghost use Rattle.std.specs.Prelude.{◌≡◌, ◌*◌, ◌^◌, ◌<◌, ◌≤◌, IfOk, IfErr};
 ghost use Rattle.smp_sieve.specs.Fair.{IsFair};
-ghost use Rattle.smp_sieve.specs.Laws.Sieves.{sieve_source};
+ghost use Rattle.smp_sieve.specs.SieveSources.{sieve_source};
 ghost use Rattle.smp_sieve.specs.Streams.{ahead, behind};
 ghost use Rattle.smp_sieve.specs.Sieves.{AllThrown, IsFirst, block, first_below, sieve_next};
 

@@ -6,7 +6,7 @@ use Rattle.smp_tape.specs.declared.draws.DrawFault.{DrawFault}
 use Rattle.smp_tape.specs.declared.draws.DrawFault.TheVariants.{Short, TooBig, Rejected}
 use Rattle.smp_tape.specs.Sources.{Drawn}
 use Rattle.smp_tape.specs.Tapes.{Values, tape_of_values, drawn_from, tape_next}
-use Rattle.smp_tape.specs.Laws.Tapes.{tape_source}
+use Rattle.smp_tape.specs.TapeSources.{tape_source}
 use Rattle.smp_split.specs.Trees.{Tree, Lawful, weight_sum, picked}
 use Rattle.smp_split.specs.Paths.{Entry, Leads, values_of, IsFull}
 use Rattle.smp_split.specs.Runs.{leaf, stopped, run, Gives, IsLeaf, IsStop, IsOutcome}

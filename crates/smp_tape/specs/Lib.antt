@@ -1,5 +1,6 @@
 pub mod Sources
 pub mod Tapes
+pub mod TapeSources
 pub mod TapeText
 pub mod Reads
 pub mod Laws

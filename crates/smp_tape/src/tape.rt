@@ -1,5 +1,5 @@
 ghost use Rattle.std.specs.Prelude.{◌≡◌, ◌≤◌, [], length, take, drop, IfOk};
-ghost use Rattle.smp_tape.specs.Laws.Tapes.{tape_source};
+ghost use Rattle.smp_tape.specs.TapeSources.{tape_source};
 ghost use Rattle.smp_tape.specs.Reads.{ReadsTape};
 ghost use Rattle.smp_tape.specs.TapeText.{tape_of};
 ghost use Rattle.smp_tape.specs.Tapes.{Values};

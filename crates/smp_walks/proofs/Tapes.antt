@@ -7,7 +7,7 @@ use Rattle.smp_split.specs.declared.kind.Kind.{Kind}
 use Rattle.smp_split.specs.contracts.kind.Kind.{the_type}
 use Rattle.smp_tape.specs.declared.draws.DrawFault.{DrawFault}
 use Rattle.smp_tape.specs.Tapes.{Values, tape_of_values}
-use Rattle.smp_tape.specs.Laws.Tapes.{tape_source}
+use Rattle.smp_tape.specs.TapeSources.{tape_source}
 use Rattle.smp_split.specs.Counts.{selected_units}
 use Rattle.smp_split.specs.Paths.{Entry, values_of}
 use Rattle.smp_split.specs.Runs.{Arrived, IsLeaf, IsOutcome, Outcome, leaf, position, run, stopped}

@@ -5,7 +5,7 @@ use Rattle.std.specs.Int.RustNames.{unsigned_abs}
 use Rattle.smp_kernel.specs.Vectors.{entry}
 use Rattle.smp_kernel.specs.Searched.{answer, ArePadded}
 use Rattle.smp_kernel.specs.declared.searches.Searched.{Searched}
-use Rattle.smp_kernel.proofs.SearchLaw.{search}
+use Rattle.smp_flight.specs.Searches.{search}
 use Rattle.smp_prob.specs.Shares.{Shares}
 use Rattle.smp_values.specs.Values.{fractional_units, is_fractional}
 use Rattle.smp_values.proofs.Units.{units_from}

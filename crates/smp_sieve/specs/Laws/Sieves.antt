@@ -1,7 +1,6 @@
--- A sieve is a source.
+-- What a sieve answers is below the bound, and a bound of 1 takes no word.
 use Rattle.std.proofs.Common.{◌≡◌, ℕ, zero, suc, ◌+◌, ◌<◌, ◌≤◌, nat_lt, Result, Ok, Err, refl, arith, inl, inr}
 use Rattle.std.proofs.lemmas.Bool.{cases_Bool, ltb-true}
-use Rattle.smp_tape.specs.Sources.{Source}
 use Rattle.smp_tape.specs.declared.draws.DrawFault.{DrawFault}
 use Rattle.smp_tape.specs.declared.draws.DrawFault.TheVariants.{Rejected}
 use Rattle.smp_sieve.specs.Streams.{Stream, ahead}
@@ -32,10 +31,3 @@ draw_below words bound value some h =
 pub draw_idle : {Words : Type 0} (stream : Stream Words) (words : Words) → sieve_next stream words 1 ≡ record { answer = Ok 0; rest = words }
 unfolding sieve_draw
 draw_idle stream words = refl
-
-abbrev pub sieve_source : {Words : Type 0} → Stream Words → Source Words
-sieve_source stream = record {
-  next = sieve_next stream;
-  below = λ words bound value some h. draw_below (ahead stream words) bound value some h;
-  idle = draw_idle stream;
-}

@@ -1,10 +1,9 @@
--- A tape is a source.
+-- What a tape answers is below the bound, and a bound of 1 takes no value.
 use Rattle.std.proofs.Common.{◌≡◌, ℕ, ◌+◌, ◌<◌, ◌≤◌, nat_lt, List, [], ◌∷◌, length, Result, Ok, Err, arith, inl, inr, refl}
 use Rattle.std.proofs.lemmas.Bool.{cases_Bool, ltb-true}
 use Rattle.smp_tape.specs.declared.draws.DrawFault.{DrawFault}
 use Rattle.smp_tape.specs.declared.draws.DrawFault.TheVariants.{Short, TooBig}
-use Rattle.smp_tape.specs.Sources.{Source}
-use Rattle.smp_tape.specs.Tapes.{Values, drawn_from, tape_next}
+use Rattle.smp_tape.specs.Tapes.{drawn_from}
 
 pub below_from : (taken left : List ℕ) (bound value : ℕ) → 1 ≤ bound → (drawn_from taken left bound).answer ≡ Ok value → value < bound
 below_from taken [] bound value p h =
@@ -27,10 +26,3 @@ below_from taken (u ∷ left) bound value p h =
 pub idle_from : (taken left : List ℕ) → drawn_from taken left 1 ≡ record { answer = Ok 0; rest = record { taken = taken; left = left } }
 idle_from taken [] = refl
 idle_from taken (u ∷ left) = refl
-
-abbrev pub tape_source : Source Values
-tape_source = record {
-  next = tape_next;
-  below = λ tape bound value p h. below_from tape.taken tape.left bound value p h;
-  idle = λ tape. idle_from tape.taken tape.left;
-}

@@ -6,7 +6,7 @@ use Rattle.std.specs.Bool.{Decides}
 use Rattle.smp_split.specs.Counts.{selected_units}
 use Rattle.smp_split.specs.Paths.{values_of}
 use Rattle.smp_tape.specs.Tapes.{tape_of_values}
-use Rattle.smp_tape.specs.Laws.Tapes.{tape_source}
+use Rattle.smp_tape.specs.TapeSources.{tape_source}
 use Rattle.smp_split.specs.Runs.{Arrived, Refused, position}
 use Rattle.smp_walks.proofs.Tapes.{arrived_leaf, entry_decides, leaf_at, never_stopped, walk_is, walk_told}
 use Rattle.smp_walks.proofs.walks.Goals.{then-told, else-told}

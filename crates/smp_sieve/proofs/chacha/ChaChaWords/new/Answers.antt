@@ -1,7 +1,7 @@
 use Rattle.std.proofs.Common.{ap, ◌∙◌}
 use Rattle.rand_chacha.specs.ChaCha.{key_of}
 use Rattle.smp_sieve.specs.Keys.{Place}
-use Rattle.smp_sieve.specs.Laws.Keys.{key_stream}
+use Rattle.smp_sieve.specs.SieveSources.{key_stream}
 use Rattle.smp_sieve.specs.Streams.{ahead}
 use Rattle.smp_sieve.proofs.Moves.{words_from_start}
 use Rattle.smp_sieve.proofs.chacha.ChaChaWords.new.Goals as goal
