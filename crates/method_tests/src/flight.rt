@@ -49,6 +49,16 @@ fn is_at_its_end(state: &FlightState) -> bool {
         ] == [3, 0, 3, 2]
         && state.denom() == 4
         && state.fractional() == 3
+        && is_kept_apart(state)
+}
+
+/// Whether the window has the units 0 and 2, whose numerators are kept over 4, where that of unit 3 is kept over 2.
+fn is_kept_apart(state: &FlightState) -> bool
+    requires four { length state.now.flight.shares.numer ≡ 4 }
+{
+    let cells = state.cells();
+    [cells.get(0), cells.get(1), cells.get(2), cells.get(3)] == [3, 0, 3, 1]
+        && state.window() == [0, 2].as_slice()
 }
 
 /// Goes along the first move, counted on a ledger that nothing was written into, and says whether it and its end are the expected ones.

@@ -51,7 +51,8 @@ impl<L: Ledger> Steps<L> {
 #[derive(Drop)]
 pub struct Cells {
     values: Vec<u128>,
-    /// What was written, one entry for each time.
+    /// What was written, one entry for each time: a history that only proofs read and that takes no bytes. The crate stands on the kit's
+    /// `http_server` for this type alone.
     writes: Log<(), ()>,
 }
 

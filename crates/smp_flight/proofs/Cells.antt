@@ -1,0 +1,29 @@
+-- The numbers in which a state keeps its values.
+use Rattle.std.proofs.Common.{◌≡◌, ℕ, ◌*◌, List, length, get_or, sym, ap, ◌∙◌, subst}
+use Rattle.std.specs.List.{Contains}
+use Rattle.std.proofs.lemmas.Bool.{false_from_ne_true}
+use Rattle.std.proofs.Math.Nat.{mul_assoc, mul_comm}
+use Rattle.smp_flight.specs.States.{Tracked}
+use Rattle.smp_flight.specs.Kept.Windows.{Windowed, is_in, tracked_of}
+use Rattle.smp_flight.proofs.Firsts.{contains_in, in_contains}
+use Rattle.smp_flight.proofs.Windowed.{length-numerators_over, read_in, read_out}
+
+module _ (v : Windowed) (rows : ℕ) (numbers : List ℕ) (s : Tracked) (kept : numbers ≡ v.numer) (is : tracked_of v rows ≡ s) where
+  pub cells_size : length numbers ≡ length s.flight.shares.numer
+  cells_size =
+      ap length kept ∙ sym (length-numerators_over v.numer v.times v.window) ∙ ap (λ (t : Tracked). length t.flight.shares.numer) is
+
+  -- the numerators of the window are kept as they are
+  pub cells_window : (k : ℕ) → Contains s.window k → get_or numbers k 0 ≡ get_or s.flight.shares.numer k 0
+  cells_window k =
+      subst (λ (t : Tracked). Contains t.window k → get_or numbers k 0 ≡ get_or t.flight.shares.numer k 0) is
+      (λ h. read_in v.numer v.times v.window k (get_or numbers k 0) (contains_in v.window k h) (ap (λ xs. get_or xs k 0) kept))
+
+  -- and all others over the first denominator
+  pub cells_others : (k : ℕ) → ¬ (Contains s.window k) → get_or numbers k 0 * s.flight.shares.den ≡ get_or s.flight.shares.numer k 0 * s.flight.first
+  cells_others k =
+      subst (λ (t : Tracked). ¬ (Contains t.window k) → get_or numbers k 0 * t.flight.shares.den ≡ get_or t.flight.shares.numer k 0 * t.flight.first) is
+      (λ h.
+      ap (λ d. get_or numbers k 0 * d) (mul_comm v.first v.times) ∙ sym (mul_assoc (get_or numbers k 0) v.times v.first)
+      ∙ ap (λ a. a * v.first)
+      (read_out v.numer v.times v.window k (get_or numbers k 0) (false_from_ne_true (is_in v.window k) (λ t. h (in_contains v.window k t))) (ap (λ xs. get_or xs k 0) kept)))
