@@ -1,5 +1,5 @@
-//! What every crate of the sampler stands on: exact fractions and common divisors, texts, bytes,
-//! and want of memory.
+//! Exact fractions and common divisors, texts, bytes, and want of memory: what most crates of the sampler
+//! stand on.
 //!
 //! Fractions are kept in lowest terms by their type. A sum, a product or a difference is exact, or
 //! is refused as [`Wide`] where it needs a number of 2^126 or more.

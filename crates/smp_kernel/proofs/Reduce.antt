@@ -1,5 +1,5 @@
 -- A row divided by its content.
-use Rattle.std.proofs.Common.{◌≡◌, ℕ, zero, ◌+◌, ◌*◌, ◌<◌, ◌≤◌, ◌^◌, List, ℤ, pos, ◌*ℤ◌, ◌<ℤ◌, length, arith, sym, subst, ap, ◌∙◌, refl, inl, inr, suc, [], ◌∷◌, le_of_suc-le-suc, eq-zero-or-pos}
+use Rattle.std.proofs.Common.{◌≡◌, ℕ, zero, ◌+◌, ◌*◌, ◌<◌, ◌≤◌, ◌^◌, List, ℤ, pos, ◌*ℤ◌, ◌<ℤ◌, length, arith, sym, subst, ap, ◌∙◌, refl, inl, inr, suc, eq-zero-or-pos}
 use Rattle.std.proofs.lemmas.Int.{ints, unsigned_abs-mul}
 use Rattle.std.proofs.lemmas.Bool.{cases_lt}
 use Rattle.std.proofs.lemmas.List.{get_or_past, get_or-map, length-map}
