@@ -1,4 +1,4 @@
--- Requested inclusion probabilities, in proportion to size (Tillé 2006).
+-- Requested inclusion probabilities: in proportion to size (Tillé 2006), or given.
 use Rattle.std.specs.Prelude.{◌≡◌, ℕ, ◌*◌, ◌^◌, ◌<◌, ◌≤◌, List, [], length, slice_index, EachIndex}
 use Rattle.std.specs.List.{range_with_len}
 use Rattle.smp_prob.specs.declared.requests.Request.{Request}

@@ -7,7 +7,7 @@ ghost use Rattle.smp_prob.specs.Kept.Cuts as Cuts;
 ghost use Rattle.smp_prob.specs.Kept.Cuts.{IsFeasible, border};
 ghost use Rattle.smp_prob.specs.Requested.{is_certain, is_free, positive_units, places, free_sizes, requested_of, requested_fraction, IsFalling, IsLeastCut, FirstAreCertain};
 ghost use Rattle.smp_prob.specs.Requests.{IsRequest};
-ghost use Rattle.smp_prob.specs.Standings.{AreApart, IsRising, count_taken, asked_fraction};
+ghost use Rattle.smp_prob.specs.Standings.{AreApart, AreBelow, IsRising, count_taken, asked_fraction};
 ghost use Rattle.smp_fractions.specs.Fractions.{Same};
 
 use crate::picked::{Picked, pick};
@@ -146,6 +146,7 @@ pub fn requested(alloc: Global, sizes: &[u32], n: u32) -> Result<Request, ProbFa
         → count_taken request drawn (length sizes.now) ≡ n) }
     ensures ordered { IfOk result IsRising }
     ensures apart { IfOk result AreApart }
+    ensures below { IfOk result (AreBelow (length sizes.now)) }
     ensures none_free { IfOk result (λ request.
         length request.free ≡ 0 → (request.r ≡ 0) × (request.total ≡ 0)) }
 {

@@ -1,7 +1,9 @@
 use Rattle.std.proofs.Common.{refl, arith}
 use Rattle.smp_prob.proofs.FallingOrders.{first_are_certain}
 use Rattle.smp_prob.proofs.RequestedUnits.{length-certain, few_free, free_positive, free_small, nothing_left, IsRequest-requested_of}
+use Rattle.smp_prob.proofs.Picks.{places_below}
 use Rattle.smp_prob.proofs.Positions.{is_ordered, apart_requested, asked_is, count-drawn}
+use Rattle.smp_prob.specs.Requested.{is_certain, is_free}
 use Rattle.smp_prob.proofs.proportional.requested.Goals as goal
 
 pub request_of-requires-clause-few : goal.request_of-requires-clause-few
@@ -47,3 +49,7 @@ returns-clause-none_free c =
 pub returns-clause-first : goal.returns-clause-first
 returns-clause-first c =
     λ zs. first_are_certain c.args.n c.args.sizes.now zs (omega (arith, c.count_positive-positive.ensures, c.if-n-positive.false))
+
+pub returns-clause-below : goal.returns-clause-below
+returns-clause-below c =
+    rw (returns-clause-value c) (record { certain = places_below (is_certain c.args.n c.args.sizes.now) c.args.sizes.now; free = places_below (is_free c.args.n c.args.sizes.now) c.args.sizes.now })
