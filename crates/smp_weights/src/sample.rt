@@ -1,4 +1,4 @@
-ghost use Rattle.std.specs.Prelude.{◌≡◌, ◌≤◌, [], Some, length, IfOk, OnOk};
+ghost use Rattle.std.specs.Prelude.{◌≡◌, ◌≤◌, ◌⊎◌, [], None, Some, length, IfOk, OnErr, OnOk};
 ghost use Rattle.smp_frac.specs.Fractions.{fraction};
 ghost use Rattle.smp_weights.specs.Chosen.{ChosenArePositive};
 ghost use Rattle.smp_weights.specs.Rows.{AddsRow};
@@ -20,6 +20,8 @@ pub fn sample_rows(alloc: Global) -> Result<CsvRows, NoMemory>
 
 /// Writes the row of a unit: its id, and its design weight, the inverse of the inclusion probability asked for it
 /// (Tillé 2006), as a fraction in lowest terms.
+///
+/// After want of memory the rows are as before, or nothing is told of them any more.
 pub fn push_sample_row(
     alloc: Global,
     rows: &mut CsvRows,
@@ -27,7 +29,8 @@ pub fn push_sample_row(
     asked: Frac,
 ) -> Result<(), NoMemory>
     requires { 1 ≤ asked.num }
-    ensures { OnOk result (AddsRow rows.old rows.new (sample_row id.now (fraction asked))) }
+    ensures ok { OnOk result (AddsRow rows.old rows.new (sample_row id.now (fraction asked))) }
+    ensures err { OnErr result ((rows.new ≡ rows.old) ⊎ (rows.new ≡ None)) }
 {
     let mut weight = Bytes::new(alloc);
     weight_of(asked).write(&mut weight)?;

@@ -43,7 +43,7 @@ loop-row-preserved c =
     let id = id_is view _ c.index-units-row.result within (rw (c.units-units.ensures, c.as_slice-row-items.ensures.value) at c.index-units-row.is) in
     next_row sample_row_of (map (weighted_row view) rows) place (weighted_row view 0) c.loop-row.rows _ _ _
     (omega (arith, items, length-map rows (weighted_row view)))
-    c.in_ok-push_sample_row.ensures
+    c.in_ok-push_sample_row.ensures.ok
     (ap (λ (u : unit.Unit). sample_row u.id (fraction c.asked.result)) (sym c.index-units-row.is)
     ∙ weighted plan c.requires.planned _ within c.asked.result asked c.index-units-row.result.id id some
     ∙ ap sample_row_of (sym (get_or-map (weighted_row view) rows place 0 (weighted_row view 0) items)))

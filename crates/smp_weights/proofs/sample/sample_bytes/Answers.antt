@@ -10,7 +10,7 @@ loop-place-preserved c =
     elim c.if-chosen-place.branch [
       | then-chosen-place+in_ok-push_sample_row w ↦
           (let step = chosen_units-taken c.args.ids.now c.args.asked.now c.args.chosen.now c.loop-place.place c.index-ids-place.result w.index-asked-place.result false c.loop-place-test.true (omega arith) (omega arith) w.if-chosen-place.true in
-          rw w.rows-is (row_added c.loop-place.rows _ _ _ _ w.in_ok-push_sample_row.ensures (rw (step, ← w.index-asked-place.is, ← c.index-ids-place.is) at c.loop-place.invariant)))
+          rw w.rows-is (row_added c.loop-place.rows _ _ _ _ w.in_ok-push_sample_row.ensures.ok (rw (step, ← w.index-asked-place.is, ← c.index-ids-place.is) at c.loop-place.invariant)))
       | else-chosen-place w ↦
           (let step = chosen_units-skipped c.args.ids.now c.args.asked.now c.args.chosen.now c.loop-place.place c.index-ids-place.result zero false c.loop-place-test.true (omega arith) (omega arith) w.if-chosen-place.false in
           rw w.rows-is (rw step at c.loop-place.invariant))
