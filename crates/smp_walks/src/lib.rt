@@ -14,7 +14,8 @@ use std::alloc::Global;
 /// Whether a walk from this state, over a tape of the values of this path, takes the path, and then
 /// selects these units.
 ///
-/// The path has the kind, the bound and the value of each step, and the units rise.
+/// The path has the kind, the bound and the value of each step, and the units rise. Whatever the answer, the state is one of
+/// the design's.
 pub fn walks<S: Splitting>(
     alloc: Global,
     design: &S,
@@ -23,8 +24,9 @@ pub fn walks<S: Splitting>(
     units: &[usize],
 ) -> Result<bool, NoMemory>
     requires { S.belongs design.now state.old }
-    ensures { IfOk result (λ holds. Decides holds
+    ensures walks { IfOk result (λ holds. Decides holds
         (IsWalk (S.tree design.now) state.old path.now units.now)) }
+    ensures belongs { S.belongs design.now state.new }
 {
     let mut tape = tape_for(alloc, path)?;
     let mut lines = Lines::new(alloc);

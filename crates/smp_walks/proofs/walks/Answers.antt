@@ -1,4 +1,4 @@
-use Rattle.std.proofs.Common.{◌≡◌, true, false, [], Some, Err, ap, refl}
+use Rattle.std.proofs.Common.{◌≡◌, false, [], Some, Err, ap, refl}
 use Rattle.std.proofs.lemmas.Slice.Eq.{slice_eq-Decides}
 use Rattle.std.proofs.lemmas.Bool.{both_ways}
 use Rattle.std.proofs.lemmas.Bool.Decides.{Decides-eqb}
@@ -21,8 +21,8 @@ selected_units-requires-clause-done g c =
     let ran = arrived_leaf tree (s.belongs c.args.design.now) (g.met.S.Splitting.lawful c.args.design.now) c.args.state.now c.args.path.now c.requires c.walk.new.state c.walk.new.trace c.walk.new.draws arrived in
     (leaf_at tree (s.belongs c.args.design.now) (g.met.S.Splitting.lawful c.args.design.now) c.args.state.now c.args.path.now c.requires c.walk.new.state c.walk.new.trace c.walk.new.draws ran).done
 
-pub returns-in-Ok : goal.returns-in-Ok
-returns-in-Ok g c =
+pub returns-in-Ok-clause-walks : goal.returns-in-Ok-clause-walks
+returns-in-Ok-clause-walks g c =
     let s = g.S.Splitting in
     let tree = s.tree c.args.design.now in
     let arrived : Arrived tape_source tree (position c.args.state.now (tape_of_values [] (values_of c.args.path.now)) (Some [])) (position c.walk.new.state c.walk.new.draws (Some c.walk.new.trace)) =
@@ -40,8 +40,8 @@ returns-in-Ok g c =
       | else-told w ↦ rw w.result-is (λ e. absurd (both_ways c.eq-told.result w.if-told.false e), λ walk. absurd (both_ways c.eq-told.result w.if-told.false (told.1 (walked walk).0)))
     ]
 
-pub returns-in-Err-Draw : goal.returns-in-Err-Draw
-returns-in-Err-Draw g c =
+pub returns-in-Err-Draw-clause-walks : goal.returns-in-Err-Draw-clause-walks
+returns-in-Err-Draw-clause-walks g c =
     let s = g.S.Splitting in
     let tree = s.tree c.args.design.now in
     let refused : Refused tape_source tree c.in-Err-Draw.field-0-0 (position c.args.state.now (tape_of_values [] (values_of c.args.path.now)) (Some [])) (position c.walk.new.state c.walk.new.draws (Some c.walk.new.trace)) =
