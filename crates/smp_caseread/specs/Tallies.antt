@@ -1,8 +1,13 @@
--- How many cases were ok, differ, and weren't read.
+-- What is said of a case, and how many cases were ok, differ, and weren't read.
+use Rattle.std.specs.Prelude.{ℕ, ◌==◌, if◌then◌else◌}
 use Rattle.smp_io.specs.Counts.{one_more}
 use Rattle.smp_caseread.specs.declared.verdict.Tally.{Tally}
 use Rattle.smp_caseread.specs.declared.verdict.Verdict.{Verdict}
 use Rattle.smp_caseread.specs.declared.verdict.Verdict.TheVariants as verdicts
+
+-- the verdict by how many parts differ
+abbrev pub verdict_of : ℕ → Verdict
+verdict_of found = if found == 0 then verdicts.Ok else verdicts.Differs found
 
 abbrev pub none_counted : Tally
 none_counted = record { ok = 0; differ = 0; not_read = 0 }

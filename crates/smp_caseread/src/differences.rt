@@ -1,6 +1,6 @@
 //! What differs from what is wanted.
 
-ghost use Rattle.std.specs.Prelude.{◌≡◌, ◌+◌, ◌≤◌, ◌↔◌, IsTrue, OnOk, length, option_map};
+ghost use Rattle.std.specs.Prelude.{◌≡◌, ◌+◌, ◌≤◌, ◌↔◌, IsTrue, OnErr, OnOk, length, option_map};
 ghost use Rattle.smp_caseread.specs.Compared.{Compares};
 
 use crate::escapes::Shown;
@@ -45,9 +45,10 @@ impl Differences {
         self.texts.as_slice()
     }
 
-    /// Adds that the exit code differs, where it does.
+    /// Adds that the exit code differs, where it does. After want of memory nothing is added.
     pub fn compare_codes(&mut self, wanted: u8, got: u8) -> Result<(), AllocError>
-        ensures { OnOk result (Compares (wanted ≡ got) self.old self.new) }
+        ensures compared { OnOk result (Compares (wanted ≡ got) self.old self.new) }
+        ensures same { OnErr result (self.new ≡ self.old) }
     {
         if wanted == got {
             return Ok(());
@@ -55,16 +56,18 @@ impl Differences {
         self.add(format!(in self.alloc(); "code: wanted {wanted}, got {got}")?)
     }
 
-    /// Adds that the content of a file differs, or that there is a file or none, where it is so.
+    /// Adds that the content of a file differs, or that there is a file or none, where it is so. After want of memory
+    /// nothing is added.
     pub fn compare_files(
         &mut self,
         name: &str,
         wanted: Option<&[u8]>,
         got: Option<&[u8]>,
     ) -> Result<(), AllocError>
-        ensures { OnOk result (Compares
+        ensures compared { OnOk result (Compares
             (option_map (λ b. b.now) wanted.entry ≡ option_map (λ b. b.now) got.entry)
             self.old self.new) }
+        ensures same { OnErr result (self.new ≡ self.old) }
     {
         let alloc = self.alloc();
         match (wanted, got) {
@@ -84,9 +87,11 @@ impl Differences {
         }
     }
 
-    /// Adds where two texts differ first, where they do, with what follows there in each.
+    /// Adds where two texts differ first, where they do, with what follows there in each. After want of memory nothing is
+    /// added.
     pub fn compare_bytes(&mut self, part: &str, wanted: &[u8], got: &[u8]) -> Result<(), AllocError>
-        ensures { OnOk result (Compares (wanted.now ≡ got.now) self.old self.new) }
+        ensures compared { OnOk result (Compares (wanted.now ≡ got.now) self.old self.new) }
+        ensures same { OnErr result (self.new ≡ self.old) }
     {
         if wanted == got {
             return Ok(());
@@ -101,7 +106,8 @@ impl Differences {
     }
 
     fn add(&mut self, text: String) -> Result<(), AllocError>
-        ensures { OnOk result (self.new ≡ self.old + 1) }
+        ensures added { OnOk result (self.new ≡ self.old + 1) }
+        ensures same { OnErr result (self.new ≡ self.old) }
     {
         self.texts.push(text)?;
         Ok(())

@@ -19,10 +19,10 @@ pub enum Verdict {
 }
 
 impl From<Differences> for Verdict {
-    ghost use Rattle.std.specs.Prelude.{◌≡◌, ◌↔◌};
-    ghost use Rattle.smp_caseread.specs.declared.verdict.Verdict.TheVariants as verdicts;
+    ghost use Rattle.std.specs.Prelude.{◌≡◌};
+    ghost use Rattle.smp_caseread.specs.Tallies.{verdict_of};
 
-    ghost from_gives = { λ found verdict. (verdict ≡ verdicts.Ok) ↔ (found ≡ 0) };
+    ghost from_gives = { λ found verdict. verdict ≡ verdict_of found };
 
     fn from(found: Differences) -> Verdict {
         if found.is_empty() {

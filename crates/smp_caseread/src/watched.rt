@@ -1,12 +1,16 @@
 //! A store that is watched.
 
-ghost use Rattle.std.specs.Prelude.{◌≡◌, ◌++◌, ◌∷◌, [], true, map, IfOk, OnOk, string_bytes};
+ghost use Rattle.std.specs.Prelude.{◌≡◌, ◌++◌, ◌∷◌, [], true, map, option_map};
+ghost use Rattle.std.specs.Prelude.{IfOk, OnOk, OnErr, IsErrOf, string_bytes};
+ghost use Rattle.smp_io.specs.Counts.{Rose, NeverFalls};
+ghost use Rattle.smp_io.specs.Store.{OthersStay, with_file};
+ghost use Rattle.smp_io.specs.declared.fault.StoreFault.TheVariants as StoreFault;
 
 use smp_frac::{Bytes, NoMemory};
 use smp_io::{Store, StoreFault};
 use std::alloc::{AllocError, Global};
 
-/// A store that keeps the names under which it was asked to write.
+/// A store that keeps the names under which it was asked to write, whether the write then fails or not.
 #[derive(Drop)]
 pub struct WatchedStore<K: Store + Drop> {
     store: K,
@@ -67,7 +71,23 @@ impl<K: Store + Drop> Store for WatchedStore<K> {
         self.store.read(alloc, name)
     }
 
-    fn write(&mut self, name: &str, bytes: &[u8]) -> Result<(), StoreFault> {
+    fn write(&mut self, name: &str, bytes: &[u8]) -> Result<(), StoreFault>
+        // What any store promises.
+        ensures written { OnOk result (K.files self.new.store
+            ≡ option_map (with_file name.now bytes.now) (K.files self.old.store)) }
+        ensures others { OnErr result
+            (OthersStay name.now (K.files self.old.store) (K.files self.new.store)) }
+        ensures reads { NeverFalls (K.read_faults self.old.store) (K.read_faults self.new.store) }
+        ensures writes { NeverFalls
+            (K.write_faults self.old.store) (K.write_faults self.new.store) }
+        ensures cause { IsErrOf result StoreFault.Failed → Rose
+            (K.write_faults self.old.store name.now) (K.write_faults self.new.store name.now) }
+
+        // The name stands behind the others, unless there was no memory for one.
+        ensures name { self.new.is_whole ≡ true → map string_bytes self.new.names.items
+            ≡ map string_bytes self.old.names.items ++ name.now ∷ [] }
+        ensures whole { self.new.is_whole ≡ true → self.old.is_whole ≡ true }
+    {
         if keep(&mut self.names, name).is_err() {
             self.is_whole = false;
         }
