@@ -7,19 +7,24 @@ use Rattle.smp_prob.specs.Shares.{Shares}
 use Rattle.smp_prob.specs.Standings.{asked_fraction, IsRising}
 use Rattle.smp_prob.specs.declared.orders.Order.TheVariants.{Frame}
 use Rattle.smp_prob.specs.declared.requests.Request.{Request}
+use Rattle.smp_tape.specs.declared.draws.DrawFault.{DrawFault}
 use Rattle.smp_tape.specs.TapeSources.{tape_source}
 use Rattle.smp_tape.specs.Tapes.{Values, tape_of_values}
 use Rattle.smp_split.specs.Counts.{selected_units}
 use Rattle.smp_split.specs.Means.{inclusion_probability}
 use Rattle.smp_split.specs.Orders.{Ordered}
 use Rattle.smp_split.specs.Paths.{Entry}
-use Rattle.smp_split.specs.Runs.{leaf, run, IsLeaf, IsOutcome}
+use Rattle.smp_split.specs.Runs.{leaf, run, stopped, IsLeaf, IsOutcome}
 use Rattle.smp_split.specs.Trees.{Tree}
+use Rattle.smp_split.specs.declared.walking.WalkFault.{WalkFault}
+use Rattle.smp_split.specs.declared.walking.WalkFault.TheVariants as walks
 use Rattle.smp_split.proofs.Runs.{run_is}
 use Rattle.smp_rows.specs.Rows.{rows_tree, BelongsToRows}
 use Rattle.smp_rows.specs.Laws.Rows.{rows_lawful}
 use Rattle.smp_pivotal.specs.Method.{method_of, started}
-use Rattle.library_example.specs.Draws.{tree_of, start_of, IsDrawn}
+use Rattle.library_example.specs.Draws.{tree_of, start_of, IsDrawn, IsRefused}
+use Rattle.library_example.specs.Faults.{of_walk}
+use Rattle.library_example.specs.declared.fault.Fault.TheVariants as faults
 
 -- the request, the design and the first state of a draw
 module _ (sizes : List ℕ) (n : ℕ) (request : Request) (requested : request ≡ requested_of sizes n) (design state : Ordered Shares) (made : design ≡ started request Frame) (begun : state ≡ design) where
@@ -46,26 +51,39 @@ module _ (sizes : List ℕ) (n : ℕ) (request : Request) (requested : request �
       (subst (λ (s : Ordered Shares). Same (inclusion_probability tree s row) wanted) state_is
       (same_trans (selected row here) (asked row here)))
 
-  -- a tape of these values leads to a leaf
-  module _ (values : List ℕ) (tape : Values) (taken : tape.taken ≡ []) (left : tape.left ≡ values) (end : Ordered Shares) (path : List Entry) (rest : Values) (ran : run tape_source tree state tape ≡ leaf end path rest) where
-    tape_is : tape ≡ tape_of_values [] values
-    tape_is = rw (← taken, ← left) refl
+  -- a tape of these values
+  module _ (values : List ℕ) (tape : Values) (taken : tape.taken ≡ []) (left : tape.left ≡ values) where
+    same_run : run tape_source tree state tape ≡ run tape_source (tree_of sizes n) (start_of sizes n) (tape_of_values [] values)
+    same_run =
+        let tape_is : tape ≡ tape_of_values [] values = rw (← taken, ← left) refl in
+        ap (λ (t : Tree (Ordered Shares)). run tape_source t state tape) tree_is
+        ∙ ap (λ (s : Ordered Shares). run tape_source (tree_of sizes n) s tape) state_is
+        ∙ ap (run tape_source (tree_of sizes n) (start_of sizes n)) tape_is
 
-    pub is_done : (method_of design).belongs state → IsRising request → (method_of design).tree.units ≡ length request.free → tree.done end ≡ true
-    is_done member ordered units =
-        let belongs = BelongsToRows request (method_of design).tree (method_of design).belongs in
-        let here : BelongsToRows request (method_of design).tree (method_of design).belongs state = record { member = member; ordered = ordered; paired = sym units } in
-        let lawful = rows_lawful (length sizes) request (method_of design).tree (method_of design).belongs (method_of design).lawful in
-        let at_leaf : IsLeaf tape_source tree state tape end path rest = subst (IsOutcome tape_source tree state tape) ran (run_is tape_source tree belongs lawful state tape here) in
-        at_leaf.done
+    -- it leads to a state whose draw is refused
+    pub is_refused : (end : Ordered Shares) (path : List Entry) (rest : Values) (fault : DrawFault) → run tape_source tree state tape ≡ stopped end path fault rest → IsRefused sizes n values fault
+    is_refused end path rest fault ran = record { state = end; path = path; left = rest; ran = sym same_run ∙ ran }
 
-    pub is_drawn : (rows : List ℕ) → rows ≡ selected_units tree end → IsDrawn sizes n values rows
-    is_drawn rows selected = record {
-      state = end;
-      path = path;
-      left = rest;
-      ran = subst (λ (t : Tree (Ordered Shares)). run tape_source t (start_of sizes n) (tape_of_values [] values) ≡ leaf end path rest) tree_is
-          (subst (λ (s : Ordered Shares). run tape_source tree s (tape_of_values [] values) ≡ leaf end path rest) state_is
-          (subst (λ (v : Values). run tape_source tree state v ≡ leaf end path rest) tape_is ran));
-      selected = selected ∙ ap (λ (t : Tree (Ordered Shares)). selected_units t end) tree_is;
-    }
+    -- it leads to a leaf
+    module _ (end : Ordered Shares) (path : List Entry) (rest : Values) (ran : run tape_source tree state tape ≡ leaf end path rest) where
+      pub is_done : (method_of design).belongs state → IsRising request → (method_of design).tree.units ≡ length request.free → tree.done end ≡ true
+      is_done member ordered units =
+          let belongs = BelongsToRows request (method_of design).tree (method_of design).belongs in
+          let here : BelongsToRows request (method_of design).tree (method_of design).belongs state = record { member = member; ordered = ordered; paired = sym units } in
+          let lawful = rows_lawful (length sizes) request (method_of design).tree (method_of design).belongs (method_of design).lawful in
+          let at_leaf : IsLeaf tape_source tree state tape end path rest = subst (IsOutcome tape_source tree state tape) ran (run_is tape_source tree belongs lawful state tape here) in
+          at_leaf.done
+
+      pub is_drawn : (rows : List ℕ) → rows ≡ selected_units tree end → IsDrawn sizes n values rows
+      is_drawn rows selected = record {
+        state = end;
+        path = path;
+        left = rest;
+        ran = sym same_run ∙ ran;
+        selected = selected ∙ ap (λ (t : Tree (Ordered Shares)). selected_units t end) tree_is;
+      }
+
+-- a draw that was refused is one that the walk tells
+pub of_walk_draw : (found : WalkFault) (fault : DrawFault) → of_walk found ≡ faults.Draw fault → found ≡ walks.Draw fault
+of_walk_draw (walks.Draw refusal) fault is = (let same : refusal ≡ fault = cc in ap walks.Draw same)
+of_walk_draw walks.NoMemory fault is = absurd (let no : faults.NoMemory ≡ faults.Draw fault = is in cc)

@@ -3,12 +3,13 @@ use Rattle.std.specs.Prelude.{◌≡◌, ℕ, List, [], length}
 use Rattle.smp_prob.specs.Requested.{requested_of}
 use Rattle.smp_prob.specs.Shares.{Shares}
 use Rattle.smp_prob.specs.declared.orders.Order.TheVariants.{Frame}
+use Rattle.smp_tape.specs.declared.draws.DrawFault.{DrawFault}
 use Rattle.smp_tape.specs.TapeSources.{tape_source}
 use Rattle.smp_tape.specs.Tapes.{Values, tape_of_values}
 use Rattle.smp_split.specs.Counts.{selected_units}
 use Rattle.smp_split.specs.Orders.{Ordered}
 use Rattle.smp_split.specs.Paths.{Entry}
-use Rattle.smp_split.specs.Runs.{leaf, run}
+use Rattle.smp_split.specs.Runs.{leaf, run, stopped}
 use Rattle.smp_split.specs.Trees.{Tree}
 use Rattle.smp_rows.specs.Rows.{rows_tree}
 use Rattle.smp_pivotal.specs.Method.{method_of, started}
@@ -28,3 +29,10 @@ pub record IsDrawn (sizes : List ℕ) (n : ℕ) (tape rows : List ℕ) : Type 0 
   pub left : Values
   pub ran : run tape_source (tree_of sizes n) (start_of sizes n) (tape_of_values [] tape) ≡ leaf state path left
   pub selected : rows ≡ selected_units (tree_of sizes n) state
+
+-- the values of a tape lead to a state whose draw the tape refuses with this fault
+pub record IsRefused (sizes : List ℕ) (n : ℕ) (tape : List ℕ) (fault : DrawFault) : Type 0 where
+  pub state : Ordered Shares
+  pub path : List Entry
+  pub left : Values
+  pub ran : run tape_source (tree_of sizes n) (start_of sizes n) (tape_of_values [] tape) ≡ stopped state path fault left

@@ -1,3 +1,7 @@
+ghost use Rattle.std.specs.Prelude.{◌≡◌};
+ghost use Rattle.library_example.specs.Faults.{of_request, of_walk};
+ghost use Rattle.library_example.specs.declared.fault.Fault.TheVariants as Fault;
+
 use smp_prob::ProbFault;
 use smp_split::WalkFault;
 use smp_tape::DrawFault;
@@ -14,6 +18,8 @@ pub enum Fault {
 }
 
 impl From<ProbFault> for Fault {
+    ghost from_gives = { λ fault result. result ≡ of_request fault };
+
     fn from(fault: ProbFault) -> Fault {
         match fault {
             ProbFault::TooMany { .. } => Fault::TooMany,
@@ -23,6 +29,8 @@ impl From<ProbFault> for Fault {
 }
 
 impl From<WalkFault> for Fault {
+    ghost from_gives = { λ fault result. result ≡ of_walk fault };
+
     fn from(fault: WalkFault) -> Fault {
         match fault {
             WalkFault::Draw(fault) => Fault::Draw(fault),
@@ -32,18 +40,24 @@ impl From<WalkFault> for Fault {
 }
 
 impl From<smp_frac::NoMemory> for Fault {
+    ghost from_gives = { λ _ result. result ≡ Fault.NoMemory };
+
     fn from(_: smp_frac::NoMemory) -> Fault {
         Fault::NoMemory
     }
 }
 
 impl From<smp_split::NoMemory> for Fault {
+    ghost from_gives = { λ _ result. result ≡ Fault.NoMemory };
+
     fn from(_: smp_split::NoMemory) -> Fault {
         Fault::NoMemory
     }
 }
 
 impl From<smp_tape::NoMemory> for Fault {
+    ghost from_gives = { λ _ result. result ≡ Fault.NoMemory };
+
     fn from(_: smp_tape::NoMemory) -> Fault {
         Fault::NoMemory
     }
