@@ -2,7 +2,7 @@
 use Rattle.std.proofs.Common.{◌≡◌, ℕ, zero, suc, ◌+◌, ◌*◌, ◌<◌, ◌≤◌, mul-pos, Bool, true, false, true≢false, ℤ, pos, negsuc, List, length, Option, Some, None, arith, refl, sym, ap, subst, ◌∙◌, inl, inr}
 use Rattle.std.specs.Prelude.{is_some, slice_index, option_and_then}
 use Rattle.std.specs.List.{range_with_len, slice_get}
-use Rattle.std.proofs.lemmas.Bool.{and_parts, cases_Bool, eqb-true}
+use Rattle.std.proofs.lemmas.Bool.{and_parts, cases_Bool}
 use Rattle.std.proofs.lemmas.List.{length-map}
 use Rattle.std.proofs.lemmas.List.FromFn.{length-range_with_len}
 use Rattle.smp_fractions.specs.Fractions.{Fraction, times}
@@ -13,22 +13,19 @@ use Rattle.smp_prob.specs.Requests.{IsRequest}
 use Rattle.smp_prob.specs.Standings.{asked_fraction, fraction_at, is_taken, standing}
 use Rattle.smp_design.specs.declared.method.Method.{Method}
 use Rattle.smp_rows.specs.Laws.Rows.{free_within}
-use Rattle.smp_balance.specs.Totals.{can_be_selected}
 use Rattle.smp_methods.specs.declared.any.AnyState.{AnyState}
 use Rattle.smp_methods.specs.Designs.{method_of}
 use Rattle.smp_stages.specs.declared.places.Place.{Place}
 use Rattle.smp_stages.specs.declared.places.Stage.{Stage}
-use Rattle.smp_stages.specs.Stages.{Progress, is_drawn, read, seat_selected, unit_selected}
+use Rattle.smp_stages.specs.Stages.{Progress, read, seat_selected, unit_selected}
 use Rattle.smp_strata.specs.Bounds.{IsWholeOver}
 use Rattle.smp_strata.specs.Plans.{Parts}
 use Rattle.smp_strata.specs.Seats.{first_at, first_fraction, place_fraction, stage_fraction, unit_fraction}
 use Rattle.smp_strata.specs.declared.strata.Seat.{Seat}
-use Rattle.smp_strata.specs.declared.strata.Stratum.{Stratum}
 use Rattle.smp_twostage.specs.Plans.{CanBeDrawn}
-use Rattle.smp_twostage.specs.Covered.{covered_first, covered_number}
-use Rattle.smp_twostage.specs.Selections.{Coverage, Selecting, tree_of, covered_parts, covered_tree, covers, first_number, first_stage, is_of_stratum, is_only, one_of, parts_by, place_of, seat_alone, seat_by, seats_by, second_stage, stages_of}
-use Rattle.smp_twostage.specs.Starts.{first_place, first_selected, is_positive, row_fraction}
-use Rattle.smp_twostage.specs.Laws.Covered.{alone_there, its_place, made_at}
+use Rattle.smp_twostage.specs.Selections.{Coverage, Selecting, tree_of, covered_tree, first_stage, is_of_stratum, one_of, parts_by, place_of, seat_alone, seat_by, seats_by, second_stage, stages_of}
+use Rattle.smp_twostage.specs.Starts.{is_positive, row_fraction}
+use Rattle.smp_twostage.specs.Laws.Covered.{its_place, made_at}
 use Rattle.smp_twostage.specs.Laws.Numbering.{first_there, second_there}
 use Rattle.smp_twostage.specs.Laws.Places.{StandsIn}
 use Rattle.smp_twostage.specs.Laws.Staged.{first_is, none_in, place_stands, seconds_in}
@@ -68,11 +65,6 @@ module _ (request : Request) (sound : IsRequest request) (chosen : ℕ → Bool)
   taken_positive : (unit : ℕ) → is_taken chosen (standing request unit) ≡ true → is_positive (asked_fraction request unit).num ≡ true
   taken_positive unit = taken_at (standing request unit) (free_within request unit)
 
-taken_open : (chosen : ℕ → Bool) (stands : Standing) → is_taken chosen stands ≡ true → can_be_selected stands ≡ true
-taken_open chosen Certain taken = refl
-taken_open chosen (Free unit) taken = refl
-taken_open chosen Never taken = absurd (true≢false (sym taken))
-
 -- ---- units that are selected in their stages
 
 module _ (parts : Parts) (states : List AnyState) where
@@ -80,41 +72,12 @@ module _ (parts : Parts) (states : List AnyState) where
   selected_at stage unit (Some state) sound selected = taken_positive stage.design.request sound ((method_of stage.design.design).tree.selected state) unit selected
   selected_at stage unit None sound selected = absurd (true≢false (sym selected))
 
-  open_at : (stage : Stage Selecting) (unit : ℕ) (state : Option AnyState) → read tree_of false (λ tree s. tree.selected s unit) (Some stage) state ≡ true → can_be_selected (standing stage.design.request unit) ≡ true
-  open_at stage unit (Some state) selected = taken_open ((method_of stage.design.design).tree.selected state) (standing stage.design.request unit) selected
-  open_at stage unit None selected = absurd (true≢false (sym selected))
-
   module _ (i unit : ℕ) (stage : Stage Selecting) (is : slice_get (stages_of parts) i ≡ Some stage) (selected : unit_selected tree_of (stages_of parts) states (record { stage = i; unit = unit }) ≡ true) where
     in_stage : read tree_of false (λ tree s. tree.selected s unit) (Some stage) (slice_get states i) ≡ true
     in_stage = ap (λ o. read tree_of false (λ tree s. tree.selected s unit) o (slice_get states i)) (sym is) ∙ selected
 
     selected_unit : IsRequest stage.design.request → is_positive (asked_fraction stage.design.request unit).num ≡ true
     selected_unit sound = selected_at stage unit (slice_get states i) sound in_stage
-
-    open_unit : can_be_selected (standing stage.design.request unit) ≡ true
-    open_unit = open_at stage unit (slice_get states i) in_stage
-
--- a first stage unit that is selected can be
-first_open : (parts : Parts) (states : List AnyState) (n : ℕ) (s : Stratum) → slice_get parts.strata n ≡ Some s → (k : ℕ) → first_selected parts states n k ≡ true → can_be_selected (standing s.request k) ≡ true
-first_open parts states n s is k selected =
-    let both = and_parts (is_drawn tree_of (stages_of parts) states (first_number parts n)) (unit_selected tree_of (stages_of parts) states (first_place parts n k)) selected in
-    open_unit parts states (first_number parts n) k (first_stage parts s) (first_there parts n s is) both.1
-
--- ---- the strata that are covered
-
-module _ (plan : Parts) (h : ℕ) (s : Stratum) (is : slice_get plan.strata h ≡ Some s) where
-  there_by : (only : Option ℕ) → is_only only h ≡ true → slice_get (parts_by plan only).strata (covered_number (record { plan = plan; only = only }) h) ≡ Some s
-  there_by None covered = is
-  there_by (Some one) covered =
-      let same : h ≡ one = eqb-true h one covered in
-      alone_there plan one s (ap (slice_get plan.strata) (sym same) ∙ is)
-
--- a stratum that is covered has its place among those that are
-pub covered_there : (c : Coverage) (h : ℕ) (s : Stratum) → slice_get c.plan.strata h ≡ Some s → covers c h ≡ true → slice_get (covered_parts c).strata (covered_number c h) ≡ Some s
-covered_there c h s is covered = there_by c.plan h s is c.only (and_parts _ _ covered).1
-
-pub covered_open : (c : Coverage) (states : List AnyState) (h : ℕ) (s : Stratum) → slice_get c.plan.strata h ≡ Some s → covers c h ≡ true → (k : ℕ) → covered_first c states h k ≡ true → can_be_selected (standing s.request k) ≡ true
-covered_open c states h s is covered k selected = first_open (covered_parts c) states (covered_number c h) s (covered_there c h s is covered) k selected
 
 -- ---- a row that is selected where one stratum is drawn alone
 

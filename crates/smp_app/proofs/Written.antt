@@ -1,12 +1,10 @@
 -- Texts that are written row by row.
-use Rattle.std.proofs.Common.{◌≡◌, ℕ, ◌+◌, ◌-◌, ◌*◌, ◌<◌, ◌≤◌, suc, zero, Bool, cond, true, false, append_assoc, ℤ, pos, negsuc, ◌*ℤ◌, List, [], ◌∷◌, ◌++◌, length, get_or, drop, Option, Some, Result, Ok, Err, IfOk, arith, sym, ap, subst, ◌∙◌, inl, inr, drop-cons, true≢false}
-use Rattle.std.specs.List.{count_by, filter, flat_map, range_with_len}
+use Rattle.std.proofs.Common.{◌≡◌, ℕ, ◌+◌, ◌-◌, ◌*◌, ◌<◌, ◌≤◌, suc, zero, Bool, cond, true, ℤ, pos, negsuc, ◌*ℤ◌, List, [], ◌∷◌, ◌++◌, length, get_or, drop, Option, Some, Result, Ok, Err, IfOk, arith, sym, ap, subst, ◌∙◌, drop-cons, true≢false}
+use Rattle.std.specs.List.{count_by, flat_map, range_with_len}
 use Rattle.std.specs.Prelude.{nat_eq, option_map}
-use Rattle.std.proofs.lemmas.Bool.{cases_Bool}
 use Rattle.std.proofs.lemmas.Int.{ints}
 use Rattle.std.proofs.lemmas.List.Sums.{sum_by-cons}
 use Rattle.std.proofs.lemmas.List.{append-nil, drop_all, get_or-map}
-use Rattle.smp_split.proofs.Filters.{filter_here, filter_next}
 use Rattle.smp_fractions.specs.Fractions.{Same, inverse}
 use Rattle.smp_fractions.proofs.Fractions.{same_trans, numerator_positive, inverse_same}
 use Rattle.smp_frac.specs.declared.fractions.Frac.{Frac}
@@ -19,6 +17,7 @@ use Rattle.smp_strata.specs.declared.strata.Seat.{Seat}
 use Rattle.smp_twostage.specs.Selections.{Coverage, covered_tree, is_of_stratum, place_of, seats_by}
 use Rattle.smp_twostage.specs.Starts.{is_positive, row_fraction}
 use Rattle.smp_twostage.specs.Laws.Places.{place_is_seat}
+use Rattle.smp_twostage.proofs.Numbers.{passing}
 use Rattle.smp_weights.specs.Rows.{AddsRow, row}
 use Rattle.smp_weights.specs.Sample.{sample_row}
 use Rattle.smp_weights.proofs.Written.{row_added}
@@ -68,47 +67,6 @@ module _ (p : ℕ → Bool) (n k : ℕ) (here : k < n) where
   pub count_from : (b : Bool) → p k ≡ b → count_by p (range_with_len k (n - k)) ≡ cond b 1 0 + others
   count_from b is =
       ap (λ m. count_by p (range_with_len k m)) left ∙ sum_by-cons (λ x. cond (p x) 1 0) k (range_with_len (k + 1) (n - (k + 1))) ∙ ap (λ t. cond t 1 0 + others) is
-
--- ---- a text of the numbers that pass a test
-
-module _ (line : ℕ → List ℕ) (p : ℕ → Bool) (n : ℕ) where
-  -- the text of those from one on
-  abbrev pub lines_from : ℕ → List ℕ
-  lines_from k = flat_map line (filter p (range_with_len k (n - k)))
-
-  module _ (i : ℕ) (old whole : List ℕ) where
-    pub line_more : i < n → p i ≡ true → (new : List ℕ) → new ≡ old ++ line i → old ++ lines_from i ≡ whole → new ++ lines_from (i + 1) ≡ whole
-    line_more here passes new adds so_far =
-        ap (λ t. t ++ lines_from (i + 1)) adds ∙ append_assoc old (line i) (lines_from (i + 1)) ∙ ap (λ ks. old ++ flat_map line ks) (sym (filter_here p n i here passes)) ∙ so_far
-
-    pub line_passed : i < n → p i ≡ false → old ++ lines_from i ≡ whole → old ++ lines_from (i + 1) ≡ whole
-    line_passed here fails so_far = ap (λ ks. old ++ flat_map line ks) (sym (filter_next p n i here fails)) ∙ so_far
-
-    pub lines_all : n ≤ i → old ++ lines_from i ≡ whole → old ≡ whole
-    lines_all ended so_far =
-        let none : n - i ≡ 0 = omega (arith, ended) in
-        sym (append-nil old) ∙ ap (λ m. old ++ flat_map line (filter p (range_with_len i m))) (sym none) ∙ so_far
-
--- ---- the numbers below a bound that pass a test
-
-module _ (p : ℕ → Bool) (d : ℕ) where
-  -- one of them is below the bound, and passes
-  abbrev Passes : ℕ → ℕ → Type 0
-  Passes bound k = (k < bound) × (p k ≡ true)
-
-  first : (rest : List ℕ) (bound from i : ℕ) → from < bound → p from ≡ true → ((j : ℕ) → j < length rest → Passes bound (get_or rest j d)) → i < length (from ∷ rest) → Passes bound (get_or (from ∷ rest) i d)
-  first rest bound from zero here passes others within = (here, passes)
-  first rest bound from (suc i) here passes others within = others i (omega (arith, within))
-
-  pub passing : (from len i : ℕ) → i < length (filter p (range_with_len from len)) → Passes (from + len) (get_or (filter p (range_with_len from len)) i d)
-  passing from zero i within = absurd (omega (arith, within))
-  passing from (suc len) i within =
-      let others : (j : ℕ) → j < length (filter p (range_with_len (from + 1) len)) → Passes (from + suc len) (get_or (filter p (range_with_len (from + 1) len)) j d) =
-      λ j below. let there = passing (from + 1) len j below in (omega (arith, there.0), there.1) in
-      elim (cases_Bool (p from)) [
-        | inl e ↦ rw e (first (filter p (range_with_len (from + 1) len)) (from + suc len) from i (omega arith) e others (rw e at within))
-        | inr e ↦ rw e (others i (rw e at within))
-      ]
 
 -- ---- rows of a plan
 

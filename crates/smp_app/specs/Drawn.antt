@@ -1,6 +1,6 @@
 -- The draw that follows from a plan.
 use Rattle.std.specs.Prelude.{ℕ, List, length, Option, Some, None}
-use Rattle.std.specs.List.{count_by, filter, range_with_len}
+use Rattle.std.specs.List.{count_by, range_with_len}
 use Rattle.smp_split.specs.Trees.{Tree}
 use Rattle.smp_split.specs.Paths.{Entry}
 use Rattle.smp_split.specs.Counts.{selected_units}
@@ -8,7 +8,7 @@ use Rattle.smp_split.specs.Sectioning.{Sectioning}
 use Rattle.smp_methods.specs.declared.any.AnyState.{AnyState}
 use Rattle.smp_stages.specs.Stages.{Progress}
 use Rattle.smp_twostage.specs.Selections as selections
-use Rattle.smp_twostage.specs.Selections.{Coverage, all_of, covered_tree, covers, is_of_stratum, strata_sections, whole_tree}
+use Rattle.smp_twostage.specs.Selections.{Coverage, all_of, covered_tree, is_of_stratum, strata_sections, whole_tree}
 use Rattle.smp_plan.specs.Plans.{Plan, parts}
 
 -- the draw tree, whose units are the rows of the frame, and the state from which a draw starts
@@ -29,13 +29,9 @@ pub record Drawn : Type 0 where
   pub leaf : Progress AnyState
   pub path : List Entry
 
--- the strata that it covers, and their numbers, counted from 0
+-- the strata that it covers
 abbrev pub covered : Drawn → Coverage
 covered drawn = record { plan = parts drawn.plan; only = drawn.only }
-
-abbrev pub covered_strata : Drawn → List ℕ
-covered_strata drawn =
-    filter (covers (covered drawn)) (range_with_len 0 (length (parts drawn.plan).strata))
 
 -- how many rows stand in them
 abbrev pub rows_by : Plan → Option ℕ → ℕ

@@ -1,6 +1,6 @@
 -- The texts that are written and put.
-use Rattle.std.specs.Prelude.{ℕ, ◌+◌, List, [], ◌∷◌, ◌++◌, length, map, Option, Some, None, codes}
-use Rattle.std.specs.List.{filter, flat_map, range_with_len, slice_get}
+use Rattle.std.specs.Prelude.{ℕ, List, [], ◌∷◌, ◌++◌, length, map, codes}
+use Rattle.std.specs.List.{flat_map, range_with_len}
 use Rattle.std.specs.Fmt.{decimal}
 use Rattle.smp_fractions.specs.Fractions.{Fraction}
 use Rattle.smp_frac.specs.Fractions.{fraction_text}
@@ -8,17 +8,14 @@ use Rattle.smp_log.specs.Logs as logs
 use Rattle.smp_log.specs.SectionLogs.{sectioned_log_text}
 use Rattle.smp_weights.specs.Rows.{row}
 use Rattle.smp_weights.specs.Sample.{sample_file}
-use Rattle.smp_design.specs.declared.method.Method.{Method}
-use Rattle.smp_design.specs.declared.method.Method.TheVariants.{Cube}
 use Rattle.smp_balance.specs.Lines as balance
-use Rattle.smp_balance.specs.Lines.{balance_lines}
-use Rattle.smp_balance.specs.Strata.{column_count}
 use Rattle.smp_strata.specs.declared.strata.Stratum.{Stratum}
-use Rattle.smp_twostage.specs.Cubes.{balancing}
-use Rattle.smp_twostage.specs.Covered.{covered_first, covered_left}
+use Rattle.smp_twostage.specs.Covered.{covered_left}
+use Rattle.smp_twostage.specs.Lines as lines
+use Rattle.smp_twostage.specs.Lines.{balance_lines, covered_strata}
 use Rattle.smp_twostage.specs.Selections.{covered_start, covered_tree, strata_sections}
 use Rattle.smp_plan.specs.Plans.{Plan, parts, row_id, row_probability}
-use Rattle.smp_app.specs.Drawn.{Drawn, covered, covered_strata, rows_by, drawn_rows}
+use Rattle.smp_app.specs.Drawn.{Drawn, covered, rows_by, drawn_rows}
 
 -- ---- texts of a plan
 
@@ -76,29 +73,13 @@ summary_text drawn =
     ++ (codes " of " ++ (decimal (rows_by drawn.plan drawn.only)
     ++ (codes "\nsteps " ++ (decimal (length drawn.path) ++ codes "\n")))))
 
--- and where they were drawn by the cube, what it kept and gave up in each stratum
+-- what was drawn of a stratum of the plan by the cube
 abbrev pub drawn_stratum : Drawn → ℕ → Stratum → balance.Drawn
-drawn_stratum drawn h s = record {
-  number = h + 1;
-  left = covered_left (covered drawn) drawn.leaf.states h;
-  columns = column_count (balancing s);
-  stratum = balancing s;
-  units = filter (covered_first (covered drawn) drawn.leaf.states h) (range_with_len 0 (length s.units));
-}
+drawn_stratum drawn h s = lines.drawn_stratum (covered drawn) drawn.leaf.states h s
 
-abbrev pub lines_at : Drawn → ℕ → Option Stratum → List ℕ
-lines_at drawn h (Some s) = balance_lines (drawn_stratum drawn h s)
-lines_at drawn h None = []
-
-abbrev pub stratum_lines : Drawn → ℕ → List ℕ
-stratum_lines drawn h = lines_at drawn h (slice_get (parts drawn.plan).strata h)
-
-abbrev pub cube_lines : Method → Drawn → List ℕ
-cube_lines Cube drawn = flat_map (stratum_lines drawn) (covered_strata drawn)
-cube_lines other drawn = []
-
+-- and where they were drawn by the cube, what it kept and gave up in each stratum
 abbrev pub report_text : Drawn → List ℕ
-report_text drawn = summary_text drawn ++ cube_lines drawn.plan.design.method drawn
+report_text drawn = summary_text drawn ++ balance_lines (covered drawn) drawn.leaf.states
 
 -- the summary of the demonstration: how many units were drawn of how many, in how many steps, and how many units were fractional in each
 -- stratum where its landing began; and that the log of the draw was replayed
@@ -106,7 +87,7 @@ abbrev pub left_text : Drawn → ℕ → List ℕ
 left_text drawn h = codes " " ++ decimal (covered_left (covered drawn) drawn.leaf.states h)
 
 abbrev pub lefts_text : Drawn → List ℕ
-lefts_text drawn = flat_map (left_text drawn) (covered_strata drawn)
+lefts_text drawn = flat_map (left_text drawn) (covered_strata (covered drawn))
 
 abbrev pub demo_text : Drawn → List ℕ
 demo_text drawn =

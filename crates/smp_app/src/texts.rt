@@ -1,27 +1,21 @@
-ghost use Rattle.std.specs.Prelude.{◌≡◌, ◌++◌, ◌∷◌, [], ◌+◌, ◌^◌, ◌<◌, true, length, map, slice_index_or, IfOk, IfSome, OnOk, Some, codes, string_bytes};
+ghost use Rattle.std.specs.Prelude.{◌≡◌, ◌++◌, ◌∷◌, [], ◌<◌, length, IfOk, IfSome, OnOk, Some, codes, string_bytes};
 ghost use Rattle.std.specs.Fmt.{decimal};
-ghost use Rattle.std.specs.List.{filter, range_with_len, slice_get};
 ghost use Rattle.smp_app.specs.Texts;
 ghost use Rattle.smp_app.specs.Drawn.{rows_by};
-ghost use Rattle.smp_app.specs.Texts.{cube_lines, stratum_lines};
 ghost use Rattle.smp_app.specs.Stages as Stages;
 ghost use Rattle.smp_plan.specs.Planned.{IsPlanned, plan_view};
 ghost use Rattle.smp_app.specs.Stages.{IsSelection, selection_view};
-ghost use Rattle.smp_design.specs.declared.method.Method.TheVariants.{Cube};
 ghost use Rattle.smp_frac.specs.Fractions.{fraction, fraction_text};
-ghost use Rattle.smp_twostage.specs.Covered.{covered_first};
-ghost use Rattle.smp_twostage.specs.Selections.{BelongsToCovered, covered_start, covered_tree, covers, units_at};
+ghost use Rattle.smp_twostage.specs.Selections.{BelongsToCovered, covered_start};
 ghost use Rattle.smp_weights.specs.Rows.{AddsRow, row};
 
 use crate::job::{DrawnText, PlanText};
 use crate::selection::Selection;
-use smp_balance::{DrawnStratum, push_balance_lines};
-use smp_design::Method;
 use smp_frac::{Bytes, Frac, NoMemory, Text};
 use smp_log::{log_bytes, replay, step_lines};
 use smp_plan::FramePlan;
-use smp_strata::{First, asked};
-use smp_twostage::{StartedWhole, Whole};
+use smp_strata::asked;
+use smp_twostage::{StartedWhole, Whole, balance_lines};
 use smp_weights::{CsvRows, push_sample_row, sample_rows};
 use std::alloc::Global;
 
@@ -141,7 +135,8 @@ fn report_text(alloc: Global, plan: &FramePlan, selection: &Selection) -> Result
     let units = row_count(plan, selection.only);
     let steps = selection.lines.as_slice().len();
     let mut report = format!(in alloc; "selected {drawn} of {units}\nsteps {steps}\n")?;
-    push_cube_lines(alloc, &mut report, plan, selection)?;
+    let lines = balance_lines(alloc, &selection.whole, &selection.state)?;
+    report.push_str(&lines)?;
     bytes_of(alloc, &report)
 }
 
@@ -232,122 +227,6 @@ fn push_left(text: &mut String, left: u32) -> Result<(), NoMemory>
 {
     write!(text, " {left}")?;
     Ok(())
-}
-
-// What the cube kept and gave up in each stratum, where the units were drawn by it.
-fn push_cube_lines(
-    alloc: Global,
-    text: &mut String,
-    plan: &FramePlan,
-    selection: &Selection,
-) -> Result<(), NoMemory>
-    requires planned { IsPlanned plan.now }
-    requires selection { IsSelection (plan_view plan.now) selection.now }
-    ensures { OnOk result (string_bytes text.new ≡ string_bytes text.old
-        ++ cube_lines plan.now.design.method (selection_view (plan_view plan.now) selection.now)) }
-{
-    match plan.design.method {
-        Method::Cube => push_strata_lines(alloc, text, plan, selection),
-        _ => Ok(()),
-    }
-}
-
-fn push_strata_lines(
-    alloc: Global,
-    text: &mut String,
-    plan: &FramePlan,
-    selection: &Selection,
-) -> Result<(), NoMemory>
-    requires planned { IsPlanned plan.now }
-    requires selection { IsSelection (plan_view plan.now) selection.now }
-    requires cube { plan.now.design.method ≡ Cube }
-    ensures { OnOk result (string_bytes text.new ≡ string_bytes text.old
-        ++ cube_lines Cube (selection_view (plan_view plan.now) selection.now)) }
-{
-    for number in 0..plan.plan.strata() {
-        if selection.whole.covers(number) {
-            push_stratum_lines(alloc, text, plan, selection, number)?;
-        }
-    }
-    Ok(())
-}
-
-fn push_stratum_lines(
-    alloc: Global,
-    text: &mut String,
-    plan: &FramePlan,
-    selection: &Selection,
-    number: usize,
-) -> Result<(), NoMemory>
-    requires planned { IsPlanned plan.now }
-    requires selection { IsSelection (plan_view plan.now) selection.now }
-    requires cube { plan.now.design.method ≡ Cube }
-    requires number { number < length plan.now.plan.strata }
-    requires covered { covers selection.now.whole number ≡ true }
-    requires room { number + 1 < 2 ^ 64 }
-    ensures { OnOk result (string_bytes text.new ≡ string_bytes text.old
-        ++ stratum_lines (selection_view (plan_view plan.now) selection.now) number) }
-{
-    let stratum = plan.plan.stratum(number);
-    let units = stratum.units.as_slice();
-    let values = values_of(alloc, units)?;
-    let drawn = drawn_units(alloc, selection, number, units.len())?;
-    let drawn = DrawnStratum {
-        number: number + 1,
-        left: selection.whole.left(&selection.state, number),
-        columns: column_count(units),
-        request: &stratum.request,
-        values: values.as_slice(),
-        units: drawn.as_slice(),
-    };
-    push_balance_lines(alloc, text, &drawn)
-}
-
-// The first stage units of a stratum that are drawn, in order.
-fn drawn_units(
-    alloc: Global,
-    selection: &Selection,
-    stratum: usize,
-    units: usize,
-) -> Result<Vec<usize>, NoMemory>
-    requires state { BelongsToCovered selection.now.whole selection.now.state }
-    requires done { (covered_tree selection.now.whole).done selection.now.state ≡ true }
-    requires stratum { covers selection.now.whole stratum ≡ true }
-    requires units { units
-        ≡ length (units_at (slice_get selection.now.whole.plan.strata stratum)) }
-    ensures { IfOk result (λ drawn. drawn.items
-        ≡ filter (covered_first selection.now.whole selection.now.state.states stratum)
-        (range_with_len 0 units)) }
-{
-    let mut drawn = Vec::new(alloc);
-    for unit in 0..units {
-        if selection.whole.first(&selection.state, stratum, unit) {
-            drawn.push(unit)?;
-        }
-    }
-    Ok(drawn)
-}
-
-// How many values each unit has; none where there is no unit.
-fn column_count(units: &[First]) -> usize
-    ensures { result ≡ length (slice_index_or (map (λ u. u.values) units.now) 0 []) }
-{
-    match units.first() {
-        Some(unit) => unit.values.as_slice().len(),
-        None => 0,
-    }
-}
-
-// The values of each unit.
-fn values_of<'a>(alloc: Global, units: &'a [First]) -> Result<Vec<&'a [i32]>, NoMemory>
-    ensures { IfOk result (λ values. map (λ v. v.now) values.items
-        ≡ map (λ u. u.values) units.now) }
-{
-    let mut values = Vec::with_capacity(alloc, units.len())?;
-    for unit in units {
-        values.push(unit.values.as_slice())?;
-    }
-    Ok(values)
 }
 
 fn bytes_of(alloc: Global, text: &str) -> Result<Bytes, NoMemory>

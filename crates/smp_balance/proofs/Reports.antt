@@ -1,5 +1,5 @@
 -- The lines of the report tell the totals of the statement.
-use Rattle.std.proofs.Common.{◌≡◌, ℕ, zero, suc, ◌+◌, ◌≤◌, Bool, true, cond, ℤ, ◌+ℤ◌, List, [], ◌∷◌, ◌++◌, map, length, Result, Ok, Err, IfOk, arith, refl, sym, ap, ◌∙◌, subst, inl, inr, true≢false}
+use Rattle.std.proofs.Common.{◌≡◌, ℕ, zero, suc, ◌+◌, ◌≤◌, Bool, true, cond, ℤ, pos, ◌+ℤ◌, List, [], ◌∷◌, ◌++◌, map, length, Result, Ok, Err, IfOk, arith, refl, sym, ap, ◌∙◌, subst, inl, inr, true≢false}
 use Rattle.std.specs.List.{filter, range_with_len}
 use Rattle.std.proofs.lemmas.Bool.{cases_Bool}
 use Rattle.std.proofs.lemmas.Int.{ints}
@@ -64,8 +64,10 @@ module _ (s : Stratum) (ok : IsStratum s) (leaf : Balancing) (column : ℕ) wher
   -- the term of a selected unit
   term_is : (k : ℕ) → is_selected s leaf k ≡ true → Same (times (integer (value_in s column k)) (weight (lowest_terms (asked_fraction s.request k)))) (counted s (suc column) k)
   term_is k selected =
-      let positive : 1 ≤ (lowest_terms (asked_fraction s.request k)).num = asked_positive s.request ok.request k (open_at (standing s.request k) _ selected) in
-      times_same (same_refl (integer (value_in s column k)))
+      let can = open_at (standing s.request k) _ selected in
+      let positive : 1 ≤ (lowest_terms (asked_fraction s.request k)).num = asked_positive s.request ok.request k can in
+      let known : value_in s column k ≡ known_value s column k = sym (ap (λ (b : Bool). cond b (value_in s column k) (pos 0)) can) in
+      times_same (subst (λ (z : ℤ). Same (integer (value_in s column k)) (integer z)) known (same_refl (integer (value_in s column k))))
       (inverse_same (fraction (lowest_terms (asked_fraction s.request k))) (asked_fraction s.request k) (λ none. omega (arith, ints, positive, none))
       (same_trans (lowest_terms_value (asked_fraction s.request k)) (no_sign_at s.request k)))
 

@@ -19,7 +19,7 @@ use Rattle.smp_flight.specs.Requests.{columns_with}
 use Rattle.smp_flight.specs.Totals.{expanded, addend}
 use Rattle.smp_landing.proofs.Starts.{starts_requested}
 use Rattle.smp_balance.specs.Strata.{Stratum, IsStratum, values_of, value_in, free_values, free_units}
-use Rattle.smp_balance.specs.Totals.{can_be_selected, counted, is_undecided}
+use Rattle.smp_balance.specs.Totals.{can_be_selected, counted, is_undecided, known_value}
 use Rattle.smp_rows.proofs.Sums.{free_is, at_free}
 
 cond_same : (b : Bool) {a c : Fraction} → Same a c → Same (cond b a (whole 0)) (cond b c (whole 0))
@@ -58,16 +58,21 @@ module _ (s : Stratum) (ok : IsStratum s) where
       let is : slice_index s.request.shape u * s.request.r ≡ 0 = cc in
       omega (arith, both, is)
 
+  -- the value of a unit that can be selected
+  known_there : (j k : ℕ) (stand : Standing) → standing s.request k ≡ stand → can_be_selected stand ≡ true → known_value s j k ≡ value_in s j k
+  known_there j k stand is can =
+      ap (λ (at : Standing). cond (can_be_selected at) (value_in s j k) (pos 0)) is ∙ ap (λ (b : Bool). cond b (value_in s j k) (pos 0)) can
+
   pub counted_is : (row k u : ℕ) → standing s.request k ≡ Free u → Same (counted s row k) (expanded (free_units s) row u)
   counted_is zero k u is = same_refl (whole 1)
   counted_is (suc j) k u is =
       let l = free_within s.request k u is in
-      let value : value_in s j k ≡ entry (column (free_units s) u) (suc j) = ap (value_in s j) (sym (free_is s.request k u is)) ∙ sym (free_value u j l) in
+      let value : known_value s j k ≡ entry (column (free_units s) u) (suc j) = known_there j k (Free u) is refl ∙ ap (value_in s j) (sym (free_is s.request k u is)) ∙ sym (free_value u j l) in
       let weight : Same (inverse (asked_fraction s.request k)) (inverse (value_at (shares_of s.request) u)) =
       subst (λ (a : Fraction). Same (inverse a) (inverse (value_at (shares_of s.request) u))) (sym (asked_at k (Free u) is))
       (inverse_same (free_fraction s.request u) (value_at (shares_of s.request) u) (some_asked u l) (same_sym (free_asked u l))) in
       subst (λ (z : ℤ). Same (counted s (suc j) k) (times (integer z) (inverse (value_at (shares_of s.request) u)))) value
-      (times_same (same_refl (integer (value_in s j k))) weight)
+      (times_same (same_refl (integer (known_value s j k))) weight)
 
   -- ---- what a certain unit adds, whatever is drawn
 
@@ -104,7 +109,9 @@ module _ (s : Stratum) (ok : IsStratum s) where
   known_term (suc j) k Never is = same_sym zero-plus-zero
   known_term (suc j) k Certain is =
       let one : Same (inverse (asked_fraction s.request k)) (whole 1) = subst (λ (a : Fraction). Same (inverse a) (whole 1)) (sym (asked_at k Certain is)) (record { cross = refl }) in
-      let here : Same (counted s (suc j) k) (integer (value_in s j k)) = same_trans (times_same (same_refl (integer (value_in s j k))) one) (times-one (integer (value_in s j k))) in
+      let here : Same (counted s (suc j) k) (integer (value_in s j k)) =
+      subst (λ (z : ℤ). Same (counted s (suc j) k) (integer z)) (known_there j k Certain is refl)
+      (same_trans (times_same (same_refl (integer (known_value s j k))) one) (times-one (integer (known_value s j k)))) in
       same_trans (same_sym here) (same_sym (zero-plus (counted s (suc j) k)))
   known_term (suc j) k (Free u) is =
       let value : entry (column (free_units s) u) (suc j) ≡ value_in s j k = free_value u j (free_within s.request k u is) ∙ ap (value_in s j) (free_is s.request k u is) in

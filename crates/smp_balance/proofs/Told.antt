@@ -118,9 +118,6 @@ next_line line us i k old new whole l is adds so_far =
     ∙ ap (λ j. old ++ (line j ++ flat_map line (drop (suc i) us))) (sym is)
     ∙ ap (λ front. old ++ flat_map line front) (sym (drop-cons us i 0 l)) ∙ so_far
 
-pub first_line : (old first rest new : List ℕ) → new ≡ old ++ first → new ++ rest ≡ old ++ (first ++ rest)
-first_line old first rest new adds = ap (λ t. t ++ rest) adds ∙ append_assoc old first rest
-
 pub last_line : (line : ℕ → List ℕ) (us : List ℕ) (i : ℕ) (old whole : List ℕ) → length us ≤ i → old ++ flat_map line (drop i us) ≡ whole → old ≡ whole
 last_line line us i old whole ended so_far =
     sym (append-nil old) ∙ ap (λ rest. old ++ flat_map line rest) (sym (drop_all i us ended)) ∙ so_far

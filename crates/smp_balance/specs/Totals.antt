@@ -16,12 +16,17 @@ abbrev pub can_be_selected : Standing → Bool
 can_be_selected Never = false
 can_be_selected other = true
 
--- What a unit counts for in the total of a row: 1 in the first row; in any other its balancing value times its design weight, which is
--- one divided by the probability that is asked for it.
+-- the balancing value of a unit that can be selected, and 0 of any other
+abbrev pub known_value : Stratum → ℕ → ℕ → ℤ
+known_value s column k =
+    cond (can_be_selected (standing s.request k)) (value_in s column k) (pos 0)
+
+-- What a unit counts for in the total of a row: 1 in the first row; in any other its balancing value over the probability that is asked for
+-- it, and 0 where that is 0.
 abbrev pub counted : Stratum → ℕ → ℕ → Fraction
 counted s zero k = whole 1
 counted s (suc column) k =
-    times (integer (value_in s column k)) (inverse (asked_fraction s.request k))
+    times (integer (known_value s column k)) (inverse (asked_fraction s.request k))
 
 -- the value of a unit at a state: 1 where it is certain, and 0 where it is never selected
 abbrev pub value_of : Stratum → Balancing → ℕ → Fraction
@@ -31,11 +36,6 @@ value_of s state k = row_value (value_at (values_in state)) (standing s.request 
 -- values. A unit of probability 0 has the value 0, so it adds nothing.
 abbrev pub total : Stratum → Balancing → ℕ → Fraction
 total s state row = sum_below (length s.values) (λ k. times (counted s row k) (value_of s state k))
-
--- the balancing value of a unit that can be selected, and 0 of any other
-abbrev pub known_value : Stratum → ℕ → ℕ → ℤ
-known_value s column k =
-    cond (can_be_selected (standing s.request k)) (value_in s column k) (pos 0)
 
 -- What is known: the sum of the probabilities; of a column the sum over the units that can be selected.
 abbrev pub known_of : Stratum → ℕ → ℕ → Fraction

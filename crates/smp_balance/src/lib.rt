@@ -1,11 +1,11 @@
 //! The balance of a stratum that is drawn by the cube method (Deville and Tillé 2004), over all of its units.
 //!
 //! The cube draws among the free units alone. What it keeps and what its landing gives up is said here of the totals over all units of
-//! the stratum, with those that are certain, which are selected at every leaf. [`push_balance_lines`] writes what the report tells of it.
+//! the stratum, with those that are certain, which are selected at every leaf. [`balance_lines`] is what the report tells of it.
 #![tactic(auto)]
 
 mod laws;
 mod lines;
 
 pub use laws::{balance_law, report_law};
-pub use lines::{DrawnStratum, push_balance_lines};
+pub use lines::{DrawnStratum, balance_lines};

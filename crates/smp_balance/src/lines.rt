@@ -32,32 +32,28 @@ pub struct DrawnStratum<'a> {
     pub units: &'a [usize],
 }
 
-/// Writes the lines of the report for a stratum: `left H L`, the number of units that were undecided where the landing began, and then for
-/// each balancing column `balance H J E T`: the weighted total of the drawn units, a fraction, or `wide` where it needs a number of 2^126 or
-/// more; and the sum over the units that can be selected.
-pub fn push_balance_lines(
-    alloc: Global,
-    text: &mut String,
-    drawn: &DrawnStratum,
-) -> Result<(), NoMemory>
+/// The lines of the report for a stratum: `left H L`, with L the number of units that were undecided where the landing began, and then for
+/// each balancing column `balance H J E T`: E is the weighted total of the drawn units, a fraction, or `wide` where it needs a number of 2^126
+/// or more; and T the sum over the units that can be selected. H and J are counted from 1. Each line ends with a line feed.
+///
+/// Where there is too little memory, the answer is [`NoMemory`], the only error.
+pub fn balance_lines(alloc: Global, drawn: &DrawnStratum) -> Result<String, NoMemory>
     requires { IsTold (drawn_view drawn.now) }
-    ensures { OnOk result (string_bytes text.new
-        ≡ string_bytes text.old ++ balance_lines (drawn_view drawn.now)) }
+    ensures { IfOk result (λ text. string_bytes text ≡ balance_lines (drawn_view drawn.now)) }
 {
-    push_left_line(text, drawn)?;
     let asked = asked_of(alloc, drawn)?;
+    let mut text = left_line(alloc, drawn)?;
     for column in 0..drawn.columns {
         let estimate = column_estimate(alloc, drawn, asked.as_slice(), column)?;
-        push_balance_line(alloc, text, drawn, column, estimate)?;
+        push_balance_line(alloc, &mut text, drawn, column, estimate)?;
     }
-    Ok(())
+    Ok(text)
 }
 
-fn push_left_line(text: &mut String, drawn: &DrawnStratum) -> Result<(), AllocError>
-    ensures { OnOk result (string_bytes text.new
-        ≡ string_bytes text.old ++ left_line (drawn_view drawn.now)) }
+fn left_line(alloc: Global, drawn: &DrawnStratum) -> Result<String, AllocError>
+    ensures { IfOk result (λ text. string_bytes text ≡ left_line (drawn_view drawn.now)) }
 {
-    write!(text, "left {} {}\n", drawn.number, drawn.left)
+    format!(in alloc; "left {} {}\n", drawn.number, drawn.left)
 }
 
 // The probabilities that are asked for the drawn units.

@@ -21,7 +21,7 @@ use Rattle.smp_strata.specs.Draws.{DrawsInStratum}
 use Rattle.smp_strata.specs.Clusters.{clusters, clusters_in, first_row, stratum_names, stratum_number}
 use Rattle.smp_strata.specs.Misfits.{unit_in_two}
 use Rattle.smp_strata.specs.Plans.{first_of, second_request, second_sizes, stratum_of}
-use Rattle.smp_strata.specs.Rows.{second_size_at, size_of, stratum_at, value_of}
+use Rattle.smp_strata.specs.Rows.{second_size_at, stratum_at, value_of}
 use Rattle.smp_strata.specs.Seats.{IsSeat, seat_fraction, stage_fraction}
 use Rattle.smp_strata.specs.declared.strata.First as first
 use Rattle.smp_strata.specs.declared.strata.Seat as seat

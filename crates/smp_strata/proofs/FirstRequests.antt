@@ -1,15 +1,14 @@
 -- The request over the first stage units of a stratum.
-use Rattle.std.proofs.Common.{◌≡◌, ℕ, zero, suc, ◌+◌, ◌*◌, ◌<◌, ◌≤◌, ◌==◌, max, pos, true, false, not, Bool, List, [], ◌∷◌, length, map, filter, get_or, true≢false, nat_lt, nat_eq, Option, Some, None, inl, inr, arith, refl, sym, ap, subst, ◌∙◌}
+use Rattle.std.proofs.Common.{◌≡◌, ℕ, zero, suc, ◌+◌, ◌*◌, ◌<◌, ◌≤◌, ◌==◌, max, pos, true, false, not, Bool, List, [], ◌∷◌, length, map, filter, get_or, true≢false, nat_lt, Option, Some, None, inl, inr, arith, refl, sym, ap, subst, ◌∙◌}
 use Rattle.std.specs.Prelude.{All, IsSome, IsTrue, OnSome, unsigned_abs}
-use Rattle.std.specs.List.{list_any, range_with_len}
+use Rattle.std.specs.List.{list_any}
 use Rattle.std.specs.Str.{bytes_eq}
 use Rattle.std.proofs.lemmas.Bool.{cases_Bool, eqb-true, ltb-false}
 use Rattle.std.proofs.lemmas.List.{get_or-map, length-map}
 use Rattle.std.proofs.lemmas.List.Folds.{list_any_at}
-use Rattle.std.proofs.lemmas.List.FromFn.{length-map-range_with_len}
 use Rattle.std.proofs.lemmas.List.Elements.{All-filter, All-map}
 use Rattle.std.proofs.lemmas.List.Sums.{count_by-le-length, length-filter}
-use Rattle.smp_fractions.specs.Fractions.{Fraction, Same, over, plus, sum_below, whole}
+use Rattle.smp_fractions.specs.Fractions.{Fraction, Same, over, sum_below, whole}
 use Rattle.smp_fractions.proofs.Fractions.{same_sym, same_trans}
 use Rattle.smp_frac.specs.declared.fractions.Frac.{Frac}
 use Rattle.smp_frac.specs.Fractions.{fraction}
@@ -27,7 +26,7 @@ use Rattle.smp_prob.specs.declared.requests.Request.{Request}
 use Rattle.smp_prob.specs.Requested.{requested_of}
 use Rattle.smp_strata.specs.Bounds.{IsWholeOver}
 use Rattle.smp_strata.specs.Clusters.{clusters, clusters_in, stratum_names, stratum_name, first_row}
-use Rattle.smp_strata.specs.Draws.{AreAsked, IsFor}
+use Rattle.smp_strata.specs.Draws.{IsFor}
 use Rattle.smp_strata.specs.Misfits.{sum_of, unwhole, when}
 use Rattle.smp_strata.specs.Plans.{first_probs, first_sizes, sample_size}
 use Rattle.smp_strata.specs.declared.misfit.Misfit.TheVariants.{Denominator, NotWhole}

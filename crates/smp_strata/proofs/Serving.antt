@@ -26,7 +26,7 @@ use Rattle.smp_strata.specs.Kept.Groups.{places_of}
 use Rattle.smp_strata.specs.Kept.Layouts.{AreRows}
 use Rattle.smp_strata.proofs.Expected.{given_size}
 use Rattle.smp_strata.proofs.Founds.{none_at, none_each, when_false}
-use Rattle.smp_strata.proofs.Members.{homes, members_are, none_large, sizes_small}
+use Rattle.smp_strata.proofs.Members.{count_all, homes, members_are, none_large, sizes_small}
 use Rattle.smp_strata.proofs.MisfitOrder.{IsServed, IsSized, seconds_enough}
 
 pub second_small : (units : List unit.Unit) (rows : List ℕ) → IsFrame units → All (λ row. row < length units) rows
@@ -87,6 +87,11 @@ module _ (design : Design) (units : List unit.Unit) (rows : All (AreRows (length
     long_in : length (clusters_in design units k) ≡ length members
     long_in = ap length (sym (members_are design units rows k here)) ∙ length-map members (λ i. get_or all i [])
 
+    few_clusters : length (clusters_in design units k) ≤ length all
+    few_clusters =
+        let p : List ℕ → Bool = λ g. bytes_eq (stratum_at units (first_row g)) (stratum_name units k) in
+        omega (arith, length-filter p all, count_by-le-length p all)
+
     cluster_at : (j : ℕ) (d : List ℕ) → j < length members → get_or (clusters_in design units k) j d ≡ get_or all (get_or members j 0) []
     cluster_at j d l = ap (λ gs. get_or gs j d) (sym (members_are design units rows k here)) ∙ get_or-map (λ i. get_or all i []) members j 0 d l
 
@@ -95,14 +100,15 @@ module _ (design : Design) (units : List unit.Unit) (rows : All (AreRows (length
         (λ j d l. (let l2 : j < length members = omega (arith, l, long) in
         (each j d l2).value ∙ sym (get_or-map (first_of design units) (clusters_in design units k) j [] d (omega (arith, l2, long_in)) ∙ ap (first_of design units) (cluster_at j [] l2))))
 
-    pub built : (request : Request) → IsFirstRequest design units k request
+    pub built : length units ≤ max_rows → (request : Request) → IsFirstRequest design units k request
         → (s : stratum.Stratum) → s ≡ record { name = stratum_name units k; units = fs; request = request } → s ≡ stratum_of design units k → IsBuilt design units k s
-    built request asked s is value =
+    built few request asked s is value =
         let long_units : length (clusters_in design units k) ≡ length fs = long_in ∙ sym long in
         record {
           value = value;
           stratum = rw is record {
             some = omega (arith, asked.some, long_units);
+            few = omega (arith, few, long_units, few_clusters, count_all design.second units);
             over = rw (← long_units) asked.over;
             firsts = λ j d l. (each j d (omega (arith, l, long))).first;
           };

@@ -1,6 +1,7 @@
 -- What is true of every plan.
 use Rattle.std.specs.Prelude.{◌≡◌, ℕ, ◌<◌, ◌≤◌, List, length, is_some, Option, IfSome, IsTrue, All}
 use Rattle.smp_frame.specs.Bounds.{AreNear}
+use Rattle.smp_frame.specs.Limits.{max_rows}
 use Rattle.smp_prob.specs.declared.requests.Request.{Request}
 use Rattle.smp_prob.specs.Requests.{IsRequest}
 use Rattle.smp_prob.specs.Standings.{AreApart, IsRising}
@@ -33,9 +34,10 @@ pub record IsFirst (method : Option Method) (f : first.First) : Type 0 where
   pub over : IfSome f.second (IsWholeOver (length f.rows))
   pub staged : is_some f.second ≡ is_some method
 
--- a stratum has first stage units, and a request over them
+-- a stratum has first stage units, as many as a frame has rows at most, and a request over them
 pub record IsStratum (method : Option Method) (s : stratum.Stratum) : Type 0 where
   pub some : 1 ≤ length s.units
+  pub few : length s.units ≤ max_rows
   pub over : IsOver (length s.units) s.request
   pub firsts : All (IsFirst method) s.units
 

@@ -9,7 +9,8 @@ use Rattle.smp_rows.specs.Rows.{Fills}
 use Rattle.smp_design.specs.declared.design.Design.{Design}
 use Rattle.smp_design.specs.declared.design.Second as second
 use Rattle.smp_frame.specs.declared.frame.Unit as unit
-use Rattle.smp_strata.specs.Plans.{Parts, first_probs, sample_size}
+use Rattle.smp_strata.specs.Allocations.{IsAllocation}
+use Rattle.smp_strata.specs.Plans.{Parts, cluster_counts, first_probs, sample_size, sample_sizes}
 use Rattle.smp_strata.specs.declared.strata.Stratum as stratum
 
 -- a request for a whole number of units selects n of so many
@@ -20,6 +21,12 @@ pub record IsFor (request : Request) (units n : ℕ) : Type 0 where
 -- the request of a second stage draws the second stage's n of so many rows, where there is a second stage
 abbrev pub SecondDraws : Option second.Second → ℕ → Option Request → Type 0
 SecondDraws second rows request = IfSome second (λ s. IfSome request (λ r. IsFor r rows s.n))
+
+-- Where a design asks for n first stage units of all strata together, the sample sizes are an allocation of n by the strata's numbers of
+-- first stage units. With a column of probabilities a design asks for no such number.
+abbrev pub IsAllocated : Design → List unit.Unit → Type 0
+IsAllocated design units =
+    IfSome design.n (λ n. IsAllocation n (cluster_counts design units) (sample_sizes design units))
 
 -- So many first stage units are asked of a stratum: its sample size, or with given probabilities their sum, where that is a whole number.
 abbrev pub AreAskedBy : Option (List ℕ) → Design → List unit.Unit → ℕ → ℕ → Type 0

@@ -5,7 +5,7 @@ ghost use Rattle.smp_frame.specs.Bounds.{HaveValues, IsFrame};
 ghost use Rattle.smp_design.specs.Bounds.{IsDesign};
 ghost use Rattle.smp_strata.specs.Asked.{AsksAsFrame};
 ghost use Rattle.smp_strata.specs.Bounds.{IsPlan};
-ghost use Rattle.smp_strata.specs.Draws.{DrawsAsAsked};
+ghost use Rattle.smp_strata.specs.Draws.{DrawsAsAsked, IsAllocated};
 ghost use Rattle.smp_strata.specs.Misfits.{Reports, misfit_of};
 ghost use Rattle.smp_strata.specs.Plans.{parts_of};
 
@@ -35,6 +35,8 @@ pub fn accept(alloc: Global, frame: &Frame, design: &Design) -> Result<Plan, Mis
     ensures asked { IfOk result (AsksAsFrame design.now frame.now) }
     // each stratum draws its sample size of first stage units, each second stage its n of the rows
     ensures drawn { IfOk result (DrawsAsAsked design.now frame.now) }
+    // a number that is asked of all strata is allocated among them by largest remainders, all of it
+    ensures allocated { IfOk result (λ _. IsAllocated design.now frame.now) }
 {
     let units = frame.units();
     let clusters = clusters_of(alloc, units, design.second)?;

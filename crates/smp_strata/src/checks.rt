@@ -9,6 +9,7 @@ ghost use Rattle.smp_prob.specs.Given.{AreGiven, common_multiple, largest_multip
 ghost use Rattle.smp_strata.specs.Rows as Rows;
 ghost use Rattle.smp_strata.specs.Rows.{psu_at, stratum_at};
 ghost use Rattle.smp_strata.specs.Clusters.{clusters as clusters_of, first_row};
+ghost use Rattle.smp_strata.specs.Draws.{IsAllocated};
 ghost use Rattle.smp_strata.specs.Misfits.{Reports, first_apart, first_found, misfit_of, probs_misfit, psu_short, psu_too_large, second_too_many, short, sizes_misfit, sum_of, unit_in_two, unwhole, when};
 ghost use Rattle.smp_strata.specs.declared.misfit.Misfit.TheVariants as misfits;
 ghost use Rattle.smp_strata.specs.Kept.Layouts.{AreRows, IsLaidOut, homes_of, prob_of};
@@ -340,6 +341,7 @@ fn sizes_that_fit(
     requires small { psu_too_large design.now units.now ≡ None }
     ensures misfit { Reports result (sizes_misfit design.now units.now) }
     ensures sizes { IfOk result (AreSizes design.now units.now clusters.now) }
+    ensures allocated { IfOk result (λ _. IsAllocated design.now units.now) }
 {
     let samples = sample_sizes(alloc, design, &strata.names, &strata.members)?;
     all_have_sizes(alloc, &strata.names, &samples)?;
@@ -364,6 +366,7 @@ pub(crate) fn checked(
     requires homes { clusters.now.homes.items ≡ homes_of design.now.second units.now }
     ensures misfit { Reports result (misfit_of design.now units.now) }
     ensures sizes { IfOk result (HasSizes design.now units.now clusters.now.rows.items) }
+    ensures allocated { IfOk result (λ _. IsAllocated design.now units.now) }
 {
     let columns = design.columns.values.as_slice().len();
     no_unit_in_two(alloc, units, design.second, clusters)?;

@@ -1,12 +1,13 @@
 //! Sizes of first stage units, and how many of these are drawn from each stratum.
 
-ghost use Rattle.std.specs.Prelude.{◌≡◌, ◌^◌, ◌<◌, ◌≤◌, All, IfOk, length, map, slice_index, sum};
+ghost use Rattle.std.specs.Prelude.{◌≡◌, ◌^◌, ◌<◌, ◌≤◌, All, IfOk, IfSome, length, map, slice_index, sum};
 ghost use Rattle.std.specs.Ordering.{nat_cmp};
 ghost use Rattle.std.specs.Cmp.Lexicographic.{slice_cmp};
 ghost use Rattle.smp_frame.specs.Bounds.{IsFrame};
 ghost use Rattle.smp_frame.specs.Limits.{max_rows};
 ghost use Rattle.smp_design.specs.Bounds.{Ascend, IsDesign};
 ghost use Rattle.smp_prob.specs.Requested as Requested;
+ghost use Rattle.smp_strata.specs.Allocations.{IsAllocation};
 ghost use Rattle.smp_strata.specs.Rows as Rows;
 ghost use Rattle.smp_strata.specs.Plans as Plans;
 ghost use Rattle.smp_strata.specs.Plans.{sizes_by};
@@ -144,8 +145,10 @@ pub(crate) fn sample_sizes(
     requires few { length members.now ≤ max_rows }
     requires some { 1 ≤ sum (map length members.now) }
     requires total { sum (map length members.now) ≤ max_rows }
-    ensures { IfOk result (λ sizes. sizes.items
+    ensures value { IfOk result (λ sizes. sizes.items
         ≡ sizes_by design.now.n design.now.sizes names.now (map length members.now)) }
+    ensures rule { IfOk result (λ sizes. IfSome design.now.n
+        (λ n. IsAllocation n (map length members.now) sizes.items)) }
 {
     match design.n {
         Some(n) => {

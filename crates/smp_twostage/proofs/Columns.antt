@@ -32,7 +32,7 @@ first_long : (units : List First) (n : ℕ) → 1 ≤ length units → All (λ u
 first_long [] n some all = absurd (omega (arith, some))
 first_long (u ∷ us) n some all = All-get_or (λ (v : First). length v.values ≡ n) (u ∷ us) 0 u (omega arith) all
 
-near_within : (values : List ℤ) → AreNear values → Within (2 ^ 31 - 1) values
+pub near_within : (values : List ℤ) → AreNear values → Within (2 ^ 31 - 1) values
 near_within values near k d l = let h = near k d l in omega (arith, h)
 
 module _ (plan : Parts) (s : Stratum) (planned : IsPlanned plan s) where

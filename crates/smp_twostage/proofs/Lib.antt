@@ -10,3 +10,5 @@ pub mod Positive
 pub mod Found
 pub mod Alone
 pub mod Starts
+pub mod Numbers
+pub mod Told

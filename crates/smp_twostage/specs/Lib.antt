@@ -3,5 +3,6 @@ pub mod Plans
 pub mod Cubes
 pub mod Starts
 pub mod Covered
+pub mod Lines
 pub mod Kept
 pub mod Laws

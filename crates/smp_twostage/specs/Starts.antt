@@ -27,10 +27,6 @@ row_fraction plan row = seat_fraction plan.strata (place_of plan.strata row)
 
 -- ---- weighted totals
 
--- what a row counts for: its value times its design weight, which is one divided by its probability (Horvitz and Thompson 1952)
-abbrev pub weighted : Fraction → ℤ → Fraction
-weighted asked x = times (integer x) (inverse asked)
-
 -- the value of a row that can be selected, and 0 of one whose probability is 0
 abbrev pub is_positive : ℤ → Bool
 is_positive (pos zero) = false
@@ -39,6 +35,10 @@ is_positive (negsuc n) = false
 
 abbrev pub known : Fraction → ℤ → ℤ
 known asked x = cond (is_positive asked.num) x (pos 0)
+
+-- what a row counts for: its value over its probability, and 0 where its probability is 0 (Horvitz and Thompson 1952)
+abbrev pub weighted : Fraction → ℤ → Fraction
+weighted asked x = times (integer (known asked x)) (inverse asked)
 
 -- ---- units that are selected
 
@@ -73,7 +73,7 @@ FirstSelects plan start h s n =
     AtEachLeaf (whole_tree plan) start (λ path leaf.
     count_by (first_selected plan leaf.states h) (range_with_len 0 (length s.units)) ≡ n)
 
--- at each leaf as many of them are selected as are expected of the stratum, or, where that isn't whole, one of the two whole numbers around it
+-- at each leaf as many of them are selected as are expected of the stratum, or one of the two whole numbers around that where it isn't whole
 abbrev pub FirstSelectsAround : Parts → Progress AnyState → ℕ → stratum.Stratum → Type 0
 FirstSelectsAround plan start h s =
     AtEachLeaf (whole_tree plan) start (λ path leaf.

@@ -6,11 +6,15 @@
 //! the one that the plan gives it, and the estimator of Horvitz and Thompson has no bias.
 //!
 //! Each stratum is a section of it. One stratum can be drawn alone: `specs/Covered.antt` says that this selection is a part of the whole one.
+//!
+//! [`balance_lines`] is what the report tells of the strata where they are drawn by the cube, as `specs/Lines.antt` says.
 #![tactic(auto)]
 
+mod lines;
 mod made;
 mod stage;
 mod whole;
 
+pub use lines::balance_lines;
 pub use stage::StageDesign;
 pub use whole::{StartedWhole, Whole};

@@ -81,7 +81,7 @@ fn no_values(alloc: Global, request: &Request) -> Result<Vec<Numbers>, NoMemory>
 }
 
 // How many columns of values the units of a stratum have.
-fn column_count(stratum: &Stratum) -> usize
+pub(crate) fn column_count(stratum: &Stratum) -> usize
     ensures { result ≡ Selections.column_count stratum.now }
 {
     match stratum.units.as_slice().first() {

@@ -211,6 +211,13 @@ impl<'a> Whole<'a> {
         Ok(started(plan, Some(stratum), made, firsts, seats))
     }
 
+    /// The plan.
+    pub fn plan(&self) -> &Plan
+        ensures { result.now ≡ self.now.plan }
+    {
+        self.plan
+    }
+
     /// Whether a stratum of the plan is covered. Strata are counted from 0, in order of first appearance.
     pub fn covers(&self, stratum: usize) -> bool
         ensures { result ≡ covers self.now stratum }

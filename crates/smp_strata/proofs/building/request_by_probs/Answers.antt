@@ -1,4 +1,4 @@
-use Rattle.std.proofs.Common.{◌≡◌, ◌<◌, ◌∙◌, refl, arith, length, []}
+use Rattle.std.proofs.Common.{◌≡◌, ◌<◌, ◌∙◌, arith, length, []}
 use Rattle.std.proofs.lemmas.List.{get_or_default}
 use Rattle.smp_strata.specs.Clusters.{stratum_names}
 use Rattle.smp_strata.specs.Plans.{first_probs}

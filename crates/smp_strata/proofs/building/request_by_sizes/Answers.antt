@@ -1,9 +1,8 @@
-use Rattle.std.proofs.Common.{◌≡◌, ◌<◌, ◌∙◌, ap, refl, arith, length, [], get_or}
+use Rattle.std.proofs.Common.{◌≡◌, ◌<◌, ◌∙◌, ap, arith, length, [], get_or}
 use Rattle.std.proofs.lemmas.List.{length-map, get_or_default}
-use Rattle.smp_strata.specs.Clusters.{clusters, stratum_name, stratum_names}
+use Rattle.smp_strata.specs.Clusters.{clusters, stratum_names}
 use Rattle.smp_strata.specs.Rows.{size_of}
 use Rattle.smp_strata.specs.Plans.{first_sizes, sample_size}
-use Rattle.smp_strata.specs.declared.strata.Stratum.{Stratum}
 use Rattle.smp_strata.specs.Kept.Groups.{places_of}
 use Rattle.smp_strata.proofs.Totals.{how_many}
 use Rattle.smp_strata.proofs.Members.{count_all, group_of, homes, length_samples, places_within, sizes_are}

@@ -1,12 +1,10 @@
 use Rattle.std.proofs.Common.{◌≡◌, ◌<◌, ◌∙◌, ap, refl, arith, length, [], get_or}
-use Rattle.std.proofs.lemmas.List.{length-map, get_or_default}
-use Rattle.smp_strata.specs.Clusters.{clusters, stratum_name, stratum_names}
-use Rattle.smp_strata.specs.Rows.{size_of}
-use Rattle.smp_strata.specs.Plans.{first_sizes, sample_size}
+use Rattle.std.proofs.lemmas.List.{get_or_default}
+use Rattle.smp_strata.specs.Clusters.{stratum_name, stratum_names}
 use Rattle.smp_strata.specs.declared.strata.Stratum.{Stratum}
 use Rattle.smp_strata.specs.Kept.Groups.{places_of}
 use Rattle.smp_strata.proofs.Totals.{how_many}
-use Rattle.smp_strata.proofs.Members.{count_all, group_of, homes, length_samples, places_within, sizes_are}
+use Rattle.smp_strata.proofs.Members.{group_of, homes, places_within}
 use Rattle.smp_strata.proofs.MisfitOrder.{IsServed, served}
 use Rattle.smp_strata.specs.Kept.Built.{IsFirstRequest}
 use Rattle.smp_strata.proofs.Serving.{built, can_build, is_stratum}
@@ -54,5 +52,5 @@ returns c =
     ] in
     let s : Stratum = record { name = c.in_ok-copy.field-0; units = c.in_ok-firsts.field-0; request = c.match-sizes.request } in
     let is : s ≡ record { name = stratum_name c.args.units.now c.args.stratum; units = c.in_ok-firsts.field-0; request = c.match-sizes.request } = rw name refl in
-    built c.args.design.now c.args.units.now all_rows served c.args.stratum here c.in_ok-firsts.field-0 long each c.match-sizes.request first s is
+    built c.args.design.now c.args.units.now all_rows served c.args.stratum here c.in_ok-firsts.field-0 long each c.requires.layout.frame.few c.match-sizes.request first s is
     (is ∙ is_stratum c.args.design.now c.args.units.now all_rows served c.args.stratum here c.in_ok-firsts.field-0 long each c.match-sizes.request first.value)

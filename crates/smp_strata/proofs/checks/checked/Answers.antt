@@ -1,4 +1,4 @@
-use Rattle.std.proofs.Common.{◌≡◌, ◌∙◌, sym, refl, rules, None, Err}
+use Rattle.std.proofs.Common.{◌≡◌, rules, None, Err}
 use Rattle.std.specs.Prelude.{Option}
 use Rattle.smp_strata.specs.declared.checks.Sizes.{Sizes}
 use Rattle.smp_strata.specs.Misfits.{psu_too_large}
@@ -40,3 +40,8 @@ pub returns-in_ok-probs_fit-in-Some-clause-misfit : goal.returns-in_ok-probs_fit
 returns-in_ok-probs_fit-in-Some-clause-misfit c =
     let small : psu_too_large c.args.design.now c.args.units.now ≡ None = rw (c.deref.ensures.value, c.requires.layout.rows, c.as_slice-columns.ensures) at c.in_ok-none_too_large.ensures in
     other_kind c.args.design.now c.args.units.now c.in_ok-no_unit_in_two.ensures small None (rw c.in-Some.is c.in_ok-probs_fit-in-Some.ensures)
+
+pub returns-in_ok-probs_fit-in-Some-clause-allocated : goal.returns-in_ok-probs_fit-in-Some-clause-allocated
+returns-in_ok-probs_fit-in-Some-clause-allocated c =
+    let only = rw c.in-Some.is at c.requires.layout.design.prob in
+    rw only.no_number tt

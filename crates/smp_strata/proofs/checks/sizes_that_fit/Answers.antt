@@ -38,7 +38,7 @@ all_have_sizes-requires c =
     let groups = rw (c.requires.layout.strata_homes, c.requires.layout.rows, c.requires.layout.names) at c.requires.layout.groups in
     let counts = lengths_are c.args.design.now c.args.units.now all_rows c.args.strata.now.members.items c.args.strata.now.places.items groups in
     let samples : c.in_ok-samples.samples.items ≡ sample_sizes c.args.design.now c.args.units.now =
-    c.in_ok-samples.ensures ∙ rw (c.deref.ensures.value, c.requires.layout.names, c.deref-2.ensures.value, counts) refl in
+    c.in_ok-samples.ensures.value ∙ rw (c.deref.ensures.value, c.requires.layout.names, c.deref-2.ensures.value, counts) refl in
     rw (c.deref-4.ensures.value, samples, c.deref-3.ensures.value, c.requires.layout.names) (length_samples c.args.design.now c.args.units.now all_rows)
 
 pub returns-in_err-all_have_sizes-clause-misfit : goal.returns-in_err-all_have_sizes-clause-misfit
@@ -47,7 +47,7 @@ returns-in_err-all_have_sizes-clause-misfit c =
     let groups = rw (c.requires.layout.strata_homes, c.requires.layout.rows, c.requires.layout.names) at c.requires.layout.groups in
     let counts = lengths_are c.args.design.now c.args.units.now all_rows c.args.strata.now.members.items c.args.strata.now.places.items groups in
     let samples : c.in_ok-samples.samples.items ≡ sample_sizes c.args.design.now c.args.units.now =
-    c.in_ok-samples.ensures ∙ rw (c.deref.ensures.value, c.requires.layout.names, c.deref-2.ensures.value, counts) refl in
+    c.in_ok-samples.ensures.value ∙ rw (c.deref.ensures.value, c.requires.layout.names, c.deref-2.ensures.value, counts) refl in
     let said = rw (c.deref-4.ensures.value, samples, c.deref-3.ensures.value, c.requires.layout.names) at c.in_err-all_have_sizes.ensures in
     let same : c.from_residual-in_err-all_have_sizes.result ≡ Err c.in_err-all_have_sizes.field-0.0 = search rules in
     rw same (passed (Unit {0}) Sizes c.in_err-all_have_sizes.field-0.0 _ _ said (sizes_1 c.args.design.now c.args.units.now))
@@ -62,7 +62,7 @@ strata_fit-requires-clause-sizes c =
     let groups = rw (c.requires.layout.strata_homes, c.requires.layout.rows, c.requires.layout.names) at c.requires.layout.groups in
     let counts = lengths_are c.args.design.now c.args.units.now all_rows c.args.strata.now.members.items c.args.strata.now.places.items groups in
     let samples : c.in_ok-samples.samples.items ≡ sample_sizes c.args.design.now c.args.units.now =
-    c.in_ok-samples.ensures ∙ rw (c.deref.ensures.value, c.requires.layout.names, c.deref-2.ensures.value, counts) refl in
+    c.in_ok-samples.ensures.value ∙ rw (c.deref.ensures.value, c.requires.layout.names, c.deref-2.ensures.value, counts) refl in
     rw (c.deref-6.ensures.value, samples, c.requires.layout.names) (length_samples c.args.design.now c.args.units.now all_rows)
 
 pub strata_fit-requires-clause-members : goal.strata_fit-requires-clause-members
@@ -89,7 +89,7 @@ returns-in_err-strata_fit-clause-misfit c =
     let groups = rw (c.requires.layout.strata_homes, c.requires.layout.rows, c.requires.layout.names) at c.requires.layout.groups in
     let counts = lengths_are c.args.design.now c.args.units.now all_rows c.args.strata.now.members.items c.args.strata.now.places.items groups in
     let samples : c.in_ok-samples.samples.items ≡ sample_sizes c.args.design.now c.args.units.now =
-    c.in_ok-samples.ensures ∙ rw (c.deref.ensures.value, c.requires.layout.names, c.deref-2.ensures.value, counts) refl in
+    c.in_ok-samples.ensures.value ∙ rw (c.deref.ensures.value, c.requires.layout.names, c.deref-2.ensures.value, counts) refl in
     let sized : no_size c.args.design.now c.args.units.now ≡ None = rw (c.deref-4.ensures.value, samples, c.deref-3.ensures.value, c.requires.layout.names) at c.in_ok-all_have_sizes.ensures in
     let said = rw (c.requires.layout.names, c.deref-5.ensures.value, c.in_ok-sizes.ensures, c.requires.layout.rows, c.deref-6.ensures.value, samples) at c.in_err-strata_fit.ensures in
     let same : c.from_residual-in_err-strata_fit.result ≡ Err c.in_err-strata_fit.field-0.0 = search rules in
@@ -101,7 +101,7 @@ returns-in_err-psus_fit-clause-misfit c =
     let groups = rw (c.requires.layout.strata_homes, c.requires.layout.rows, c.requires.layout.names) at c.requires.layout.groups in
     let counts = lengths_are c.args.design.now c.args.units.now all_rows c.args.strata.now.members.items c.args.strata.now.places.items groups in
     let samples : c.in_ok-samples.samples.items ≡ sample_sizes c.args.design.now c.args.units.now =
-    c.in_ok-samples.ensures ∙ rw (c.deref.ensures.value, c.requires.layout.names, c.deref-2.ensures.value, counts) refl in
+    c.in_ok-samples.ensures.value ∙ rw (c.deref.ensures.value, c.requires.layout.names, c.deref-2.ensures.value, counts) refl in
     let sized : no_size c.args.design.now c.args.units.now ≡ None = rw (c.deref-4.ensures.value, samples, c.deref-3.ensures.value, c.requires.layout.names) at c.in_ok-all_have_sizes.ensures in
     let enough : too_many c.args.design.now c.args.units.now ≡ None =
     sym (short_are c.args.design.now c.args.units.now all_rows c.args.strata.now.members.items c.args.strata.now.places.items groups)
@@ -116,7 +116,7 @@ returns-clause-misfit c =
     let groups = rw (c.requires.layout.strata_homes, c.requires.layout.rows, c.requires.layout.names) at c.requires.layout.groups in
     let counts = lengths_are c.args.design.now c.args.units.now all_rows c.args.strata.now.members.items c.args.strata.now.places.items groups in
     let samples : c.in_ok-samples.samples.items ≡ sample_sizes c.args.design.now c.args.units.now =
-    c.in_ok-samples.ensures ∙ rw (c.deref.ensures.value, c.requires.layout.names, c.deref-2.ensures.value, counts) refl in
+    c.in_ok-samples.ensures.value ∙ rw (c.deref.ensures.value, c.requires.layout.names, c.deref-2.ensures.value, counts) refl in
     let sized : no_size c.args.design.now c.args.units.now ≡ None = rw (c.deref-4.ensures.value, samples, c.deref-3.ensures.value, c.requires.layout.names) at c.in_ok-all_have_sizes.ensures in
     let enough : too_many c.args.design.now c.args.units.now ≡ None =
     sym (short_are c.args.design.now c.args.units.now all_rows c.args.strata.now.members.items c.args.strata.now.places.items groups)
@@ -129,5 +129,14 @@ returns-clause-sizes c =
     let groups = rw (c.requires.layout.strata_homes, c.requires.layout.rows, c.requires.layout.names) at c.requires.layout.groups in
     let counts = lengths_are c.args.design.now c.args.units.now all_rows c.args.strata.now.members.items c.args.strata.now.places.items groups in
     let samples : c.in_ok-samples.samples.items ≡ sample_sizes c.args.design.now c.args.units.now =
-    c.in_ok-samples.ensures ∙ rw (c.deref.ensures.value, c.requires.layout.names, c.deref-2.ensures.value, counts) refl in
+    c.in_ok-samples.ensures.value ∙ rw (c.deref.ensures.value, c.requires.layout.names, c.deref-2.ensures.value, counts) refl in
     record { clusters = c.in_ok-sizes.ensures; samples = samples }
+
+pub returns-clause-allocated : goal.returns-clause-allocated
+returns-clause-allocated c =
+    let all_rows = rw c.requires.layout.rows at c.requires.layout.all_rows in
+    let groups = rw (c.requires.layout.strata_homes, c.requires.layout.rows, c.requires.layout.names) at c.requires.layout.groups in
+    let counts = lengths_are c.args.design.now c.args.units.now all_rows c.args.strata.now.members.items c.args.strata.now.places.items groups in
+    let samples : c.in_ok-samples.samples.items ≡ sample_sizes c.args.design.now c.args.units.now =
+    c.in_ok-samples.ensures.value ∙ rw (c.deref.ensures.value, c.requires.layout.names, c.deref-2.ensures.value, counts) refl in
+    rw (c.deref-2.ensures.value, counts, samples) at c.in_ok-samples.ensures.rule

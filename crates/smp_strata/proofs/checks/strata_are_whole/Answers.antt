@@ -1,8 +1,6 @@
-use Rattle.std.proofs.Common.{◌≡◌, ◌<◌, ◌≤◌, ◌∙◌, ap, rules, arith, get_or, map, nat_lt, length, List, [], ℕ, Err}
-use Rattle.std.specs.Prelude.{slice_index}
+use Rattle.std.proofs.Common.{◌≡◌, ◌<◌, ◌∙◌, ap, rules, arith, get_or, map, length, List, [], ℕ, Err}
 use Rattle.std.specs.Vec.{vec_len}
 use Rattle.std.proofs.lemmas.List.{get_or_default}
-use Rattle.smp_frac.specs.declared.fractions.Frac.{Frac}
 use Rattle.smp_strata.specs.Misfits.{sum_of, unwhole}
 use Rattle.smp_strata.specs.Kept.Layouts.{prob_of}
 use Rattle.smp_strata.proofs.Founds.{none_more, found_at}

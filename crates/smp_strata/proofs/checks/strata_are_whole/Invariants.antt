@@ -1,4 +1,4 @@
-use Rattle.std.proofs.Common.{◌≡◌, None, [], get_or, map, nat_lt}
+use Rattle.std.proofs.Common.{◌≡◌, None, [], get_or, map}
 use Rattle.std.specs.List.{range_with_len}
 use Rattle.smp_strata.specs.Misfits.{first_found, sum_of, unwhole}
 use Rattle.smp_strata.specs.Kept.Layouts.{prob_of}

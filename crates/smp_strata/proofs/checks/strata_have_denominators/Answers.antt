@@ -1,8 +1,6 @@
-use Rattle.std.proofs.Common.{◌≡◌, ◌<◌, ◌≤◌, ◌∙◌, ap, rules, arith, get_or, map, nat_lt, length, List, [], ℕ, Err}
-use Rattle.std.specs.Prelude.{slice_index}
+use Rattle.std.proofs.Common.{◌≡◌, ◌<◌, ◌∙◌, ap, rules, arith, get_or, map, nat_lt, length, List, [], ℕ, Err}
 use Rattle.std.specs.Vec.{vec_len}
 use Rattle.std.proofs.lemmas.List.{get_or_default}
-use Rattle.smp_frac.specs.declared.fractions.Frac.{Frac}
 use Rattle.smp_prob.specs.Given.{common_multiple, largest_multiple}
 use Rattle.smp_strata.specs.Misfits.{when}
 use Rattle.smp_strata.specs.declared.misfit.Misfit.TheVariants.{Denominator}

@@ -1,4 +1,4 @@
-use Rattle.std.proofs.Common.{◌≡◌, ◌==◌, refl, rules, sym, ap, ◌∙◌, None, Some, true, false, not}
+use Rattle.std.proofs.Common.{◌≡◌, refl, sym, ◌∙◌}
 use Rattle.std.proofs.lemmas.Bool.{eq-eqb, ne_eqb}
 use Rattle.smp_strata.specs.Misfits.{sum_of}
 use Rattle.smp_strata.proofs.FirstRequests.{sum_is}

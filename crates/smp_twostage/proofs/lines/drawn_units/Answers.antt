@@ -2,13 +2,13 @@ use Rattle.std.proofs.Common.{◌≡◌, ◌<◌, true, false, ℕ, ◌+◌, ◌
 use Rattle.std.specs.List.{filter, range_with_len}
 use Rattle.smp_split.proofs.Filters.{filter_moved, filter_next}
 use Rattle.smp_twostage.specs.Covered.{covered_first}
-use Rattle.smp_app.proofs.texts.drawn_units.Goals.{then-first+in_ok-push, else-first}
-use Rattle.smp_app.proofs.texts.drawn_units.Goals as goal
+use Rattle.smp_twostage.proofs.lines.drawn_units.Goals.{then-first+in_ok-push, else-first}
+use Rattle.smp_twostage.proofs.lines.drawn_units.Goals as goal
 
 pub loop-unit-preserved : goal.loop-unit-preserved
 loop-unit-preserved c =
     let units = c.args.units in
-    let test = covered_first c.args.selection.now.whole c.args.selection.now.state.states c.args.stratum in
+    let test = covered_first c.args.whole.now c.args.state.now.states c.args.stratum in
     let here : c.loop-unit.unit < units = omega (arith, c.loop-unit-test.true) in
     elim c.if-first.branch [
       | then-first+in_ok-push w ↦

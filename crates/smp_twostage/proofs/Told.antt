@@ -1,0 +1,130 @@
+-- What is told of a stratum that is drawn by the cube can be told.
+use Rattle.std.proofs.Common.{◌≡◌, ℕ, ◌+◌, ◌-◌, ◌^◌, ◌<◌, ◌≤◌, Bool, true, false, true≢false, ℤ, List, length, map, Option, Some, None, refl, sym, ap, ◌∙◌, arith}
+use Rattle.std.specs.Prelude.{if◌then◌else◌, is_some, nat_le}
+use Rattle.std.specs.List.{range_with_len, slice_get}
+use Rattle.std.proofs.lemmas.Bool.{and_parts, eqb-true, leb-true}
+use Rattle.std.proofs.lemmas.List.{length-map}
+use Rattle.std.proofs.lemmas.List.Elements.{All-from_get_or, All-map, All-weaker, filter_passes}
+use Rattle.smp_prob.specs.declared.orders.Order.{Order}
+use Rattle.smp_prob.specs.declared.standings.Standing.{Standing}
+use Rattle.smp_prob.specs.declared.standings.Standing.TheVariants.{Certain, Free, Never}
+use Rattle.smp_prob.specs.Standings.{is_taken, standing}
+use Rattle.smp_kernel.specs.Vectors.{Within}
+use Rattle.smp_flight.specs.Requests.{AreValues}
+use Rattle.smp_balance.specs.Lines as lines
+use Rattle.smp_balance.specs.Lines.{IsTold}
+use Rattle.smp_balance.specs.Strata.{IsStratum}
+use Rattle.smp_balance.specs.Totals.{can_be_selected}
+use Rattle.smp_design.specs.declared.method.Method.{Method}
+use Rattle.smp_design.specs.declared.method.Method.TheVariants.{Cube}
+use Rattle.smp_methods.specs.declared.any.AnyState.{AnyState}
+use Rattle.smp_methods.specs.declared.procedure.Procedure.TheVariants as ways
+use Rattle.smp_methods.specs.Designs.{method_of}
+use Rattle.smp_methods.specs.Procedures.{procedure_of}
+use Rattle.smp_methods.proofs.Columns.{are_values}
+use Rattle.smp_stages.specs.declared.places.Stage.{Stage}
+use Rattle.smp_stages.specs.Stages.{is_drawn, read, unit_selected}
+use Rattle.smp_strata.specs.Bounds.{IsFirst}
+use Rattle.smp_strata.specs.Plans.{Parts}
+use Rattle.smp_strata.specs.declared.strata.First.{First}
+use Rattle.smp_strata.specs.declared.strata.Stratum.{Stratum}
+use Rattle.smp_twostage.specs.Covered.{covered_first, covered_number}
+use Rattle.smp_twostage.specs.Cubes.{balancing}
+use Rattle.smp_twostage.specs.Kept.{IsPlanned}
+use Rattle.smp_twostage.specs.Lines.{drawn_stratum}
+use Rattle.smp_twostage.specs.Plans.{CanBeDrawn}
+use Rattle.smp_twostage.specs.Selections.{Coverage, Selecting, covered_parts, covers, first_number, first_stage, is_only, parts_by, stages_of, tree_of}
+use Rattle.smp_twostage.specs.Starts.{first_place, first_selected}
+use Rattle.smp_twostage.specs.Laws.Covered.{alone_there}
+use Rattle.smp_twostage.specs.Laws.Numbering.{first_there}
+use Rattle.smp_twostage.proofs.Columns.{is_planned, near_within}
+use Rattle.smp_twostage.proofs.Numbers.{passing}
+
+-- ---- a first stage unit that is selected can be
+
+taken_open : (chosen : ℕ → Bool) (stands : Standing) → is_taken chosen stands ≡ true → can_be_selected stands ≡ true
+taken_open chosen Certain taken = refl
+taken_open chosen (Free unit) taken = refl
+taken_open chosen Never taken = absurd (true≢false (sym taken))
+
+module _ (parts : Parts) (states : List AnyState) where
+  open_at : (stage : Stage Selecting) (unit : ℕ) (state : Option AnyState) → read tree_of false (λ tree s. tree.selected s unit) (Some stage) state ≡ true → can_be_selected (standing stage.design.request unit) ≡ true
+  open_at stage unit (Some state) selected = taken_open ((method_of stage.design.design).tree.selected state) (standing stage.design.request unit) selected
+  open_at stage unit None selected = absurd (true≢false (sym selected))
+
+  first_open : (n : ℕ) (s : Stratum) → slice_get parts.strata n ≡ Some s → (k : ℕ) → first_selected parts states n k ≡ true → can_be_selected (standing s.request k) ≡ true
+  first_open n s is k selected =
+      let both = and_parts (is_drawn tree_of (stages_of parts) states (first_number parts n)) (unit_selected tree_of (stages_of parts) states (first_place parts n k)) selected in
+      open_at (first_stage parts s) k (slice_get states (first_number parts n))
+      (ap (λ o. read tree_of false (λ tree t. tree.selected t k) o (slice_get states (first_number parts n))) (sym (first_there parts n s is)) ∙ both.1)
+
+-- ---- the strata that are covered
+
+module _ (plan : Parts) (h : ℕ) (s : Stratum) (is : slice_get plan.strata h ≡ Some s) where
+  there_by : (only : Option ℕ) → is_only only h ≡ true → slice_get (parts_by plan only).strata (covered_number (record { plan = plan; only = only }) h) ≡ Some s
+  there_by None covered = is
+  there_by (Some one) covered =
+      let same : h ≡ one = eqb-true h one covered in
+      alone_there plan one s (ap (slice_get plan.strata) (sym same) ∙ is)
+
+covered_open : (c : Coverage) (states : List AnyState) (h : ℕ) (s : Stratum) → slice_get c.plan.strata h ≡ Some s → covers c h ≡ true → (k : ℕ) → covered_first c states h k ≡ true → can_be_selected (standing s.request k) ≡ true
+covered_open c states h s is covered k selected =
+    first_open (covered_parts c) states (covered_number c h) s (there_by c.plan h s is c.only (and_parts _ _ covered).1) k selected
+
+-- ---- the stratum, as the cube draws from it
+
+few_if : (few : Bool) → is_some (if few then Some ways.Cube else None) ≡ true → few ≡ true
+few_if true h = refl
+few_if false h = absurd (cc)
+
+few_columns : (m : Method) (order : Order) (columns : ℕ) → m ≡ Cube → is_some (procedure_of m order columns) ≡ true → columns ≤ 15
+few_columns m order columns is some = leb-true columns 15 (few_if (nat_le columns 15) (rw is at some))
+
+module _ (plan : Parts) (drawable : CanBeDrawn plan) (cube : plan.method ≡ Cube) (h : ℕ) (s : Stratum) (is : slice_get plan.strata h ≡ Some s) where
+  abbrev own : IsPlanned plan s
+  own = is_planned plan drawable h s is
+
+  values_are : AreValues (map (λ u. u.values) s.units)
+  values_are =
+      are_values own.columns (map (λ u. u.values) s.units)
+      (All-map (λ (v : List ℤ). length v ≡ own.columns) (λ (u : First). u.values) s.units own.counted)
+      (All-map (Within (2 ^ 31 - 1)) (λ (u : First). u.values) s.units (All-weaker (IsFirst plan.second) (λ u. Within (2 ^ 31 - 1) u.values) (λ u first. near_within u.values first.near) s.units own.stratum.firsts))
+      (few_columns plan.method plan.order own.columns cube own.method)
+
+  pub is_stratum : IsStratum (balancing s)
+  is_stratum = record {
+    request = own.stratum.over.sound;
+    rising = own.stratum.over.rising;
+    inside = λ u l. (let inside = own.stratum.over.free u 0 l in omega (arith, inside, length-map s.units (λ u. u.values)));
+    stands = own.stratum.over.apart;
+    values = values_are;
+  }
+
+-- ---- what is told of it
+
+module _ (c : Coverage) (drawable : CanBeDrawn c.plan) (cube : c.plan.method ≡ Cube) (states : List AnyState) (h : ℕ) (s : Stratum) (is : slice_get c.plan.strata h ≡ Some s) where
+  pub is_told : covers c h ≡ true → IsTold (drawn_stratum c states h s)
+  is_told covered = record {
+    stratum = is_stratum c.plan drawable cube h s is;
+    few = (let few = (is_planned c.plan drawable h s is).stratum.few in omega (arith, few, length-map s.units (λ u. u.values)));
+    columns = refl;
+    units =
+        All-weaker (λ k. covered_first c states h k ≡ true) (λ k. can_be_selected (standing s.request k) ≡ true) (λ k selected. covered_open c states h s is covered k selected)
+        (drawn_stratum c states h s).units (filter_passes (covered_first c states h) (range_with_len 0 (length s.units)));
+    within =
+        All-from_get_or (λ k. k < length (map (λ u. u.values) s.units)) (drawn_stratum c states h s).units 0
+        (λ i l. let below = (passing (covered_first c states h) 0 0 (length s.units) i l).0 in omega (arith, below, length-map s.units (λ u. u.values)));
+  }
+
+-- what the code says of it
+module _ (c : Coverage) (states : List AnyState) (h : ℕ) (s : Stratum) where
+  abbrev told : lines.Drawn
+  told = drawn_stratum c states h s
+
+  pub drawn_same : (left columns : ℕ) (values : List (List ℤ)) (units : List ℕ) → left ≡ told.left → columns ≡ told.columns → values ≡ map (λ u. u.values) s.units → units ≡ told.units
+      → ◌≡◌ {A = lines.Drawn} (record { number = h + 1; left = left; columns = columns; stratum = record { request = s.request; values = values }; units = units }) told
+  drawn_same left columns values units left_is columns_are values_are units_are =
+      ap (λ (n : ℕ). record { number = h + 1; left = n; columns = columns; stratum = record { request = s.request; values = values }; units = units }) left_is
+      ∙ ap (λ (n : ℕ). record { number = h + 1; left = told.left; columns = n; stratum = record { request = s.request; values = values }; units = units }) columns_are
+      ∙ ap (λ (vs : List (List ℤ)). record { number = h + 1; left = told.left; columns = told.columns; stratum = record { request = s.request; values = vs }; units = units }) values_are
+      ∙ ap (λ (us : List ℕ). record { number = h + 1; left = told.left; columns = told.columns; stratum = balancing s; units = us }) units_are

@@ -1,0 +1,41 @@
+-- What the report tells of the strata that are drawn by the cube.
+use Rattle.std.specs.Prelude.{ℕ, ◌+◌, List, [], length, Option, Some, None}
+use Rattle.std.specs.List.{filter, flat_map, range_with_len, slice_get}
+use Rattle.smp_balance.specs.Lines as balance
+use Rattle.smp_balance.specs.Strata.{column_count}
+use Rattle.smp_design.specs.declared.method.Method.{Method}
+use Rattle.smp_design.specs.declared.method.Method.TheVariants.{Cube}
+use Rattle.smp_methods.specs.declared.any.AnyState.{AnyState}
+use Rattle.smp_strata.specs.declared.strata.Stratum.{Stratum}
+use Rattle.smp_twostage.specs.Covered.{covered_first, covered_left}
+use Rattle.smp_twostage.specs.Cubes.{balancing}
+use Rattle.smp_twostage.specs.Selections.{Coverage, covers}
+
+-- the strata that a selection covers, by their numbers, counted from 0
+abbrev pub covered_strata : Coverage → List ℕ
+covered_strata c = filter (covers c) (range_with_len 0 (length c.plan.strata))
+
+-- what was drawn of stratum h, where the stages are in these states: its number is told from 1, and its units are its first stage units
+abbrev pub drawn_stratum : Coverage → List AnyState → ℕ → Stratum → balance.Drawn
+drawn_stratum c states h s = record {
+  number = h + 1;
+  left = covered_left c states h;
+  columns = column_count (balancing s);
+  stratum = balancing s;
+  units = filter (covered_first c states h) (range_with_len 0 (length s.units));
+}
+
+abbrev pub lines_at : Coverage → List AnyState → ℕ → Option Stratum → List ℕ
+lines_at c states h (Some s) = balance.balance_lines (drawn_stratum c states h s)
+lines_at c states h None = []
+
+abbrev pub stratum_lines : Coverage → List AnyState → ℕ → List ℕ
+stratum_lines c states h = lines_at c states h (slice_get c.plan.strata h)
+
+-- the lines of the strata that are covered, in their order; none by any other method
+abbrev pub lines_by : Method → Coverage → List AnyState → List ℕ
+lines_by Cube c states = flat_map (stratum_lines c states) (covered_strata c)
+lines_by other c states = []
+
+abbrev pub balance_lines : Coverage → List AnyState → List ℕ
+balance_lines c states = lines_by c.plan.method c states
