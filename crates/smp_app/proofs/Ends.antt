@@ -13,7 +13,7 @@ use Rattle.smp_status.specs.FaultLines.{fault_line, line_by}
 use Rattle.smp_app.specs.Commands.{Job, job_of, job_for, inputs_of, outputs_of}
 use Rattle.smp_plan.specs.Stops.{Refused, ◌>>=◌, or_refused, without}
 use Rattle.smp_app.specs.Verdict.{outputs_stage, verdict}
-use Rattle.smp_app.specs.Draws.{IsExact}
+use Rattle.smp_app.specs.Draws.{IsExact, IsExactRefusal}
 use Rattle.smp_plan.specs.Reads.{IsErrorOf, IsCaused, ReadCause}
 use Rattle.smp_status.specs.Reports.{IsOfInputs, Put, PutsLine, Whole, Cut, OutOfMemory, Reports}
 use Rattle.smp_app.specs.Stages.{Refusing, WorkSays}
@@ -42,6 +42,9 @@ commanded : (told : Option Command) (job : Job) → option_map job_of told ≡ S
 commanded None job h = absurd (cc)
 commanded (Some command) job h = record { command = command; is = refl }
 
+job_is : (told : Option Command) (command : Command) (job : Job) → told ≡ Some command → option_map job_of told ≡ Some job → job_of command ≡ job
+job_is told command job is asked = let one : ◌≡◌ {A = Option Job} (Some (job_of command)) (Some job) = ap (option_map job_of) (sym is) ∙ asked in cc
+
 -- ---- the work
 
 module _ (words : List (List ℕ)) (job : Job) (before now : Outside) (asked : job_for words ≡ Some job) where
@@ -51,16 +54,17 @@ module _ (words : List (List ℕ)) (job : Job) (before now : Outside) (asked : j
       → IsOfInputs class error
       → ((fs : Files) → before.files ≡ Some fs → IsErrorOf class error (outputs_stage job fs))
       → IsCaused class (ReadCause (inputs_of job) (outputs_stage job) (record { files = before.files; read_faults = before.read_faults; write_faults = before.write_faults }) (record { files = now.files; read_faults = now.read_faults; write_faults = now.write_faults }))
+      → ((fs : Files) → before.files ≡ Some fs → IsExactRefusal job error fs)
       → Untouched before now
       → WorkSays class error words before now
-  error_says IsDone error kind follows cause same = absurd kind
-  error_says IsUsage error kind follows cause same = absurd kind
-  error_says IsWriteFault error kind follows cause same = absurd kind
-  error_says IsNoMemory error kind follows cause same = inl same
-  error_says IsRefusal error kind follows cause same =
+  error_says IsDone error kind follows cause exact same = absurd kind
+  error_says IsUsage error kind follows cause exact same = absurd kind
+  error_says IsWriteFault error kind follows cause exact same = absurd kind
+  error_says IsNoMemory error kind follows cause exact same = inl same
+  error_says IsRefusal error kind follows cause exact same =
       let by = commanded (command_of words) job asked in
-      record { refused = record { command = by.command; asked = by.is; verdict_is = λ fs told. verdict_of words job asked fs ∙ follows fs told }; lined = kind; same = same }
-  error_says IsReadFault error kind follows cause same = record {
+      record { refused = record { command = by.command; asked = by.is; verdict_is = λ fs told. verdict_of words job asked fs ∙ follows fs told; exact = λ fs told. subst (λ (j : Job). IsExactRefusal j error fs) (sym (job_is (command_of words) by.command job by.is asked)) (exact fs told) }; lined = kind; same = same }
+  error_says IsReadFault error kind follows cause exact same = record {
     job = job;
     asked = asked;
     cause = record { name = cause.name; is_one = cause.is_input; rose = cause.rose };

@@ -1,19 +1,21 @@
--- A draw that ended well is the one of the design, the frame and the draws that were read.
+-- A call that ended well has drawn by the design, the frame and the draws that were read, and a log that was refused differs at its line.
 use Rattle.std.proofs.Common.{◌≡◌, ℕ, zero, suc, ◌+◌, ◌-◌, ◌^◌, ◌<◌, ◌≤◌, Bool, true, false, ◌&&◌, List, [], ◌∷◌, ◌++◌, length, Option, Some, None, Result, Ok, Err, refl, sym, ap, subst, ◌∙◌, inl, inr, arith, length-append}
 use Rattle.std.specs.Prelude.{◌==◌, if◌then◌else◌, nat_le, option_map}
 use Rattle.std.specs.List.{filter, flat_map, range_with_len}
-use Rattle.std.proofs.lemmas.Bool.{cases_Bool}
+use Rattle.std.proofs.lemmas.Bool.{cases_Bool, eqb-true}
 use Rattle.smp_io.specs.Sink.{with_bytes}
 use Rattle.smp_io.specs.Store.{Files}
 use Rattle.smp_tape.specs.TapeText.{tape_of}
-use Rattle.smp_tape.specs.Tapes.{tape_of_values}
+use Rattle.smp_tape.specs.Sources.{Source}
+use Rattle.smp_tape.specs.Tapes.{Values, tape_of_values}
 use Rattle.smp_tape.specs.TapeSources.{tape_source}
 use Rattle.smp_sieve.specs.Keys.{words_of_seed}
-use Rattle.smp_sieve.specs.SieveSources.{key_stream}
-use Rattle.smp_sieve.specs.SieveSources.{sieve_source}
+use Rattle.smp_sieve.specs.SieveSources.{key_stream, sieve_source}
 use Rattle.smp_split.specs.Counts.{selected_units}
-use Rattle.smp_split.specs.Paths.{Entry}
-use Rattle.smp_split.specs.Runs.{Outcome, leaf, stopped, run}
+use Rattle.smp_split.specs.Paths.{Entry, IsFull}
+use Rattle.smp_split.specs.Runs.{Outcome, IsLeaf, IsOutcome, leaf, stopped, run}
+use Rattle.smp_split.proofs.Runs.{run_is}
+use Rattle.smp_split.proofs.Tapes.{runs_full}
 use Rattle.smp_frame.specs.declared.frame.Unit as unit
 use Rattle.smp_frame.specs.Frames.{frame_of}
 use Rattle.smp_stages.specs.Stages.{Progress}
@@ -23,10 +25,14 @@ use Rattle.smp_twostage.specs.Laws.Wholes.{covered_lawful, strata_sectioned, who
 use Rattle.smp_strata.specs.Misfits.{misfit_of}
 use Rattle.smp_strata.specs.declared.misfit.Misfit.{Misfit}
 use Rattle.smp_design.specs.Designs.{design_of}
+use Rattle.smp_design.specs.declared.design.Design.{Design}
+use Rattle.smp_design.specs.declared.fault.DesignFault.{DesignFault}
 use Rattle.smp_methods.specs.declared.any.AnyState.{AnyState}
 use Rattle.smp_words.specs.declared.command.DrawArguments.{DrawArguments}
 use Rattle.smp_words.specs.declared.command.MigrateArguments.{MigrateArguments}
+use Rattle.smp_words.specs.declared.command.QuickArguments.{QuickArguments}
 use Rattle.smp_words.specs.declared.command.ReplayArguments.{ReplayArguments}
+use Rattle.smp_words.specs.declared.command.Command.{Command}
 use Rattle.smp_words.specs.declared.command.Command.TheVariants as commands
 use Rattle.smp_words.specs.declared.command.Chance.{Chance}
 use Rattle.smp_words.specs.declared.command.Chance.TheVariants.{Tape, Seed}
@@ -51,20 +57,21 @@ use Rattle.smp_status.specs.declared.status.Status.{Status}
 use Rattle.smp_status.specs.declared.status.Status.TheVariants as status
 use Rattle.smp_status.specs.declared.status.Status.TheVariants.{NoStratum, TapeLong}
 use Rattle.smp_status.specs.Codes.{class_of, design_status, frame_status, tape_status}
-use Rattle.smp_plan.specs.Plans.{Plan, parts}
+use Rattle.smp_plan.specs.Plans.{Plan, parts, quick_design}
 use Rattle.smp_app.specs.Drawn.{Drawn, tree_of, start_of, sections_of, covered, drawn_rows}
-use Rattle.smp_app.specs.Texts.{log_text, sample_text, report_text, migrated_text}
-use Rattle.smp_plan.specs.Inputs.{Held, FrameHeld, ReadDesign, unless_misfit, design_stage, frame_stage, plan_stage}
-use Rattle.smp_app.specs.Commands.{DrawnFile, ByLog, ByOldLog, BySection, Draws, Job, source_of, log_source, job_of, job_for, outputs_by}
+use Rattle.smp_app.specs.Texts.{ids_text, log_text, migrated_text, report_text, sample_text, steps_text}
+use Rattle.smp_plan.specs.Inputs.{Given, Held, FrameHeld, ReadDesign, unless_misfit, design_stage, frame_stage, plan_stage}
+use Rattle.smp_app.specs.Commands.{DrawnFile, ByTape, ByLog, ByOldLog, BySection, Draws, Job, source_of, log_source, job_of, job_for, outputs_by}
 use Rattle.smp_app.specs.Commands as drawing
 use Rattle.smp_plan.specs.Stops.{Stop, Refused, ◌>>=◌, content, or_fault}
 use Rattle.smp_app.specs.Verdict.{values_taken, values_left, no_words, drawn_at, drawn_of, drawn_by_tape, drawn_by_seed, alone, stratum_at, told_by, drawn_by_log, drawn_by_old_log, drawn_by_section, drawn_stage, outputs_stage}
 use Rattle.smp_app.specs.Deliveries.{Outputs, with_files}
-use Rattle.smp_app.specs.Draws.{IsDraw, IsDrawnAlone, IsDrawnBy, IsDrawnOf, HasProbabilities}
-use Rattle.smp_app.specs.Answers.{Outside, Says, IsWork, Done}
-use Rattle.smp_app.specs.Headline.{IsDrawnByChance, IsReadPlan, IsExactDraw, IsExactReplay, IsExactSection, IsExactMigration, Headline}
+use Rattle.smp_app.specs.Draws.{IsDraw, IsDrawnAlone, IsDrawnBy, IsDrawnOf, IsExactRefusal, IsRefused, IsRefusedAt, OldDiffers, RefusesLog, StratumDiffers, WholeDiffers}
+use Rattle.smp_app.specs.Answers.{Outside, Says, IsWork, Done, Refuses}
+use Rattle.smp_app.specs.Headline.{IsDrawnByTape, IsDrawnBySeed, IsDrawnByChance, IsReadFrame, IsReadPlan, IsExactDraw, IsReplayed, IsExactQuick, IsExactReplay, IsExactSection, IsExactMigration, IsRefusedLog, Ends, Headline}
 use Rattle.smp_app.proofs.Alone.{seats_long}
 use Rattle.smp_app.proofs.Ends.{verdict_of}
+use Rattle.smp_app.proofs.Refusals.{stratum_is}
 
 -- ---- what a stage that goes on has read
 
@@ -152,31 +159,72 @@ plan_same plan taken left (leaf state path end) drawn h =
     subst (Same plan None) (at_leaf (record { plan = plan; only = None; leaf = state; path = path }) (left end) drawn h) (record { by_plan = refl; only_so = refl })
 plan_same plan taken left (stopped state path fault end) drawn h = absurd (cc)
 
--- where the draws came from
-record ByChance (plan : Plan) (chance : Chance) (fs : Files) (drawn : Drawn) : Type 0 where
-  same : Same plan None drawn
-  by_chance : IsDrawnByChance chance fs drawn
+-- at a leaf that is told, no values are left
+none_left : (made : Drawn) (left : ℕ) (drawn : Drawn) → drawn_at made left ≡ Ok drawn → left ≡ 0
+none_left made left drawn h =
+    elim (cases_Bool (left == 0)) [
+      | inl e ↦ eqb-true left 0 e
+      | inr e ↦ absurd (let same : ◌≡◌ {A = Result Drawn Stop} (Err (Refused (TapeLong left))) (Ok drawn) = rw e at h in cc)
+    ]
 
-by_chance : (plan : Plan) (chance : Chance) (fs : Files) (drawn : Drawn) → drawn_stage plan (source_of chance) fs ≡ Ok drawn → ByChance plan chance fs drawn
-unfolding drawn_stage
-by_chance plan (Seed seed) fs drawn h =
-    let same = plan_same plan no_words no_words (run (sieve_source key_stream) (tree_of plan) (start_of plan) (words_of_seed seed)) drawn h in
-    record {
-      same = same;
-      by_chance = subst (λ (p : Plan). drawn_by_seed p seed ≡ Ok drawn) (sym same.by_plan) h;
-    }
-by_chance plan (Tape tape) fs drawn h =
-    let bytes = step (content tape (fs tape)) _ drawn h in
-    let values = step (or_fault tape_status (tape_of bytes.value)) _ drawn bytes.then_is in
-    let same = plan_same plan values_taken values_left (run tape_source (tree_of plan) (start_of plan) (tape_of_values [] values.value)) drawn values.then_is in
-    record {
-      same = same;
-      by_chance = record {
+no_values : (values : List ℕ) → length values ≡ 0 → values ≡ []
+no_values [] none = refl
+no_values (v ∷ values) none = absurd (omega (arith, none))
+
+-- where the draws came from: the path leads from the start to the leaf
+module _ (plan : Plan) (member : BelongsToWhole (parts plan) (start_of plan)) where
+  module _ {Rest : Type 0} (source : Source Rest) (taken left : Rest → ℕ) (rest : Rest) (drawn : Drawn) where
+    record Came : Type 0 where
+      end : Rest
+      ran : run source (tree_of plan) (start_of plan) rest ≡ leaf drawn.leaf drawn.path end
+      none : left end ≡ 0
+
+    came : (outcome : Outcome (Progress AnyState) Rest) → run source (tree_of plan) (start_of plan) rest ≡ outcome → drawn_of plan taken left outcome ≡ Ok drawn → Came
+    came (leaf state path end) ran h =
+        let made : record { plan = plan; only = None; leaf = state; path = path } ≡ drawn = at_leaf _ (left end) drawn h in
+        record {
+          end = end;
+          ran = subst (λ (d : Drawn). run source (tree_of plan) (start_of plan) rest ≡ leaf d.leaf d.path end) made ran;
+          none = none_left _ (left end) drawn h;
+        }
+    came (stopped state path fault end) ran h = absurd (cc)
+
+  tape_full : (values : List ℕ) (drawn : Drawn) → drawn_by_tape plan values ≡ Ok drawn → IsFull (tree_of plan) (start_of plan) values drawn.path drawn.leaf
+  tape_full values drawn h =
+      let c = came tape_source values_taken values_left (tape_of_values [] values) drawn _ refl h in
+      runs_full (tree_of plan) (BelongsToWhole (parts plan)) (whole_lawful (parts plan)) (start_of plan) drawn.leaf drawn.path (tape_of_values [] values) c.end member c.ran (no_values c.end.left c.none)
+
+  seed_given : (seed : List ℕ) (drawn : Drawn) → drawn_by_seed plan seed ≡ Ok drawn → drawn.plan ≡ plan → IsDrawnBySeed seed drawn
+  seed_given seed drawn h same =
+      let c = came (sieve_source key_stream) no_words no_words (words_of_seed seed) drawn _ refl h in
+      let is : IsLeaf (sieve_source key_stream) (tree_of plan) (start_of plan) (words_of_seed seed) drawn.leaf drawn.path c.end =
+      subst (IsOutcome (sieve_source key_stream) (tree_of plan) (start_of plan) (words_of_seed seed)) c.ran
+      (run_is (sieve_source key_stream) (tree_of plan) (BelongsToWhole (parts plan)) (whole_lawful (parts plan)) (start_of plan) (words_of_seed seed) member) in
+      record {
+        left = c.end;
+        given = subst (λ (p : Plan). IsLeaf (sieve_source key_stream) (tree_of p) (start_of p) (words_of_seed seed) drawn.leaf drawn.path c.end) (sym same) is;
+      }
+
+  by_chance : (chance : Chance) (fs : Files) (drawn : Drawn) → drawn.plan ≡ plan → drawn_stage plan (source_of chance) fs ≡ Ok drawn → IsDrawnByChance chance fs drawn
+  unfolding drawn_stage
+  by_chance (Seed seed) fs drawn same h = seed_given seed drawn h same
+  by_chance (Tape tape) fs drawn same h =
+      let bytes = step (content tape (fs tape)) _ drawn h in
+      let values = step (or_fault tape_status (tape_of bytes.value)) _ drawn bytes.then_is in
+      record {
         values = values.value;
         tape_read = ap (option_map tape_of) (content_is (fs tape) tape bytes.value bytes.first_is) ∙ ap Some (read_is tape_status (tape_of bytes.value) values.value values.first_is);
-        is_drawn = subst (λ (p : Plan). drawn_by_tape p values.value ≡ Ok drawn) (sym same.by_plan) values.then_is;
-      };
-    }
+        full = subst (λ (p : Plan). IsFull (tree_of p) (start_of p) values.value drawn.path drawn.leaf) (sym same) (tape_full values.value drawn values.then_is);
+      }
+
+-- all strata are drawn
+chance_same : (plan : Plan) (chance : Chance) (fs : Files) (drawn : Drawn) → drawn_stage plan (source_of chance) fs ≡ Ok drawn → Same plan None drawn
+unfolding drawn_stage
+chance_same plan (Seed seed) fs drawn h = plan_same plan no_words no_words (run (sieve_source key_stream) (tree_of plan) (start_of plan) (words_of_seed seed)) drawn h
+chance_same plan (Tape tape) fs drawn h =
+    let bytes = step (content tape (fs tape)) _ drawn h in
+    let values = step (or_fault tape_status (tape_of bytes.value)) _ drawn bytes.then_is in
+    plan_same plan values_taken values_left (run tape_source (tree_of plan) (start_of plan) (tape_of_values [] values.value)) drawn values.then_is
 
 -- ---- what a log told
 
@@ -216,14 +264,7 @@ by_section : (plan : Plan) (name : List ℕ) (number h : ℕ) (fs : Files) (draw
 unfolding drawn_stage
 by_section plan name number h fs drawn is staged =
     let at = step (stratum_at plan number) (λ k. content name (fs name) >>= drawn_by_section plan k) drawn staged in
-    subst (λ (k : ℕ). Logged (drawn_by_section plan k) name fs drawn) (omega (arith, counted number (length (parts plan).strata) at.value at.first_is, is)) (logged (drawn_by_section plan at.value) name fs drawn at.then_is)
-  where
-    counted : (n strata k : ℕ) → (if nat_le n strata then Ok (n - 1) else Err (Refused (NoStratum n strata))) ≡ Ok k → k ≡ n - 1
-    counted n strata k e =
-        elim (cases_Bool (nat_le n strata)) [
-          | inl there ↦ (let same : ◌≡◌ {A = Result ℕ Stop} (Ok (n - 1)) (Ok k) = rw there at e in cc)
-          | inr beyond ↦ absurd (let same : ◌≡◌ {A = Result ℕ Stop} (Err (Refused (NoStratum n strata))) (Ok k) = rw beyond at e in cc)
-        ]
+    subst (λ (k : ℕ). Logged (drawn_by_section plan k) name fs drawn) (omega (arith, stratum_is plan number at.value at.first_is, is)) (logged (drawn_by_section plan at.value) name fs drawn at.then_is)
 
 module _ (plan : Plan) (member : BelongsToWhole (parts plan) (start_of plan)) (is_head : IsHead plan.head) (log : List ℕ) (drawn : Drawn) where
   abbrev any_text : List Entry → List ℕ → Type 0
@@ -367,19 +408,23 @@ read design_name frame_name fs plan h =
     }
 
 -- so the plan is what was read
+frame_plan : (design : ReadDesign) (frame_name : List ℕ) (fs : Files) (plan : Plan) → Planned design frame_name fs plan → (plan.design ≡ design.design) × IsReadFrame frame_name design.bytes fs plan
+frame_plan design frame_name fs plan framed =
+    subst (λ (p : Plan). (p.design ≡ design.design) × IsReadFrame frame_name design.bytes fs p) framed.is
+    (refl, record { frame_bytes = framed.bytes; frame_held = framed.held; frame_read = framed.read; served = framed.served; head = refl })
+
 read_plan : (design_name frame_name : List ℕ) (fs : Files) (plan : Plan) → Read design_name frame_name fs plan → IsReadPlan design_name frame_name fs plan
 read_plan design_name frame_name fs plan from =
-    subst (IsReadPlan design_name frame_name fs) from.framed.is
-    (record {
+    let framed = frame_plan from.design frame_name fs plan from.framed in
+    record {
       design_bytes = from.design.bytes;
       design_held = from.designed.held;
-      design_read = from.designed.read;
-      frame_bytes = from.framed.bytes;
-      frame_held = from.framed.held;
-      frame_read = from.framed.read;
-      served = from.framed.served;
-      head = refl;
-    })
+      design_read = from.designed.read ∙ ap (λ (d : Design). ok_design d) (sym framed.0);
+      frame_is = framed.1;
+    }
+  where
+    ok_design : Design → Result Design DesignFault
+    ok_design d = Ok d
 
 ok_same : (x y : Outputs) → ◌≡◌ {A = Result Outputs Stop} (Ok x) (Ok y) → x ≡ y
 ok_same x y h = cc
@@ -422,6 +467,41 @@ written_genuine plan drawn by =
     let own : IsDrawnBy drawn.plan drawn = subst (λ (p : Plan). IsDrawnBy p drawn) (sym by.plan_is) by in
     (log_genuine drawn.plan drawn own (log_text drawn) refl, refl)
 
+-- the head of the plan that was read
+head_so : (design frame : List ℕ) (fs : Files) (plan : Plan) → IsReadPlan design frame fs plan → IsHead plan.head
+head_so design frame fs plan from = subst IsHead (sym from.frame_is.head) (head_of-is from.design_bytes from.frame_is.frame_bytes)
+
+-- what is drawn by its own plan
+own_plan : (plan : Plan) (drawn : Drawn) → IsDrawnBy plan drawn → IsDrawnBy drawn.plan drawn
+own_plan plan drawn by = subst (λ (p : Plan). IsDrawnBy p drawn) (sym by.plan_is) by
+
+abbrev ok_drawn : Drawn → Result Drawn Stop
+ok_drawn drawn = Ok drawn
+
+-- the log that is written of it tells it again
+module _ (drawn : Drawn) (by : IsDrawnBy drawn.plan drawn) (is_head : IsHead drawn.plan.head) where
+  abbrev own_log : List ℕ
+  own_log = log_text drawn
+
+  own_genuine : IsSectionedGenuine (tree_of drawn.plan) (sections_of drawn.plan) (start_of drawn.plan) drawn.plan.head own_log drawn.leaf
+  own_genuine = log_genuine drawn.plan drawn by own_log refl
+
+  own_any : IsAnyGenuine (tree_of drawn.plan) (sections_of drawn.plan) (start_of drawn.plan) drawn.plan.head own_log drawn.leaf
+  own_any = record { path = own_genuine.path; full = own_genuine.full; text = inr own_genuine.text }
+
+  read_back : any_reading (tree_of drawn.plan) (sections_of drawn.plan) (start_of drawn.plan) drawn.plan.head own_log ≡ Ok drawn.leaf
+  read_back = sym ((exact_any (tree_of drawn.plan) (BelongsToWhole (parts drawn.plan)) (whole_lawful (parts drawn.plan)) (sections_of drawn.plan) (strata_sectioned (all_of (parts drawn.plan))) (start_of drawn.plan) by.start drawn.plan.head is_head own_log).alone (Ok drawn.leaf) own_any)
+
+  told_back : path_told (tree_of drawn.plan) (start_of drawn.plan) own_log ≡ drawn.path
+  unfolding log_genuine own_genuine own_any
+  told_back = any_told (tree_of drawn.plan) (BelongsToWhole (parts drawn.plan)) (whole_lawful (parts drawn.plan)) (sections_of drawn.plan) (strata_sectioned (all_of (parts drawn.plan))) (start_of drawn.plan) by.start drawn.plan.head is_head own_log drawn.leaf own_any
+
+  read_again : drawn_by_log drawn.plan own_log ≡ Ok drawn
+  read_again =
+      ap (λ (path : List Entry). told_by drawn.plan None path (any_reading (tree_of drawn.plan) (sections_of drawn.plan) (start_of drawn.plan) drawn.plan.head own_log)) told_back
+      ∙ ap (told_by drawn.plan None drawn.path) read_back
+      ∙ ap (λ (o : Option ℕ). ok_drawn (record { plan = drawn.plan; only = o; leaf = drawn.leaf; path = drawn.path })) (sym by.all)
+
 module _ (a : DrawArguments) (fs : Files) (before now : Outside) (words : List (List ℕ)) (asked : command_of words ≡ Some (commands.Draw a)) where
   abbrev draw_files : List DrawnFile
   draw_files = record { name = a.log; text = log_text } ∷ record { name = a.sample; text = sample_text } ∷ []
@@ -438,23 +518,18 @@ module _ (a : DrawArguments) (fs : Files) (before now : Outside) (words : List (
       let plan = exact.plan in
       let drawn = exact.from_plan.drawn in
       let from = read_plan a.design a.frame fs plan (read a.design a.frame fs plan exact.planned) in
-      let chance = by_chance plan a.chance fs drawn exact.from_plan.is_drawn in
-      let by = by_whole plan drawn chance.same.only_so exact.from_plan.by_plan in
+      let same = chance_same plan a.chance fs drawn exact.from_plan.is_drawn in
+      let by = by_whole plan drawn same.only_so exact.from_plan.by_plan in
+      let own = own_plan plan drawn by in
+      let here : IsReadPlan a.design a.frame fs drawn.plan = subst (IsReadPlan a.design a.frame fs) (sym same.by_plan) from in
       let outputs = outputs_are words draw_job fs before now (source_of a.chance) draw_files report_text plan drawn draw_asked refl exact.planned exact.from_plan.is_drawn work in
       record {
         drawn = drawn;
-        read = subst (IsReadPlan a.design a.frame fs) (sym chance.same.by_plan) from;
-        all = chance.same.only_so;
-        is_drawn = chance.by_chance;
+        is_drawn = by_chance plan by.start a.chance fs drawn same.by_plan exact.from_plan.is_drawn;
+        by_plan = own;
         written = work.files ∙ ap (λ (o : Outputs). Some (with_files o.files fs)) outputs;
-        genuine = (written_genuine plan drawn by).0;
-        path_is = sym (written_genuine plan drawn by).1;
         put = work.written ∙ ap (λ (o : Outputs). with_bytes o.put before.written) outputs;
-        firsts = by.firsts;
-        around = by.around;
-        seconds = by.seconds;
-        probabilities = subst HasProbabilities (sym by.plan_is) by.probabilities;
-        balance = by.balance;
+        read = here;
       }
 
   pub exact_draw : Done words before now → before.files ≡ Some fs → IsExactDraw a fs before now
@@ -462,11 +537,54 @@ module _ (a : DrawArguments) (fs : Files) (before now : Outside) (words : List (
       let same : done.job ≡ draw_job = some_same _ _ (sym done.asked ∙ draw_asked) in
       drawn_work (subst (λ (j : Job). IsWork words j fs before now) same (done.done fs told))
 
--- ---- a replay that ended well
+  -- what it wrote is accepted
+  pub is_replayed : (exact : IsExactDraw a fs before now) → IsReplayed exact.drawn
+  is_replayed exact = record { same = read_again exact.drawn exact.by_plan (head_so a.design a.frame fs exact.drawn.plan exact.read) }
 
--- the head of the plan that was read
-head_so : (design frame : List ℕ) (fs : Files) (plan : Plan) → IsReadPlan design frame fs plan → IsHead plan.head
-head_so design frame fs plan from = subst IsHead (sym from.head) (head_of-is from.design_bytes from.frame_bytes)
+-- ---- a quick draw that ended well
+
+module _ (a : QuickArguments) (fs : Files) (before now : Outside) (words : List (List ℕ)) (asked : command_of words ≡ Some (commands.Quick a)) where
+  abbrev quick_files : List DrawnFile
+  quick_files = record { name = a.out; text = ids_text } ∷ []
+
+  abbrev quick_job : Job
+  quick_job = record { design = Given (quick_design a.n); frame = FrameHeld a.frame; work = Draws (ByTape a.tape) quick_files steps_text }
+
+  abbrev quick_read : ReadDesign
+  quick_read = record { design = quick_design a.n; bytes = [] }
+
+  quick_asked : job_for words ≡ Some quick_job
+  quick_asked = ap (option_map job_of) asked
+
+  quick_planned : (plan : Plan) → design_stage (Given (quick_design a.n)) fs >>= (λ d. frame_stage d (FrameHeld a.frame) fs) ≡ Ok plan → Planned quick_read a.frame fs plan
+  unfolding design_stage
+  quick_planned plan h = planned quick_read a.frame fs plan h
+
+  quick_work : IsWork words quick_job fs before now → IsExactQuick a fs before now
+  quick_work work =
+      let exact : IsDraw quick_job (ByTape a.tape) fs = work.exact in
+      let plan = exact.plan in
+      let drawn = exact.from_plan.drawn in
+      let from = frame_plan quick_read a.frame fs plan (quick_planned plan exact.planned) in
+      let same = chance_same plan (Tape a.tape) fs drawn exact.from_plan.is_drawn in
+      let by = by_whole plan drawn same.only_so exact.from_plan.by_plan in
+      let outputs = outputs_are words quick_job fs before now (ByTape a.tape) quick_files steps_text plan drawn quick_asked refl exact.planned exact.from_plan.is_drawn work in
+      record {
+        drawn = drawn;
+        is_drawn = by_chance plan by.start (Tape a.tape) fs drawn same.by_plan exact.from_plan.is_drawn;
+        by_plan = own_plan plan drawn by;
+        written = work.files ∙ ap (λ (o : Outputs). Some (with_files o.files fs)) outputs;
+        put = work.written ∙ ap (λ (o : Outputs). with_bytes o.put before.written) outputs;
+        design = ap (λ (p : Plan). p.design) same.by_plan ∙ from.0;
+        read = subst (IsReadFrame a.frame [] fs) (sym same.by_plan) from.1;
+      }
+
+  pub exact_quick : Done words before now → before.files ≡ Some fs → IsExactQuick a fs before now
+  exact_quick done told =
+      let same : done.job ≡ quick_job = some_same _ _ (sym done.asked ∙ quick_asked) in
+      quick_work (subst (λ (j : Job). IsWork words j fs before now) same (done.done fs told))
+
+-- ---- a replay that ended well
 
 module _ (a : ReplayArguments) (fs : Files) (before now : Outside) (words : List (List ℕ)) (asked : command_of words ≡ Some (commands.Replay a)) where
   abbrev replay_files : List DrawnFile
@@ -500,8 +618,6 @@ module _ (a : ReplayArguments) (fs : Files) (before now : Outside) (words : List
       let outputs = replay_outputs (ByLog a.log) (ap (log_source a.log) none) work exact in
       record {
         drawn = drawn;
-        all = told.same.only_so;
-        read = subst (IsReadPlan a.design a.frame fs) (sym any.same.by_plan) from;
         log = logged.log;
         log_held = logged.held;
         genuine = record {
@@ -510,8 +626,10 @@ module _ (a : ReplayArguments) (fs : Files) (before now : Outside) (words : List
           text = subst (λ (p : Plan). IsAnyText (tree_of p) (sections_of p) (start_of p) p.head any.genuine.path logged.log) (sym any.same.by_plan) any.genuine.text;
         };
         path_is = any.path_is;
+        by_plan = own_plan plan drawn by;
         written = work.files ∙ ap (λ (o : Outputs). Some (with_files o.files fs)) outputs;
         put = work.written ∙ ap (λ (o : Outputs). with_bytes o.put before.written) outputs;
+        read = subst (IsReadPlan a.design a.frame fs) (sym any.same.by_plan) from;
       }
 
   pub exact_replay : a.stratum ≡ None → Done words before now → before.files ≡ Some fs → IsExactReplay a fs before now
@@ -524,7 +642,8 @@ module _ (a : ReplayArguments) (fs : Files) (before now : Outside) (words : List
     record Sectioned (drawn : Drawn) (plan : Plan) (log : List ℕ) : Type 0 where
       section : HasSection (covered_tree (alone plan h)) (covered_start (alone plan h)) plan.head (h + 1) log drawn.leaf
       path_is : drawn.path ≡ section.genuine.path
-      rows : (whole : Drawn) → IsDrawnBy plan whole → log ≡ log_text whole → length log < 2 ^ 64 → drawn_rows drawn ≡ filter (is_of_stratum (parts plan) h) (drawn_rows whole)
+      rows : BelongsToWhole (parts plan) (start_of plan) → (leaf : Progress AnyState) → IsSectionedGenuine (tree_of plan) (sections_of plan) (start_of plan) plan.head log leaf → length log < 2 ^ 64
+          → drawn_rows drawn ≡ filter (is_of_stratum (parts plan) h) (selected_units (tree_of plan) leaf)
 
     section_work : a.stratum ≡ Some (h + 1) → IsWork words (replay_job (BySection a.log (h + 1))) fs before now → IsExactSection a h fs before now
     section_work number work =
@@ -541,25 +660,21 @@ module _ (a : ReplayArguments) (fs : Files) (before now : Outside) (words : List
         let of_plan : Sectioned drawn plan logged.log = record {
           section = lone.section;
           path_is = lone.path_is;
-          rows = λ whole by_whole_draw is short.
-              (ap (λ (c : Coverage). selected_units (covered_tree c) drawn.leaf) seen
-              ∙ lone.rows by_whole_draw.start whole.leaf short (log_genuine plan whole by_whole_draw logged.log is)
-              ∙ ap (λ (c : Coverage). filter (is_of_stratum (parts plan) h) (selected_units (covered_tree c) whole.leaf)) (sym (whole_seen plan whole by_whole_draw)));
+          rows = λ member leaf genuine short. (ap (λ (c : Coverage). selected_units (covered_tree c) drawn.leaf) seen ∙ lone.rows member leaf short genuine);
         } in
         let of_drawn : Sectioned drawn drawn.plan logged.log = subst (λ (p : Plan). Sectioned drawn p logged.log) (sym lone.same.by_plan) of_plan in
         let outputs = replay_outputs (BySection a.log (h + 1)) (ap (log_source a.log) number) work exact in
         record {
           drawn = drawn;
-          only = lone.same.only_so;
-          read = subst (IsReadPlan a.design a.frame fs) (sym lone.same.by_plan) from;
-          there = subst (λ (p : Plan). h < length (parts p).strata) (sym lone.same.by_plan) by.there;
           log = logged.log;
           log_held = logged.held;
           section = of_drawn.section;
           path_is = of_drawn.path_is;
+          by_plan = subst (λ (p : Plan). IsDrawnAlone p h drawn) (sym lone.same.by_plan) by;
           rows = of_drawn.rows;
           written = work.files ∙ ap (λ (o : Outputs). Some (with_files o.files fs)) outputs;
           put = work.written ∙ ap (λ (o : Outputs). with_bytes o.put before.written) outputs;
+          read = subst (IsReadPlan a.design a.frame fs) (sym lone.same.by_plan) from;
         }
 
     pub exact_section_replay : a.stratum ≡ Some (h + 1) → Done words before now → before.files ≡ Some fs → IsExactSection a h fs before now
@@ -590,8 +705,6 @@ module _ (a : MigrateArguments) (fs : Files) (before now : Outside) (words : Lis
       let outputs = outputs_are words migrate_job fs before now (ByOldLog a.log) migrate_files migrated_text plan drawn migrate_asked refl exact.planned exact.from_plan.is_drawn work in
       record {
         drawn = drawn;
-        all = told.same.only_so;
-        read = subst (IsReadPlan a.design a.frame fs) (sym old.same.by_plan) from;
         log = logged.log;
         log_held = logged.held;
         old = record {
@@ -600,10 +713,12 @@ module _ (a : MigrateArguments) (fs : Files) (before now : Outside) (words : Lis
           text = old.genuine.text ∙ ap (λ (p : Plan). logs.log_text p.head old.genuine.path) (sym old.same.by_plan);
         };
         path_is = old.path_is;
+        by_plan = own_plan plan drawn by;
         written = work.files ∙ ap (λ (o : Outputs). Some (with_files o.files fs)) outputs;
         genuine = (written_genuine plan drawn by).0;
         same_path = (written_genuine plan drawn by).1 ∙ old.path_is;
         put = work.written ∙ ap (λ (o : Outputs). with_bytes o.put before.written) outputs;
+        read = subst (IsReadPlan a.design a.frame fs) (sym old.same.by_plan) from;
       }
 
   pub exact_migration : Done words before now → before.files ≡ Some fs → IsExactMigration a fs before now
@@ -611,12 +726,63 @@ module _ (a : MigrateArguments) (fs : Files) (before now : Outside) (words : Lis
       let same : done.job ≡ migrate_job = some_same _ _ (sym done.asked ∙ migrate_asked) in
       migrated_work (subst (λ (j : Job). IsWork words j fs before now) same (done.done fs told))
 
+-- ---- a log that was refused
+
+-- the command of the words, and its job's refusal
+module _ (words : List (List ℕ)) (fs : Files) (line : ℕ) (told : Option Files) (held : told ≡ Some fs) (refuses : Refuses (status.LogDiffers line) words told) where
+  refused_by : (command : Command) → command_of words ≡ Some command → IsExactRefusal (job_of command) (status.LogDiffers line) fs
+  refused_by command asked =
+      let one : ◌≡◌ {A = Option Command} (Some refuses.command) (Some command) = sym refuses.asked ∙ asked in
+      let same : refuses.command ≡ command = cc in
+      subst (λ (c : Command). IsExactRefusal (job_of c) (status.LogDiffers line) fs) same (refuses.exact fs held)
+
+-- so the log that was read differs
+refused_log : (design frame log : List ℕ) (fs : Files) (line : ℕ) (job : Job) (source : drawing.Source) (Differs : Plan → List ℕ → Type 0) → job.design ≡ Held design → job.frame ≡ FrameHeld frame
+    → ((plan : Plan) → IsRefusedAt plan source fs line → RefusesLog (Differs plan) log fs) → IsRefused job source line fs → IsRefusedLog design frame log fs Differs
+refused_log design frame log fs line job source Differs held frame_held differs refused =
+    let staged : design_stage (Held design) fs >>= (λ d. frame_stage d (FrameHeld frame) fs) ≡ Ok refused.plan = rw (← held, ← frame_held) refused.planned in
+    record {
+      plan = refused.plan;
+      read = read_plan design frame fs refused.plan (read design frame fs refused.plan staged);
+      refused = differs refused.plan refused.by_plan;
+    }
+
+module _ (answer : Status) (words : List (List ℕ)) (before now : Outside) (fs : Files) (line : ℕ) (says : Says (class_of answer) answer words before now) where
+  refuses_line : answer ≡ status.LogDiffers line → Refuses (status.LogDiffers line) words before.files
+  refuses_line is = let r = subst (λ s. Says (class_of s) s words before now) is says in r.refused
+
+  replay_line : (a : ReplayArguments) → Ends answer words before (status.LogDiffers line) (commands.Replay a) fs → a.stratum ≡ None → IsRefusedLog a.design a.frame a.log fs (λ plan log. WholeDiffers plan log line)
+  replay_line a ends none =
+      let job : Job = replay_job a fs before now words ends.asked (ByLog a.log) in
+      let exact : IsExactRefusal (job_of (commands.Replay a)) (status.LogDiffers line) fs = refused_by words fs line before.files ends.told (refuses_line ends.answered) (commands.Replay a) ends.asked in
+      let refused : IsRefused job (ByLog a.log) line fs = subst (λ (o : Option ℕ). IsExactRefusal (replay_job a fs before now words ends.asked (log_source a.log o)) (status.LogDiffers line) fs) none exact in
+      refused_log a.design a.frame a.log fs line job (ByLog a.log) (λ plan log. WholeDiffers plan log line) refl refl (λ plan r. r) refused
+
+  section_line : (a : ReplayArguments) (h : ℕ) → Ends answer words before (status.LogDiffers line) (commands.Replay a) fs → a.stratum ≡ Some (h + 1) → IsRefusedLog a.design a.frame a.log fs (λ plan log. StratumDiffers h plan log line)
+  section_line a h ends number =
+      let job : Job = replay_job a fs before now words ends.asked (BySection a.log (h + 1)) in
+      let exact : IsExactRefusal (job_of (commands.Replay a)) (status.LogDiffers line) fs = refused_by words fs line before.files ends.told (refuses_line ends.answered) (commands.Replay a) ends.asked in
+      let refused : IsRefused job (BySection a.log (h + 1)) line fs = subst (λ (o : Option ℕ). IsExactRefusal (replay_job a fs before now words ends.asked (log_source a.log o)) (status.LogDiffers line) fs) number exact in
+      let back : h + 1 - 1 ≡ h = omega arith in
+      refused_log a.design a.frame a.log fs line job (BySection a.log (h + 1)) (λ plan log. StratumDiffers h plan log line) refl refl
+      (λ plan r. subst (λ (k : ℕ). RefusesLog (λ bytes. StratumDiffers k plan bytes line) a.log fs) back r) refused
+
+  migrate_line : (a : MigrateArguments) → Ends answer words before (status.LogDiffers line) (commands.Migrate a) fs → IsRefusedLog a.design a.frame a.log fs (λ plan log. OldDiffers plan log line)
+  migrate_line a ends =
+      refused_log a.design a.frame a.log fs line (migrate_job a fs before now words ends.asked) (ByOldLog a.log) (λ plan log. OldDiffers plan log line) refl refl (λ plan r. r)
+      (refused_by words fs line before.files ends.told (refuses_line ends.answered) (commands.Migrate a) ends.asked)
+
 pub headline : (answer : Status) (words : List (List ℕ)) (before now : Outside) → Says (class_of answer) answer words before now → Headline answer words before now
 headline answer words before now says = record {
-  draw = λ a fs is asked told. exact_draw a fs before now words asked (done is) told;
-  replay = λ a fs is asked none told. exact_replay a fs before now words asked none (done is) told;
-  section = λ a h fs is asked number told. exact_section_replay a fs before now words asked h number (done is) told;
-  migrate = λ a fs is asked told. exact_migration a fs before now words asked (done is) told;
+  draw = λ a fs ends. exact_draw a fs before now words ends.asked (done ends.answered) ends.told;
+  replayed = λ a fs ends exact. is_replayed a fs before now words ends.asked exact;
+  quick = λ a fs ends. exact_quick a fs before now words ends.asked (done ends.answered) ends.told;
+  replay = λ a fs ends none. exact_replay a fs before now words ends.asked none (done ends.answered) ends.told;
+  section = λ a h fs ends number. exact_section_replay a fs before now words ends.asked h number (done ends.answered) ends.told;
+  migrate = λ a fs ends. exact_migration a fs before now words ends.asked (done ends.answered) ends.told;
+  replay_differs = λ a fs line ends none. replay_line answer words before now fs line says a ends none;
+  section_differs = λ a h fs line ends number. section_line answer words before now fs line says a h ends number;
+  migrate_differs = λ a fs line ends. migrate_line answer words before now fs line says a ends;
 }
   where
     done : answer ≡ status.Done → Done words before now

@@ -3,6 +3,7 @@ pub mod Cubes
 pub mod Deliveries
 pub mod Ends
 pub mod Headline
+pub mod Refusals
 pub mod Selections
 pub mod Stages
 pub mod Written

@@ -24,7 +24,6 @@ use Rattle.smp_log.specs.SectionReading.{any_reading}
 use Rattle.smp_log.specs.declared.fault.LogFault.{LogFault}
 use Rattle.smp_log.specs.declared.fault.LogFault.TheVariants.{Differs}
 use Rattle.smp_log.specs.Told.{path_told}
-use Rattle.smp_log.proofs.Paths.{full_path_leads, leads_full_path}
 use Rattle.smp_split.specs.Paths.{Entry, Leads}
 use Rattle.smp_split.specs.Runs.{Outcome, run, leaf, stopped, IsLeaf, IsStop, IsOutcome}
 use Rattle.smp_split.proofs.Runs.{run_is}
@@ -168,6 +167,9 @@ module _ (plan : FramePlan) (planned : IsPlanned plan) where
       planned.asked row (place_of plan.plan.strata row) l (place_is_seat plan.plan.strata row seated.seat seated.is)
 
   module _ (state : Progress AnyState) (starts : StartsWhole plan.plan state) (state_is : state ≡ start_of (plan_view plan)) where
+    pub start_member : BelongsToWhole (parts (plan_view plan)) (start_of (plan_view plan))
+    start_member = subst (λ (s : Progress AnyState). BelongsToWhole (parts (plan_view plan)) s) state_is (belongs plan (all_of (parts (plan_view plan))) (sym (own_is (all_of plan.plan) refl)) state starts)
+
     probabilities_own : HasProbabilities (plan_view plan)
     probabilities_own = record {
       probability = λ row l.
@@ -237,10 +239,11 @@ module _ (plan : FramePlan) (planned : IsPlanned plan) where
       drawn_by = record {
         plan_is = refl;
         all = refl;
-        start = subst (λ (s : Progress AnyState). BelongsToWhole (parts (plan_view plan)) s) state_is (belongs plan (all_of (parts (plan_view plan))) (sym (own_is (all_of plan.plan) refl)) state starts);
+        lawful = whole_lawful (parts (plan_view plan));
+        start = start_member;
         full = subst (λ (s : Progress AnyState). IsFullPath (tree_of (plan_view plan)) s path to) state_is
             (subst (λ (t : Tree (Progress AnyState)). IsFullPath t state path to) (tree_is (all_of plan.plan) refl)
-            (leads_full_path (whole_tree plan.plan) (BelongsToWhole plan.plan) (whole_lawful plan.plan) state to path (belongs plan (all_of plan.plan) refl state starts) leads done));
+            (record { leads = leads; done = done }));
         firsts = subst FirstsBy planned.parts_are firsts_own;
         around = subst AroundBy planned.parts_are around_own;
         seconds = subst SecondsBy planned.parts_are seconds_own;
@@ -255,13 +258,12 @@ module _ (plan : FramePlan) (planned : IsPlanned plan) where
   pub walked_all : (own : Coverage) → own ≡ all_of plan.plan → (start : Progress AnyState) → StartsWhole plan.plan start → start ≡ selections.start_of plan.plan → (to : Progress AnyState) → BelongsToCovered own to → (path lines : List Entry) → IsFullPath (covered_tree own) start path to → lines ≡ path
       → IsWalked view own (record { plan = view; only = None; leaf = to; path = lines })
   walked_all own is start starts from to here path lines full same =
-      let goes = full_path_leads (covered_tree own) (BelongsToCovered own) (covered_lawful own) start to path (belongs plan own is start starts) full in
       subst (λ (p : List Entry). IsWalked view own (record { plan = view; only = None; leaf = to; path = p })) (sym same)
       (record {
         whole = own_is own is;
         belongs = here;
-        done = subst (λ (t : Tree (Progress AnyState)). t.done to ≡ true) (tree_is own is) goes.1;
-        by_plan = drawn_by start starts (start_is start from) path to (subst (λ c. Leads (covered_tree c) start path to) is goes.0) (subst (λ c. (covered_tree c).done to ≡ true) is goes.1);
+        done = subst (λ (t : Tree (Progress AnyState)). t.done to ≡ true) (tree_is own is) full.done;
+        by_plan = drawn_by start starts (start_is start from) path to (subst (λ c. Leads (covered_tree c) start path to) is full.leads) (subst (λ c. (covered_tree c).done to ≡ true) is full.done);
       })
 
   -- a walk of one stratum alone that came to a leaf
@@ -270,17 +272,16 @@ module _ (plan : FramePlan) (planned : IsPlanned plan) where
   walked_alone h within own is start starts from to here path lines full same =
       let seen : own ≡ alone view h = is ∙ ap (λ (p : Parts). one_of p h) planned.parts_are in
       let begins : start ≡ covered_start (alone view h) = from ∙ ap (λ (p : Parts). covered_start (one_of p h)) planned.parts_are in
-      let member : BelongsToCovered own start = subst (λ (c : Coverage). BelongsToCovered c start) (sym is) starts.member in
-      let goes = full_path_leads (covered_tree own) (BelongsToCovered own) (covered_lawful own) start to path member full in
       subst (λ (p : List Entry). IsWalked view own (record { plan = view; only = Some h; leaf = to; path = p })) (sym same)
       (record {
         whole = seen;
         belongs = here;
-        done = subst (λ (c : Coverage). (covered_tree c).done to ≡ true) seen goes.1;
+        done = subst (λ (c : Coverage). (covered_tree c).done to ≡ true) seen full.done;
         by_plan = record {
           plan_is = refl;
           only = refl;
           there = omega (arith, within, ap (λ (p : Parts). length p.strata) planned.parts_are);
+          lawful = covered_lawful (alone view h);
           starts = subst (λ (p : Parts). StartsAlone p h (covered_start (one_of p h))) planned.parts_are (subst (StartsAlone plan.plan h) from starts);
           full = subst (λ (s : Progress AnyState). IsFullPath (covered_tree (alone view h)) s path to) begins (subst (λ (c : Coverage). IsFullPath (covered_tree c) start path to) seen full);
         };

@@ -9,10 +9,10 @@ use Rattle.smp_status.specs.declared.status.Status.{Status}
 use Rattle.smp_status.specs.declared.status.Status.TheVariants.{Usage}
 use Rattle.smp_status.specs.Codes.{Class, IsDone, IsUsage, IsRefusal, IsReadFault, IsWriteFault, IsNoMemory, class_of}
 use Rattle.smp_status.specs.FaultLines.{fault_line}
-use Rattle.smp_app.specs.Commands.{Job, job_for, inputs_of, outputs_of}
+use Rattle.smp_app.specs.Commands.{Job, job_for, job_of, inputs_of, outputs_of}
 use Rattle.smp_plan.specs.Stops.{Stop, Refused, Missing, without}
 use Rattle.smp_app.specs.Verdict.{verdict}
-use Rattle.smp_app.specs.Draws.{IsExact}
+use Rattle.smp_app.specs.Draws.{IsExact, IsExactRefusal}
 use Rattle.smp_app.specs.Deliveries.{Outputs, SomeRose, names_of, with_files, StopsAt, AtPlace}
 
 -- what can be told of the outside: the files, what was put, and the counts of failed calls
@@ -57,11 +57,12 @@ pub record Done (words : List (List ℕ)) (before now : Outside) : Type 0 where
 
 -- ---- refusals
 
--- The words are those of a command, and its verdict is this refusal.
+-- The words are those of a command, and its verdict is this refusal. Where it names a line of a log, the log differs there.
 pub record Refuses (refusal : Status) (words : List (List ℕ)) (told : Option Files) : Type 0 where
   pub command : Command
   pub asked : command_of words ≡ Some command
   pub verdict_is : (fs : Files) → told ≡ Some fs → verdict words fs ≡ Err (Refused refusal)
+  pub exact : (fs : Files) → told ≡ Some fs → IsExactRefusal (job_of command) refusal fs
 
 -- Usage is the refusal of words that are those of no command.
 abbrev pub RefusesBy : Class → Status → List (List ℕ) → Option Files → Type 0

@@ -117,6 +117,17 @@ written_names (Draws source files put) = map (λ file. file.name) files
 abbrev pub outputs_of : Job → List (List ℕ)
 outputs_of job = written_names job.work
 
+-- all files that a job names, and those that some words name: none for `demo`, and none for words that are those of no command
+abbrev pub files_of : Job → List (List ℕ)
+files_of job = inputs_of job ++ outputs_of job
+
+abbrev pub files_by : Option Job → List (List ℕ)
+files_by None = []
+files_by (Some job) = files_of job
+
+abbrev pub files_named : List (List ℕ) → List (List ℕ)
+files_named words = files_by (job_for words)
+
 -- what is written and put of what is drawn
 abbrev pub written_by : Drawn → DrawnFile → OutputFile
 written_by drawn file = record { name = file.name; bytes = file.text drawn }

@@ -1,5 +1,5 @@
 -- What holds of what a job draws.
-use Rattle.std.specs.Prelude.{◌≡◌, ◌≢◌, IfSome, ℕ, ◌<◌, true, ℤ, length, Option, Some, None, Ok}
+use Rattle.std.specs.Prelude.{◌≡◌, ◌≢◌, IfSome, ℕ, ◌+◌, ◌-◌, ◌<◌, true, ℤ, List, length, Option, Some, None, Result, Ok, Err}
 use Rattle.std.specs.List.{count_by, range_with_len, slice_get}
 use Rattle.smp_io.specs.Store.{Files}
 use Rattle.smp_fractions.specs.Bounds.{IsAround}
@@ -10,7 +10,12 @@ use Rattle.smp_balance.specs.Balances.{IsBalanced}
 use Rattle.smp_balance.specs.Reports.{TellsColumn}
 use Rattle.smp_design.specs.declared.design.Second as second
 use Rattle.smp_design.specs.declared.method.Method.TheVariants.{Cube}
-use Rattle.smp_log.specs.Genuine.{IsFullPath}
+use Rattle.smp_log.specs.Genuine.{DiffersAt, IsFullPath, IsGenuine}
+use Rattle.smp_log.specs.LoneSections.{SectionDiffers}
+use Rattle.smp_log.specs.SectionLogs.{IsAnyGenuine}
+use Rattle.smp_split.specs.Trees.{Lawful}
+use Rattle.smp_status.specs.declared.status.Status.{Status}
+use Rattle.smp_status.specs.declared.status.Status.TheVariants as status
 use Rattle.smp_strata.specs.Draws.{AreAsked}
 use Rattle.smp_strata.specs.Plans.{first_probs}
 use Rattle.smp_strata.specs.declared.strata.First as first
@@ -18,12 +23,12 @@ use Rattle.smp_strata.specs.declared.strata.Stratum.{Stratum}
 use Rattle.smp_stages.specs.Paths.{GoesByStages}
 use Rattle.smp_twostage.specs.Cubes.{IsDrawnByCube, balancing}
 use Rattle.smp_twostage.specs.Covered.{StartsAlone}
-use Rattle.smp_twostage.specs.Selections.{BelongsToWhole, covered_start, covered_tree, tree_of as stage_tree, first_number, stages_of, states_of}
+use Rattle.smp_twostage.specs.Selections.{BelongsToCovered, BelongsToWhole, covered_start, covered_tree, tree_of as stage_tree, first_number, stages_of, states_of}
 use Rattle.smp_twostage.specs.Starts.{first_selected, known, second_selected, weighted}
 use Rattle.smp_plan.specs.Plans.{Plan, parts, row_probability}
-use Rattle.smp_app.specs.Drawn.{tree_of, start_of, Drawn}
+use Rattle.smp_app.specs.Drawn.{tree_of, start_of, sections_of, Drawn}
 use Rattle.smp_app.specs.Texts.{drawn_stratum}
-use Rattle.smp_app.specs.Commands.{Source, Work, Lists, Draws, Job}
+use Rattle.smp_app.specs.Commands.{Source, ByLog, ByOldLog, BySection, Work, Lists, Draws, Job}
 use Rattle.smp_app.specs.Verdict.{alone, drawn_stage}
 use Rattle.smp_plan.specs.Inputs.{plan_stage}
 
@@ -119,22 +124,26 @@ pub record HasProbabilities (plan : Plan) : Type 0 where
 pub record IsDrawnBy (plan : Plan) (drawn : Drawn) : Type 0 where
   pub plan_is : drawn.plan ≡ plan
   pub all : drawn.only ≡ None
-  -- The draw starts from a state of the tree, and its path is that of a full tape.
+  -- The draw tree splits lawfully: in each state that isn't done the weights are at least 1, each part's rank is lower, and each row's value
+  -- is the weighted mean of its values in the parts; at a done state it is 1 for the rows that are selected, and 0 for the others.
+  pub lawful : Lawful (tree_of plan) (BelongsToWhole (parts plan))
+  -- The draw starts from a state of the tree, and its path leads from there to a leaf, which is done.
   pub start : BelongsToWhole (parts plan) (start_of plan)
   pub full : IsFullPath (tree_of plan) (start_of plan) drawn.path drawn.leaf
+  pub probabilities : HasProbabilities plan
   pub firsts : DrawsFirsts drawn
   pub around : DrawsAround drawn
   pub seconds : DrawsSeconds drawn
-  pub probabilities : HasProbabilities plan
   pub balance : KeepsBalance drawn
 
--- What is drawn of stratum h alone. The draw starts from the stratum's state in the start of the whole draw, and makes the steps that the
--- whole makes in the stratum; each row of it is selected with exactly the probability that is asked for it, and no other row is. Its path is
--- that of a full tape.
+-- What is drawn of stratum h alone, by a tree that splits lawfully too. The draw starts from the stratum's state in the start of the whole
+-- draw, and makes the steps that the whole makes in the stratum; each row of it is selected with exactly the probability that is asked for
+-- it, and no other row is. Its path leads from there to a leaf.
 pub record IsDrawnAlone (plan : Plan) (h : ℕ) (drawn : Drawn) : Type 0 where
   pub plan_is : drawn.plan ≡ plan
   pub only : drawn.only ≡ Some h
   pub there : h < length (parts plan).strata
+  pub lawful : Lawful (covered_tree (alone plan h)) (BelongsToCovered (alone plan h))
   pub starts : StartsAlone (parts plan) h (covered_start (alone plan h))
   pub full : IsFullPath (covered_tree (alone plan h)) (covered_start (alone plan h)) drawn.path
       drawn.leaf
@@ -166,3 +175,69 @@ IsExactWork job (Draws source files put) fs = IsDraw job source fs
 -- what a job draws is drawn with the requested probabilities
 abbrev pub IsExact : Job → Files → Type 0
 IsExact job fs = IsExactWork job job.work fs
+
+-- ---- a log that is refused
+
+-- The line of a log behind the most whole lines with which some genuine log of the plan begins: of either version, or of version 1 alone.
+abbrev pub WholeDiffers : Plan → List ℕ → ℕ → Type 0
+WholeDiffers plan log line =
+    DiffersAt (IsAnyGenuine (tree_of plan) (sections_of plan) (start_of plan) plan.head) log line
+
+abbrev pub OldDiffers : Plan → List ℕ → ℕ → Type 0
+OldDiffers plan log line = DiffersAt (IsGenuine (tree_of plan) (start_of plan) plan.head) log line
+
+-- the line of a log with which no genuine section of stratum h goes on
+abbrev pub StratumDiffers : ℕ → Plan → List ℕ → ℕ → Type 0
+StratumDiffers h plan log line =
+    SectionDiffers (covered_tree (alone plan h)) (covered_start (alone plan h)) plan.head (h + 1)
+    log line
+
+-- so it is for the bytes of the log in its file
+pub record RefusesLog (Differs : List ℕ → Type 0) (log : List ℕ) (fs : Files) : Type 0 where
+  pub bytes : List ℕ
+  pub held : fs log ≡ Some bytes
+  pub differs : Differs bytes
+
+-- where a refusal names the line of a log, this holds of the line
+abbrev pub IfLine : Status → (ℕ → Type 0) → Type 0
+IfLine (status.LogDiffers line) holds = holds line
+IfLine other holds = Unit {0}
+
+-- a plan and a source whose log is refused at a line
+abbrev pub IsRefusedAt : Plan → Source → Files → ℕ → Type 0
+IsRefusedAt plan (ByLog log) fs line = RefusesLog (λ bytes. WholeDiffers plan bytes line) log fs
+IsRefusedAt plan (ByOldLog log) fs line = RefusesLog (λ bytes. OldDiffers plan bytes line) log fs
+IsRefusedAt plan (BySection log number) fs line =
+    RefusesLog (λ bytes. StratumDiffers (number - 1) plan bytes line) log fs
+IsRefusedAt plan other fs line = Unit {0}
+
+abbrev pub IsRefusedBy : Plan → Source → Files → Status → Type 0
+IsRefusedBy plan source fs refusal = IfLine refusal (IsRefusedAt plan source fs)
+
+-- what a job's source refuses by the plan of the job
+pub record IsRefused (job : Job) (source : Source) (line : ℕ) (fs : Files) : Type 0 where
+  pub plan : Plan
+  pub planned : plan_stage job.design job.frame fs ≡ Ok plan
+  pub by_plan : IsRefusedAt plan source fs line
+
+-- ---- what a job ends with: what is drawn, or a refusal
+
+abbrev pub IsRefusedFrom : Plan → Work → Status → Files → Type 0
+IsRefusedFrom plan (Lists text) refusal fs = Unit {0}
+IsRefusedFrom plan (Draws source files put) refusal fs = IsRefusedBy plan source fs refusal
+
+abbrev pub IsRefusedWork : Job → Work → Status → Files → Type 0
+IsRefusedWork job (Lists text) refusal fs = Unit {0}
+IsRefusedWork job (Draws source files put) refusal fs =
+    IfLine refusal (λ line. IsRefused job source line fs)
+
+abbrev pub IsExactRefusal : Job → Status → Files → Type 0
+IsExactRefusal job refusal fs = IsRefusedWork job job.work refusal fs
+
+abbrev pub EndsExactFrom : {A : Type 0} → Plan → Work → Files → Result A Status → Type 0
+EndsExactFrom plan work fs (Ok outputs) = IsExactFrom plan work fs
+EndsExactFrom plan work fs (Err refusal) = IsRefusedFrom plan work refusal fs
+
+abbrev pub EndsExact : {A : Type 0} → Job → Files → Result A Status → Type 0
+EndsExact job fs (Ok outputs) = IsExact job fs
+EndsExact job fs (Err refusal) = IsExactRefusal job refusal fs

@@ -1,9 +1,9 @@
-ghost use Rattle.std.specs.Prelude.{◌≡◌, ◌≤◌, ℕ, List, Some, map, string_bytes};
+ghost use Rattle.std.specs.Prelude.{◌≡◌, ◌≤◌, ℕ, List, [], Some, map, string_bytes};
 ghost use Rattle.smp_words.specs.Words.{IsAsked, command_of};
 ghost use Rattle.smp_app.specs.Answers.{IsAnswer, outside};
 ghost use Rattle.smp_app.specs.Headline.{Headline};
 ghost use Rattle.smp_status.specs.Codes.{class_of};
-ghost use Rattle.smp_app.specs.Commands.{job_for};
+ghost use Rattle.smp_app.specs.Commands.{files_named, files_of, job_for, job_of};
 ghost use Rattle.smp_app.specs.Stages.{IsJob, WorkSays, job_view};
 
 use crate::Status;
@@ -31,14 +31,14 @@ use std::alloc::Global;
 /// - `quick FRAME N TAPE OUT` needs no design: it draws N units by sequential pivotal steps, writes their ids to OUT and puts the lines of
 ///   the steps.
 ///
-/// After a refusal no file has changed, and a line was put that says what was wrong.
+/// After a refusal no file has changed, and a line was put that says what was wrong. Where the words name no file, the store isn't touched.
 pub fn sampler<K: Store, S: Sink>(
     alloc: Global,
     words: &[String],
     store: &mut K,
     out: &mut S,
 ) -> Status
-    // The main statement, of a draw that ended well.
+    // The main statement: what a call that ended well has done, and where the log differs that it refused.
     ensures headline { Headline result (map string_bytes words.now)
         (outside K.files K.read_faults K.write_faults S.written S.faults store.old out.old)
         (outside K.files K.read_faults K.write_faults S.written S.faults store.new out.new) }
@@ -47,6 +47,9 @@ pub fn sampler<K: Store, S: Sink>(
     ensures answer { IsAnswer result (map string_bytes words.now)
         (outside K.files K.read_faults K.write_faults S.written S.faults store.old out.old)
         (outside K.files K.read_faults K.write_faults S.written S.faults store.new out.new) }
+
+    // `demo` and words of no command touch no file.
+    ensures idle { files_named (map string_bytes words.now) ≡ [] → store.new ≡ store.old }
 {
     let status = work(alloc, words, store, out);
     report(alloc, status, out)
@@ -58,6 +61,7 @@ fn work<K: Store, S: Sink>(alloc: Global, words: &[String], store: &mut K, out: 
         (outside K.files K.read_faults K.write_faults S.written S.faults store.old out.old)
         (outside K.files K.read_faults K.write_faults S.written S.faults store.new out.new) }
     ensures puts { S.faults out.old ≤ S.faults out.new }
+    ensures idle { files_named (map string_bytes words.now) ≡ [] → store.new ≡ store.old }
 {
     match command_from(alloc, words) {
         Ok(Some(command)) => carry_out(alloc, &command, store, out),
@@ -79,6 +83,7 @@ fn carry_out<K: Store, S: Sink>(
         (outside K.files K.read_faults K.write_faults S.written S.faults store.old out.old)
         (outside K.files K.read_faults K.write_faults S.written S.faults store.new out.new) }
     ensures puts { S.faults out.old ≤ S.faults out.new }
+    ensures idle { files_of (job_of command.now) ≡ [] → store.new ≡ store.old }
 {
     match Job::of(alloc, command) {
         Ok(job) => do_job(alloc, &job, store, out),
@@ -94,6 +99,7 @@ fn do_job<K: Store, S: Sink>(alloc: Global, job: &Job, store: &mut K, out: &mut 
         (outside K.files K.read_faults K.write_faults S.written S.faults store.old out.old)
         (outside K.files K.read_faults K.write_faults S.written S.faults store.new out.new) }
     ensures puts { S.faults out.old ≤ S.faults out.new }
+    ensures idle { files_of (job_view job.now) ≡ [] → store.new ≡ store.old }
 {
     let outputs = match outputs_from(alloc, store, job) {
         Ok(outputs) => outputs,

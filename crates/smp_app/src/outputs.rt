@@ -2,7 +2,7 @@ ghost use Rattle.std.specs.Prelude.{◌≡◌, ◌≤◌, ◌++◌, ◌∷◌, [
 ghost use Rattle.std.specs.List.{flat_map};
 ghost use Rattle.smp_io.specs.Counts.{Rose, NeverFalls};
 ghost use Rattle.smp_io.specs.Sink.{with_bytes};
-ghost use Rattle.smp_app.specs.Deliveries.{outputs_view, with_files, StopsAtFile, StopsAt, FailsAtFile, FailsAt};
+ghost use Rattle.smp_app.specs.Deliveries.{outputs_view, names_of, with_files, StopsAtFile, StopsAt, FailsAtFile, FailsAt};
 
 use smp_frac::{Bytes, Text};
 use smp_io::{Sink, Store, StoreFault};
@@ -26,7 +26,7 @@ pub struct Outputs {
 }
 
 impl Outputs {
-    /// Writes the files in order and puts the result after them. It stops at the first failure.
+    /// Writes the files in order and puts the result after them. It stops at the first failure. Where there is no file, the store isn't touched.
     pub fn deliver<K: Store, S: Sink>(&self, store: &mut K, out: &mut S) -> Result<(), StoreFault>
         ensures files { OnOk result (K.files store.new
             ≡ option_map (with_files (outputs_view self.now).files) (K.files store.old)) }
@@ -43,6 +43,7 @@ impl Outputs {
         ensures reads { NeverFalls (K.read_faults store.old) (K.read_faults store.new) }
         ensures writes { NeverFalls (K.write_faults store.old) (K.write_faults store.new) }
         ensures puts { S.faults out.old ≤ S.faults out.new }
+        ensures idle { names_of (outputs_view self.now).files ≡ [] → store.new ≡ store.old }
     {
         write_files(self.files.as_slice(), store)?;
         out.put(self.put.as_slice())
@@ -58,6 +59,7 @@ fn write_files<K: Store>(files: &[OutputFile], store: &mut K) -> Result<(), Stor
         (λ name. Rose (K.write_faults store.old name) (K.write_faults store.new name)) }
     ensures reads { NeverFalls (K.read_faults store.old) (K.read_faults store.new) }
     ensures writes { NeverFalls (K.write_faults store.old) (K.write_faults store.new) }
+    ensures idle { files.now ≡ [] → store.new ≡ store.old }
 {
     for file in files {
         store.write(file.name.as_str(), file.bytes.as_slice())?;

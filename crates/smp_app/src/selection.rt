@@ -6,6 +6,8 @@ ghost use Rattle.smp_twostage.specs.Selections as Selections;
 ghost use Rattle.smp_twostage.specs.Covered.{StartsAlone};
 ghost use Rattle.smp_twostage.specs.Starts.{StartsWhole};
 ghost use Rattle.smp_app.specs.Drawn.{tree_of, start_of};
+ghost use Rattle.smp_app.specs.Draws.{IfLine, IsRefusedBy, OldDiffers, StratumDiffers, WholeDiffers};
+ghost use Rattle.smp_io.specs.Store.{Files};
 ghost use Rattle.smp_app.specs.Verdict.{drawn_by_log, drawn_by_old_log, drawn_by_section, drawn_by_seed};
 ghost use Rattle.smp_app.specs.Verdict.{drawn_from, drawn_stage, stratum_at, values_left, values_taken};
 ghost use Rattle.smp_status.specs.Codes.{class_of};
@@ -322,10 +324,14 @@ fn select_by_old_log<'a>(
     requires { IsPlanned plan.now }
     ensures follows { Follows (result_view (selection_view (plan_view plan.now)) result)
         (drawn_by_old_log (plan_view plan.now) log.now) }
+    ensures differs { IfErr result (λ refusal. IfLine refusal
+        (OldDiffers (plan_view plan.now) log.now)) }
     ensures kinds { IfErr result (λ error. IsOfContent (class_of error) error) }
     ensures selection { IfOk result (IsSelection (plan_view plan.now)) }
 {
     let started = Whole::start(alloc, &plan.plan)?;
+    // The head tells its lines.
+    let _lines = plan.head.as_slice();
     let walked = walk_by_old_log(alloc, plan, started, log);
     selection_at(alloc, plan, walked, 0, 0)
 }
@@ -361,10 +367,14 @@ fn select_by_section<'a>(
     requires room { stratum < 2 ^ 32 }
     ensures follows { Follows (result_view (selection_view (plan_view plan.now)) result)
         (drawn_by_section (plan_view plan.now) stratum log.now) }
+    ensures differs { IfErr result (λ refusal. IfLine refusal
+        (StratumDiffers stratum (plan_view plan.now) log.now)) }
     ensures kinds { IfErr result (λ error. IsOfContent (class_of error) error) }
     ensures selection { IfOk result (IsSelection (plan_view plan.now)) }
 {
     let started = Whole::only(alloc, &plan.plan, stratum)?;
+    // The head tells its lines.
+    let _lines = plan.head.as_slice();
     let walked = walk_by_section(alloc, plan, started, stratum, log);
     selection_at(alloc, plan, walked, 0, 0)
 }
@@ -378,10 +388,14 @@ fn select_by_log<'a>(
     requires { IsPlanned plan.now }
     ensures follows { Follows (result_view (selection_view (plan_view plan.now)) result)
         (drawn_by_log (plan_view plan.now) log.now) }
+    ensures differs { IfErr result (λ refusal. IfLine refusal
+        (WholeDiffers (plan_view plan.now) log.now)) }
     ensures kinds { IfErr result (λ error. IsOfContent (class_of error) error) }
     ensures selection { IfOk result (IsSelection (plan_view plan.now)) }
 {
     let started = Whole::start(alloc, &plan.plan)?;
+    // The head tells its lines.
+    let _lines = plan.head.as_slice();
     let walked = walk_by_log(alloc, plan, started, log);
     selection_at(alloc, plan, walked, 0, 0)
 }
@@ -403,6 +417,9 @@ pub fn selection_from<'a, K: Store>(
         (told K.files K.read_faults K.write_faults store.old)
         (told K.files K.read_faults K.write_faults store.new) }
     ensures selection { IfOk result (IsSelection (plan_view plan.now)) }
+    ensures differs { (fs : Files) → K.files store.old ≡ Some fs
+        → IfErr result (IsRefusedBy (plan_view plan.now) (draw_view from.entry) fs) }
+    ensures idle { source_names (draw_view from.entry) ≡ [] → store.new ≡ store.old }
 {
     match from {
         DrawSource::Tape(name) => {

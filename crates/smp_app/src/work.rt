@@ -1,8 +1,8 @@
-ghost use Rattle.std.specs.Prelude.{◌≡◌, map, IfOk, Some, Ok};
+ghost use Rattle.std.specs.Prelude.{◌≡◌, [], map, IfOk, Some, Ok};
 ghost use Rattle.smp_io.specs.Store.{Files};
 ghost use Rattle.smp_app.specs.Commands.{drawn_names, inputs_of, outputs_of, written_by, written_names, outputs_by};
 ghost use Rattle.smp_app.specs.Verdict.{outputs_stage, work_stage};
-ghost use Rattle.smp_app.specs.Draws.{IsExact, IsExactFrom};
+ghost use Rattle.smp_app.specs.Draws.{EndsExact, EndsExactFrom};
 ghost use Rattle.smp_app.specs.Deliveries.{outputs_view, names_of};
 ghost use Rattle.smp_plan.specs.Reads.{Reads, told, result_view};
 ghost use Rattle.smp_app.specs.Stages.{IsJob, IsSelection, IsWorkInRanges, job_view, work_view, file_view, drawn_text, selection_view};
@@ -24,9 +24,10 @@ pub fn outputs_from<K: Store>(alloc: Global, store: &mut K, job: &Job) -> Result
         (told K.files K.read_faults K.write_faults store.old)
         (told K.files K.read_faults K.write_faults store.new) }
     ensures exact { (fs : Files) → K.files store.old ≡ Some fs
-        → IfOk result (λ _. IsExact (job_view job.now) fs) }
+        → EndsExact (job_view job.now) fs result }
     ensures named { IfOk result (λ outputs. names_of (outputs_view outputs).files
         ≡ outputs_of (job_view job.now)) }
+    ensures idle { inputs_of (job_view job.now) ≡ [] → store.new ≡ store.old }
 {
     let plan = plan_from(alloc, store, &job.design, job.frame)?;
     work_outputs(alloc, store, &job.work, &plan)
@@ -46,9 +47,10 @@ fn work_outputs<K: Store>(
         (told K.files K.read_faults K.write_faults store.old)
         (told K.files K.read_faults K.write_faults store.new) }
     ensures exact { (fs : Files) → K.files store.old ≡ Some fs
-        → IfOk result (λ _. IsExactFrom (plan_view plan.now) (work_view work.now) fs) }
+        → EndsExactFrom (plan_view plan.now) (work_view work.now) fs result }
     ensures named { IfOk result (λ outputs. names_of (outputs_view outputs).files
         ≡ written_names (work_view work.now)) }
+    ensures idle { drawn_names (work_view work.now) ≡ [] → store.new ≡ store.old }
 {
     match work {
         Work::Lists(text) => Ok(Outputs {

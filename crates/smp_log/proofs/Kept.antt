@@ -11,7 +11,6 @@ use Rattle.smp_log.proofs.StepLines.{end_line_lacks}
 use Rattle.smp_log.proofs.LineTexts.{steps_lines, end_text_line, step_lines_are}
 use Rattle.smp_log.proofs.Scripts.{Accepts}
 use Rattle.smp_log.proofs.Described.{Describes, whole_text}
-use Rattle.smp_log.proofs.Paths.{full_path_leads, leads_full_path}
 use Rattle.smp_log.proofs.Logs.{lines_after, path_accepted, accepted_path, head_accepted, accepted_head, Good, good_before, keeps, each_ends}
 
 pub lines_after_are : (n : ℕ) (path : List Entry) → AreLines (lines_after end_line n path)
@@ -45,14 +44,13 @@ module _ {State : Type 0} (tree : Tree State) (belongs : State → Type 0) (lawf
 
   pub genuine_accepted : (log : List ℕ) (leaf : State) → IsGenuine tree from head log leaf → IsAccepted log leaf
   genuine_accepted log leaf genuine =
-      let leads = full_path_leads tree belongs lawful from leaf genuine.path member genuine.full in
       let text : log ≡ lines_text (hs ++ lines_after end_line 0 genuine.path) = genuine.text ∙ log_lines genuine.path in
       let lines : whole_lines log ≡ hs ++ lines_after end_line 0 genuine.path = ap whole_lines text ∙ whole_text (hs ++ lines_after end_line 0 genuine.path) (log_lines_are genuine.path) in
       record {
         whole = text ∙ ap lines_text (sym lines);
         accepted = subst (λ ls. Accepts log_script_here (before from hs) ls (closed leaf)) (sym lines)
             (head_accepted tree belongs lawful from member end_line hs (lines_after end_line 0 genuine.path) (closed leaf)
-            (path_accepted tree belongs lawful from member end_line genuine.path 0 from leaf member leads.0 leads.1));
+            (path_accepted tree belongs lawful from member end_line genuine.path 0 from leaf member genuine.full.leads genuine.full.done));
       }
 
   -- lines that the script accepts are those of a genuine log
@@ -71,7 +69,7 @@ module _ {State : Type 0} (tree : Tree State) (belongs : State → Type 0) (lawf
         leaf = on.leaf;
         genuine = record {
           path = on.path;
-          full = leads_full_path tree belongs lawful from on.leaf on.path member on.leads on.done;
+          full = record { leads = on.leads; done = on.done };
           text = ap lines_text lines_are ∙ sym (log_lines on.path);
         };
         end = on.end;

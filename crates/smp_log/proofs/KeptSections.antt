@@ -16,7 +16,6 @@ use Rattle.smp_log.proofs.Texts.{cons-Lacks, Lacks-append, AreLines-append, line
 use Rattle.smp_log.proofs.Numbers.{decimal_lacks}
 use Rattle.smp_log.proofs.StepLines.{end_line_lacks}
 use Rattle.smp_log.proofs.LineTexts.{steps_lines, end_text_line, step_lines_are}
-use Rattle.smp_log.proofs.Paths.{full_path_leads, leads_full_path}
 use Rattle.smp_log.proofs.Scripts.{Accepts}
 use Rattle.smp_log.proofs.Described.{Describes, IsAccepted, IsLog, whole_text}
 use Rattle.smp_log.proofs.SectionLines.{section_lines, open_lines, open_accepted, accepted_opening, Good, good_before, keeps, each_ends, head_accepted, accepted_head}
@@ -106,14 +105,13 @@ module _ {State : Type 0} (tree : Tree State) (belongs : State → Type 0) (lawf
 
   genuine_accepted : (log : List ℕ) (leaf : State) → IsSectionedGenuine tree sections from head log leaf → IsAccepted script (before from hs) closed log leaf
   genuine_accepted log leaf genuine =
-      let leads = full_path_leads tree belongs lawful from leaf genuine.path member genuine.full in
       let text : log ≡ lines_text (hs ++ lines_of genuine.path) = genuine.text ∙ log_lines genuine.path in
       let lines : whole_lines log ≡ hs ++ lines_of genuine.path = ap whole_lines text ∙ whole_text (hs ++ lines_of genuine.path) (log_lines_are genuine.path) in
       record {
         whole = text ∙ ap lines_text (sym lines);
         accepted = subst (λ ls. Accepts script (before from hs) ls (closed leaf)) (sym lines)
             (head_accepted tree belongs lawful sections sectioned from member hs (lines_of genuine.path) (closed leaf)
-            (open_accepted tree belongs lawful sections sectioned from member sections.count 0 0 0 genuine.path from leaf (omega arith) (omega arith) member leads.0 leads.1));
+            (open_accepted tree belongs lawful sections sectioned from member sections.count 0 0 0 genuine.path from leaf (omega arith) (omega arith) member genuine.full.leads genuine.full.done));
       }
 
   accepted_genuine : (lines : List (List ℕ)) (to : SectionPlace State) → Accepts script (before from hs) lines to → IsLog closed (IsSectionedGenuine tree sections from head) lines to
@@ -125,7 +123,7 @@ module _ {State : Type 0} (tree : Tree State) (belongs : State → Type 0) (lawf
         leaf = on.leaf;
         genuine = record {
           path = on.path;
-          full = leads_full_path tree belongs lawful from on.leaf on.path member on.leads on.done;
+          full = record { leads = on.leads; done = on.done };
           text = ap lines_text lines_are ∙ sym (log_lines on.path);
         };
         end = on.end;

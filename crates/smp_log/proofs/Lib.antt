@@ -18,6 +18,7 @@ pub mod Answered
 pub mod StepCounts
 pub mod OnePath
 pub mod Telling
+pub mod NamedLines
 pub mod NumberedLines
 pub mod OpeningLines
 pub mod SectionLines
@@ -30,6 +31,7 @@ pub mod TwoVersions
 pub mod LoneScripts
 pub mod LoneAnswers
 pub mod LoneReplays
+pub mod LoneTelling
 pub mod SectionCounts
 pub mod PartSections
 pub mod LoneExact

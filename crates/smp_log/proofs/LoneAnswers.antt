@@ -1,5 +1,6 @@
 -- What the function answers of a section.
-use Rattle.std.proofs.Common.{◌≡◌, ℕ, suc, ◌+◌, nat_lt, Bool, true, false, cond, List, [], ◌∷◌, ◌++◌, length, map, None, Result, Ok, Err, refl, sym, ap, ◌∙◌, arith, length-append, inl, inr}
+use Rattle.std.proofs.Common.{◌≡◌, ℕ, suc, ◌+◌, nat_lt, Bool, true, false, cond, List, [], ◌∷◌, ◌++◌, length, map, take, None, Result, Ok, Err, refl, sym, ap, ◌∙◌, arith, add-one, length-append, inl, inr}
+use Rattle.std.proofs.Math.Seq.{take-append-add}
 use Rattle.std.specs.Str.{bytes_eq}
 use Rattle.std.proofs.lemmas.Bool.{lt-ltb, le-ltb}
 use Rattle.std.proofs.lemmas.Slice.Eq.{bytes_eq-Decides}
@@ -15,7 +16,6 @@ use Rattle.smp_log.specs.Told.{path_along}
 use Rattle.smp_log.specs.LoneSections.{opens, NoneOpens, IsOpened, HasSection, SectionLine, SectionDiffers, LonePlace, start, lone_script, is_over, shared, from_opening, leaf_or, lone_leaf, section_reading, section_told}
 use Rattle.smp_log.proofs.Texts.{whole_lines-text, whole_lines-cons, whole_lines-none, cut_parts}
 use Rattle.smp_log.proofs.Described.{whole_text, front_followed}
-use Rattle.smp_log.proofs.Paths.{full_path_leads}
 use Rattle.smp_log.proofs.Telling.{steps_along}
 use Rattle.smp_log.proofs.SectionTelling.{passed_over, stratum_is_no_step}
 use Rattle.smp_log.proofs.KeptSections.{sectioned_head_lines, sectioned_head_lines_are, sectioned_head-text, lone_lines, lone_lines_are}
@@ -46,7 +46,7 @@ opening_at : (number : ℕ) (before : List (List ℕ)) (first : List ℕ) (rest 
 opening_at number [] first rest none opening = rw opening refl
 opening_at number (l ∷ before) first rest none opening = (let e : opens number l ≡ false = none.0 in rw e (ap (λ r. (suc r.0, r.1)) (opening_at number before first rest none.1 opening)))
 
-opening_nowhere : (number : ℕ) (lines : List (List ℕ)) → NoneOpens number lines → from_opening number lines ≡ (length lines, [])
+pub opening_nowhere : (number : ℕ) (lines : List (List ℕ)) → NoneOpens number lines → from_opening number lines ≡ (length lines, [])
 opening_nowhere number [] none = refl
 opening_nowhere number (l ∷ lines) none = (let e : opens number l ≡ false = none.0 in rw e (ap (λ r. (suc r.0, r.1)) (opening_nowhere number lines none.1)))
 
@@ -55,6 +55,16 @@ from_opened number log text line o =
     let lines : whole_lines text ≡ o.first ∷ whole_lines o.rest = ap whole_lines o.text_is ∙ whole_lines-cons o.first o.rest o.first_lacks in
     ap (from_opening number) (ap whole_lines o.log_is ∙ whole_lines-text o.before text o.are ∙ ap (λ ls. o.before ++ ls) lines)
     ∙ opening_at number o.before o.first (whole_lines o.rest) o.none o.opening ∙ ap (λ ls. (length o.before, ls)) (sym lines)
+
+-- so many lines behind it, among the first lines of a log
+pub section_part : (number : ℕ) (log text : List ℕ) (line : ℕ) → IsOpened number log text line → (k : ℕ) → (from_opening number (take (line + k) (whole_lines log))).1 ≡ take (k + 1) (whole_lines text)
+section_part number log text line o k =
+    let lines : whole_lines text ≡ o.first ∷ whole_lines o.rest = ap whole_lines o.text_is ∙ whole_lines-cons o.first o.rest o.first_lacks in
+    let all : whole_lines log ≡ o.before ++ o.first ∷ whole_lines o.rest = ap whole_lines o.log_is ∙ whole_lines-text o.before text o.are ∙ ap (λ ls. o.before ++ ls) lines in
+    let count : line + k ≡ length o.before + suc k = omega (arith, o.counted) in
+    ap (λ ls. (from_opening number ls).1) (ap (λ n. take n (whole_lines log)) count ∙ ap (take (length o.before + suc k)) all ∙ take-append-add o.before (o.first ∷ whole_lines o.rest) (suc k))
+    ∙ ap (λ (r : ℕ × List (List ℕ)). r.1) (opening_at number o.before o.first (take k (whole_lines o.rest)) o.none o.opening)
+    ∙ rw add-one (sym (ap (take (suc k)) lines))
 
 -- a place that isn't over has no leaf
 no_leaf : {State : Type 0} (place : LonePlace State) → is_over place ≡ false → lone_leaf place ≡ None
@@ -138,7 +148,6 @@ module _ {State : Type 0} (tree : Tree State) (belongs : State → Type 0) (lawf
       let genuine = has.genuine in
       let path : List Entry = genuine.path in
       let place : ℕ = genuine.text.place in
-      let full = full_path_leads tree belongs lawful from leaf path member genuine.full in
       let own : List (List ℕ) = map step_line path ++ done_line number (length path) ∷ [] in
       let all : List (List ℕ) = stratum_line number place ∷ own in
       let lines : whole_lines has.text ≡ all ++ whole_lines has.after =
@@ -146,7 +155,7 @@ module _ {State : Type 0} (tree : Tree State) (belongs : State → Type 0) (lawf
       let regrouped : own ++ whole_lines has.after ≡ map step_line path ++ (done_line number (length path) ∷ whole_lines has.after) = regroup (map step_line path) (done_line number (length path)) (whole_lines has.after) in
       ap (λ (r : ℕ × List (List ℕ)). path_along tree from r.1) (from_opened number log has.text has.line has.opened)
       ∙ ap (path_along tree from) lines ∙ passed_over tree from (stratum_line number place) (own ++ whole_lines has.after) (stratum_is_no_step number place)
-      ∙ ap (path_along tree from) regrouped ∙ steps_along tree belongs lawful path (done_line number (length path) ∷ whole_lines has.after) from leaf member full.0 full.1
+      ∙ ap (path_along tree from) regrouped ∙ steps_along tree belongs lawful path (done_line number (length path) ∷ whole_lines has.after) from leaf member genuine.full.leads genuine.full.done
     where
       regroup : (ls : List (List ℕ)) (l : List ℕ) (ms : List (List ℕ)) → (ls ++ l ∷ []) ++ ms ≡ ls ++ l ∷ ms
       regroup [] l ms = refl

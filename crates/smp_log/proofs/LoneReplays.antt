@@ -1,5 +1,5 @@
 -- A replay of one section that is under way, and its ends.
-use Rattle.std.proofs.Common.{◌≡◌, ℕ, ◌+◌, ◌<◌, ◌≤◌, Bool, true, false, cond, List, [], ◌∷◌, ◌++◌, length, Option, Err, Some, None, option_map, refl, sym, ap, ◌∙◌, subst, arith, append_assoc, length-append, inl, inr, ◌⊎◌}
+use Rattle.std.proofs.Common.{◌≡◌, ℕ, ◌+◌, ◌<◌, ◌≤◌, Bool, true, false, cond, List, [], ◌∷◌, ◌++◌, length, take, Option, Err, Some, None, option_map, refl, sym, ap, ◌∙◌, subst, arith, append_assoc, length-append, inl, inr, ◌⊎◌}
 use Rattle.std.specs.Prelude.{option_and_then}
 use Rattle.std.specs.Str.{bytes_eq}
 use Rattle.std.proofs.lemmas.Slice.Eq.{bytes_eq-Decides}
@@ -13,14 +13,14 @@ use Rattle.smp_log.specs.Reading.{Script, LogPlace, stepping, closed, step_value
 use Rattle.smp_log.specs.SectionLogs.{sectioned_head}
 use Rattle.smp_log.specs.SectionReading.{stratum_line, done_line}
 use Rattle.smp_log.specs.Told.{path_along}
-use Rattle.smp_log.specs.LoneSections.{IsGenuineSection, opens, NoneOpens, IsOpened, HasSection, SectionLine, SkipsTo, place_of, opening_first, LonePlace, start, lone_script, is_over, section_reading, section_told}
+use Rattle.smp_log.specs.LoneSections.{IsGenuineSection, opens, NoneOpens, IsOpened, HasSection, SectionLine, SkipsTo, place_of, opening_first, LonePlace, start, lone_script, is_over, section_reading, section_in_first_lines}
 use Rattle.smp_log.proofs.Options.{goes_on, mapped}
 use Rattle.smp_log.proofs.Texts.{AreLines-append, lines_text-append, whole_lines-text, whole_lines-cons, cut_parts}
 use Rattle.smp_log.proofs.StepLines.{step_value-is}
 use Rattle.smp_log.proofs.OpeningLines.{NoneOpens-append, lines_long}
 use Rattle.smp_log.proofs.KeptSections.{sectioned_head_lines, sectioned_head_lines_are, sectioned_head-text}
 use Rattle.smp_log.proofs.LoneScripts.{over_at, described, place_of-is}
-use Rattle.smp_log.proofs.LoneAnswers.{Differing, differing, stops_reading, unopened_reading, stopped_reading, from_opened}
+use Rattle.smp_log.proofs.LoneAnswers.{Differing, differing, stops_reading, unopened_reading, stopped_reading, section_part}
 use Rattle.smp_log.proofs.Reached.{Reached, reached_more, stuck}
 use Rattle.smp_log.proofs.Described.{Describes, differs, genuine_front}
 use Rattle.smp_log.proofs.FirstLines.{first_is, first_stuck, step_stuck, first_step, shorter_by}
@@ -30,8 +30,16 @@ abbrev stepped : {State : Type 0} → LogPlace State → LonePlace State
 stepped p = LonePlace.at p
 
 -- no line of a head opens a section
-head_opens_none : (number : ℕ) (head : List ℕ) (h : IsHead head) → NoneOpens number (sectioned_head_lines h)
+pub head_opens_none : (number : ℕ) (head : List ℕ) (h : IsHead head) → NoneOpens number (sectioned_head_lines h)
 head_opens_none number head h = (refl, (ap (opens number) h.design_is, (ap (opens number) h.frame_is, tt)))
+
+-- nor a line of a log of which no line behind its head does
+pub opens_nowhere : (head : List ℕ) (number : ℕ) (log rest : List ℕ) → IsHead head → log ≡ sectioned_head head ++ rest → NoneOpens number (whole_lines rest) → NoneOpens number (whole_lines log) × (length (whole_lines log) ≡ 3 + length (whole_lines rest))
+opens_nowhere head number log rest h is none =
+    let lines : whole_lines log ≡ sectioned_head_lines h ++ whole_lines rest = ap whole_lines (is ∙ ap (λ t. t ++ rest) (sectioned_head-text head h)) ∙ whole_lines-text (sectioned_head_lines h) rest (sectioned_head_lines_are h) in (
+      subst (NoneOpens number) (sym lines) (NoneOpens-append number (sectioned_head_lines h) (whole_lines rest) (head_opens_none number head h) none),
+      ap length lines ∙ length-append (sectioned_head_lines h) (whole_lines rest),
+    )
 
 -- in the section: its opening line and so many steps were read
 pub record ReadsSection {State : Type 0} (tree : Tree State) (belongs : State → Type 0) (from : State) (head : List ℕ) (number : ℕ) (log : List ℕ) (at own : ℕ) (s : State) (rest : List ℕ) : Type 0 where
@@ -78,11 +86,9 @@ module _ {State : Type 0} (tree : Tree State) (belongs : State → Type 0) (lawf
 
   pub no_opening : (rest : List ℕ) (line : ℕ) → IsHead head → log ≡ sectioned_head head ++ rest → NoneOpens number (whole_lines rest) → line ≡ 4 + length (whole_lines rest) → DiffersHere line
   no_opening rest line h is none line_is =
-      let lines : whole_lines log ≡ sectioned_head_lines h ++ whole_lines rest = ap whole_lines (is ∙ ap (λ t. t ++ rest) (sectioned_head-text head h)) ∙ whole_lines-text (sectioned_head_lines h) rest (sectioned_head_lines_are h) in
-      let count : length (whole_lines log) ≡ 3 + length (whole_lines rest) = ap length lines ∙ length-append (sectioned_head_lines h) (whole_lines rest) in
-      let all : NoneOpens number (whole_lines log) = subst (NoneOpens number) (sym lines) (NoneOpens-append number (sectioned_head_lines h) (whole_lines rest) (head_opens_none number head h) none) in
-      let at : line ≡ 1 + length (whole_lines log) = omega (arith, line_is, count) in
-      here line h (SectionLine.no_opening rest is all at) (unopened_reading tree belongs lawful from member head number log rest line h is all at)
+      let all = opens_nowhere head number log rest h is none in
+      let at : line ≡ 1 + length (whole_lines log) = omega (arith, line_is, all.1) in
+      here line h (SectionLine.no_opening rest is all.0 at) (unopened_reading tree belongs lawful from member head number log rest line h is all.0 at)
 
   pub opened : (rest found : List ℕ) (there : ℕ) → IsHead head → log ≡ sectioned_head head ++ rest → SkipsTo number rest 4 found there → IsOpened number log found there
   opened rest found there h is s =
@@ -126,7 +132,7 @@ module _ {State : Type 0} (tree : Tree State) (belongs : State → Type 0) (lawf
 
   pub record Entered (at : ℕ) (after : List ℕ) : Type 0 where
     pub reads : ReadsSection tree belongs from head number log at 0 from after
-    pub tells : path_along tree from (whole_lines after) ≡ section_told tree from number log
+    pub tells : section_in_first_lines tree from number (at + 0) log ≡ []
 
   pub enters : IsHead head → (behind_head : List ℕ) → log ≡ sectioned_head head ++ behind_head → (text : List ℕ) (at : ℕ) → IsOpened number log text at → (after : List ℕ) → opening_first number text ≡ Some after → Entered at after
   enters h behind_head head_is text at op after some =
@@ -150,10 +156,10 @@ module _ {State : Type 0} (tree : Tree State) (belongs : State → Type 0) (lawf
           member = member;
           room = omega (arith, short, size, long, op.counted);
         };
-        tells = sym (ap (λ (r : ℕ × List (List ℕ)). path_along tree from r.1) (from_opened number log text at op)
-            ∙ ap (path_along tree from) (ap whole_lines parts.0 ∙ whole_lines-cons line after parts.1)
-            ∙ ap (λ l. path_along tree from (l ∷ whole_lines after)) stratum
-            ∙ passed_over tree from (stratum_line number place.value) (whole_lines after) (stratum_is_no_step number place.value));
+        tells = ap (path_along tree from) (section_part number log text at op 0)
+            ∙ ap (λ ls. path_along tree from (take 1 ls)) (ap whole_lines parts.0 ∙ whole_lines-cons line after parts.1)
+            ∙ ap (λ l. path_along tree from (l ∷ [])) stratum
+            ∙ passed_over tree from (stratum_line number place.value) [] (stratum_is_no_step number place.value);
       }
 
   -- ---- in the section

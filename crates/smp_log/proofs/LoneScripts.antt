@@ -13,7 +13,6 @@ use Rattle.smp_log.specs.LoneSections.{IsGenuineSection, opening_words, place_of
 use Rattle.smp_log.proofs.Texts.{behind-append, behind-is}
 use Rattle.smp_log.proofs.Numbers.{written-decimal, written-is}
 use Rattle.smp_log.proofs.Options.{goes_on, mapped}
-use Rattle.smp_log.proofs.Paths.{full_path_leads, leads_full_path}
 use Rattle.smp_log.proofs.Scripts.{Accepts, Ends}
 use Rattle.smp_log.proofs.Described.{Describes, IsAccepted, IsLog, whole_text}
 use Rattle.smp_log.proofs.Logs.{lines_after, path_accepted, accepted_path, Good, keeps, each_ends}
@@ -94,7 +93,6 @@ module _ {State : Type 0} (tree : Tree State) (belongs : State → Type 0) (lawf
 
   complete : (text : List ℕ) (leaf : State) → IsGenuineSection tree from number text leaf → IsAccepted script start over_at text leaf
   complete text leaf genuine =
-      let leads = full_path_leads tree belongs lawful from leaf genuine.path member genuine.full in
       let is : text ≡ lines_text (lines_of genuine.text.place genuine.path) = genuine.text.is ∙ section_lines genuine.text.place genuine.path in
       let lines : whole_lines text ≡ lines_of genuine.text.place genuine.path = ap whole_lines is ∙ whole_text (lines_of genuine.text.place genuine.path) (lines_of_are genuine.text.place genuine.path) in
       record {
@@ -102,7 +100,7 @@ module _ {State : Type 0} (tree : Tree State) (belongs : State → Type 0) (lawf
         accepted = subst (λ ls. Accepts script start ls (over_at leaf)) (sym lines) (
           at (stepping 0 from),
           ap (option_map (λ place. at (stepping 0 from))) (place_of-line number genuine.text.place genuine.text.small),
-          lift (stepping 0 from) (closed leaf) (lines_after (done_line number) 0 genuine.path) (path_accepted tree belongs lawful from member (done_line number) genuine.path 0 from leaf member leads.0 leads.1),
+          lift (stepping 0 from) (closed leaf) (lines_after (done_line number) 0 genuine.path) (path_accepted tree belongs lawful from member (done_line number) genuine.path 0 from leaf member genuine.full.leads genuine.full.done),
         );
       }
 
@@ -118,7 +116,7 @@ module _ {State : Type 0} (tree : Tree State) (belongs : State → Type 0) (lawf
         leaf = path.leaf;
         genuine = record {
           path = path.path;
-          full = leads_full_path tree belongs lawful from path.leaf path.path member path.leads path.done;
+          full = record { leads = path.leads; done = path.done };
           text = record { place = first.value; small = place.1; is = ap lines_text all ∙ sym (section_lines first.value path.path) };
         };
         end = on.is ∙ ap at path.end;

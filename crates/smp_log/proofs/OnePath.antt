@@ -9,7 +9,6 @@ use Rattle.smp_log.specs.Heads.{IsHead}
 use Rattle.smp_log.specs.Genuine.{IsGenuine}
 use Rattle.smp_log.specs.Reading.{step_line, step_value, end_line}
 use Rattle.smp_log.proofs.StepLines.{step_value-line}
-use Rattle.smp_log.proofs.Paths.{full_path_leads}
 use Rattle.smp_log.proofs.Heads.{head_lines}
 use Rattle.smp_log.proofs.Logs.{lines_after, one_longer}
 use Rattle.smp_log.proofs.StepCounts.{lines_are}
@@ -45,6 +44,4 @@ module _ {State : Type 0} (tree : Tree State) (belongs : State → Type 0) (lawf
     both =
         let lines : head_lines h ++ lines_after end_line 0 first.path ≡ head_lines h ++ lines_after end_line 0 second.path =
         sym (lines_are tree belongs lawful from member head h first.path) ∙ ap whole_lines (sym first.text ∙ second.text) ∙ lines_are tree belongs lawful from member head h second.path in
-        let p = full_path_leads tree belongs lawful from a first.path member first.full in
-        let q = full_path_leads tree belongs lawful from b second.path member second.full in
-        same_paths first.path second.path 0 from a b member p.0 p.1 q.0 q.1 (append_cancel_left (head_lines h) (lines_after end_line 0 first.path) (lines_after end_line 0 second.path) lines)
+        same_paths first.path second.path 0 from a b member first.full.leads first.full.done second.full.leads second.full.done (append_cancel_left (head_lines h) (lines_after end_line 0 first.path) (lines_after end_line 0 second.path) lines)

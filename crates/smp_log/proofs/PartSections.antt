@@ -23,7 +23,6 @@ use Rattle.smp_log.specs.LoneSections.{opening_words, opens, NoneOpens, HasSecti
 use Rattle.smp_log.proofs.Texts.{cut_behind, behind-append, AreLines-append, lines_text-append}
 use Rattle.smp_log.proofs.Numbers.{decimal_lacks, written-decimal}
 use Rattle.smp_log.proofs.LineTexts.{step_lines_are}
-use Rattle.smp_log.proofs.Paths.{full_path_leads, leads_full_path}
 use Rattle.smp_log.proofs.SectionLines.{section_lines}
 use Rattle.smp_log.proofs.KeptSections.{numbered_lacks, section_text_lines}
 use Rattle.smp_log.proofs.OpeningLines.{other_word, other_number, NoneOpens-append}
@@ -178,8 +177,7 @@ module _ {State Inner : Type 0} (tree : Tree State) (belongs : State → Type 0)
         opening = it_opens (h + 1) place;
         counted = refl;
       } in
-      let leads = full_path_leads tree belongs lawful from leaf path member full in
-      let inner = part_leads tree belongs lawful sections sectioned h within part at own is path from leaf member leads.0 leads.1 in
+      let inner = part_leads tree belongs lawful sections sectioned h within part at own is path from leaf member full.leads full.done in
       record {
         behind_head = behind_head;
         head_is = refl;
@@ -191,7 +189,7 @@ module _ {State Inner : Type 0} (tree : Tree State) (belongs : State → Type 0)
         text_is = refl;
         genuine = record {
           path = steps_in h steps;
-          full = leads_full_path part part_belongs part_lawful (at from) (at leaf) (steps_in h steps) part_member inner.0 inner.1;
+          full = record { leads = inner.0; done = inner.1 };
           text = record { place = tape_place (steps_before h steps); small = small; is = refl };
         };
       }
@@ -200,10 +198,9 @@ module _ {State Inner : Type 0} (tree : Tree State) (belongs : State → Type 0)
   pub replayed_alone : (log : List ℕ) (leaf : State) → IsSectionedGenuine tree sections from head log leaf → sections.count < 2 ^ 64 → length log < 2 ^ 64 → IsReplayedAlone tree from head log h part at own leaf
   replayed_alone log leaf genuine few long =
       let path : List Entry = genuine.path in
-      let leads = full_path_leads tree belongs lawful from leaf path member genuine.full in
       let place : tape_place (steps_before h (placed tree sections from path)) ≤ length (sections_text head sections.count (placed tree sections from path)) = place_within tree belongs lawful sections sectioned from member head is_head path leaf genuine.full h in
       let size : length log ≡ length (sections_text head sections.count (placed tree sections from path)) = ap length genuine.text in
       record {
         section = subst (λ t. HasSection part (at from) head (h + 1) t (at leaf)) (sym genuine.text) (section_replays path leaf genuine.full few (omega (arith, place, size, long)));
-        selected = is.selected leaf (leads_belong tree belongs lawful path from leaf leads.0 member) leads.1;
+        selected = is.selected leaf (leads_belong tree belongs lawful path from leaf genuine.full.leads member) genuine.full.done;
       }

@@ -1,5 +1,6 @@
 -- A reading that is under way: the lines so far lead to a place, and the rest is to be read from there.
-use Rattle.std.proofs.Common.{◌≡◌, ℕ, suc, ◌+◌, true, List, [], ◌∷◌, ◌++◌, length, Some, None, refl, sym, ap, ◌∙◌, subst, arith, append_assoc, length-append, inl, inr, ◌⊎◌}
+use Rattle.std.proofs.Common.{◌≡◌, ℕ, suc, ◌+◌, true, List, [], ◌∷◌, ◌++◌, length, take, Some, None, refl, sym, ap, ◌∙◌, subst, arith, append_assoc, length-append, inl, inr, ◌⊎◌}
+use Rattle.std.proofs.lemmas.List.{take_at}
 use Rattle.smp_lines.specs.Cuts.{cut_at}
 use Rattle.smp_log.specs.Lines.{whole_lines, lines_text, AreLines}
 use Rattle.smp_log.specs.Reading.{Script, follows}
@@ -48,6 +49,25 @@ module _ {Place : Type 0} (script : Script Place) where
         counted = length-append r.lines (line ∷ []) ∙ ap (λ n. n + 1) r.counted;
         leads = LeadsAlong-push start place next r.lines line r.leads step;
       }
+
+  -- they are the first lines of the text
+  whole_reached : (start place : Place) (text rest : List ℕ) (count : ℕ) (r : Reached start place text rest count) → whole_lines text ≡ r.lines ++ whole_lines rest
+  whole_reached start place text rest count r = ap whole_lines r.text_is ∙ whole_lines-text r.lines rest r.are
+
+  pub first_lines : (start place : Place) (text rest : List ℕ) (count : ℕ) (r : Reached start place text rest count) → take count (whole_lines text) ≡ r.lines
+  first_lines start place text rest count r = ap (take count) (whole_reached start place text rest count r) ∙ take_at r.lines (whole_lines rest) count r.counted
+
+  pub reached_lines : (start place : Place) (text rest : List ℕ) (count : ℕ) → Reached start place text rest count → whole_lines text ≡ take count (whole_lines text) ++ whole_lines rest
+  reached_lines start place text rest count r = whole_reached start place text rest count r ∙ ap (λ ls. ls ++ whole_lines rest) (sym (first_lines start place text rest count r))
+
+  -- and the line behind them comes next
+  pub next_lines : (start place : Place) (text rest : List ℕ) (count : ℕ) → Reached start place text rest count → (line after : List ℕ) → cut_at 10 rest ≡ Some (line, after) → take (count + 1) (whole_lines text) ≡ take count (whole_lines text) ++ line ∷ []
+  next_lines start place text rest count r line after cut =
+      let parts = cut_parts 10 rest (line, after) cut in
+      let lines : whole_lines text ≡ (r.lines ++ line ∷ []) ++ whole_lines after =
+      whole_reached start place text rest count r ∙ ap (λ ls. r.lines ++ ls) (ap whole_lines parts.0 ∙ whole_lines-cons line after parts.1) ∙ sym (append_assoc r.lines (line ∷ []) (whole_lines after)) in
+      ap (take (count + 1)) lines ∙ take_at (r.lines ++ line ∷ []) (whole_lines after) (count + 1) (length-append r.lines (line ∷ []) ∙ ap (λ n. n + 1) r.counted)
+      ∙ ap (λ ls. ls ++ line ∷ []) (sym (first_lines start place text rest count r))
 
   -- where the first whole line of the rest doesn't lead on, or isn't there
   stuck_follows : (place : Place) (rest : List ℕ) → (cut_at 10 rest ≡ None) ⊎ ((p : List ℕ × List ℕ) × (cut_at 10 rest ≡ Some p) × (script.follow place p.0 ≡ None)) → follows script place (whole_lines rest) ≡ (0, place)

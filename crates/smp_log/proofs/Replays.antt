@@ -27,6 +27,9 @@ pub record IsReplaying {State : Type 0} (tree : Tree State) (belongs : State →
 pub whole_head : (head : List ℕ) → IsHead head → IsWhole head
 whole_head head h = h.text ∙ ap lines_text (sym (ap whole_lines h.text ∙ whole_text (head_lines h) (head_lines_are h)))
 
+pub head_count : (head : List ℕ) → IsHead head → length (whole_lines head) ≡ 3
+head_count head h = ap length (ap whole_lines h.text ∙ whole_text (head_lines h) (head_lines_are h))
+
 module _ {State : Type 0} (tree : Tree State) (from : State) where
   head_leads : (same others : List (List ℕ)) → LeadsAlong (log_script tree end_line from) (before from (same ++ others)) same (before from others)
   head_leads [] others = refl

@@ -12,7 +12,6 @@ use Rattle.smp_log.specs.Genuine.{IsFullPath}
 use Rattle.smp_log.specs.Reading.{step_line}
 use Rattle.smp_log.specs.SectionLogs.{placed, steps_in, steps_before, tape_place, sections_text}
 use Rattle.smp_log.proofs.Described.{whole_text}
-use Rattle.smp_log.proofs.Paths.{full_path_leads}
 use Rattle.smp_log.proofs.OpeningLines.{lines_long}
 use Rattle.smp_log.proofs.SectionLines.{section_lines, open_lines, tape_place-step}
 use Rattle.smp_log.proofs.KeptSections.{sectioned_head_lines, log_lines, log_lines_are}
@@ -86,8 +85,7 @@ module _ {State : Type 0} (tree : Tree State) (belongs : State → Type 0) (lawf
       let is : whole_lines (sections_text head sections.count steps) ≡ lines =
       ap whole_lines (log_lines tree belongs lawful sections sectioned from member head h path)
       ∙ whole_text lines (log_lines_are tree belongs lawful sections sectioned from member head h path) in
-      let leads = full_path_leads tree belongs lawful from leaf path member full in
-      let all : in_range 0 sections.count steps ≡ length path = in_range-all sections.count steps (placed_below path from leaf member leads.0) ∙ placed_length path from in
+      let all : in_range 0 sections.count steps ≡ length path = in_range-all sections.count steps (placed_below path from leaf member full.leads) ∙ placed_length path from in
       let total : length (open_lines 0 sections.count 0 0 steps) ≡ in_range 0 sections.count steps + 2 * sections.count + 1 = open_lines-count sections.count 0 0 0 steps in
       ap length is ∙ omega (arith, all, total)
 

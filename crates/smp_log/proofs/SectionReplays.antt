@@ -29,6 +29,7 @@ pub record IsOpening {State : Type 0} (tree : Tree State) (belongs : State → T
   pub member : belongs s
   pub high : h ≤ sections.count
   pub low : h ≤ sections.of s
+  pub behind : 3 ≤ lines
   pub room : lines + length rest ≤ length log
   pub counts : (taken ≤ steps) × (steps ≤ lines)
 
@@ -39,6 +40,7 @@ pub record IsInside {State : Type 0} (tree : Tree State) (belongs : State → Ty
   pub member : belongs s
   pub high : h < sections.count
   pub low : h ≤ sections.of s
+  pub behind : 3 ≤ lines
   pub room : lines + length rest ≤ length log
   pub counts : (taken ≤ steps) × (own ≤ steps) × (steps ≤ lines)
 
@@ -46,6 +48,9 @@ pub whole_sectioned_head : (head : List ℕ) → IsHead head → IsWhole (sectio
 whole_sectioned_head head h =
     let text = sectioned_head-text head h in
     text ∙ ap lines_text (sym (ap whole_lines text ∙ whole_text (sectioned_head_lines h) (sectioned_head_lines_are h)))
+
+pub sectioned_head_count : (head : List ℕ) → IsHead head → length (whole_lines (sectioned_head head)) ≡ 3
+sectioned_head_count head h = ap length (ap whole_lines (sectioned_head-text head h) ∙ whole_text (sectioned_head_lines h) (sectioned_head_lines_are h))
 
 module _ {State : Type 0} (tree : Tree State) (sections : Sectioning State) (from : State) where
   head_leads : (same others : List (List ℕ)) → LeadsAlong (section_script tree sections from) (before from (same ++ others)) same (before from others)
@@ -74,6 +79,7 @@ module _ {State : Type 0} (tree : Tree State) (belongs : State → Type 0) (lawf
         member = member;
         high = omega arith;
         low = omega arith;
+        behind = omega arith;
         room = omega (arith, size, long);
         counts = (omega arith, omega arith);
       }
@@ -113,6 +119,7 @@ module _ {State : Type 0} (tree : Tree State) (belongs : State → Type 0) (lawf
           member = r.member;
           high = less;
           low = r.low;
+          behind = omega (arith, r.behind);
           room = omega (arith, r.room, short);
           counts = (r.counts.0, omega arith, omega (arith, r.counts.1));
         }
@@ -183,6 +190,7 @@ module _ {State : Type 0} (tree : Tree State) (belongs : State → Type 0) (lawf
           member = picked_belongs tree belongs lawful s (picked s (tree.parts s) v) v r.member (going is) within refl;
           high = r.high;
           low = omega arith;
+          behind = omega (arith, r.behind);
           room = omega (arith, r.room, short);
           counts = (omega (arith, r.counts.0, one), omega (arith, r.counts.1), omega (arith, r.counts.2));
         }
@@ -208,6 +216,7 @@ module _ {State : Type 0} (tree : Tree State) (belongs : State → Type 0) (lawf
           member = r.member;
           high = omega arith;
           low = omega arith;
+          behind = omega (arith, r.behind);
           room = omega (arith, r.room, short);
           counts = (r.counts.0, omega (arith, r.counts.2));
         }

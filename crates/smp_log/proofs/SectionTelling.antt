@@ -12,18 +12,17 @@ use Rattle.smp_split.specs.Sectioning.{Sectioning, IsSectioned}
 use Rattle.smp_split.proofs.Steps.{picked_belongs, value_within}
 use Rattle.smp_log.specs.Lines.{whole_lines}
 use Rattle.smp_log.specs.Heads.{IsHead}
-use Rattle.smp_log.specs.Reading.{behind, numbers_of, value_of, step_line, step_value, after_line}
-use Rattle.smp_log.specs.SectionLogs.{placed, sectioned_head, IsSectionedGenuine}
+use Rattle.smp_log.specs.Reading.{Script, behind, numbers_of, value_of, step_line, step_value, after_line}
+use Rattle.smp_log.specs.SectionLogs.{placed, IsSectionedGenuine}
 use Rattle.smp_log.specs.SectionReading.{stratum_line, done_line}
-use Rattle.smp_log.specs.Told.{path_along, path_told}
-use Rattle.smp_log.proofs.Texts.{cut_parts, whole_lines-cons, whole_lines-text}
+use Rattle.smp_log.specs.Told.{path_along, path_told, path_in_first_lines, IsToldAlong}
 use Rattle.smp_log.proofs.FirstLines.{first_is}
 use Rattle.smp_log.proofs.Described.{whole_text}
 use Rattle.smp_log.proofs.OnePath.{entry_is, value_read}
-use Rattle.smp_log.proofs.Paths.{full_path_leads}
-use Rattle.smp_log.proofs.Telling.{IsTold, none_along, step_along}
+use Rattle.smp_log.proofs.Reached.{Reached}
+use Rattle.smp_log.proofs.Telling.{none_along, step_along, told_over}
 use Rattle.smp_log.proofs.SectionLines.{open_lines, inside_lines, open_lines-enter, inside_lines-step, inside_lines-leave, placed_from, later_section, done_here}
-use Rattle.smp_log.proofs.KeptSections.{sectioned_head_lines, sectioned_head_lines_are, sectioned_head-text, log_lines, log_lines_are}
+use Rattle.smp_log.proofs.KeptSections.{sectioned_head_lines, log_lines, log_lines_are}
 
 -- ---- lines that are no steps
 
@@ -79,22 +78,10 @@ module _ {State : Type 0} (tree : Tree State) where
 
 -- ---- a replay that tells its steps
 
--- what is told behind the head
-pub told_behind : {State : Type 0} (tree : Tree State) (from : State) (log head rest : List ℕ) → IsHead head → log ≡ sectioned_head head ++ rest → path_along tree from (whole_lines rest) ≡ path_told tree from log
-told_behind tree from log head rest h is =
-    sym (ap (path_told tree from) (is ∙ ap (λ (t : List ℕ). t ++ rest) (sectioned_head-text head h))
-    ∙ ap (λ (lines : List (List ℕ)). path_along tree from (drop 3 lines)) (whole_lines-text (sectioned_head_lines h) rest (sectioned_head_lines_are h)))
-
 -- a line that is no step was passed over
-pub passed_told : {State : Type 0} (tree : Tree State) (whole : List Entry) (old now : Option (List Entry)) (s : State) (wanted rest after : List ℕ) → IsTold tree whole old now s rest → after_line wanted rest ≡ Some after → IsNoStep wanted → IsTold tree whole old now s after
-passed_told tree whole old now s wanted rest after t some none =
-    let parts = cut_parts 10 rest (wanted, after) (first_is wanted rest after some) in
-    let lines : whole_lines rest ≡ wanted ∷ whole_lines after = ap whole_lines parts.0 ∙ whole_lines-cons wanted after parts.1 in
-    record {
-      path = t.path;
-      told = t.told;
-      along = ap (λ (p : List Entry). t.path ++ p) (sym (ap (path_along tree s) lines ∙ passed_over tree s wanted (whole_lines after) none)) ∙ t.along;
-    }
+pub told_passed : {State Place : Type 0} {script : Script Place} {start place : Place} {log rest : List ℕ} {count : ℕ} (tree : Tree State) (from : State) (old : Option (List Entry)) → Reached script start place log rest count → 3 ≤ count → (s : State) (now : Option (List Entry))
+    → IsToldAlong tree (path_in_first_lines tree from count log) from s old now → (wanted after : List ℕ) → after_line wanted rest ≡ Some after → IsNoStep wanted → IsToldAlong tree (path_in_first_lines tree from (count + 1) log) from s old now
+told_passed {rest = rest} tree from old r low s now t wanted after some none = told_over tree from old r low s now t wanted after (first_is wanted rest after some) (passed_over tree s wanted [] none)
 
 -- ---- what a genuine log tells
 
@@ -147,7 +134,6 @@ module _ {State : Type 0} (tree : Tree State) (belongs : State → Type 0) (lawf
   pub sectioned_told : (head log : List ℕ) → IsHead head → (leaf : State) (genuine : IsSectionedGenuine tree sections from head log leaf) → path_told tree from log ≡ genuine.path
   sectioned_told head log h leaf genuine =
       let path : List Entry = genuine.path in
-      let full = full_path_leads tree belongs lawful from leaf path member genuine.full in
       let lines : List (List ℕ) = sectioned_head_lines h ++ open_lines 0 sections.count 0 0 (placed tree sections from path) in
       let whole : whole_lines log ≡ lines = ap whole_lines (genuine.text ∙ log_lines tree belongs lawful sections sectioned from member head h path) ∙ whole_text lines (log_lines_are tree belongs lawful sections sectioned from member head h path) in
-      ap (λ (ls : List (List ℕ)). path_along tree from (drop 3 ls)) whole ∙ along sections.count 0 0 0 path from leaf (omega arith) (omega arith) member full.0 full.1
+      ap (λ (ls : List (List ℕ)). path_along tree from (drop 3 ls)) whole ∙ along sections.count 0 0 0 path from leaf (omega arith) (omega arith) member genuine.full.leads genuine.full.done

@@ -12,7 +12,6 @@ use Rattle.smp_split.specs.Sectioning.{Sectioning, IsSectioned}
 use Rattle.smp_log.specs.SectionLogs.{placed, stratum_text, done_text, section_text, sectioned_head, sections_text, HasLeaf}
 use Rattle.smp_log.specs.Reading.{step_line, end_line}
 use Rattle.smp_log.specs.SectionReading.{stratum_line, done_line}
-use Rattle.smp_log.proofs.Paths.{full_path_leads}
 use Rattle.smp_log.proofs.LineTexts.{step_text_line, end_text_line}
 use Rattle.smp_log.proofs.SectionLines.{open_lines, inside_lines, open_lines-enter, inside_lines-step, inside_lines-leave, placed_from, later_section, going_here, done_here}
 use Rattle.smp_log.proofs.KeptSections.{sections_lines, numbered_text}
@@ -47,15 +46,14 @@ pub record WritesInside {State : Type 0} (tree : Tree State) (belongs : State �
 module _ {State : Type 0} (tree : Tree State) (belongs : State → Type 0) (lawful : Lawful tree belongs) (sections : Sectioning State) (sectioned : IsSectioned tree belongs sections) (from : State) (member : belongs from) (head : List ℕ) (path : List Entry) where
   pub first : HasLeaf tree from path → (text : List ℕ) → text ≡ sectioned_head head → WritesOpening tree belongs sections from head path 0 0 0 from text
   first has text is =
-      let leads = full_path_leads tree belongs lawful from has.leaf path member has.full in
       let steps = placed tree sections from path in
       let none : length steps ≡ 0 + length steps = omega arith in
       record {
         left = sections.count;
         at = omega arith;
         leaf = has.leaf;
-        leads = leads.0;
-        done = leads.1;
+        leads = has.full.leads;
+        done = has.full.done;
         member = member;
         low = omega arith;
         within = omega arith;

@@ -159,7 +159,7 @@ module _ {State : Type 0} (tree : Tree State) (belongs : State → Type 0) (lawf
   one_pathed = record {
     one_path = λ a b first second. sym (any_told a first) ∙ any_told b second;
     one_leaf = λ a b first second.
-        one_end tree belongs lawful from a b first.path second.path member first.full second.full (sym (any_told a first) ∙ any_told b second);
+        one_end tree from a b first.path second.path first.full second.full (sym (any_told a first) ∙ any_told b second);
     told = any_told;
   }
 

@@ -1,21 +1,18 @@
 -- Genuine logs, and how much of any bytes is the beginning of one.
-use Rattle.std.specs.Prelude.{◌≡◌, ℕ, ◌+◌, ◌≤◌, List, [], length}
+use Rattle.std.specs.Prelude.{◌≡◌, ℕ, ◌+◌, ◌≤◌, true, List, length}
 use Rattle.smp_tape.specs.Sources.{Source}
-use Rattle.smp_tape.specs.Tapes.{tape_of_values}
-use Rattle.smp_tape.specs.TapeSources.{tape_source}
 use Rattle.smp_split.specs.Trees.{Tree}
-use Rattle.smp_split.specs.Paths.{Entry}
+use Rattle.smp_split.specs.Paths.{Entry, Leads}
 use Rattle.smp_split.specs.Runs.{Outcome, run}
 use Rattle.smp_log.specs.Lines.{ShareLines, whole_lines}
 use Rattle.smp_log.specs.Logs.{log_text}
 use Rattle.smp_log.specs.Told.{path_told}
 
--- the path from a state to a leaf that a full tape takes: the run over its values comes to the leaf, and none is left
+-- the path of a full tape from a state: it leads to this leaf
 pub record IsFullPath {State : Type 0} (tree : Tree State) (from : State) (path : List Entry)
     (leaf : State) : Type 0 where
-  pub values : List ℕ
-  pub ran : run tape_source tree from (tape_of_values [] values)
-      ≡ Outcome.leaf leaf path (tape_of_values values [])
+  pub leads : Leads tree from path leaf
+  pub done : tree.done leaf ≡ true
 
 -- the bytes are a text of the path of a full tape, which leads to this leaf, whichever texts a path has
 pub record IsLogOf {State : Type 0} (IsText : List Entry → List ℕ → Type 0) (tree : Tree State)

@@ -1,5 +1,5 @@
 -- One section of a log of version 2, read for itself.
-use Rattle.std.specs.Prelude.{◌≡◌, ℕ, suc, ◌+◌, ◌^◌, ◌<◌, nat_lt, ◌&&◌, Bool, true, false, is_some, if◌then◌else◌, List, [], ◌∷◌, ◌++◌, length, Option, Some, None, option_map, option_and_then, Result, Ok, Err, codes}
+use Rattle.std.specs.Prelude.{◌≡◌, ℕ, suc, ◌+◌, ◌^◌, ◌<◌, nat_lt, ◌&&◌, Bool, true, false, is_some, if◌then◌else◌, List, [], ◌∷◌, ◌++◌, length, take, Option, Some, None, option_map, option_and_then, Result, Ok, Err, codes}
 use Rattle.std.specs.Str.{bytes_eq}
 use Rattle.std.specs.Fmt.{decimal}
 use Rattle.smp_lines.specs.Cuts.{cut_at}
@@ -199,6 +199,11 @@ section_reading tree from head number log =
 -- the path that a section tells from its opening line on
 abbrev pub section_told : {State : Type 0} → Tree State → State → ℕ → List ℕ → List Entry
 section_told tree from number log = path_along tree from (from_opening number (whole_lines log)).1
+
+-- the same of the first lines of a log, so many of them
+abbrev pub section_in_first_lines : {State : Type 0} → Tree State → State → ℕ → ℕ → List ℕ → List Entry
+section_in_first_lines tree from number count log =
+    path_along tree from (from_opening number (take count (whole_lines log))).1
 
 -- ---- the answer is right
 

@@ -1,6 +1,7 @@
--- The path that a log tells.
-use Rattle.std.specs.Prelude.{ℕ, if◌then◌else◌, List, [], ◌∷◌, drop, Some, None}
-use Rattle.smp_split.specs.Paths.{Entry, entry_at}
+-- The path that a log tells, and what is told of it to a trace.
+use Rattle.std.specs.Prelude.{◌≡◌, ℕ, if◌then◌else◌, List, [], ◌∷◌, ◌++◌, drop, take, Option, Some, None}
+use Rattle.smp_split.specs.Paths.{Entry, Leads, entry_at}
+use Rattle.smp_split.specs.Runs.{and_then}
 use Rattle.smp_split.specs.Trees.{Tree, weight_sum, picked}
 use Rattle.smp_log.specs.Lines.{whole_lines}
 use Rattle.smp_log.specs.Reading.{step_value}
@@ -19,3 +20,21 @@ path_along tree s (line ∷ lines) =
 -- the path that a log tells behind the three lines of its head
 abbrev pub path_told : {State : Type 0} → Tree State → State → List ℕ → List Entry
 path_told tree from log = path_along tree from (drop 3 (whole_lines log))
+
+-- the same of its first lines, so many of them
+abbrev pub path_in_first_lines : {State : Type 0} → Tree State → State → ℕ → List ℕ → List Entry
+path_in_first_lines tree from count log = path_along tree from (drop 3 (take count (whole_lines log)))
+
+-- the path leads from a state to another, and its entries were told behind the old ones, where entries are told
+pub record IsToldAlong {State : Type 0} (tree : Tree State) (path : List Entry) (from to : State)
+    (old now : Option (List Entry)) : Type 0 where
+  pub leads : Leads tree from path to
+  pub told : now ≡ and_then old path
+
+-- so it is of the first steps of a path that a log tells
+pub record IsToldPart {State : Type 0} (tree : Tree State) (whole : List Entry) (from to : State)
+    (old now : Option (List Entry)) : Type 0 where
+  pub path : List Entry
+  pub along : IsToldAlong tree path from to old now
+  pub left : List Entry
+  pub whole_is : whole ≡ path ++ left

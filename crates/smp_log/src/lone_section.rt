@@ -1,9 +1,14 @@
-ghost use Rattle.std.specs.Prelude.{◌≡◌, ◌+◌, ◌<◌, ◌^◌, ℕ, true, Err, IfOk, IfErr, OnOk, length, option_map};
+ghost use Rattle.std.specs.Prelude.{◌≡◌, ◌+◌, ◌-◌, ◌<◌, ◌^◌, ℕ, true, Err, length, option_map};
+ghost use Rattle.std.specs.Prelude.{IfErr, IfOk, OnErr, OnOk};
 ghost use Rattle.smp_split.specs.Runs.{and_then};
 ghost use Rattle.smp_log.specs.Answers.{AnswersAs, answer_at};
 ghost use Rattle.smp_log.specs.Lines.{whole_lines};
 ghost use Rattle.smp_log.specs.LoneSections as LoneSections;
-ghost use Rattle.smp_log.specs.LoneSections.{HasSection, HasToldSection, NoneOpens, SectionDiffers, SkipsTo, opening_words, section_reading, section_told};
+ghost use Rattle.smp_log.specs.LoneSections.{HasSection, HasToldSection, NoneOpens};
+ghost use Rattle.smp_log.specs.LoneSections.{SectionDiffers, SkipsTo};
+ghost use Rattle.smp_log.specs.LoneSections.{opening_words, section_in_first_lines};
+ghost use Rattle.smp_log.specs.LoneSections.{section_reading, section_told};
+ghost use Rattle.smp_log.specs.Told.{IsToldAlong, IsToldPart};
 ghost use Rattle.smp_log.specs.Reading as Reading;
 ghost use Rattle.smp_log.specs.declared.fault.LogFault.TheVariants as LogFault;
 ghost use Rattle.smp_log.specs.declared.fault.ReplayFault.TheVariants as ReplayFault;
@@ -51,7 +56,8 @@ pub fn replay_section<S: Sections>(
 
 /// Replays one section as [`replay_section`] does, and tells each of its steps to a trace, in their order.
 ///
-/// Want of memory comes only where the trace may refuse a line.
+/// Want of memory comes only where the trace may refuse a line. After an error the steps that lead to the state were told,
+/// and no more: after [`ReplayFault::Differs`] those of the lines from the opening line to the one that it names.
 pub fn replay_section_into<S: Sections, T: Trace>(
     run: &S,
     state: &mut S::State,
@@ -68,6 +74,15 @@ pub fn replay_section_into<S: Sections, T: Trace>(
         ≡ and_then (T.lines trace.old) (section_told (S.tree run.now) state.old number log.now)) }
     ensures differs { (line : ℕ) → result ≡ Err (ReplayFault.Differs line)
         → SectionDiffers (S.tree run.now) state.old head.now number log.now line }
+    // Before an error the first steps that the section tells were told, up to the state, and no more.
+    ensures stopped { OnErr result (IsToldPart (S.tree run.now)
+        (section_told (S.tree run.now) state.old number log.now)
+        state.old state.new (T.lines trace.old) (T.lines trace.new)) }
+    // Where it differs, they are those of the lines before the one that is named.
+    ensures kept { (line : ℕ) → result ≡ Err (ReplayFault.Differs line)
+        → IsToldAlong (S.tree run.now)
+        (section_in_first_lines (S.tree run.now) state.old number (line - 1) log.now)
+        state.old state.new (T.lines trace.old) (T.lines trace.new) }
     ensures may_refuse { result ≡ Err ReplayFault.NoMemory → T.may_refuse ≡ true }
     ensures done { OnOk result ((S.tree run.now).done state.new ≡ true) }
     ensures belongs { S.belongs run.now state.new }

@@ -1,4 +1,4 @@
-ghost use Rattle.std.specs.Prelude.{◌≡◌, ℕ, Err, IfOk, OnOk};
+ghost use Rattle.std.specs.Prelude.{◌≡◌, ℕ, true, Err, IfOk, OnOk};
 ghost use Rattle.smp_log.specs.Answers.{MigratesAs, log_reading};
 ghost use Rattle.smp_log.specs.Genuine.{DiffersAt, IsGenuine, IsToldGenuine};
 ghost use Rattle.smp_log.specs.SectionLogs.{sectioned_log_text};
@@ -15,6 +15,7 @@ use std::alloc::Global;
 /// began.
 ///
 /// [`MigrateFault::Differs`] comes exactly where the log isn't genuine of version 1. After `Ok` both states are the leaf.
+/// After an error nothing is said of them but that they belong to the design.
 pub fn migrate<S: Sections>(
     alloc: Global,
     run: &S,
@@ -31,6 +32,9 @@ pub fn migrate<S: Sections>(
         ≡ sectioned_log_text (S.tree run.now) (S.sectioning run.now) first.old head.now
         (path_told (S.tree run.now) first.old log.now)) }
     ensures leaf { OnOk result (second.new ≡ first.new) }
+    ensures done { OnOk result (((S.tree run.now).done first.new ≡ true)
+        × ((S.tree run.now).done second.new ≡ true)) }
+    ensures belongs { S.belongs run.now first.new × S.belongs run.now second.new }
     ensures differs { (line : ℕ) → result ≡ Err (MigrateFault.Differs line)
         → DiffersAt (IsGenuine (S.tree run.now) first.old head.now) log.now line }
 

@@ -1,9 +1,9 @@
-ghost use Rattle.std.specs.Prelude.{◌≡◌, ◌++◌, ℕ, true, Err, IfErr, IfOk, OnOk};
+ghost use Rattle.std.specs.Prelude.{◌≡◌, ◌-◌, ◌++◌, ℕ, true, Err, IfErr, IfOk, OnErr, OnOk};
 ghost use Rattle.smp_split.specs.Runs.{and_then};
 ghost use Rattle.smp_log.specs.Fronts.{IsWhole, StopsAt};
 ghost use Rattle.smp_log.specs.Answers.{AnswersAs, answer_at, log_reading};
 ghost use Rattle.smp_log.specs.Genuine.{IsGenuine, IsToldGenuine, DiffersAt};
-ghost use Rattle.smp_log.specs.Told.{path_told};
+ghost use Rattle.smp_log.specs.Told.{IsToldAlong, IsToldPart, path_in_first_lines, path_told};
 ghost use Rattle.smp_log.specs.declared.fault.LogFault.TheVariants as LogFault;
 ghost use Rattle.smp_log.specs.declared.fault.ReplayFault.TheVariants as ReplayFault;
 
@@ -46,7 +46,8 @@ pub fn old_replay<S: Splitting>(
 
 /// Replays a log as [`old_replay`] does, and tells each of its steps to a trace, in their order.
 ///
-/// Want of memory comes only where the trace may refuse a line.
+/// Want of memory comes only where the trace may refuse a line. After an error the steps that lead to the state were told,
+/// and no more: after [`ReplayFault::Differs`] those of the lines before the one that it names.
 pub fn old_replay_into<S: Splitting, T: Trace>(
     run: &S,
     state: &mut S::State,
@@ -61,6 +62,15 @@ pub fn old_replay_into<S: Splitting, T: Trace>(
         ≡ and_then (T.lines trace.old) (path_told (S.tree run.now) state.old log.now)) }
     ensures differs { (line : ℕ) → result ≡ Err (ReplayFault.Differs line)
         → DiffersAt (IsGenuine (S.tree run.now) state.old head.now) log.now line }
+    // Before an error the first steps that the log tells were told, up to the state, and no more.
+    ensures stopped { OnErr result (IsToldPart (S.tree run.now)
+        (path_told (S.tree run.now) state.old log.now)
+        state.old state.new (T.lines trace.old) (T.lines trace.new)) }
+    // Where it differs, they are those of the lines before the one that is named.
+    ensures kept { (line : ℕ) → result ≡ Err (ReplayFault.Differs line)
+        → IsToldAlong (S.tree run.now)
+        (path_in_first_lines (S.tree run.now) state.old (line - 1) log.now)
+        state.old state.new (T.lines trace.old) (T.lines trace.new) }
     ensures may_refuse { result ≡ Err ReplayFault.NoMemory → T.may_refuse ≡ true }
     ensures done { OnOk result ((S.tree run.now).done state.new ≡ true) }
     ensures belongs { S.belongs run.now state.new }

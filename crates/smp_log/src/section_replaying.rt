@@ -1,10 +1,10 @@
-ghost use Rattle.std.specs.Prelude.{◌≡◌, ℕ, true, Err, OnOk};
+ghost use Rattle.std.specs.Prelude.{◌≡◌, ◌-◌, ℕ, true, Err, OnErr, OnOk};
 ghost use Rattle.smp_split.specs.Runs.{and_then};
 ghost use Rattle.smp_log.specs.Answers.{AnswersAs};
 ghost use Rattle.smp_log.specs.Genuine.{DiffersAt};
 ghost use Rattle.smp_log.specs.SectionLogs.{IsSectionedGenuine, IsToldSectioned};
 ghost use Rattle.smp_log.specs.SectionReading.{sectioned_reading};
-ghost use Rattle.smp_log.specs.Told.{path_told};
+ghost use Rattle.smp_log.specs.Told.{IsToldAlong, IsToldPart, path_in_first_lines, path_told};
 ghost use Rattle.smp_log.specs.declared.fault.ReplayFault.TheVariants as ReplayFault;
 
 use crate::lines::{after_end, after_numbers, step_first};
@@ -29,6 +29,15 @@ pub(crate) fn replay_sections_into<S: Sections, T: Trace>(
     ensures differs { (line : ℕ) → result ≡ Err (ReplayFault.Differs line)
         → DiffersAt (IsSectionedGenuine (S.tree run.now) (S.sectioning run.now) state.old head.now)
         log.now line }
+    // Before an error the first steps that the log tells were told, up to the state, and no more.
+    ensures stopped { OnErr result (IsToldPart (S.tree run.now)
+        (path_told (S.tree run.now) state.old log.now)
+        state.old state.new (T.lines trace.old) (T.lines trace.new)) }
+    // Where it differs, they are those of the lines before the one that is named.
+    ensures kept { (line : ℕ) → result ≡ Err (ReplayFault.Differs line)
+        → IsToldAlong (S.tree run.now)
+        (path_in_first_lines (S.tree run.now) state.old (line - 1) log.now)
+        state.old state.new (T.lines trace.old) (T.lines trace.new) }
     ensures may_refuse { result ≡ Err ReplayFault.NoMemory → T.may_refuse ≡ true }
     ensures done { OnOk result ((S.tree run.now).done state.new ≡ true) }
     ensures belongs { S.belongs run.now state.new }

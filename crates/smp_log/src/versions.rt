@@ -1,11 +1,11 @@
-ghost use Rattle.std.specs.Prelude.{◌≡◌, ℕ, true, Err, OnOk};
+ghost use Rattle.std.specs.Prelude.{◌≡◌, ◌-◌, ℕ, true, Err, OnErr, OnOk};
 ghost use Rattle.smp_split.specs.Runs.{and_then};
 ghost use Rattle.smp_log.specs.Answers.{AnswersAs, answer_at};
 ghost use Rattle.smp_log.specs.Genuine.{DiffersAt};
 ghost use Rattle.smp_log.specs.SectionLogs.{IsAnyGenuine, IsToldAny};
 ghost use Rattle.smp_log.specs.SectionReading as SectionReading;
 ghost use Rattle.smp_log.specs.SectionReading.{any_reading};
-ghost use Rattle.smp_log.specs.Told.{path_told};
+ghost use Rattle.smp_log.specs.Told.{IsToldAlong, IsToldPart, path_in_first_lines, path_told};
 ghost use Rattle.smp_log.specs.declared.fault.LogFault.TheVariants as LogFault;
 ghost use Rattle.smp_log.specs.declared.fault.ReplayFault.TheVariants as ReplayFault;
 
@@ -49,7 +49,8 @@ pub fn replay<S: Sections>(
 
 /// Replays a log as [`replay`] does, and tells each of its steps to a trace, in their order.
 ///
-/// Want of memory comes only where the trace may refuse a line.
+/// Want of memory comes only where the trace may refuse a line. After an error the steps that lead to the state were told,
+/// and no more: after [`ReplayFault::Differs`] those of the lines before the one that it names.
 pub fn replay_into<S: Sections, T: Trace>(
     run: &S,
     state: &mut S::State,
@@ -65,6 +66,15 @@ pub fn replay_into<S: Sections, T: Trace>(
     ensures differs { (line : ℕ) → result ≡ Err (ReplayFault.Differs line)
         → DiffersAt (IsAnyGenuine (S.tree run.now) (S.sectioning run.now) state.old head.now)
         log.now line }
+    // Before an error the first steps that the log tells were told, up to the state, and no more.
+    ensures stopped { OnErr result (IsToldPart (S.tree run.now)
+        (path_told (S.tree run.now) state.old log.now)
+        state.old state.new (T.lines trace.old) (T.lines trace.new)) }
+    // Where it differs, they are those of the lines before the one that is named.
+    ensures kept { (line : ℕ) → result ≡ Err (ReplayFault.Differs line)
+        → IsToldAlong (S.tree run.now)
+        (path_in_first_lines (S.tree run.now) state.old (line - 1) log.now)
+        state.old state.new (T.lines trace.old) (T.lines trace.new) }
     ensures may_refuse { result ≡ Err ReplayFault.NoMemory → T.may_refuse ≡ true }
     ensures done { OnOk result ((S.tree run.now).done state.new ≡ true) }
     ensures belongs { S.belongs run.now state.new }

@@ -2,7 +2,8 @@
 //!
 //! A [`Procedure`] says how units are drawn. [`AnyDesign`] is the design of a request by a procedure:
 //! the free units of the request are its units, and its draw tree is that of the procedure's method.
-//! What a further method adds is a variant here and a row in each list of methods, and no proof.
+//! What a further method adds is a variant here, a row in each list of methods, and a line in the proofs that go
+//! method by method.
 #![tactic(auto)]
 
 mod any;

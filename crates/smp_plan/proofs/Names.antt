@@ -53,3 +53,12 @@ pub first_distinct : (xs ys : List (List ℕ)) → all_distinct (xs ++ ys) ≡ t
 first_distinct [] ys distinct = refl
 first_distinct (x ∷ xs) ys distinct =
     rw (none_first (bytes_eq x) xs ys (and_parts _ _ distinct).0) (first_distinct xs ys (and_parts _ _ distinct).1)
+
+-- where two lists together have no name, neither has one
+pub no_first : (xs ys : List (List ℕ)) → xs ++ ys ≡ [] → xs ≡ []
+no_first [] ys none = refl
+no_first (x ∷ xs) ys none = absurd (cc)
+
+pub no_second : (xs ys : List (List ℕ)) → xs ++ ys ≡ [] → ys ≡ []
+no_second [] ys none = none
+no_second (x ∷ xs) ys none = absurd (cc)

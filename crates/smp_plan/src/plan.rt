@@ -67,6 +67,7 @@ fn design_from<K: Store>(
         (told K.files K.read_faults K.write_faults store.old)
         (told K.files K.read_faults K.write_faults store.new) }
     ensures design { IfOk result (λ read. IsDesign read.design) }
+    ensures idle { design_names (source_view source.now) ≡ [] → store.new ≡ store.old }
 {
     match source {
         DesignSource::Held(name) => {
@@ -107,10 +108,11 @@ fn plan_for(alloc: Global, design: Design, frame: Frame, head: Head) -> Result<F
 // The bytes of a frame, from its file or from the command.
 fn frame_bytes<K: Store>(alloc: Global, store: &mut K, source: FrameSource) -> Result<Bytes, Status>
     requires { IsFrameInRanges source }
-    ensures { Reads (frame_names (frame_view source.entry))
+    ensures reads { Reads (frame_names (frame_view source.entry))
         (frame_content (frame_view source.entry)) result
         (told K.files K.read_faults K.write_faults store.old)
         (told K.files K.read_faults K.write_faults store.new) }
+    ensures idle { frame_names (frame_view source.entry) ≡ [] → store.new ≡ store.old }
 {
     match source {
         FrameSource::Held(name) => read_input(alloc, store, name.as_str()),
@@ -134,6 +136,7 @@ fn frame_plan<K: Store>(
         (told K.files K.read_faults K.write_faults store.old)
         (told K.files K.read_faults K.write_faults store.new) }
     ensures planned { IfOk result IsPlanned }
+    ensures idle { frame_names (frame_view source.entry) ≡ [] → store.new ≡ store.old }
 {
     let bytes = frame_bytes(alloc, store, source)?;
     let content = bytes.as_slice();
@@ -145,7 +148,7 @@ fn frame_plan<K: Store>(
 /// Reads the design and then the frame, and plans what the design asks of the frame. Their files have different names.
 ///
 /// The first fault of the design, the first of the frame or the first misfit of both is refused, in this order, and a failed read of one of
-/// them is `ReadFault`. No file changes.
+/// them is `ReadFault`. No file changes. Where both stand with the command, the store isn't touched.
 pub fn plan_from<K: Store>(
     alloc: Global,
     store: &mut K,
@@ -162,6 +165,8 @@ pub fn plan_from<K: Store>(
         (told K.files K.read_faults K.write_faults store.old)
         (told K.files K.read_faults K.write_faults store.new) }
     ensures planned { IfOk result IsPlanned }
+    ensures idle { input_names (source_view design.now) (frame_view frame.entry) ≡ []
+        → store.new ≡ store.old }
 {
     let read = design_from(alloc, store, design)?;
     frame_plan(alloc, store, read, frame)

@@ -3,7 +3,7 @@ use Rattle.std.proofs.Common.{◌≡◌, ℕ, zero, suc, ◌+◌, ◌<◌, ◌�
 use Rattle.std.proofs.lemmas.Bool.{cases_Bool, ltb-true}
 use Rattle.smp_tape.specs.declared.draws.DrawFault.{DrawFault}
 use Rattle.smp_tape.specs.declared.draws.DrawFault.TheVariants.{Rejected}
-use Rattle.smp_sieve.specs.Streams.{Stream, ahead}
+use Rattle.smp_sieve.specs.Streams.{Stream}
 use Rattle.smp_sieve.specs.Sieves.{candidate, first_below, sieve_draw, sieve_next, words_of}
 
 -- the first candidate below a bound is below it

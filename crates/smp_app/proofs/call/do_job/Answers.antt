@@ -7,7 +7,7 @@ use Rattle.smp_app.proofs.call.do_job.Goals as goal
 pub returns-in-Err-clause-says : goal.returns-in-Err-clause-says
 returns-in-Err-clause-says g c words asked =
     let reads = c.in-Err.ensures.reads in
-    error_says _ (job_view c.args.job.now) _ _ asked _ c.in-Err.status reads.kinds reads.follows reads.cause
+    error_says _ (job_view c.args.job.now) _ _ asked _ c.in-Err.status reads.kinds reads.follows reads.cause c.in-Err.ensures.exact
     (record { files = reads.same; written = refl })
 
 pub returns-in-Ok-deliver-clause-says : goal.returns-in-Ok-deliver-clause-says

@@ -1,4 +1,4 @@
-use Rattle.std.proofs.Common.{subst, arith, rules}
+use Rattle.std.proofs.Common.{◌≡◌, length, ap, subst, arith, rules}
 use Rattle.smp_io.specs.Counts.{Rose}
 use Rattle.smp_io.specs.Store.{OthersStay}
 use Rattle.smp_app.proofs.Deliveries.{on_err, stops_at, fails_at}
@@ -16,3 +16,6 @@ returns-in_err-write-clause-failed g c failed =
     (subst (λ name. OthersStay name (g.K.Store.files c.loop-file.store) (g.K.Store.files c.write.new.self)) c.as_str.ensures c.in_err-write.ensures.others)
     (g.K.Store.write_faults c.args.store.now) (g.K.Store.write_faults c.loop-file.store) (g.K.Store.write_faults c.write.new.self) (c.loop-file.invariant.writes c.file-item.result.name)
     (subst (λ name. Rose (g.K.Store.write_faults c.loop-file.store name) (g.K.Store.write_faults c.write.new.self name)) c.as_str.ensures (c.in_err-write.ensures.cause (search (rules, failed, c.from_residual.ensures))))
+
+pub returns-in_err-write-clause-idle : goal.returns-in_err-write-clause-idle
+returns-in_err-write-clause-idle g c none = absurd (let empty : length c.args.files.now ≡ 0 = ap length none in omega arith)

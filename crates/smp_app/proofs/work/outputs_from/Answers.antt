@@ -1,14 +1,13 @@
-use Rattle.std.proofs.Common.{◌∙◌}
+use Rattle.std.proofs.Common.{◌≡◌, Err, refl, rules, ◌∙◌}
 use Rattle.smp_plan.specs.Inputs.{input_names, plan_stage}
 use Rattle.smp_plan.specs.Planned.{plan_view}
 use Rattle.smp_plan.proofs.Inputs.{plan_ignores}
-use Rattle.smp_plan.proofs.Names.{first_distinct}
+use Rattle.smp_plan.proofs.Names.{first_distinct, no_first, no_second}
 use Rattle.smp_plan.proofs.Steps.{goes_on}
-use Rattle.smp_app.proofs.Written.{if_ok}
 use Rattle.smp_app.specs.Commands.{drawn_names}
 use Rattle.smp_app.specs.Stages.{job_view}
 use Rattle.smp_app.specs.Verdict.{work_stage}
-use Rattle.smp_app.proofs.Stages.{exact_work}
+use Rattle.smp_app.proofs.Stages.{exact_end, plan_refused}
 use Rattle.smp_app.proofs.work.outputs_from.Goals as goal
 
 pub plan_from-requires-clause-distinct : goal.plan_from-requires-clause-distinct
@@ -26,5 +25,18 @@ pub returns-clause-exact : goal.returns-clause-exact
 returns-clause-exact g c fs held =
     let job = job_view c.args.job.now in
     let reads = c.in_ok-plan.ensures.reads in
-    if_ok c.work_outputs.result _ _ (λ outputs from. exact_work job job.work (plan_view c.in_ok-plan.plan) fs (reads.follows fs held) from)
-    (c.work_outputs.ensures.exact fs (reads.same ∙ held))
+    exact_end job job.work (plan_view c.in_ok-plan.plan) fs c.work_outputs.result (reads.follows fs held) refl (c.work_outputs.ensures.exact fs (reads.same ∙ held))
+
+pub returns-in_err-plan-clause-exact : goal.returns-in_err-plan-clause-exact
+returns-in_err-plan-clause-exact g c fs held =
+    let job = job_view c.args.job.now in
+    let error = c.in_err-plan.field-0.0 in
+    let ends : c.from_residual.result ≡ Err error = search (rules, c.from_residual.ensures) in
+    rw ends (plan_refused job job.work fs error (c.in_err-plan.ensures.reads.follows fs held))
+
+pub returns-clause-idle : goal.returns-clause-idle
+returns-clause-idle g c none =
+    let job = job_view c.args.job.now in
+    let inputs = input_names job.design job.frame in
+    let drawn = drawn_names job.work in
+    c.work_outputs.ensures.idle (no_second inputs drawn none) ∙ c.in_ok-plan.ensures.idle (no_first inputs drawn none)

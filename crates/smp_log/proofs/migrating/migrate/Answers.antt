@@ -21,5 +21,5 @@ returns-in-Ok-log_bytes-clause-leaf g c =
     let lines : c.old_replay_into.new.trace ≡ path_told tree c.args.first.now c.args.log.now = same_lines _ _ (c.in-Ok.ensures.told ∙ ap (λ (none : List Entry). Some (none ++ path_told tree c.args.first.now c.args.log.now)) c.new-lines.ensures) in
     let written : IsFullPath tree c.args.first.now c.old_replay_into.new.trace c.log_bytes.new.state =
     subst (λ s. IsFullPath tree s c.old_replay_into.new.trace c.log_bytes.new.state) c.requires.second c.in-Ok-log_bytes.ensures.leaf in
-    one_end tree (g.S.Splitting.belongs c.args.run.now) (g.met.S.Splitting.lawful c.args.run.now) c.args.first.now c.log_bytes.new.state c.old_replay_into.new.state c.old_replay_into.new.trace told.genuine.path c.requires.first
+    one_end tree c.args.first.now c.log_bytes.new.state c.old_replay_into.new.state c.old_replay_into.new.trace told.genuine.path
     written told.genuine.full (lines ∙ told.told)

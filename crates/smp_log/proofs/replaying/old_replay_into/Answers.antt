@@ -1,28 +1,30 @@
-use Rattle.std.proofs.Common.{◌≡◌, ℕ, ◌+◌, ◌++◌, ◌<◌, true, false, Some, None, length, Result, Ok, Err, rules, sym, ap, ◌∙◌, subst}
-use Rattle.smp_split.specs.Trees.{weight_sum}
+use Rattle.std.proofs.Common.{◌≡◌, ◌+◌, ◌++◌, ◌∷◌, [], ◌<◌, true, false, Some, None, length, Ok, Err, rules, sym, ap, ◌∙◌, subst, arith}
+use Rattle.smp_split.specs.Trees.{picked, weight_sum}
 use Rattle.smp_log.specs.Fronts.{IsWhole, StopsAt}
 use Rattle.smp_log.specs.Genuine.{IsGenuine, DiffersAt}
-use Rattle.smp_log.specs.Reading.{step_first}
-use Rattle.smp_log.specs.Told.{path_told}
-use Rattle.smp_log.specs.declared.fault.ReplayFault.TheVariants as ReplayFault
-use Rattle.smp_log.proofs.Replays.{whole_head, first, stops, no_step, within, shorter, more, no_end, something_behind, replayed}
+use Rattle.smp_log.specs.Reading.{step_first, end_line}
+use Rattle.smp_log.specs.Told.{path_told, path_in_first_lines, IsToldAlong}
+use Rattle.smp_log.proofs.FirstLines.{first_is}
+use Rattle.smp_log.proofs.NamedLines.{at_line, on_err, told_kept}
+use Rattle.smp_log.proofs.Replays.{whole_head, head_count, first, stops, no_step, within, shorter, more, no_end, something_behind, replayed}
 use Rattle.smp_log.proofs.Answered.{exact_reading}
-use Rattle.smp_log.proofs.Telling.{none_told, told_behind, step_told, all_told, genuine_told}
+use Rattle.smp_log.proofs.Telling.{few_told, none_along, none_begins, stops_early, told_step, told_over, told_part, told_all, genuine_told}
 use Rattle.smp_log.proofs.replaying.old_replay_into.Goals as goal
 
 pub after_front-requires : goal.after_front-requires
 after_front-requires g c = subst IsWhole (sym c.as_slice.ensures.bytes) (whole_head c.args.head.now c.as_slice.ensures.lines)
-
-at_line : (Differs : ℕ → Type 0) (here line : ℕ) → Differs here → ◌≡◌ {A = Result (Unit {0}) ReplayFault.the_data} (Err (ReplayFault.Differs here)) (Err (ReplayFault.Differs line)) → Differs line
-at_line Differs here line differs is = (let same : here ≡ line = cc in subst Differs same differs)
 
 pub returns-in-Err : goal.returns-in-Err
 returns-in-Err g c =
     let tree = g.S.Splitting.tree c.args.run.now in
     let belongs = g.S.Splitting.belongs c.args.run.now in
     let lawful = g.met.S.Splitting.lawful c.args.run.now in
-    let differs : DiffersAt (IsGenuine tree c.args.state.now c.args.head.now) c.args.log.now (c.in-Err.line) = stops tree belongs lawful c.args.state.now c.requires c.args.head.now c.args.log.now c.in-Err.line c.as_slice.ensures.lines (subst (λ h. StopsAt h c.args.log.now c.in-Err.line) c.as_slice.ensures.bytes c.in-Err.ensures.stops) in
+    let at = subst (λ h. StopsAt h c.args.log.now c.in-Err.line) c.as_slice.ensures.bytes c.in-Err.ensures.stops in
+    let differs : DiffersAt (IsGenuine tree c.args.state.now c.args.head.now) c.args.log.now (c.in-Err.line) = stops tree belongs lawful c.args.state.now c.requires c.args.head.now c.args.log.now c.in-Err.line c.as_slice.ensures.lines at in
+    let told = few_told tree c.args.state.now (g.T.Trace.lines c.args.trace.now) c.args.log.now (length at.same) (stops_early at (head_count c.args.head.now c.as_slice.ensures.lines)) in
     record {
+      stopped = none_begins tree c.args.state.now (g.T.Trace.lines c.args.trace.now) (path_told tree c.args.state.now c.args.log.now);
+      kept = λ line is. told_kept c.args.log.now (length at.same) c.in-Err.line line told (sym at.counted) is;
       genuine = search rules;
       told = search rules;
       done = search rules;
@@ -39,7 +41,7 @@ loop-state-init g c =
     let lawful = g.met.S.Splitting.lawful c.args.run.now in
     let front = c.in-Ok.ensures.front ∙ ap (λ h. h ++ c.in-Ok.rest.now) c.as_slice.ensures.bytes in (
       first tree belongs lawful c.args.state.now c.requires c.args.head.now c.args.log.now c.in-Ok.rest.now c.as_slice.ensures.lines front,
-      none_told tree (path_told tree c.args.state.now c.args.log.now) (g.T.Trace.lines c.args.trace.now) c.args.state.now c.in-Ok.rest.now (told_behind tree c.args.state.now c.args.log.now c.args.head.now c.in-Ok.rest.now c.as_slice.ensures.lines front),
+      few_told tree c.args.state.now (g.T.Trace.lines c.args.trace.now) c.args.log.now 3 (omega arith),
     )
 
 pub returns-in_default : goal.returns-in_default
@@ -51,6 +53,8 @@ returns-in_default g c =
     let none : step_first (tree.kind c.loop-state.state) (weight_sum (tree.parts c.loop-state.state)) c.loop-state.rest.now ≡ None = rw (← c.kind-kind.ensures, ← c.bound-bound.ensures) (sym c.in_default.ensures) in
     let differs : DiffersAt (IsGenuine tree c.args.state.now c.args.head.now) c.args.log.now (c.loop-state.steps + 4) = no_step tree belongs lawful c.args.state.now c.requires c.args.head.now c.args.log.now c.loop-state.state c.loop-state.rest.now c.loop-state.steps c.loop-state.invariant.0 going none in
     record {
+      stopped = told_part tree c.args.state.now (g.T.Trace.lines c.args.trace.now) c.loop-state.invariant.0.reached (omega arith) c.loop-state.state (g.T.Trace.lines c.loop-state.trace) c.loop-state.invariant.1;
+      kept = λ line is. told_kept c.args.log.now (c.loop-state.steps + 3) (c.loop-state.steps + 4) line c.loop-state.invariant.1 (omega arith) is;
       genuine = search rules;
       told = search rules;
       done = search rules;
@@ -59,6 +63,13 @@ returns-in_default g c =
       reading = sym ((exact_reading tree belongs lawful c.args.state.now c.requires c.args.head.now c.loop-state.invariant.0.is_head c.args.log.now).alone (Err (c.loop-state.steps + 4)) differs);
       belongs = c.loop-state.invariant.0.member;
     }
+
+pub returns-in_err-line-clause-stopped : goal.returns-in_err-line-clause-stopped
+returns-in_err-line-clause-stopped g c =
+    let tree = g.S.Splitting.tree c.args.run.now in
+    let same : g.T.Trace.lines c.loop-state.trace ≡ g.T.Trace.lines c.line.new.self = sym c.in_err-line.ensures.err in
+    on_err c.from_residual.result _
+    (told_part tree c.args.state.now (g.T.Trace.lines c.args.trace.now) c.loop-state.invariant.0.reached (omega arith) c.loop-state.state _ (subst (λ now. IsToldAlong tree (path_in_first_lines tree c.args.state.now (c.loop-state.steps + 3) c.args.log.now) c.args.state.now c.loop-state.state (g.T.Trace.lines c.args.trace.now) now) same c.loop-state.invariant.1))
 
 pub advance-requires-clause-within : goal.advance-requires-clause-within
 advance-requires-clause-within g c =
@@ -83,10 +94,12 @@ loop-state-preserved g c =
     let lawful = g.met.S.Splitting.lawful c.args.run.now in
     let going : tree.done c.loop-state.state ≡ false = search rules in
     let some : step_first (tree.kind c.loop-state.state) (weight_sum (tree.parts c.loop-state.state)) c.loop-state.rest.now ≡ Some (c.in-Some.value, c.in-Some.after.now) = rw (← c.kind-kind.ensures, ← c.bound-bound.ensures) (sym c.in-Some.ensures) in
+    let count : c.loop-state.steps + 3 + 1 ≡ c.loop-state.steps + 1 + 3 = omega arith in
     rw c.advance.ensures (
       more tree belongs lawful c.args.state.now c.requires c.args.head.now c.args.log.now c.loop-state.state c.loop-state.rest.now c.loop-state.steps c.loop-state.invariant.0 c.in-Some.value c.in-Some.after.now some going,
-      step_told tree (path_told tree c.args.state.now c.args.log.now) (g.T.Trace.lines c.args.trace.now) (g.T.Trace.lines c.loop-state.trace) _ c.loop-state.state c.in-Some.value c.loop-state.rest.now c.in-Some.after.now c.loop-state.invariant.1 going some
-          (rw (c.kind-kind.ensures, c.bound-bound.ensures) at c.in_ok-line.ensures).ok,
+      subst (λ n. IsToldAlong tree (path_in_first_lines tree c.args.state.now n c.args.log.now) c.args.state.now (picked c.loop-state.state (tree.parts c.loop-state.state) c.in-Some.value) (g.T.Trace.lines c.args.trace.now) (g.T.Trace.lines c.line.new.self)) count
+          (told_step tree c.args.state.now (g.T.Trace.lines c.args.trace.now) c.loop-state.invariant.0.reached (omega arith) c.loop-state.state (g.T.Trace.lines c.loop-state.trace) c.loop-state.invariant.1 c.in-Some.value c.in-Some.after.now _ going some
+          (rw (c.kind-kind.ensures, c.bound-bound.ensures) at c.in_ok-line.ensures).ok),
     )
 
 pub returns-in_default-after_end : goal.returns-in_default-after_end
@@ -97,6 +110,8 @@ returns-in_default-after_end g c =
     let done : tree.done c.loop-state.state ≡ true = search rules in
     let differs : DiffersAt (IsGenuine tree c.args.state.now c.args.head.now) c.args.log.now (c.loop-state.steps + 4) = no_end tree belongs lawful c.args.state.now c.requires c.args.head.now c.args.log.now c.loop-state.state c.loop-state.rest.now c.loop-state.steps c.loop-state.invariant.0 done (sym c.in_default-after_end.ensures) in
     record {
+      stopped = told_part tree c.args.state.now (g.T.Trace.lines c.args.trace.now) c.loop-state.invariant.0.reached (omega arith) c.loop-state.state (g.T.Trace.lines c.loop-state.trace) c.loop-state.invariant.1;
+      kept = λ line is. told_kept c.args.log.now (c.loop-state.steps + 3) (c.loop-state.steps + 4) line c.loop-state.invariant.1 (omega arith) is;
       genuine = search rules;
       told = search rules;
       done = search rules;
@@ -114,7 +129,11 @@ returns-then-not-is_empty g c =
     let done : tree.done c.loop-state.state ≡ true = search rules in
     let something : 0 < length c.in-Some-after_end.after.now = search rules in
     let differs : DiffersAt (IsGenuine tree c.args.state.now c.args.head.now) c.args.log.now (c.loop-state.steps + 5) = something_behind tree belongs lawful c.args.state.now c.requires c.args.head.now c.args.log.now c.loop-state.state c.loop-state.rest.now c.loop-state.steps c.loop-state.invariant.0 c.in-Some-after_end.after.now done (sym c.in-Some-after_end.ensures) something in
+    let told = told_over tree c.args.state.now (g.T.Trace.lines c.args.trace.now) c.loop-state.invariant.0.reached (omega arith) c.loop-state.state (g.T.Trace.lines c.loop-state.trace) c.loop-state.invariant.1 (end_line c.loop-state.steps) c.in-Some-after_end.after.now
+    (first_is (end_line c.loop-state.steps) c.loop-state.rest.now c.in-Some-after_end.after.now (sym c.in-Some-after_end.ensures)) (none_along tree c.loop-state.state (end_line c.loop-state.steps ∷ []) done) in
     record {
+      stopped = told_part tree c.args.state.now (g.T.Trace.lines c.args.trace.now) c.loop-state.invariant.0.reached (omega arith) c.loop-state.state (g.T.Trace.lines c.loop-state.trace) c.loop-state.invariant.1;
+      kept = λ line is. told_kept c.args.log.now (c.loop-state.steps + 3 + 1) (c.loop-state.steps + 5) line told (omega arith) is;
       genuine = search rules;
       told = search rules;
       done = search rules;
@@ -134,7 +153,9 @@ returns g c =
     let genuine : IsGenuine tree c.args.state.now c.args.head.now c.args.log.now c.loop-state.state = replayed tree belongs lawful c.args.state.now c.requires c.args.head.now c.args.log.now c.loop-state.state c.loop-state.rest.now c.loop-state.steps c.loop-state.invariant.0 c.in-Some-after_end.after.now done (sym c.in-Some-after_end.ensures) none in
     record {
       genuine = record { genuine = genuine; told = genuine_told tree belongs lawful c.args.state.now c.requires c.args.head.now c.args.log.now c.loop-state.invariant.0.is_head c.loop-state.state genuine };
-      told = all_told tree (path_told tree c.args.state.now c.args.log.now) (g.T.Trace.lines c.args.trace.now) (g.T.Trace.lines c.loop-state.trace) c.loop-state.state c.loop-state.rest.now c.loop-state.invariant.1 done;
+      told = told_all tree c.args.state.now (g.T.Trace.lines c.args.trace.now) c.loop-state.invariant.0.reached (omega arith) c.loop-state.state (g.T.Trace.lines c.loop-state.trace) c.loop-state.invariant.1 done;
+      stopped = search rules;
+      kept = search rules;
       done = done;
       differs = search rules;
       may_refuse = search rules;

@@ -1,18 +1,17 @@
 use Rattle.std.proofs.Common.{length}
 use Rattle.smp_log.proofs.SectionReplays.{IsOpening, IsInside}
-use Rattle.smp_log.specs.Told.{path_told}
-use Rattle.smp_log.proofs.Telling.{IsTold}
+use Rattle.smp_log.specs.Told.{path_in_first_lines, IsToldAlong}
 use Rattle.smp_log.proofs.section_replaying.replay_sections_into.Given as goal
 
 abbrev pub invariant-loop-section : goal.invariant-loop-section
 invariant-loop-section g l =
     IsOpening (g.S.Splitting.tree l.run) (g.S.Splitting.belongs l.run) (g.S.Sections.sectioning l.run) l.fn.state l.head l.log l.section l.taken l.steps l.state l.rest l.lines
-    × IsTold (g.S.Splitting.tree l.run) (path_told (g.S.Splitting.tree l.run) l.fn.state l.log) (g.T.Trace.lines l.fn.trace) (g.T.Trace.lines l.trace) l.state l.rest
+    × IsToldAlong (g.S.Splitting.tree l.run) (path_in_first_lines (g.S.Splitting.tree l.run) l.fn.state l.lines l.log) l.fn.state l.state (g.T.Trace.lines l.fn.trace) (g.T.Trace.lines l.trace)
 
 abbrev pub invariant-loop-state : goal.invariant-loop-state
 invariant-loop-state g l =
     IsInside (g.S.Splitting.tree l.run) (g.S.Splitting.belongs l.run) (g.S.Sections.sectioning l.run) l.fn.state l.head l.log l.section l.taken l.steps l.own l.state l.rest l.lines
-    × IsTold (g.S.Splitting.tree l.run) (path_told (g.S.Splitting.tree l.run) l.fn.state l.log) (g.T.Trace.lines l.fn.trace) (g.T.Trace.lines l.trace) l.state l.rest
+    × IsToldAlong (g.S.Splitting.tree l.run) (path_in_first_lines (g.S.Splitting.tree l.run) l.fn.state l.lines l.log) l.fn.state l.state (g.T.Trace.lines l.fn.trace) (g.T.Trace.lines l.trace)
 
 abbrev pub decreases-loop-state : goal.decreases-loop-state
 decreases-loop-state g l = length l.rest

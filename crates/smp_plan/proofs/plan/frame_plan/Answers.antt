@@ -13,12 +13,12 @@ returns-in_err-plan_for-clause-reads g c =
     let ends : c.from_residual-in_err-plan_for.result ≡ Err (misfit_status misfit) = search (rules, c.from_residual-in_err-plan_for.ensures) in
     let framed : frame_of c.args.read.design.columns c.in_ok-bytes.bytes ≡ Ok c.in_ok-frame.frame = rw c.as_slice-content.ensures at c.in_ok-frame.ensures.reads in
     let head : c.log_head-head.result ≡ head_of c.args.read.bytes c.in_ok-bytes.bytes = rw (c.as_slice.ensures, c.as_slice-content.ensures) at c.log_head-head.ensures in
-    rw ends (misfit_read (read_view c.args.read) (frame_view c.args.source) c.in_ok-bytes.bytes c.in_ok-frame.frame _ _ c.in_ok-bytes.ensures framed misfit
+    rw ends (misfit_read (read_view c.args.read) (frame_view c.args.source) c.in_ok-bytes.bytes c.in_ok-frame.frame _ _ c.in_ok-bytes.ensures.reads framed misfit
     (subst (λ (h : List ℕ). GivesPlan (Err misfit) (plan_of (record { design = c.args.read.design; units = c.in_ok-frame.frame; head = h }))) head c.in_err-plan_for.ensures.follows))
 
 pub returns-clause-reads : goal.returns-clause-reads
 returns-clause-reads g c =
     let framed : frame_of c.args.read.design.columns c.in_ok-bytes.bytes ≡ Ok c.in_ok-frame.frame = rw c.as_slice-content.ensures at c.in_ok-frame.ensures.reads in
     let head : c.log_head-head.result ≡ head_of c.args.read.bytes c.in_ok-bytes.bytes = rw (c.as_slice.ensures, c.as_slice-content.ensures) at c.log_head-head.ensures in
-    plan_read (read_view c.args.read) (frame_view c.args.source) c.in_ok-bytes.bytes c.in_ok-frame.frame _ _ c.in_ok-bytes.ensures framed (plan_view c.in_ok-plan_for.field-0)
+    plan_read (read_view c.args.read) (frame_view c.args.source) c.in_ok-bytes.bytes c.in_ok-frame.frame _ _ c.in_ok-bytes.ensures.reads framed (plan_view c.in_ok-plan_for.field-0)
     (subst (λ (h : List ℕ). plan_of (record { design = c.args.read.design; units = c.in_ok-frame.frame; head = h }) ≡ Ok (plan_view c.in_ok-plan_for.field-0)) head c.in_ok-plan_for.ensures.follows)
