@@ -34,7 +34,7 @@ use Rattle.smp_methods.specs.declared.any.AnyState.{AnyState}
 use Rattle.smp_stages.specs.Stages.{Progress}
 use Rattle.smp_strata.specs.Draws.{AreAsked, IsFor, SecondDraws, expected_firsts}
 use Rattle.smp_strata.specs.Plans.{Parts, first_probs}
-use Rattle.smp_strata.specs.declared.strata.First.{First}
+use Rattle.smp_strata.specs.declared.strata.FirstUnit.{FirstUnit}
 use Rattle.smp_strata.specs.declared.strata.Stratum.{Stratum}
 use Rattle.smp_twostage.specs.Selections as selections
 use Rattle.smp_twostage.specs.Selections.{BelongsToCovered, BelongsToWhole, Coverage, all_of, covered_start, covered_tree, one_of, place_of, strata_sections, whole_tree}
@@ -214,13 +214,13 @@ module _ (plan : FramePlan) (planned : IsPlanned plan) where
 
       abbrev SecondsBy : Parts → Type 0
       SecondsBy p =
-          (h k : ℕ) (s : Stratum) (u : First) (asked : second.Second) → slice_get p.strata h ≡ Some s → slice_get s.units k ≡ Some u → plan.design.second ≡ Some asked
+          (h k : ℕ) (s : Stratum) (u : FirstUnit) (asked : second.Second) → slice_get p.strata h ≡ Some s → slice_get s.units k ≡ Some u → plan.design.second ≡ Some asked
           → first_selected p to.states h k ≡ true → count_by (second_selected p to.states h k) (range_with_len 0 (length u.rows)) ≡ asked.n
 
       second_is : plan.plan.second ≡ option_map (λ s. s.method) plan.design.second
       second_is = ap (λ (p : Parts). p.second) planned.parts_are
 
-      seconds_by : (h k : ℕ) (s : Stratum) (u : First) (asked : second.Second) → slice_get plan.plan.strata h ≡ Some s → slice_get s.units k ≡ Some u
+      seconds_by : (h k : ℕ) (s : Stratum) (u : FirstUnit) (asked : second.Second) → slice_get plan.plan.strata h ≡ Some s → slice_get s.units k ≡ Some u
           → (request : Option Request) → u.second ≡ request → is_some request ≡ true → IfSome request (λ r. IsFor r (length u.rows) asked.n)
           → first_selected plan.plan to.states h k ≡ true → count_by (second_selected plan.plan to.states h k) (range_with_len 0 (length u.rows)) ≡ asked.n
       seconds_by h k s u asked is_s is_u (Some request) asks some fills first = starts.seconds h k asked.n s u request is_s is_u asks fills path to leads done first
@@ -229,8 +229,8 @@ module _ (plan : FramePlan) (planned : IsPlanned plan) where
       seconds_own : SecondsBy plan.plan
       seconds_own h k s u asked is_s is_u is_second first =
           let draws : SecondDraws plan.design.second (length u.rows) u.second =
-          subst (λ (v : First). SecondDraws plan.design.second (length v.rows) v.second) (get_or_from_slice_get s.units k u u is_u)
-          (All-get_or (λ (v : First). SecondDraws plan.design.second (length v.rows) v.second) s.units k u (slice_get_within s.units k u is_u) (planned.draws h s is_s).rows) in
+          subst (λ (v : FirstUnit). SecondDraws plan.design.second (length v.rows) v.second) (get_or_from_slice_get s.units k u u is_u)
+          (All-get_or (λ (v : FirstUnit). SecondDraws plan.design.second (length v.rows) v.second) s.units k u (slice_get_within s.units k u is_u) (planned.draws h s is_s).rows) in
           let method : plan.plan.second ≡ Some asked.method = second_is ∙ ap (option_map (λ s. s.method)) is_second in
           seconds_by h k s u asked is_s is_u u.second refl (seconds_in plan.plan planned.drawable asked.method method h s is_s k u is_u)
           (subst (λ (o : Option second.Second). SecondDraws o (length u.rows) u.second) is_second draws) first

@@ -18,7 +18,7 @@ use Rattle.smp_status.specs.declared.status.Status.{Status}
 use Rattle.smp_status.specs.declared.status.Status.TheVariants as status
 use Rattle.smp_strata.specs.Draws.{AreAsked}
 use Rattle.smp_strata.specs.Plans.{first_probs}
-use Rattle.smp_strata.specs.declared.strata.First as first
+use Rattle.smp_strata.specs.declared.strata.FirstUnit as first
 use Rattle.smp_strata.specs.declared.strata.Stratum.{Stratum}
 use Rattle.smp_stages.specs.Paths.{GoesByStages}
 use Rattle.smp_twostage.specs.Cubes.{IsDrawnByCube, balancing}
@@ -40,7 +40,7 @@ firsts_drawn drawn h s =
     let selected = first_selected (parts drawn.plan) drawn.leaf.states h in
     count_by selected (range_with_len 0 (length s.units))
 
-abbrev pub rows_drawn : Drawn → ℕ → ℕ → first.First → ℕ
+abbrev pub rows_drawn : Drawn → ℕ → ℕ → first.FirstUnit → ℕ
 rows_drawn drawn h k u =
     let selected = second_selected (parts drawn.plan) drawn.leaf.states h k in
     count_by selected (range_with_len 0 (length u.rows))
@@ -67,7 +67,7 @@ DrawsAround drawn =
 -- with a second stage, as many rows of each of these as it asks for
 abbrev pub DrawsSeconds : Drawn → Type 0
 DrawsSeconds drawn =
-    (h k : ℕ) (s : Stratum) (u : first.First) (asked : second.Second)
+    (h k : ℕ) (s : Stratum) (u : first.FirstUnit) (asked : second.Second)
     → slice_get (parts drawn.plan).strata h ≡ Some s → slice_get s.units k ≡ Some u
     → drawn.plan.design.second ≡ Some asked
     → first_selected (parts drawn.plan) drawn.leaf.states h k ≡ true

@@ -1,5 +1,7 @@
--- Stages of their own: stages in a row that select within one another alone, as those of one stratum do. They are a selection in stages too.
-use Rattle.std.specs.Prelude.{◌≡◌, ℕ, suc, ◌+◌, ◌<◌, ◌≤◌, nat_lt, Bool, true, false, List, length, map, take, drop, Some, option_map}
+-- Stages of their own: stages in a row that select within one another alone, as those of one stratum do. They are a selection in
+-- stages too.
+use Rattle.std.specs.Prelude.{◌≡◌, ℕ, suc, ◌+◌, ◌<◌, ◌≤◌, nat_lt, Bool, true, false, List, length, map, take, drop}
+use Rattle.std.specs.Prelude.{Some, option_map}
 use Rattle.std.specs.List.{slice_get}
 use Rattle.smp_split.specs.Sectioning.{Sectioning}
 use Rattle.smp_split.specs.Trees.{Tree}

@@ -6,8 +6,8 @@ use Rattle.smp_split.specs.Trees.{Tree}
 use Rattle.smp_stages.specs.declared.places.Stage.{Stage}
 use Rattle.smp_stages.specs.Stages.{is_drawn}
 
--- A stage's part of a path, where it is drawn: a path of its own tree from its first state to a leaf. A stage that isn't drawn has none, and
--- stays in its first state.
+-- A stage's part of a path, where it is drawn: a path of its own tree from its first state to a leaf. A stage that isn't drawn has
+-- none, and stays in its first state.
 abbrev pub IsStagePath : {State : Type 0} → Bool → Tree State → State → List Entry → State → Type 0
 IsStagePath true tree first part leaf = Leads tree first part leaf × (tree.done leaf ≡ true)
 IsStagePath false tree first part leaf = (part ≡ []) × (leaf ≡ first)
@@ -23,5 +23,6 @@ module _ {Design State : Type 0} (tree_of : Design → Tree State) where
     pub paired : length leaves ≡ length stages
     pub part : ℕ → List Entry
     pub whole : path ≡ joined part (length stages)
-    pub each : (i : ℕ) (stage : Stage Design) (first leaf : State) → slice_get stages i ≡ Some stage → slice_get firsts i ≡ Some first → slice_get leaves i ≡ Some leaf
+    pub each : (i : ℕ) (stage : Stage Design) (first leaf : State) → slice_get stages i ≡ Some stage
+        → slice_get firsts i ≡ Some first → slice_get leaves i ≡ Some leaf
         → IsStagePath (is_drawn tree_of stages leaves i) (tree_of stage.design) first (part i) leaf

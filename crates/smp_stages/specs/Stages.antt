@@ -1,6 +1,7 @@
 -- A selection in stages: in each stage units are selected by a design of its own, one stage after another. A second stage selects within a
 -- unit of a first stage, and is drawn where that unit was selected (Särndal, Swensson and Wretman 1992).
-use Rattle.std.specs.Prelude.{◌≡◌, ℕ, zero, suc, ◌+◌, ◌<◌, Bool, true, false, not, ◌&&◌, nat_eq, if◌then◌else◌, List, [], ◌∷◌, length, set, Option, Some, None}
+use Rattle.std.specs.Prelude.{◌≡◌, ℕ, zero, suc, ◌+◌, ◌<◌, Bool, true, false, not, ◌&&◌, nat_eq, if◌then◌else◌}
+use Rattle.std.specs.Prelude.{List, [], ◌∷◌, length, set, Option, Some, None}
 use Rattle.std.specs.List.{slice_get}
 use Rattle.smp_fractions.specs.Fractions.{Fraction, whole, times}
 use Rattle.smp_split.specs.Parts.{moved}
@@ -69,10 +70,12 @@ module _ {Design State : Type 0} (tree_of : Design → Tree State) where
 
     -- the value of a unit in its own stage, and whether it is selected there
     abbrev pub unit_value : List State → Place → Fraction
-    unit_value states place = read (whole 0) (λ tree state. tree.value state place.unit) (slice_get stages place.stage) (slice_get states place.stage)
+    unit_value states place = read (whole 0) (λ tree state. tree.value state place.unit)
+        (slice_get stages place.stage) (slice_get states place.stage)
 
     abbrev pub unit_selected : List State → Place → Bool
-    unit_selected states place = read false (λ tree state. tree.selected state place.unit) (slice_get stages place.stage) (slice_get states place.stage)
+    unit_selected states place = read false (λ tree state. tree.selected state place.unit)
+        (slice_get stages place.stage) (slice_get states place.stage)
 
     -- ---- which stage comes next
 
@@ -134,7 +137,8 @@ module _ {Design State : Type 0} (tree_of : Design → Tree State) where
   pub record IsStaged (stages : List (Stage Design)) (seats : List Seat) : Type 0 where
     pub within : (i : ℕ) (place : Place) → within_of (slice_get stages i) ≡ Some place → IsAfter stages i place
     pub first : (row : ℕ) (place : Place) → slice_get seats row ≡ Some (First place) → IsFirstUnit stages place
-    pub second : (row : ℕ) (first second : Place) → slice_get seats row ≡ Some (Second first second) → IsUnitWithin stages first second
+    pub second : (row : ℕ) (first second : Place) → slice_get seats row ≡ Some (Second first second)
+        → IsUnitWithin stages first second
 
   -- ---- which states are the selection's
 
@@ -142,7 +146,8 @@ module _ {Design State : Type 0} (tree_of : Design → Tree State) where
     -- there is a state for each stage, of its design
     pub record EachBelongs (stages : List (Stage Design)) (states : List State) : Type 0 where
       pub paired : length states ≡ length stages
-      pub each : (i : ℕ) (stage : Stage Design) (state : State) → slice_get stages i ≡ Some stage → slice_get states i ≡ Some state → belongs stage.design state
+      pub each : (i : ℕ) (stage : Stage Design) (state : State) → slice_get stages i ≡ Some stage
+          → slice_get states i ≡ Some state → belongs stage.design state
 
     -- and the first stage that waits is under way
     pub record IsUnderWay (stages : List (Stage Design)) (s : Progress State) : Type 0 where

@@ -23,7 +23,7 @@ use Rattle.smp_strata.specs.Misfits.{unit_in_two}
 use Rattle.smp_strata.specs.Plans.{first_of, second_request, second_sizes, stratum_of}
 use Rattle.smp_strata.specs.Rows.{second_size_at, stratum_at, value_of}
 use Rattle.smp_strata.specs.Seats.{IsSeat, seat_fraction, stage_fraction}
-use Rattle.smp_strata.specs.declared.strata.First as first
+use Rattle.smp_strata.specs.declared.strata.FirstUnit as first
 use Rattle.smp_strata.specs.declared.strata.Seat as seat
 use Rattle.smp_strata.specs.declared.strata.Stratum as stratum
 use Rattle.smp_strata.specs.Kept.Built.{AreSeats, IsBuilt, SecondAsks, second_method, seat_by}
@@ -83,7 +83,7 @@ module _ (design : Design) (units : List unit.Unit) (rows : All (AreRows (length
   pub have_columns : All (λ s. All (λ f. length f.values ≡ length design.columns.values) s.units) strata
   have_columns k d l =
       let here : k < length (stratum_names units) = omega (arith, l, long) in
-      rw (each k d here).value (All-map (λ (f : first.First). length f.values ≡ length design.columns.values) (first_of design units) (clusters_in design units k)
+      rw (each k d here).value (All-map (λ (f : first.FirstUnit). length f.values ≡ length design.columns.values) (first_of design units) (clusters_in design units k)
       (λ j g m. length-map-range_with_len (value_of units (get_or (clusters_in design units k) j g)) 0 (length design.columns.values)))
 
   module _ (row_places : List ℕ) (row_groups : AreGroups (homes_of design.second units) (length (clusters design.second units)) (clusters design.second units) row_places)

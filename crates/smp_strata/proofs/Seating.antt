@@ -13,7 +13,7 @@ use Rattle.smp_prob.specs.Standings.{asked_fraction}
 use Rattle.smp_strata.specs.Clusters.{clusters, clusters_in, stratum_names}
 use Rattle.smp_strata.specs.Plans.{first_of, stratum_of}
 use Rattle.smp_strata.specs.Seats.{IsSeat, seat_fraction, stage_fraction}
-use Rattle.smp_strata.specs.declared.strata.First as first
+use Rattle.smp_strata.specs.declared.strata.FirstUnit as first
 use Rattle.smp_strata.specs.declared.strata.Seat as seat
 use Rattle.smp_strata.specs.declared.strata.Stratum as stratum
 use Rattle.smp_strata.specs.Kept.Built.{AreSeats, seat_by}
@@ -78,19 +78,19 @@ in_group numbers count groups among are k i x e =
 
 -- ---- the strata of a plan
 
-pub seat_fraction_is : (strata : List stratum.Stratum) (s : seat.Seat) (st : stratum.Stratum) (f : first.First) → slice_get strata s.stratum ≡ Some st → slice_get st.units s.unit ≡ Some f
+pub seat_fraction_is : (strata : List stratum.Stratum) (s : seat.Seat) (st : stratum.Stratum) (f : first.FirstUnit) → slice_get strata s.stratum ≡ Some st → slice_get st.units s.unit ≡ Some f
     → seat_fraction strata s ≡ times (asked_fraction st.request s.unit) (stage_fraction f.second s.place)
 seat_fraction_is strata s st f e g = rw (e, g) refl
 
 pub seat_within : (strata : List stratum.Stratum) (row : ℕ) (s : seat.Seat) → IsSeat strata row s → s.stratum < length strata
 seat_within strata row s is =
-    option_and_then_some (λ (f : first.First). slice_get f.rows s.place) _ row is.there
+    option_and_then_some (λ (f : first.FirstUnit). slice_get f.rows s.place) _ row is.there
     (λ f chosen place. option_and_then_some (λ (st : stratum.Stratum). slice_get st.units s.unit) (slice_get strata s.stratum) f chosen
     (λ st at unit. slice_get_within strata s.stratum st at))
 
 pub unit_within : (strata : List stratum.Stratum) (row : ℕ) (s : seat.Seat) (st : stratum.Stratum) → IsSeat strata row s → slice_get strata s.stratum ≡ Some st → s.unit < length st.units
 unit_within strata row s st is at =
-    option_and_then_some (λ (f : first.First). slice_get f.rows s.place) _ row is.there
+    option_and_then_some (λ (f : first.FirstUnit). slice_get f.rows s.place) _ row is.there
     (λ f chosen place. slice_get_within st.units s.unit f (rw at at chosen))
 
 module _ (design : Design) (units : List unit.Unit) (rows : All (AreRows (length units)) (clusters design.second units))
@@ -159,7 +159,7 @@ module _ (design : Design) (units : List unit.Unit) (rows : All (AreRows (length
 
     pub seat_only : (row : ℕ) (s : seat.Seat) → IsSeat strata row s → (row < length row_homes) × (by row ≡ s)
     seat_only row s is =
-        option_and_then_some (λ (f : first.First). slice_get f.rows s.place) _ row is.there
+        option_and_then_some (λ (f : first.FirstUnit). slice_get f.rows s.place) _ row is.there
         (λ f chosen place. option_and_then_some (λ (st : stratum.Stratum). slice_get st.units s.unit) (slice_get strata s.stratum) f chosen
         (λ st at unit. (let from = stratum_from s.stratum st at in
         let unit_of : slice_get (stratum_of design units s.stratum).units s.unit ≡ Some f = ap (λ (x : stratum.Stratum). slice_get x.units s.unit) from.1 ∙ unit in
@@ -167,7 +167,7 @@ module _ (design : Design) (units : List unit.Unit) (rows : All (AreRows (length
         sym (slice_get-map (λ j. first_of design units (get_or all j [])) (places_of (homes design units rows) s.stratum) s.unit)
         ∙ ap (λ fs. slice_get fs s.unit) (sym (map_both (places_of (homes design units rows) s.stratum)) ∙ ap (map (first_of design units)) (members_are design units rows s.stratum from.0)) ∙ unit_of in
         some_map (λ j. first_of design units (get_or all j [])) (slice_get (places_of (homes design units rows) s.stratum) s.unit) f in_stratum
-        (λ i e is_first. seat_of_place s row i e (ap (λ (x : first.First). slice_get x.rows s.place) is_first ∙ place)))))
+        (λ i e is_first. seat_of_place s row i e (ap (λ (x : first.FirstUnit). slice_get x.rows s.place) is_first ∙ place)))))
       where
         map_both : (js : List ℕ) → map (first_of design units) (map (λ j. get_or all j []) js) ≡ map (λ j. first_of design units (get_or all j [])) js
         map_both [] = refl

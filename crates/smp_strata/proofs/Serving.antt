@@ -19,7 +19,7 @@ use Rattle.smp_strata.specs.Misfits.{psu_short, second_too_many, short, when}
 use Rattle.smp_strata.specs.Plans.{first_of, first_sizes, sample_size, second_sizes, stratum_of}
 use Rattle.smp_strata.specs.Rows.{size_of, second_size_at, psu_at, stratum_at}
 use Rattle.smp_strata.specs.declared.misfit.Misfit.TheVariants.{NoSize, TooMany, SecondTooMany}
-use Rattle.smp_strata.specs.declared.strata.First as first
+use Rattle.smp_strata.specs.declared.strata.FirstUnit as first
 use Rattle.smp_strata.specs.declared.strata.Stratum as stratum
 use Rattle.smp_strata.specs.Kept.Built.{CanBuild, IsBuilt, IsBuiltFirst, IsFirstRequest}
 use Rattle.smp_strata.specs.Kept.Groups.{places_of}
@@ -75,8 +75,8 @@ module _ (design : Design) (units : List unit.Unit) (rows : All (AreRows (length
       omega (arith, few, length-map (clusters_in design units k) (size_of units), length-filter p (clusters design.second units), count_by-le-length p (clusters design.second units))
 
   -- the parts of a stratum
-  module _ (k : ℕ) (here : k < length (stratum_names units)) (fs : List first.First) (long : length fs ≡ length (places_of (homes design units rows) k))
-      (each : (j : ℕ) (d : first.First) → j < length (places_of (homes design units rows) k)
+  module _ (k : ℕ) (here : k < length (stratum_names units)) (fs : List first.FirstUnit) (long : length fs ≡ length (places_of (homes design units rows) k))
+      (each : (j : ℕ) (d : first.FirstUnit) → j < length (places_of (homes design units rows) k)
       → IsBuiltFirst design units (get_or (clusters design.second units) (get_or (places_of (homes design units rows) k) j 0) []) (get_or fs j d)) where
     abbrev all : List (List ℕ)
     all = clusters design.second units
@@ -119,7 +119,7 @@ module _ (design : Design) (units : List unit.Unit) (rows : All (AreRows (length
             expected = rw (← long_units) (given_size design units k request design.columns.prob refl asked.asks);
           };
           firsts = λ j d l. (let l2 : j < length members = omega (arith, l, long_in) in
-              let f : first.First = first_of design units (get_or all (get_or members j 0) []) in
+              let f : first.FirstUnit = first_of design units (get_or all (get_or members j 0) []) in
               rw (cluster_at j d l2) (rw (each j f l2).value at (each j f l2).asks));
         }
 

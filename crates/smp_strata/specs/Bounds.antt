@@ -10,7 +10,7 @@ use Rattle.smp_design.specs.declared.method.Method.{Method}
 use Rattle.smp_design.specs.Words.{row}
 use Rattle.smp_strata.specs.Plans.{Parts}
 use Rattle.smp_strata.specs.Seats.{IsSeat, Seated}
-use Rattle.smp_strata.specs.declared.strata.First as first
+use Rattle.smp_strata.specs.declared.strata.FirstUnit as first
 use Rattle.smp_strata.specs.declared.strata.Seat as seat
 use Rattle.smp_strata.specs.declared.strata.Stratum as stratum
 
@@ -28,7 +28,7 @@ pub record IsWholeOver (count : ℕ) (request : Request) : Type 0 where
   pub whole : IsWhole request
 
 -- a first stage unit has rows, values within 2,147,483,647 of 0, and a request over its rows where there is a second stage
-pub record IsFirst (method : Option Method) (f : first.First) : Type 0 where
+pub record IsFirst (method : Option Method) (f : first.FirstUnit) : Type 0 where
   pub some : 1 ≤ length f.rows
   pub near : AreNear f.values
   pub over : IfSome f.second (IsWholeOver (length f.rows))

@@ -14,7 +14,7 @@ use Rattle.smp_frame.specs.declared.frame.Unit as unit
 use Rattle.smp_strata.specs.Allocations.{allocation}
 use Rattle.smp_strata.specs.Clusters.{clusters_in, first_row, stratum_names, stratum_name, strata_numbers}
 use Rattle.smp_strata.specs.Rows.{prob_at, size_of, second_size_at, values_of}
-use Rattle.smp_strata.specs.declared.strata.First as first
+use Rattle.smp_strata.specs.declared.strata.FirstUnit as first
 use Rattle.smp_strata.specs.declared.strata.Stratum as stratum
 
 -- what a plan says
@@ -78,7 +78,7 @@ second_request None units rows = None
 second_request (Some second) units rows = Some (requested_of (second_sizes units rows) second.n)
 
 -- a first stage unit of some rows
-abbrev pub first_of : Design → List unit.Unit → List ℕ → first.First
+abbrev pub first_of : Design → List unit.Unit → List ℕ → first.FirstUnit
 first_of design units rows = record {
   rows = rows;
   values = values_of units (length design.columns.values) rows;

@@ -3,12 +3,12 @@ use Rattle.std.specs.Prelude.{◌≡◌, ℕ, List, Option, Some, None, slice_ge
 use Rattle.smp_fractions.specs.Fractions.{Fraction, whole, times}
 use Rattle.smp_prob.specs.declared.requests.Request.{Request}
 use Rattle.smp_prob.specs.Standings.{asked_fraction}
-use Rattle.smp_strata.specs.declared.strata.First as first
+use Rattle.smp_strata.specs.declared.strata.FirstUnit as first
 use Rattle.smp_strata.specs.declared.strata.Seat as seat
 use Rattle.smp_strata.specs.declared.strata.Stratum as stratum
 
 -- a first stage unit of a stratum, by the numbers of both
-abbrev pub first_at : List stratum.Stratum → ℕ → ℕ → Option first.First
+abbrev pub first_at : List stratum.Stratum → ℕ → ℕ → Option first.FirstUnit
 first_at strata stratum unit =
     option_and_then (λ s. slice_get s.units unit) (slice_get strata stratum)
 
@@ -41,7 +41,7 @@ abbrev pub stage_fraction : Option Request → ℕ → Fraction
 stage_fraction None place = whole 1
 stage_fraction (Some request) place = asked_fraction request place
 
-abbrev pub place_fraction : Option first.First → ℕ → Fraction
+abbrev pub place_fraction : Option first.FirstUnit → ℕ → Fraction
 place_fraction None place = whole 0
 place_fraction (Some first) place = stage_fraction first.second place
 

@@ -13,7 +13,7 @@ ghost use Rattle.smp_strata.specs.Plans as Plans;
 ghost use Rattle.smp_strata.specs.Plans.{parts_of, sample_sizes};
 ghost use Rattle.smp_strata.specs.Asked.{AsksAsFrame};
 ghost use Rattle.smp_strata.specs.Draws.{DrawsAsAsked, IsFor, SecondDraws};
-ghost use Rattle.smp_strata.specs.declared.strata.First.{First};
+ghost use Rattle.smp_strata.specs.declared.strata.FirstUnit.{FirstUnit};
 ghost use Rattle.smp_strata.specs.declared.strata.Seat.{Seat};
 ghost use Rattle.smp_strata.specs.declared.strata.Stratum.{Stratum};
 ghost use Rattle.smp_strata.specs.Misfits.{misfit_of};
@@ -26,7 +26,7 @@ use crate::groups::Group;
 use crate::layout::{Clusters, Strata};
 use crate::sizes::{probs_at, second_sizes, sizes_at};
 use crate::sums::values_of;
-use crate::{First, Plan, Seat, Stratum, Units};
+use crate::{FirstUnit, Plan, Seat, Stratum, Units};
 use smp_design::{Design, Method, Second};
 use smp_frac::{Frac, NoMemory};
 use smp_frame::{Numbers, Unit};
@@ -83,7 +83,7 @@ fn first_of(
     units: &[Unit],
     design: &Design,
     rows: &[usize],
-) -> Result<First, NoMemory>
+) -> Result<FirstUnit, NoMemory>
     requires frame { IsFrame units.now }
     requires values { HaveValues (length design.now.columns.values) units.now }
     requires rows { AreRows (length units.now) rows.now }
@@ -95,7 +95,7 @@ fn first_of(
 {
     let values = values_of(alloc, units, design.columns.values.as_slice().len(), rows)?;
     let second = second_request(alloc, units, design.second, rows)?;
-    Ok(First {
+    Ok(FirstUnit {
         rows: Places::from_slice(alloc, rows)?,
         values: Numbers::from_slice(alloc, &values)?,
         second,
@@ -116,7 +116,7 @@ fn firsts(
     requires clusters { All (CanBuild design.now units.now) clusters.now }
     requires within { All (λ member. member < length clusters.now) members.now }
     ensures length { IfOk result (λ firsts. length firsts ≡ length members.now) }
-    ensures each { IfOk result (λ firsts. (j : ℕ) (d : First) → j < length members.now
+    ensures each { IfOk result (λ firsts. (j : ℕ) (d : FirstUnit) → j < length members.now
         → IsBuiltFirst design.now units.now
         (slice_index_or clusters.now (slice_index members.now j) [])
         (slice_index_or firsts j d)) }

@@ -21,7 +21,7 @@ mod sums;
 pub use acceptance::accept;
 pub use misfit::Misfit;
 pub use plan::{Plan, asked, first_asked};
-pub use strata::{First, Seat, Stratum, Units};
+pub use strata::{FirstUnit, Seat, Stratum, Units};
 
 /// A sum of sizes, and the absolute value of a sum of values, is so large at most.
 const MAX_SUM: u64 = 2_147_483_647;

@@ -9,7 +9,7 @@ use std::marker::Model;
 
 /// A first stage unit: a row of the frame, or all rows of a psu.
 #[derive(Drop)]
-pub struct First {
+pub struct FirstUnit {
     /// Its rows in frame order, the first of the frame being row 0.
     pub rows: Places,
     /// Its balancing values or coordinates, in the order of their columns: the sums over its rows.
@@ -21,27 +21,27 @@ pub struct First {
 /// First stage units in a list.
 #[derive(Drop)]
 pub struct Units {
-    units: Vec<First>,
+    units: Vec<FirstUnit>,
 }
 
 impl Model for Units {
     ghost use Rattle.std.specs.Prelude.{List};
-    ghost use Rattle.smp_strata.specs.declared.strata.First as first;
+    ghost use Rattle.smp_strata.specs.declared.strata.FirstUnit as first;
 
-    ghost Value = { List first.First };
+    ghost Value = { List first.FirstUnit };
 
     ghost view = { λ u. u.units.items };
 }
 
 impl Units {
-    pub(crate) fn from_vec(units: Vec<First>) -> Units
+    pub(crate) fn from_vec(units: Vec<FirstUnit>) -> Units
         ensures { result ≡ units.items }
     {
         Units { units }
     }
 
     /// The units in order of first appearance.
-    pub fn as_slice(&self) -> &[First]
+    pub fn as_slice(&self) -> &[FirstUnit]
         ensures { result.now ≡ self.now }
     {
         self.units.as_slice()

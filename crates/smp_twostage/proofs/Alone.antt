@@ -22,7 +22,7 @@ use Rattle.smp_stages.specs.Starts.{StartsInStages}
 use Rattle.smp_stages.specs.Stages.{Progress, progress, seat_selected, seat_value, unit_selected, unit_value}
 use Rattle.smp_stages.proofs.OwnStages.{is_part}
 use Rattle.smp_strata.specs.Plans.{Parts}
-use Rattle.smp_strata.specs.declared.strata.First.{First}
+use Rattle.smp_strata.specs.declared.strata.FirstUnit.{FirstUnit}
 use Rattle.smp_strata.specs.declared.strata.Seat.{Seat}
 use Rattle.smp_strata.specs.declared.strata.Stratum.{Stratum}
 use Rattle.smp_twostage.specs.Covered.{StartsAlone, alone_fraction, state_alone}
@@ -61,11 +61,11 @@ module _ (before : ℕ) where
   by_later (Some method) None rows k = refl
   by_later None request rows k = refl
 
-  within_later : (method : Option Method) (k : ℕ) (u : Option First) → map (stage_later before) (stage_within method 0 k u) ≡ stage_within method before k u
+  within_later : (method : Option Method) (k : ℕ) (u : Option FirstUnit) → map (stage_later before) (stage_within method 0 k u) ≡ stage_within method before k u
   within_later method k (Some u) = by_later method u.second (length u.rows) k
   within_later method k None = refl
 
-  units_later : (method : Option Method) (units : List First) (n : ℕ) → map (stage_later before) (stages_within method 0 units n) ≡ stages_within method before units n
+  units_later : (method : Option Method) (units : List FirstUnit) (n : ℕ) → map (stage_later before) (stages_within method 0 units n) ≡ stages_within method before units n
   units_later method units zero = refl
   units_later method units (suc n) =
       map_over (stage_later before) (stages_within method 0 units n) (stage_within method 0 n (slice_get units n))

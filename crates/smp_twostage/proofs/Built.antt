@@ -5,12 +5,12 @@ use Rattle.std.proofs.lemmas.List.FromFn.{map-range_with_len_more}
 use Rattle.smp_design.specs.declared.method.Method.{Method}
 use Rattle.smp_stages.specs.declared.places.Stage.{Stage}
 use Rattle.smp_strata.specs.Plans.{Parts}
-use Rattle.smp_strata.specs.declared.strata.First.{First}
+use Rattle.smp_strata.specs.declared.strata.FirstUnit.{FirstUnit}
 use Rattle.smp_strata.specs.declared.strata.Stratum.{Stratum}
 use Rattle.smp_twostage.specs.Selections.{Selecting, first_number, stage_by, stages_below, stages_in, stages_within}
 
 -- the stage within one more unit
-pub next_within : (method : Method) (at : ℕ) (units : List First) (k : ℕ) (u : First) (before done new : List (Stage Selecting)) → slice_get units k ≡ Some u → done ≡ before ++ stages_within (Some method) at units k
+pub next_within : (method : Method) (at : ℕ) (units : List FirstUnit) (k : ℕ) (u : FirstUnit) (before done new : List (Stage Selecting)) → slice_get units k ≡ Some u → done ≡ before ++ stages_within (Some method) at units k
     → new ≡ done ++ stage_by (Some method) u.second (length u.rows) at k → new ≡ before ++ stages_within (Some method) at units (k + 1)
 next_within method at units k u before done new is so_far more =
     let on : suc k ≡ k + 1 = omega arith in

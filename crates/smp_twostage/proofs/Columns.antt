@@ -17,7 +17,7 @@ use Rattle.smp_methods.specs.Procedures.{procedure_of, TakesValues}
 use Rattle.smp_methods.proofs.Columns.{procedure_takes}
 use Rattle.smp_strata.specs.Bounds.{IsFirst, IsStratum}
 use Rattle.smp_strata.specs.Plans.{Parts}
-use Rattle.smp_strata.specs.declared.strata.First.{First}
+use Rattle.smp_strata.specs.declared.strata.FirstUnit.{FirstUnit}
 use Rattle.smp_strata.specs.declared.strata.Stratum.{Stratum}
 use Rattle.smp_twostage.specs.Kept.{IsPlanned}
 use Rattle.smp_twostage.specs.Plans.{CanBeDrawn}
@@ -28,9 +28,9 @@ given : (way : Option Procedure) (other : Procedure) → is_some way ≡ true �
 given (Some way) other some = refl
 given None other some = absurd (cc)
 
-first_long : (units : List First) (n : ℕ) → 1 ≤ length units → All (λ u. length u.values ≡ n) units → length (get_or (map (λ u. u.values) units) 0 []) ≡ n
+first_long : (units : List FirstUnit) (n : ℕ) → 1 ≤ length units → All (λ u. length u.values ≡ n) units → length (get_or (map (λ u. u.values) units) 0 []) ≡ n
 first_long [] n some all = absurd (omega (arith, some))
-first_long (u ∷ us) n some all = All-get_or (λ (v : First). length v.values ≡ n) (u ∷ us) 0 u (omega arith) all
+first_long (u ∷ us) n some all = All-get_or (λ (v : FirstUnit). length v.values ≡ n) (u ∷ us) 0 u (omega arith) all
 
 pub near_within : (values : List ℤ) → AreNear values → Within (2 ^ 31 - 1) values
 near_within values near k d l = let h = near k d l in omega (arith, h)
@@ -43,17 +43,17 @@ module _ (plan : Parts) (s : Stratum) (planned : IsPlanned plan s) where
   has_procedure = ap (λ n. is_some (procedure_of plan.method plan.order n)) columns_are ∙ planned.method
 
   -- the values of a free unit
-  free_at : (P : List ℤ → Type 0) → ((u : First) → IsFirst plan.second u → length u.values ≡ planned.columns → P u.values) → All P (free_values s)
+  free_at : (P : List ℤ → Type 0) → ((u : FirstUnit) → IsFirst plan.second u → length u.values ≡ planned.columns → P u.values) → All P (free_values s)
   free_at P holds =
       All-map P (values_at s) s.request.free
       (All-weaker (λ k. k < length s.units) (λ k. P (values_at s k)) (λ k l. at k l) s.request.free planned.stratum.over.free)
     where
-      by_unit : (k : ℕ) (u : Option First) → slice_get s.units k ≡ u → k < length s.units → P (values_at s k)
+      by_unit : (k : ℕ) (u : Option FirstUnit) → slice_get s.units k ≡ u → k < length s.units → P (values_at s k)
       by_unit k (Some u) is l =
           let here : get_or s.units k u ≡ u = get_or_from_slice_get s.units k u u is in
-          let value : values_at s k ≡ u.values = get_or-map (λ (v : First). v.values) s.units k u [] l ∙ ap (λ (v : First). v.values) here in
+          let value : values_at s k ≡ u.values = get_or-map (λ (v : FirstUnit). v.values) s.units k u [] l ∙ ap (λ (v : FirstUnit). v.values) here in
           let first : IsFirst plan.second u = subst (IsFirst plan.second) here (All-get_or (IsFirst plan.second) s.units k u l planned.stratum.firsts) in
-          let counted : length u.values ≡ planned.columns = subst (λ (v : First). length v.values ≡ planned.columns) here (All-get_or (λ (v : First). length v.values ≡ planned.columns) s.units k u l planned.counted) in
+          let counted : length u.values ≡ planned.columns = subst (λ (v : FirstUnit). length v.values ≡ planned.columns) here (All-get_or (λ (v : FirstUnit). length v.values ≡ planned.columns) s.units k u l planned.counted) in
           subst P (sym value) (holds u first counted)
       by_unit k None is l = let some = some_within s.units k l in absurd (let none : None ≡ Some some.0 = sym is ∙ some.1 in cc)
 

@@ -24,7 +24,7 @@ use Rattle.std.proofs.lemmas.Option.{slice_get_within}
 use Rattle.smp_strata.specs.Draws.{IsFor}
 use Rattle.smp_strata.specs.Plans.{Parts}
 use Rattle.smp_strata.specs.Seats.{first_at, first_fraction, place_fraction, stage_fraction, unit_fraction}
-use Rattle.smp_strata.specs.declared.strata.First.{First}
+use Rattle.smp_strata.specs.declared.strata.FirstUnit.{FirstUnit}
 use Rattle.smp_strata.specs.declared.strata.Stratum.{Stratum}
 use Rattle.smp_twostage.specs.Kept.{EachStarts, StageStarts}
 use Rattle.smp_twostage.specs.Plans.{CanBeDrawn}
@@ -93,7 +93,7 @@ stage_positive : (request : Option Request) (place : ℕ) → IsProbability (sta
 stage_positive None place = (1, refl)
 stage_positive (Some request) place = asked_positive request (standing request place)
 
-place_positive : (u : Option First) (place : ℕ) → IsProbability (place_fraction u place)
+place_positive : (u : Option FirstUnit) (place : ℕ) → IsProbability (place_fraction u place)
 place_positive None place = (0, refl)
 place_positive (Some u) place = stage_positive u.second place
 
@@ -138,7 +138,7 @@ module _ (plan : Parts) (drawable : CanBeDrawn plan) (states : List AnyState) (e
   firsts h n s is fills path leaf leads done =
       selected_so (first_number plan h) n (first_stage plan s) (first_there plan h s is) fills path leaf leads done (first_drawn h s is leaf.states)
 
-  seconds : (method : Option Method) → plan.second ≡ method → (h k n : ℕ) (s : Stratum) (u : First) (request : Request) → slice_get plan.strata h ≡ Some s → slice_get s.units k ≡ Some u → u.second ≡ Some request
+  seconds : (method : Option Method) → plan.second ≡ method → (h k n : ℕ) (s : Stratum) (u : FirstUnit) (request : Request) → slice_get plan.strata h ≡ Some s → slice_get s.units k ≡ Some u → u.second ≡ Some request
       → IsFor request (length u.rows) n → SecondSelects plan start h k u n
   seconds (Some method) second h k n s u request is_s is_u asks fills path leaf leads done first =
       let there = second_there plan h s is_s method second (seconds_in plan drawable method second h s is_s) k u is_u request asks in

@@ -26,7 +26,7 @@ use Rattle.smp_stages.specs.declared.places.Stage.{Stage}
 use Rattle.smp_stages.specs.Stages.{is_drawn, read, unit_selected}
 use Rattle.smp_strata.specs.Bounds.{IsFirst}
 use Rattle.smp_strata.specs.Plans.{Parts}
-use Rattle.smp_strata.specs.declared.strata.First.{First}
+use Rattle.smp_strata.specs.declared.strata.FirstUnit.{FirstUnit}
 use Rattle.smp_strata.specs.declared.strata.Stratum.{Stratum}
 use Rattle.smp_twostage.specs.Covered.{covered_first, covered_number}
 use Rattle.smp_twostage.specs.Cubes.{balancing}
@@ -87,8 +87,8 @@ module _ (plan : Parts) (drawable : CanBeDrawn plan) (cube : plan.method ≡ Cub
   values_are : AreValues (map (λ u. u.values) s.units)
   values_are =
       are_values own.columns (map (λ u. u.values) s.units)
-      (All-map (λ (v : List ℤ). length v ≡ own.columns) (λ (u : First). u.values) s.units own.counted)
-      (All-map (Within (2 ^ 31 - 1)) (λ (u : First). u.values) s.units (All-weaker (IsFirst plan.second) (λ u. Within (2 ^ 31 - 1) u.values) (λ u first. near_within u.values first.near) s.units own.stratum.firsts))
+      (All-map (λ (v : List ℤ). length v ≡ own.columns) (λ (u : FirstUnit). u.values) s.units own.counted)
+      (All-map (Within (2 ^ 31 - 1)) (λ (u : FirstUnit). u.values) s.units (All-weaker (IsFirst plan.second) (λ u. Within (2 ^ 31 - 1) u.values) (λ u first. near_within u.values first.near) s.units own.stratum.firsts))
       (few_columns plan.method plan.order own.columns cube own.method)
 
   pub is_stratum : IsStratum (balancing s)

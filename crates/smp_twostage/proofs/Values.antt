@@ -17,7 +17,7 @@ use Rattle.smp_stages.specs.declared.places.Stage.{Stage}
 use Rattle.smp_stages.specs.Stages.{seat_value, unit_value, read}
 use Rattle.smp_strata.specs.Plans.{Parts}
 use Rattle.smp_strata.specs.Seats.{place_fraction, seat_fraction, stage_fraction, unit_fraction}
-use Rattle.smp_strata.specs.declared.strata.First.{First}
+use Rattle.smp_strata.specs.declared.strata.FirstUnit.{FirstUnit}
 use Rattle.smp_strata.specs.declared.strata.Seat.{Seat}
 use Rattle.smp_strata.specs.declared.strata.Stratum.{Stratum}
 use Rattle.smp_twostage.specs.Plans.{CanBeDrawn}
@@ -43,7 +43,7 @@ module _ (stages : List (Stage Selecting)) (states : List AnyState) (each : Each
 
 -- ---- a row that stands in stratum h
 
-module _ (plan : Parts) (states : List AnyState) (each : EachStarts (stages_of plan) states) (h : ℕ) (place : Seat) (s : Stratum) (u : First) (is_stratum : slice_get plan.strata h ≡ Some s) (is_unit : slice_get s.units place.unit ≡ Some u) (staged : is_some u.second ≡ is_some plan.second)
+module _ (plan : Parts) (states : List AnyState) (each : EachStarts (stages_of plan) states) (h : ℕ) (place : Seat) (s : Stratum) (u : FirstUnit) (is_stratum : slice_get plan.strata h ≡ Some s) (is_unit : slice_get s.units place.unit ≡ Some u) (staged : is_some u.second ≡ is_some plan.second)
     (seconds : (method : Method) → plan.second ≡ Some method → HaveSeconds s.units) where
   abbrev at : ℕ
   at = first_number plan h

@@ -7,7 +7,8 @@ use Rattle.smp_methods.specs.declared.any.AnyState.{AnyState}
 use Rattle.smp_stages.specs.OwnStages.{own_progress}
 use Rattle.smp_stages.specs.Stages.{Progress}
 use Rattle.smp_strata.specs.Plans.{Parts}
-use Rattle.smp_twostage.specs.Selections.{Coverage, BelongsToCovered, BelongsToWhole, all_of, covered_parts, covered_stages, covered_tree, first_number, is_of_stratum, one_of, start_of, strata_sections, tree_of, whole_tree}
+use Rattle.smp_twostage.specs.Selections.{Coverage, BelongsToCovered, BelongsToWhole, all_of, covered_parts, covered_stages, covered_tree}
+use Rattle.smp_twostage.specs.Selections.{first_number, is_of_stratum, one_of, start_of, strata_sections, tree_of, whole_tree}
 use Rattle.smp_twostage.specs.Starts.{first_selected, left_in, row_fraction}
 
 -- ---- what is read of a stratum

@@ -30,8 +30,8 @@ abbrev pub first_numbers : Coverage → List ℕ
 first_numbers c =
     map (first_number (covered_parts c)) (range_with_len 0 (suc (strata_count c)))
 
--- A stage in its first state: each free unit has the value that is requested of it. They add up to the number of draws, where that is whole,
--- and each leaf selects a whole number of units around their sum.
+-- A stage in its first state: each free unit has the value that is requested of it. They add up to the number of draws, where that
+-- is whole, and each leaf selects a whole number of units around their sum.
 pub record StageStarts (s : Selecting) (state : AnyState) : Type 0 where
   pub is : state ≡ first_state s.design
   pub member : belongs_to s state

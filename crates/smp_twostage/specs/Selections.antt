@@ -1,6 +1,8 @@
--- The whole selection by a plan, in stages. Strata are drawn in order of first appearance. In each its first stage units are drawn, and then,
--- where there is a second stage, rows within each of those that were drawn, certain ones among them (Särndal, Swensson and Wretman 1992).
-use Rattle.std.specs.Prelude.{ℕ, zero, Bool, true, suc, ◌+◌, ℤ, nat_eq, nat_lt, ◌&&◌, if◌then◌else◌, List, [], ◌∷◌, ◌++◌, length, map, take, drop, Option, Some, None, unwrap_or, slice_index_or}
+-- The whole selection by a plan, in stages. Strata are drawn in order of first appearance. In each its first stage units are drawn,
+-- and then, where there is a second stage, rows within each of those that were drawn, certain ones among them (Särndal, Swensson and
+-- Wretman 1992).
+use Rattle.std.specs.Prelude.{ℕ, zero, Bool, true, suc, ◌+◌, ℤ, nat_eq, nat_lt, ◌&&◌, if◌then◌else◌, List, [], ◌∷◌}
+use Rattle.std.specs.Prelude.{◌++◌, length, map, take, drop, Option, Some, None, unwrap_or, slice_index_or}
 use Rattle.std.specs.List.{slice_get, list_any, position_or_len, range_with_len}
 use Rattle.smp_prob.specs.declared.orders.Order.{Order}
 use Rattle.smp_prob.specs.declared.orders.Order.TheVariants.{Frame}
@@ -16,7 +18,7 @@ use Rattle.smp_methods.specs.declared.procedure.Procedure.TheVariants.{Pivotal}
 use Rattle.smp_methods.specs.Procedures.{procedure_of}
 use Rattle.smp_methods.specs.Designs.{design_of, first_state, method_of}
 use Rattle.smp_strata.specs.Plans.{Parts}
-use Rattle.smp_strata.specs.declared.strata.First as unit
+use Rattle.smp_strata.specs.declared.strata.FirstUnit as unit
 use Rattle.smp_strata.specs.declared.strata.Seat as place
 use Rattle.smp_strata.specs.declared.strata.Stratum as stratum
 use Rattle.smp_stages.specs.declared.places.Seat.{Seat}
@@ -86,12 +88,12 @@ stage_by (Some method) (Some request) rows at k = second_stage method request ro
 stage_by (Some method) None rows at k = []
 stage_by None request rows at k = []
 
-abbrev pub stage_within : Option Method → ℕ → ℕ → Option unit.First → List (Stage Selecting)
+abbrev pub stage_within : Option Method → ℕ → ℕ → Option unit.FirstUnit → List (Stage Selecting)
 stage_within method at k (Some u) = stage_by method u.second (length u.rows) at k
 stage_within method at k None = []
 
 -- the stages within the first n of these units
-abbrev pub stages_within : Option Method → ℕ → List unit.First → ℕ → List (Stage Selecting)
+abbrev pub stages_within : Option Method → ℕ → List unit.FirstUnit → ℕ → List (Stage Selecting)
 stages_within method at units zero = []
 stages_within method at units (suc n) =
     stages_within method at units n ++ stage_within method at n (slice_get units n)
@@ -129,17 +131,17 @@ abbrev pub seat_of : Parts → place.Seat → Seat
 seat_of plan p = seat_by plan.second (first_number plan p.stratum) p
 
 -- the place of a row in the plan: the stratum, the first stage unit and the place in it that have the row
-abbrev pub unit_has : ℕ → unit.First → Bool
+abbrev pub unit_has : ℕ → unit.FirstUnit → Bool
 unit_has row u = list_any (nat_eq row) u.rows
 
 abbrev pub stratum_has : ℕ → stratum.Stratum → Bool
 stratum_has row s = list_any (unit_has row) s.units
 
-abbrev pub units_at : Option stratum.Stratum → List unit.First
+abbrev pub units_at : Option stratum.Stratum → List unit.FirstUnit
 units_at (Some s) = s.units
 units_at None = []
 
-abbrev pub rows_at : Option unit.First → List ℕ
+abbrev pub rows_at : Option unit.FirstUnit → List ℕ
 rows_at (Some u) = u.rows
 rows_at None = []
 
@@ -234,13 +236,13 @@ strata_sections c = sections_by (first_number (covered_parts c)) (strata_count c
 
 -- ---- the whole selection
 
--- the draw tree, whose units are the rows of the frame
+-- the draw tree of all strata, whose units are the rows of the frame
 abbrev pub whole_tree : Parts → Tree (Progress AnyState)
-whole_tree plan = staged_tree tree_of (stages_of plan) (seats_of plan)
+whole_tree plan = covered_tree (all_of plan)
 
 -- the state is one of the selection by a plan that can be drawn
 abbrev pub BelongsToWhole : Parts → Progress AnyState → Type 0
 BelongsToWhole plan = BelongsToCovered (all_of plan)
 
 abbrev pub start_of : Parts → Progress AnyState
-start_of plan = progress tree_of (stages_of plan) (states_of plan)
+start_of plan = covered_start (all_of plan)

@@ -1,5 +1,6 @@
 -- What the whole selection by a plan starts with.
-use Rattle.std.specs.Prelude.{◌≡◌, ◌≢◌, ℕ, zero, suc, ◌+◌, ◌<◌, Bool, true, false, cond, ℤ, pos, negsuc, List, length, Option, Some}
+use Rattle.std.specs.Prelude.{◌≡◌, ◌≢◌, ℕ, zero, suc, ◌+◌, ◌<◌, Bool, true, false, cond, ℤ, pos, negsuc, List}
+use Rattle.std.specs.Prelude.{length, Option, Some}
 use Rattle.std.specs.List.{count_by, range_with_len, slice_get}
 use Rattle.smp_fractions.specs.Bounds.{IsAround}
 use Rattle.smp_fractions.specs.Fractions.{Fraction, Same, integer, inverse, times, sum_below}
@@ -11,7 +12,7 @@ use Rattle.smp_methods.specs.declared.any.AnyState.{AnyState}
 use Rattle.smp_strata.specs.Draws.{IsFor, expected_firsts}
 use Rattle.smp_strata.specs.Plans.{Parts}
 use Rattle.smp_strata.specs.Seats.{seat_fraction}
-use Rattle.smp_strata.specs.declared.strata.First as unit
+use Rattle.smp_strata.specs.declared.strata.FirstUnit as unit
 use Rattle.smp_strata.specs.declared.strata.Stratum as stratum
 use Rattle.smp_methods.specs.Designs.{left_at}
 use Rattle.smp_stages.specs.declared.places.Place.{Place}
@@ -73,7 +74,8 @@ FirstSelects plan start h s n =
     AtEachLeaf (whole_tree plan) start (λ path leaf.
     count_by (first_selected plan leaf.states h) (range_with_len 0 (length s.units)) ≡ n)
 
--- at each leaf as many of them are selected as are expected of the stratum, or one of the two whole numbers around that where it isn't whole
+-- at each leaf as many of them are selected as are expected of the stratum, or one of the two whole numbers around that where it
+-- isn't whole
 abbrev pub FirstSelectsAround : Parts → Progress AnyState → ℕ → stratum.Stratum → Type 0
 FirstSelectsAround plan start h s =
     AtEachLeaf (whole_tree plan) start (λ path leaf.
@@ -81,7 +83,7 @@ FirstSelectsAround plan start h s =
     (expected_firsts s))
 
 -- at each leaf at which unit k of stratum h is selected, n of its rows are
-abbrev pub SecondSelects : Parts → Progress AnyState → ℕ → ℕ → unit.First → ℕ → Type 0
+abbrev pub SecondSelects : Parts → Progress AnyState → ℕ → ℕ → unit.FirstUnit → ℕ → Type 0
 SecondSelects plan start h k u n =
     AtEachLeaf (whole_tree plan) start (λ path leaf. first_selected plan leaf.states h k ≡ true
     → count_by (second_selected plan leaf.states h k) (range_with_len 0 (length u.rows)) ≡ n)
@@ -106,7 +108,7 @@ pub record StartsWhole (plan : Parts) (start : Progress AnyState) : Type 0 where
   -- within it.
   pub firsts : (h n : ℕ) (s : stratum.Stratum) → slice_get plan.strata h ≡ Some s
       → IsFor s.request (length s.units) n → FirstSelects plan start h s n
-  pub seconds : (h k n : ℕ) (s : stratum.Stratum) (u : unit.First) (request : Request)
+  pub seconds : (h k n : ℕ) (s : stratum.Stratum) (u : unit.FirstUnit) (request : Request)
       → slice_get plan.strata h ≡ Some s → slice_get s.units k ≡ Some u → u.second ≡ Some request
       → IsFor request (length u.rows) n → SecondSelects plan start h k u n
   -- By every method but the cube, as many of a stratum's first stage units are selected as their probabilities add up to, and where these

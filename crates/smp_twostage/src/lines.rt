@@ -14,7 +14,7 @@ use smp_design::Method;
 use smp_frac::NoMemory;
 use smp_methods::AnyState;
 use smp_stages::StagesState;
-use smp_strata::First;
+use smp_strata::FirstUnit;
 use std::alloc::Global;
 
 /// What the cube kept and gave up in each stratum that is covered (Deville and Tillé 2004), in a done state; no text by any other method.
@@ -138,7 +138,7 @@ fn drawn_units(
 }
 
 // The values of each unit.
-fn values_of<'a>(alloc: Global, units: &'a [First]) -> Result<Vec<&'a [i32]>, NoMemory>
+fn values_of<'a>(alloc: Global, units: &'a [FirstUnit]) -> Result<Vec<&'a [i32]>, NoMemory>
     ensures { IfOk result (λ values. map (λ v. v.now) values.items
         ≡ map (λ u. u.values) units.now) }
 {

@@ -18,7 +18,7 @@ use smp_frame::Numbers;
 use smp_methods::{AnyState, Procedure, Started};
 use smp_prob::Request;
 use smp_stages::{Place, Stage};
-use smp_strata::{First, Plan, Stratum};
+use smp_strata::{FirstUnit, Plan, Stratum};
 use std::alloc::Global;
 
 // The design of a stage, and the state that it starts from.
@@ -48,7 +48,7 @@ fn procedure(method: Method, order: Order, columns: usize) -> Procedure
 }
 
 // The values of a first stage unit; none past the last one.
-fn values_at(alloc: Global, units: &[First], unit: usize) -> Result<Numbers, NoMemory>
+fn values_at(alloc: Global, units: &[FirstUnit], unit: usize) -> Result<Numbers, NoMemory>
     ensures { IfOk result (λ values. values
         ≡ slice_index_or (map (λ u. u.values) units.now) unit []) }
 {
@@ -157,7 +157,7 @@ impl<'a> Made<'a> {
         alloc: Global,
         method: Method,
         within: Place,
-        first: &'a First,
+        first: &'a FirstUnit,
     ) -> Result<(), NoMemory>
         requires each { EachStarts self.old.stages.items self.old.states.items }
         requires method { TakesRows method }
@@ -183,7 +183,7 @@ impl<'a> Made<'a> {
         alloc: Global,
         method: Method,
         stage: usize,
-        units: &'a [First],
+        units: &'a [FirstUnit],
     ) -> Result<(), NoMemory>
         requires each { EachStarts self.old.stages.items self.old.states.items }
         requires method { TakesRows method }

@@ -11,7 +11,12 @@ pub record IsFirst (test : ℕ → Bool) (from n at : ℕ) : Type 0 where
 
 module _ (test : ℕ → Bool) where
   pub first_is : (n i : ℕ) → IsFirst test i n (first_among test n i)
-  first_is zero i = record { above = omega arith; within = omega arith; passed = λ j a b. absurd (omega arith); here = λ h. absurd (omega arith) }
+  first_is zero i = record {
+    above = omega arith;
+    within = omega arith;
+    passed = λ j a b. absurd (omega arith);
+    here = λ h. absurd (omega arith);
+  }
   first_is (suc n) i =
       elim (cases_Bool (test i)) [
         | inl e ↦ rw e (record { above = omega arith; within = omega arith; passed = λ j a b. absurd (omega arith); here = λ h. e })
@@ -32,6 +37,8 @@ module _ (test : ℕ → Bool) where
   first_unique from n a b is_a is_b =
       elim (cases_order a b) [
         | inl same ↦ same
-        | inr (inl less) ↦ absurd (let on : test a ≡ true = is_a.here (omega (arith, is_b.within)) in let off : test a ≡ false = is_b.passed a is_a.above less in cc)
-        | inr (inr more) ↦ absurd (let on : test b ≡ true = is_b.here (omega (arith, is_a.within)) in let off : test b ≡ false = is_a.passed b is_b.above more in cc)
+        | inr (inl less) ↦ absurd (let on : test a ≡ true = is_a.here (omega (arith, is_b.within)) in
+            let off : test a ≡ false = is_b.passed a is_a.above less in cc)
+        | inr (inr more) ↦ absurd (let on : test b ≡ true = is_b.here (omega (arith, is_a.within)) in
+            let off : test b ≡ false = is_a.passed b is_b.above more in cc)
       ]

@@ -20,7 +20,7 @@ use Rattle.smp_strata.specs.Clusters.{clusters_in}
 use Rattle.smp_strata.specs.Rows.{is_large}
 use Rattle.smp_strata.specs.Seats.{IsSeat}
 use Rattle.smp_strata.specs.Kept.Layouts.{AreRows}
-use Rattle.smp_strata.specs.declared.strata.First as first
+use Rattle.smp_strata.specs.declared.strata.FirstUnit as first
 use Rattle.smp_strata.specs.declared.strata.Seat as seat
 use Rattle.smp_strata.specs.declared.strata.Stratum as stratum
 
@@ -67,7 +67,7 @@ second_method design = option_map (λ second. second.method) design.second
 
 -- a first stage unit of some rows
 pub record IsBuiltFirst (design : Design) (units : List unit.Unit) (rows : List ℕ)
-    (f : first.First) : Type 0 where
+    (f : first.FirstUnit) : Type 0 where
   pub value : f ≡ first_of design units rows
   pub first : IsFirst (second_method design) f
   pub asks : SecondAsks design.second (second_sizes units rows) f.second

@@ -1,5 +1,6 @@
 -- The strata that a selection covers: their stages are stages in their order, and sections of all of them.
-use Rattle.std.proofs.Common.{◌≡◌, ℕ, zero, suc, ◌+◌, ◌<◌, ◌≤◌, Bool, true, false, List, [], ◌∷◌, length, map, get_or, take, drop, Option, Some, None, arith, refl, sym, ap, subst, ◌∙◌, inl, inr, length-append}
+use Rattle.std.proofs.Common.{◌≡◌, ℕ, zero, suc, ◌+◌, ◌<◌, ◌≤◌, Bool, true, false, List, [], ◌∷◌, length, map}
+use Rattle.std.proofs.Common.{get_or, take, drop, Option, Some, None, arith, refl, sym, ap, subst, ◌∙◌, inl, inr, length-append}
 use Rattle.std.specs.Prelude.{option_map}
 use Rattle.std.specs.List.{range_with_len, slice_get}
 use Rattle.std.proofs.lemmas.Bool.{cases_Bool, and_parts, eqb-true, ltb-true}
@@ -17,7 +18,9 @@ use Rattle.smp_strata.specs.Plans.{Parts}
 use Rattle.smp_strata.specs.declared.strata.Seat.{Seat}
 use Rattle.smp_strata.specs.declared.strata.Stratum.{Stratum}
 use Rattle.smp_twostage.specs.Plans.{CanBeDrawn}
-use Rattle.smp_twostage.specs.Selections.{Coverage, count_by, covered_parts, covered_seats, covered_stages, first_number, is_of_stratum, parts_by, place_of, seat_alone, seat_by, seats_by, stages_below, stages_in, stages_of, strata_count, tree_of}
+use Rattle.smp_twostage.specs.Selections.{Coverage, count_by, covered_parts, covered_seats, covered_stages, first_number, is_of_stratum}
+use Rattle.smp_twostage.specs.Selections.{parts_by, place_of, seat_alone, seat_by, seats_by, stages_below, stages_in, stages_of}
+use Rattle.smp_twostage.specs.Selections.{strata_count, tree_of}
 use Rattle.smp_twostage.specs.Laws.Places.{StandsIn}
 use Rattle.smp_twostage.specs.Laws.Staged.{first_seat, place_stands, second_seat, seconds_in, staged_below, whole_staged}
 
@@ -25,18 +28,29 @@ use Rattle.smp_twostage.specs.Laws.Staged.{first_seat, place_stands, second_seat
 
 module _ (plan : Parts) where
   pub number_rises : (h : ℕ) → first_number plan h ≤ first_number plan (suc h)
-  number_rises h = omega (arith, length-append (stages_below plan h) (stages_in plan (length (stages_below plan h)) (slice_get plan.strata h)))
+  number_rises h = omega (
+    arith,
+    length-append (stages_below plan h)
+        (stages_in plan (length (stages_below plan h)) (slice_get plan.strata h)),
+  )
 
-  one_section : (strata : List Stratum) → length strata ≤ 1 → first_number (record plan { strata = strata }) 1 ≡ length (stages_of (record plan { strata = strata }))
+  one_section : (strata : List Stratum) → length strata ≤ 1
+      → first_number (record plan { strata = strata }) 1 ≡ length (stages_of (record plan { strata = strata }))
   one_section [] few = refl
   one_section (s ∷ []) few = refl
   one_section (s ∷ t ∷ strata) few = absurd (omega (arith, few))
 
-  sections_by : (only : Option ℕ) → AreSections (stages_of (parts_by plan only)) (first_number (parts_by plan only)) (count_by only (length plan.strata))
+  sections_by : (only : Option ℕ) → AreSections (stages_of (parts_by plan only)) (first_number (parts_by plan only))
+      (count_by only (length plan.strata))
   sections_by None = record { first = refl; rises = λ h _. number_rises h; last = refl }
   sections_by (Some h) = record {
     first = refl;
-    rises = λ i _. omega (arith, length-append (stages_below (parts_by plan (Some h)) i) (stages_in (parts_by plan (Some h)) (length (stages_below (parts_by plan (Some h)) i)) (slice_get (parts_by plan (Some h)).strata i)));
+    rises = λ i _. omega (
+      arith,
+      length-append (stages_below (parts_by plan (Some h)) i)
+          (stages_in (parts_by plan (Some h)) (length (stages_below (parts_by plan (Some h)) i))
+          (slice_get (parts_by plan (Some h)).strata i)),
+    );
     last = one_section (take 1 (drop h plan.strata)) (simp length-take (omega arith));
   }
 
@@ -74,7 +88,12 @@ module _ (plan : Parts) (drawable : CanBeDrawn plan) (h : ℕ) where
   sits : (row : ℕ) (seat : seats.Seat) → slice_get (seats_by plan (Some h)) row ≡ Some seat → SitsAlone row seat
   sits row seat at =
       let inside : row < plan.rows = omega (arith, slice_get_within (seats_by plan (Some h)) row seat at, length_alone) in
-      record { inside = inside; is = same_Some seat (seat_alone plan h row) (sym at ∙ made_at (seat_alone plan h) plan.rows row inside); place = place_stands plan drawable row inside }
+      record {
+        inside = inside;
+        is = same_Some seat (seat_alone plan h row)
+            (sym at ∙ made_at (seat_alone plan h) plan.rows row inside);
+        place = place_stands plan drawable row inside;
+      }
 
   module _ (row : ℕ) (here : StandsIn plan.strata row (place_of plan.strata row)) (its : is_of_stratum plan h row ≡ true) where
     pub its_stratum : slice_get plan.strata h ≡ Some here.stratum
@@ -83,21 +102,25 @@ module _ (plan : Parts) (drawable : CanBeDrawn plan) (h : ℕ) where
     pub its_place : slice_get alone.strata 0 ≡ Some here.stratum
     its_place = alone_there plan h here.stratum its_stratum
 
-  first_alone : (row : ℕ) → StandsIn plan.strata row (place_of plan.strata row) → (unit : Place) → seat.First unit ≡ seat_alone plan h row → IsFirstUnit tree_of (stages_of alone) unit
+  first_alone : (row : ℕ) → StandsIn plan.strata row (place_of plan.strata row) → (unit : Place)
+      → seat.First unit ≡ seat_alone plan h row → IsFirstUnit tree_of (stages_of alone) unit
   first_alone row here unit is =
       elim (cases_Bool (is_of_stratum plan h row)) [
         | inl its ↦
             first_seat alone 0 (place_of plan.strata row) here.stratum here.unit row (its_place row here its) here.is_unit here.is_row
-            (λ method second. seconds_in plan drawable method second h here.stratum (its_stratum row here its)) plan.second refl unit (rw its at is)
+            (λ method second. seconds_in plan drawable method second h here.stratum (its_stratum row here its))
+            plan.second refl unit (rw its at is)
         | inr other ↦ absurd (let nowhere : seat.First unit ≡ seat.Nowhere = rw other at is in cc)
       ]
 
-  second_alone : (row : ℕ) → StandsIn plan.strata row (place_of plan.strata row) → (first second : Place) → seat.Second first second ≡ seat_alone plan h row → IsUnitWithin tree_of (stages_of alone) first second
+  second_alone : (row : ℕ) → StandsIn plan.strata row (place_of plan.strata row) → (first second : Place)
+      → seat.Second first second ≡ seat_alone plan h row → IsUnitWithin tree_of (stages_of alone) first second
   second_alone row here first second is =
       elim (cases_Bool (is_of_stratum plan h row)) [
         | inl its ↦
             second_seat alone 0 (place_of plan.strata row) here.stratum here.unit row (its_place row here its) here.is_unit here.is_row
-            (λ method asks. seconds_in plan drawable method asks h here.stratum (its_stratum row here its)) plan.second refl first second (rw its at is)
+            (λ method asks. seconds_in plan drawable method asks h here.stratum (its_stratum row here its))
+            plan.second refl first second (rw its at is)
         | inr other ↦ absurd (let nowhere : seat.Second first second ≡ seat.Nowhere = rw other at is in cc)
       ]
 
@@ -110,7 +133,8 @@ module _ (plan : Parts) (drawable : CanBeDrawn plan) (h : ℕ) where
 
 -- ---- the stages of those that are covered
 
-staged_by : (plan : Parts) → CanBeDrawn plan → (only : Option ℕ) → IsStaged tree_of (stages_of (parts_by plan only)) (seats_by plan only)
+staged_by : (plan : Parts) → CanBeDrawn plan → (only : Option ℕ)
+    → IsStaged tree_of (stages_of (parts_by plan only)) (seats_by plan only)
 staged_by plan drawable None = whole_staged plan drawable
 staged_by plan drawable (Some h) = alone_staged plan drawable h
 

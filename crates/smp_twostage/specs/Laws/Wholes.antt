@@ -10,16 +10,27 @@ use Rattle.smp_stages.specs.Laws.Staged.{staged_lawful}
 use Rattle.smp_stages.proofs.Sections.{staged_sectioned}
 use Rattle.smp_strata.specs.Plans.{Parts}
 use Rattle.smp_twostage.specs.Plans.{CanBeDrawn}
-use Rattle.smp_twostage.specs.Selections.{BelongsToCovered, BelongsToWhole, Coverage, Selecting, all_of, belongs_to, covered_parts, covered_seats, covered_stages, covered_tree, first_number, strata_count, strata_sections, tree_of, whole_tree}
+use Rattle.smp_twostage.specs.Selections.{BelongsToCovered, BelongsToWhole, Coverage, Selecting, all_of, belongs_to, covered_parts}
+use Rattle.smp_twostage.specs.Selections.{covered_seats, covered_stages, covered_tree, first_number, strata_count, strata_sections, tree_of}
+use Rattle.smp_twostage.specs.Selections.{whole_tree}
 use Rattle.smp_twostage.specs.Laws.Covered.{covered_staged, strata_are_sections}
 
 pub stage_lawful : (s : Selecting) → Lawful (tree_of s) (belongs_to s)
 stage_lawful s = rows_lawful s.units s.request (method_of s.design).tree (method_of s.design).belongs (method_of s.design).lawful
 
 module _ (c : Coverage) (drawable : CanBeDrawn c.plan) (state : Progress AnyState) where
-  each_belongs : (parts : List (Part (Progress AnyState))) → EachPart (IsPart (covered_tree c) (IsUnderWay tree_of belongs_to (covered_stages c)) state) parts → EachPart (IsPart (covered_tree c) (BelongsToCovered c) state) parts
+  each_belongs : (parts : List (Part (Progress AnyState)))
+      → EachPart (IsPart (covered_tree c) (IsUnderWay tree_of belongs_to (covered_stages c)) state) parts
+      → EachPart (IsPart (covered_tree c) (BelongsToCovered c) state) parts
   each_belongs [] each = tt
-  each_belongs (p ∷ ps) each = (record { heavy = each.0.heavy; falls = each.0.falls; member = record { drawable = drawable; member = each.0.member } }, each_belongs ps each.1)
+  each_belongs (p ∷ ps) each = (
+    record {
+      heavy = each.0.heavy;
+      falls = each.0.falls;
+      member = record { drawable = drawable; member = each.0.member };
+    },
+    each_belongs ps each.1,
+  )
 
 staged_law : (c : Coverage) → CanBeDrawn c.plan → Lawful (covered_tree c) (IsUnderWay tree_of belongs_to (covered_stages c))
 staged_law c drawable = staged_lawful tree_of belongs_to stage_lawful (covered_stages c) (covered_seats c) (covered_staged c drawable)
@@ -28,7 +39,12 @@ pub covered_lawful : (c : Coverage) → Lawful (covered_tree c) (BelongsToCovere
 covered_lawful c = record {
   split = λ s here going.
       (let parts = (staged_law c here.drawable).split s here.member going in
-      record { some = parts.some; narrow = parts.narrow; each = each_belongs c here.drawable s ((covered_tree c).parts s) parts.each; even = parts.even });
+      record {
+        some = parts.some;
+        narrow = parts.narrow;
+        each = each_belongs c here.drawable s ((covered_tree c).parts s) parts.each;
+        even = parts.even;
+      });
   end = λ s here done. (staged_law c here.drawable).end s here.member done;
 }
 
@@ -39,7 +55,13 @@ whole_lawful plan = covered_lawful (all_of plan)
 
 pub strata_sectioned : (c : Coverage) → IsSectioned (covered_tree c) (BelongsToCovered c) (strata_sections c)
 strata_sectioned c = record {
-  going = λ s here going. (staged_sectioned tree_of belongs_to (covered_stages c) (covered_seats c) (covered_staged c here.drawable) (first_number (covered_parts c)) (strata_count c) (strata_are_sections c)).going s here.member going;
-  done = λ s here done. (staged_sectioned tree_of belongs_to (covered_stages c) (covered_seats c) (covered_staged c here.drawable) (first_number (covered_parts c)) (strata_count c) (strata_are_sections c)).done s here.member done;
-  rises = λ s here going. (staged_sectioned tree_of belongs_to (covered_stages c) (covered_seats c) (covered_staged c here.drawable) (first_number (covered_parts c)) (strata_count c) (strata_are_sections c)).rises s here.member going;
+  going = λ s here going. (staged_sectioned tree_of belongs_to (covered_stages c) (covered_seats c)
+      (covered_staged c here.drawable) (first_number (covered_parts c)) (strata_count c)
+      (strata_are_sections c)).going s here.member going;
+  done = λ s here done. (staged_sectioned tree_of belongs_to (covered_stages c) (covered_seats c)
+      (covered_staged c here.drawable) (first_number (covered_parts c)) (strata_count c)
+      (strata_are_sections c)).done s here.member done;
+  rises = λ s here going. (staged_sectioned tree_of belongs_to (covered_stages c) (covered_seats c)
+      (covered_staged c here.drawable) (first_number (covered_parts c)) (strata_count c)
+      (strata_are_sections c)).rises s here.member going;
 }

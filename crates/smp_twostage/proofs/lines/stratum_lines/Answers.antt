@@ -4,7 +4,7 @@ use Rattle.std.specs.List.{filter, range_with_len, slice_get}
 use Rattle.std.proofs.lemmas.Option.{slice_get_read}
 use Rattle.smp_balance.specs.Lines as balance
 use Rattle.smp_balance.specs.Lines.{IsTold, balance_lines}
-use Rattle.smp_strata.specs.declared.strata.First.{First}
+use Rattle.smp_strata.specs.declared.strata.FirstUnit.{FirstUnit}
 use Rattle.smp_twostage.specs.Covered.{covered_first}
 use Rattle.smp_twostage.specs.Lines.{drawn_stratum, lines_at}
 use Rattle.smp_twostage.proofs.Told.{drawn_same, is_told}
@@ -25,8 +25,8 @@ module _ (c : After-as_slice-2) where
       let whole = c.args.whole.now in
       let states = c.args.state.now.states in
       drawn_same whole states c.args.number c.stratum-stratum.result.now c.left.result c.column_count.result (map (λ v. v.now) c.as_slice.result.now) c.as_slice-2.result.now c.left.ensures c.column_count.ensures
-      (ap (map (λ v. v.now)) c.as_slice.ensures.value ∙ c.in_ok-values.ensures ∙ ap (map (λ (u : First). u.values)) c.as_slice-units.ensures)
-      (c.as_slice-2.ensures.value ∙ c.in_ok-drawn.ensures ∙ ap (λ (us : List First). filter (covered_first whole states c.args.number) (range_with_len 0 (length us))) c.as_slice-units.ensures)
+      (ap (map (λ v. v.now)) c.as_slice.ensures.value ∙ c.in_ok-values.ensures ∙ ap (map (λ (u : FirstUnit). u.values)) c.as_slice-units.ensures)
+      (c.as_slice-2.ensures.value ∙ c.in_ok-drawn.ensures ∙ ap (λ (us : List FirstUnit). filter (covered_first whole states c.args.number) (range_with_len 0 (length us))) c.as_slice-units.ensures)
 
 pub balance_lines-requires : goal.balance_lines-requires
 balance_lines-requires c =
