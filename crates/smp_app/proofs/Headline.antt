@@ -63,7 +63,8 @@ use Rattle.smp_app.specs.Texts.{ids_text, log_text, migrated_text, report_text, 
 use Rattle.smp_plan.specs.Inputs.{Given, Held, FrameHeld, ReadDesign, unless_misfit, design_stage, frame_stage, plan_stage}
 use Rattle.smp_app.specs.Commands.{DrawnFile, ByTape, ByLog, ByOldLog, BySection, Draws, Job, source_of, log_source, job_of, job_for, outputs_by}
 use Rattle.smp_app.specs.Commands as drawing
-use Rattle.smp_plan.specs.Stops.{Stop, Refused, ◌>>=◌, content, or_fault}
+use Rattle.smp_faults.specs.Steps.{◌>>=◌}
+use Rattle.smp_plan.specs.Stops.{Stop, Refused, content, or_fault}
 use Rattle.smp_app.specs.Verdict.{values_taken, values_left, no_words, drawn_at, drawn_of, drawn_by_tape, drawn_by_seed, alone, stratum_at, told_by, drawn_by_log, drawn_by_old_log, drawn_by_section, drawn_stage, outputs_stage}
 use Rattle.smp_app.specs.Deliveries.{Outputs, with_files}
 use Rattle.smp_app.specs.Draws.{IsDraw, IsDrawnAlone, IsDrawnBy, IsDrawnOf, IsExactRefusal, IsRefused, IsRefusedAt, OldDiffers, RefusesLog, StratumDiffers, WholeDiffers}

@@ -32,7 +32,8 @@ use Rattle.smp_strata.specs.Misfits.{misfit_of}
 use Rattle.smp_strata.specs.declared.misfit.Misfit.{Misfit}
 use Rattle.smp_status.specs.Codes.{design_status, frame_status}
 use Rattle.smp_plan.specs.Reads.{Follows, result_view}
-use Rattle.smp_plan.specs.Stops.{Stop, Refused, ◌>>=◌, content, or_fault}
+use Rattle.smp_faults.specs.Steps.{◌>>=◌}
+use Rattle.smp_plan.specs.Stops.{Stop, Refused, content, or_fault}
 use Rattle.smp_app.specs.Drawn.{Drawn, tree_of, start_of, sections_of}
 use Rattle.smp_app.specs.Draws.{IfLine, OldDiffers, RefusesLog, StratumDiffers, WholeDiffers}
 use Rattle.smp_app.specs.Verdict.{alone, drawn_by_log, drawn_by_old_log, drawn_by_section, stratum_at, told_by}

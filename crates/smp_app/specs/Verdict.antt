@@ -30,7 +30,8 @@ use Rattle.smp_plan.specs.Plans.{Plan, parts}
 use Rattle.smp_app.specs.Drawn.{Drawn, tree_of, start_of, sections_of}
 use Rattle.smp_plan.specs.Inputs.{plan_stage}
 use Rattle.smp_app.specs.Commands.{Source, ByTape, BySeed, ByLog, ByOldLog, BySection, Work, Lists, Draws, Job, job_of, outputs_by}
-use Rattle.smp_plan.specs.Stops.{Stop, ◌>>=◌, or_refused, or_fault, content_of, Refused}
+use Rattle.smp_faults.specs.Steps.{◌>>=◌}
+use Rattle.smp_plan.specs.Stops.{Stop, or_refused, or_fault, content_of, Refused}
 
 -- ---- what is drawn
 

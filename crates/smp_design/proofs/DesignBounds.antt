@@ -18,7 +18,9 @@ use Rattle.smp_design.specs.Bounds.{IsDesign, HasOnlyProbabilities, From1To, Asc
 use Rattle.smp_design.specs.Designs.{document, unit_columns, sample_size, value_columns, second_stage, values, design_of}
 use Rattle.smp_design.specs.Keys
 use Rattle.smp_design.specs.Keys.{has, version_of, unknown_key, missing_key}
-use Rattle.smp_design.specs.Reads.{Reads, good, or_fault, none_found}
+use Rattle.smp_faults.specs.Steps.{or_fault}
+use Rattle.smp_faults.specs.Memory.{Reads}
+use Rattle.smp_design.specs.Faults.{is_memory, good, none_found}
 use Rattle.smp_design.specs.Values.{last_version, version, method}
 use Rattle.smp_design.specs.Words.{row, is_balance, is_near}
 use Rattle.smp_design.proofs.Went.{went, is_there, is_good, found_none, goes_on}
@@ -168,6 +170,6 @@ is_design bytes d h ascend =
     (values_are_design v.value t.value design.value is_version (none_missing t.value (found_none MissingKey (missing_key t.value) missing.value missing.is)) design.is (no_clash t.value design.value.method (found_none (λ keys. Clash keys.0 keys.1) (Keys.clash t.value design.value.method) clash.value clash.is))) ascend
 
 -- what was read is a design
-pub read_is_design : (bytes : List ℕ) (result : Result Design DesignFault) → Reads result (design_of bytes) → IfOk result (λ d. Ascend d.sizes) → IfOk result IsDesign
+pub read_is_design : (bytes : List ℕ) (result : Result Design DesignFault) → Reads is_memory result (design_of bytes) → IfOk result (λ d. Ascend d.sizes) → IfOk result IsDesign
 read_is_design bytes (Ok d) h ascend = is_design bytes d h ascend
 read_is_design bytes (Err fault) h ascend = tt

@@ -9,7 +9,7 @@ use Rattle.toml.specs.View.{members_view}
 use Rattle.toml.proofs.Views.{Entry}
 use Rattle.smp_design.specs.Bounds.{Ascend}
 use Rattle.smp_design.specs.Keys as keys
-use Rattle.smp_design.specs.Reads.{good}
+use Rattle.smp_design.specs.Faults.{good}
 use Rattle.smp_design.proofs.FirstKeys.{keys_ascend}
 use Rattle.smp_design.proofs.Went.{goes_on, mapped}
 use Rattle.smp_design.specs.declared.design.Quota as quota

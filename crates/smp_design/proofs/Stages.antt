@@ -13,7 +13,7 @@ use Rattle.smp_design.specs.declared.reading.SecondStage.{SecondStage}
 use Rattle.smp_design.specs.Bounds.{InRange}
 use Rattle.smp_design.specs.Designs.{unit_columns, sample_size, value_columns, second_stage_of, second_stage}
 use Rattle.smp_design.specs.Keys.{has, lacks, needs, missing_key, rival_keys, clash}
-use Rattle.smp_design.specs.Reads.{good}
+use Rattle.smp_design.specs.Faults.{good}
 use Rattle.smp_design.specs.Values.{number, method, second_method, order, names, quotas, optional}
 use Rattle.smp_design.specs.Words.{row, is_balance, is_near}
 use Rattle.smp_design.proofs.Went.{went, is_good, neither, first_fails, goes_on}

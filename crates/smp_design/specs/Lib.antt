@@ -1,6 +1,6 @@
 pub mod Words
 pub mod Keys
 pub mod Values
-pub mod Reads
+pub mod Faults
 pub mod Designs
 pub mod Bounds

@@ -3,7 +3,9 @@
 ghost use Rattle.std.specs.Prelude.{◌≡◌, ◌++◌, IfOk, option_map, codes};
 ghost use Rattle.toml.specs.View.{table_view};
 ghost use Rattle.smp_design.specs.Keys;
-ghost use Rattle.smp_design.specs.Reads.{Reads, or_fault, none_found};
+ghost use Rattle.smp_faults.specs.Steps.{or_fault};
+ghost use Rattle.smp_faults.specs.Memory.{Reads};
+ghost use Rattle.smp_design.specs.Faults.{is_memory, none_found};
 ghost use Rattle.smp_design.specs.declared.fault.DesignFault.TheVariants as fault;
 
 use crate::keys::{SECOND_KEYS, has, known_keys, needs, second_table, unknown_key, value_at};
@@ -15,7 +17,7 @@ use toml::Table;
 
 // The version of the design.
 pub(crate) fn version_of(table: &Table) -> Result<u32, DesignFault>
-    ensures { Reads result (or_fault fault.Version (Keys.version_of (table_view table.now))) }
+    ensures { Reads is_memory result (or_fault fault.Version (Keys.version_of (table_view table.now))) }
 {
     match value_at(table, "version").and_then(version) {
         Some(version) => Ok(version),
@@ -25,7 +27,7 @@ pub(crate) fn version_of(table: &Table) -> Result<u32, DesignFault>
 
 // Every key of a design of this version, and of its table `second`, is a known one.
 pub(crate) fn check_known(alloc: Global, table: &Table, version: u32) -> Result<(), DesignFault>
-    ensures { Reads result (none_found fault.UnknownKey
+    ensures { Reads is_memory result (none_found fault.UnknownKey
         (Keys.unknown_key version (table_view table.now))) }
 {
     match unknown_name(alloc, table, version)? {
@@ -61,7 +63,7 @@ fn name_in_second(alloc: Global, key: &str) -> Result<Text, NoMemory>
 
 // Every key that is needed is there.
 pub(crate) fn check_needed(alloc: Global, table: &Table) -> Result<(), DesignFault>
-    ensures { Reads result (none_found fault.MissingKey (Keys.missing_key (table_view table.now))) }
+    ensures { Reads is_memory result (none_found fault.MissingKey (Keys.missing_key (table_view table.now))) }
 {
     match missing_key(table) {
         Some(key) => Err(DesignFault::MissingKey {
@@ -107,7 +109,7 @@ fn lacks(table: Option<&Table>, key: &str) -> bool
 
 // The keys of a design with this method go together.
 pub(crate) fn check_clash(alloc: Global, table: &Table, method: Method) -> Result<(), DesignFault>
-    ensures { Reads result (none_found (λ keys. fault.Clash keys.0 keys.1) (Keys.clash (table_view table.now) method)) }
+    ensures { Reads is_memory result (none_found (λ keys. fault.Clash keys.0 keys.1) (Keys.clash (table_view table.now) method)) }
 {
     match clash(table, method) {
         Some((first, second)) => Err(DesignFault::Clash {

@@ -6,8 +6,9 @@ ghost use Rattle.toml.specs.View.{table_view};
 ghost use Rattle.smp_design.specs.Bounds.{IsDesign, Ascend};
 ghost use Rattle.smp_design.specs.Designs;
 ghost use Rattle.smp_design.specs.Designs.{design_of};
-ghost use Rattle.smp_design.specs.Reads;
-ghost use Rattle.smp_design.specs.Reads.{Reads, ReadsBy};
+ghost use Rattle.smp_design.specs.Faults;
+ghost use Rattle.smp_faults.specs.Memory.{Gives, Reads};
+ghost use Rattle.smp_design.specs.Faults.{is_memory};
 
 use crate::check::{check_clash, check_known, check_needed, version_of};
 use crate::entries::{
@@ -34,7 +35,7 @@ const MAX_NEAR: usize = 4;
 /// Where the bytes aren't a design, the answer is their first fault, in the order of the variants of
 /// [`DesignFault`].
 pub fn read_design(alloc: Global, bytes: &[u8]) -> Result<Design, DesignFault>
-    ensures reads { Reads result (design_of bytes.now) }
+    ensures reads { Reads is_memory result (design_of bytes.now) }
     ensures bounds { IfOk result IsDesign }
 {
     checked_design(alloc, bytes)
@@ -42,7 +43,7 @@ pub fn read_design(alloc: Global, bytes: &[u8]) -> Result<Design, DesignFault>
 
 #[tactic(auto, unfolding(crate::specs::Designs::design_of))]
 fn checked_design(alloc: Global, bytes: &[u8]) -> Result<Design, DesignFault>
-    ensures reads { Reads result (design_of bytes.now) }
+    ensures reads { Reads is_memory result (design_of bytes.now) }
     ensures ascending { IfOk result (λ d. Ascend d.sizes) }
 {
     let table = document(alloc, bytes)?;
@@ -57,7 +58,7 @@ fn checked_design(alloc: Global, bytes: &[u8]) -> Result<Design, DesignFault>
 // The table of a document.
 #[tactic(auto, unfolding(crate::specs::Designs::document))]
 fn document(alloc: Global, bytes: &[u8]) -> Result<Table, DesignFault>
-    ensures { ReadsBy table_view result (Designs.document bytes.now) }
+    ensures { Gives is_memory table_view result (Designs.document bytes.now) }
 {
     match toml::table_from_slice(alloc, bytes) {
         Ok(table) => Ok(table),
@@ -74,7 +75,7 @@ fn document(alloc: Global, bytes: &[u8]) -> Result<Table, DesignFault>
 // What the values of a design of this version say.
 #[tactic(auto, unfolding(crate::specs::Designs::values))]
 fn values(alloc: Global, table: &Table, version: u32) -> Result<Design, DesignFault>
-    ensures reads { Reads result (Designs.values version (table_view table.now)) }
+    ensures reads { Reads is_memory result (Designs.values version (table_view table.now)) }
     ensures ascending { IfOk result (λ d. Ascend d.sizes) }
 {
     let method = good(alloc, "method", value_at(table, "method").and_then(method))?;
@@ -111,7 +112,7 @@ struct UnitColumns {
 
 #[tactic(auto, unfolding(crate::specs::Designs::unit_columns))]
 fn unit_columns(alloc: Global, table: &Table) -> Result<UnitColumns, DesignFault>
-    ensures { Reads result (Designs.unit_columns (table_view table.now)) }
+    ensures { Reads is_memory result (Designs.unit_columns (table_view table.now)) }
 {
     let id = good(alloc, "id", text_at(alloc, table, "id")?)?;
     let stratum = good(alloc, "stratum", optional_text_at(alloc, table, "stratum")?)?;
@@ -130,7 +131,7 @@ struct SampleSize {
 
 #[tactic(auto, unfolding(crate::specs::Designs::sample_size))]
 fn sample_size(alloc: Global, table: &Table) -> Result<SampleSize, DesignFault>
-    ensures reads { Reads result (Designs.sample_size (table_view table.now)) }
+    ensures reads { Reads is_memory result (Designs.sample_size (table_view table.now)) }
     ensures ascending { IfOk result (λ s. Ascend s.sizes) }
 {
     let n = good(alloc, "n", optional_number_at(table, "n"))?;
@@ -157,7 +158,7 @@ fn quotas_or_none(alloc: Global, quotas: Option<Quotas>) -> Quotas
 // The columns of `balance` or of `near`.
 #[tactic(auto, unfolding(crate::specs::Designs::value_columns))]
 fn value_columns(alloc: Global, table: &Table) -> Result<Names, DesignFault>
-    ensures { Reads result (Designs.value_columns (table_view table.now)) }
+    ensures { Reads is_memory result (Designs.value_columns (table_view table.now)) }
 {
     let balance = good(
         alloc,
@@ -184,7 +185,7 @@ struct SecondStage {
 }
 
 fn second_stage(alloc: Global, table: &Table) -> Result<SecondStage, DesignFault>
-    ensures { Reads result (Designs.second_stage (get_member (codes "second") (table_view table.now))) }
+    ensures { Reads is_memory result (Designs.second_stage (get_member (codes "second") (table_view table.now))) }
 {
     let Some(value) = value_at(table, "second") else {
         return Ok(SecondStage {
@@ -201,7 +202,7 @@ fn second_stage(alloc: Global, table: &Table) -> Result<SecondStage, DesignFault
 
 #[tactic(auto, unfolding(crate::specs::Designs::second_stage_of))]
 fn second_stage_of(alloc: Global, table: &Table) -> Result<SecondStage, DesignFault>
-    ensures { Reads result (Designs.second_stage_of (table_view table.now)) }
+    ensures { Reads is_memory result (Designs.second_stage_of (table_view table.now)) }
 {
     let psu = good(alloc, "second.psu", text_at(alloc, table, "psu")?)?;
     let method = good(
@@ -224,7 +225,7 @@ fn second_stage_of(alloc: Global, table: &Table) -> Result<SecondStage, DesignFa
 
 // The value of a key, where it is a good one.
 fn good<T: Drop>(alloc: Global, key: &str, value: Option<T>) -> Result<T, DesignFault>
-    ensures { Reads result (Reads.good key.now value) }
+    ensures { Reads is_memory result (Faults.good key.now value) }
 {
     match value {
         Some(value) => Ok(value),

@@ -9,13 +9,14 @@ use Rattle.std.proofs.lemmas.List.Elements.{All-cons, All-map}
 use Rattle.smp_lines.specs.Decimals.{is_decimal}
 use Rattle.smp_frame.specs.Limits.{max_rows, number_limit}
 use Rattle.smp_frame.specs.LowestTerms.{lowest_terms}
-use Rattle.smp_frame.specs.Steps.{◌>>=◌, guard}
+use Rattle.smp_faults.specs.Steps.{◌>>=◌, guard}
 use Rattle.smp_frame.specs.Records.{field, records_of}
 use Rattle.smp_frame.specs.Fields.{size_of, size_in, sides_of, prob_of, prob_in, is_minus, without_minus, field_value, values_in}
 use Rattle.smp_frame.specs.Layouts.{column_in, asked_in, columns_in, layout_of}
 use Rattle.smp_frame.specs.Frames.{unit_of, units_from, units_of, frame_of}
 use Rattle.smp_frame.specs.Bounds.{AreNear, HaveValues, IsFrame, IsProbability}
-use Rattle.smp_frame.specs.Reads.{Reads}
+use Rattle.smp_faults.specs.Memory.{Reads}
+use Rattle.smp_frame.specs.Faults.{is_memory}
 use Rattle.smp_frac.specs.declared.fractions.Frac.{Frac}
 use Rattle.smp_frame.specs.declared.columns.Columns.{Columns}
 use Rattle.smp_frame.specs.declared.layout.Column.{Column}
@@ -212,10 +213,10 @@ frame_is : (columns : Columns) (bytes : List ℕ) (units : List unit.Unit) → f
 unfolding frame_of
 frame_is columns bytes units h = units_are_frame columns (records_of bytes) units h
 
-pub read_bounds : (columns : Columns) (bytes : List ℕ) (result : Result (List unit.Unit) FrameFault) → Reads result (frame_of columns bytes) → IfOk result IsFrame
+pub read_bounds : (columns : Columns) (bytes : List ℕ) (result : Result (List unit.Unit) FrameFault) → Reads is_memory result (frame_of columns bytes) → IfOk result IsFrame
 read_bounds columns bytes (Ok units) h = (frame_is columns bytes units h).frame
 read_bounds columns bytes (Err fault) h = tt
 
-pub read_values : (columns : Columns) (bytes : List ℕ) (result : Result (List unit.Unit) FrameFault) → Reads result (frame_of columns bytes) → IfOk result (HaveValues (length columns.values))
+pub read_values : (columns : Columns) (bytes : List ℕ) (result : Result (List unit.Unit) FrameFault) → Reads is_memory result (frame_of columns bytes) → IfOk result (HaveValues (length columns.values))
 read_values columns bytes (Ok units) h = (frame_is columns bytes units h).values
 read_values columns bytes (Err fault) h = tt

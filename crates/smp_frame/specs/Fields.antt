@@ -6,7 +6,7 @@ use Rattle.smp_lines.specs.Decimals.{is_decimal}
 use Rattle.smp_frac.specs.declared.fractions.Frac.{Frac}
 use Rattle.smp_frame.specs.Limits.{number_limit}
 use Rattle.smp_frame.specs.LowestTerms.{lowest_terms}
-use Rattle.smp_frame.specs.Steps.{◌>>=◌, guard}
+use Rattle.smp_faults.specs.Steps.{◌>>=◌, guard}
 use Rattle.smp_frame.specs.Records.{field}
 use Rattle.smp_frame.specs.declared.layout.Column.{Column}
 use Rattle.smp_frame.specs.declared.fault.FrameFault.{FrameFault}

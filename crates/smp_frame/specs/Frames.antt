@@ -3,7 +3,7 @@ use Rattle.std.specs.Prelude.{ℕ, ◌+◌, List, [], ◌∷◌, ◌++◌, ◌==
 use Rattle.std.specs.List.{list_all, list_any}
 use Rattle.std.specs.Str.{bytes_eq, is_utf8}
 use Rattle.smp_frame.specs.Limits.{max_rows}
-use Rattle.smp_frame.specs.Steps.{◌>>=◌, guard}
+use Rattle.smp_faults.specs.Steps.{◌>>=◌, guard}
 use Rattle.smp_frame.specs.Records.{records_of, field}
 use Rattle.smp_frame.specs.Layouts.{layout_of}
 use Rattle.smp_frame.specs.Fields.{text_in, size_in, prob_in, values_in}

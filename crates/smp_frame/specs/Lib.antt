@@ -4,7 +4,6 @@ pub mod Frames
 pub mod Layouts
 pub mod Limits
 pub mod LowestTerms
-pub mod Reads
+pub mod Faults
 pub mod Records
-pub mod Steps
 pub mod Kept

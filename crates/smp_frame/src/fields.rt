@@ -8,7 +8,8 @@ ghost use Rattle.smp_lines.specs.Decimals.{number_below};
 ghost use Rattle.smp_frame.specs.Fields;
 ghost use Rattle.smp_frame.specs.Limits.{number_limit};
 ghost use Rattle.smp_frame.specs.LowestTerms.{lowest_terms};
-ghost use Rattle.smp_frame.specs.Reads.{Reads};
+ghost use Rattle.smp_faults.specs.Memory.{Reads};
+ghost use Rattle.smp_frame.specs.Faults.{is_memory};
 
 use crate::layout::Column;
 use crate::records::{field, text};
@@ -42,7 +43,7 @@ pub(crate) fn size_in(
     row: &ByteRecord,
     column: &Option<Column>,
 ) -> Result<u32, FrameFault>
-    ensures { Reads result (Fields.size_in number (fields_of row.now) column.now) }
+    ensures { Reads is_memory result (Fields.size_in number (fields_of row.now) column.now) }
 {
     match column {
         Some(column) => size_of(alloc, number, &column.name, field(row, column.place)),
@@ -57,7 +58,7 @@ pub(crate) fn prob_in(
     row: &ByteRecord,
     column: &Option<Column>,
 ) -> Result<Frac, FrameFault>
-    ensures { Reads result (Fields.prob_in number (fields_of row.now) column.now) }
+    ensures { Reads is_memory result (Fields.prob_in number (fields_of row.now) column.now) }
 {
     match column {
         Some(column) => prob_of(alloc, number, &column.name, field(row, column.place)),
@@ -72,7 +73,7 @@ pub(crate) fn values_in(
     row: &ByteRecord,
     columns: &[Column],
 ) -> Result<Numbers, FrameFault>
-    ensures { Reads result (Fields.values_in number (fields_of row.now) columns.now) }
+    ensures { Reads is_memory result (Fields.values_in number (fields_of row.now) columns.now) }
 {
     let mut values = Vec::with_capacity(alloc, columns.len())?;
     for column in columns {
@@ -83,7 +84,7 @@ pub(crate) fn values_in(
 
 #[tactic(auto, unfolding(crate::specs::Fields::size_of))]
 fn size_of(alloc: Global, row: u64, name: &Text, text: &[u8]) -> Result<u32, FrameFault>
-    ensures reads { Reads result (Fields.size_of row name.now text.now) }
+    ensures reads { Reads is_memory result (Fields.size_of row name.now text.now) }
     ensures small { IfOk result (λ size. size < number_limit) }
 {
     if !is_decimal(text) {
@@ -103,7 +104,7 @@ fn size_of(alloc: Global, row: u64, name: &Text, text: &[u8]) -> Result<u32, Fra
 
 #[tactic(auto, unfolding(crate::specs::Fields::prob_of))]
 fn prob_of(alloc: Global, row: u64, name: &Text, text: &[u8]) -> Result<Frac, FrameFault>
-    ensures { Reads result (Fields.prob_of row name.now text.now) }
+    ensures { Reads is_memory result (Fields.prob_of row name.now text.now) }
 {
     let (num, den) = sides_of(text);
     if !is_decimal(num) || !is_decimal(den) {
@@ -159,7 +160,7 @@ fn lowest(num: u128, den: u128) -> Frac
 }
 
 fn value_of(alloc: Global, row: u64, name: &Text, text: &[u8]) -> Result<i32, FrameFault>
-    ensures { Reads result (Fields.field_value row name.now text.now) }
+    ensures { Reads is_memory result (Fields.field_value row name.now text.now) }
 {
     match text {
         [b'-', digits @ ..] => Ok(-(size_of(alloc, row, name, digits)? as i32)),

@@ -3,7 +3,8 @@
 ghost use Rattle.std.specs.Prelude.{◌≡◌, [], map};
 ghost use Rattle.csv.specs.Records.{fields_of};
 ghost use Rattle.smp_frame.specs.Layouts;
-ghost use Rattle.smp_frame.specs.Reads.{Gives, Reads};
+ghost use Rattle.smp_faults.specs.Memory.{Gives, Reads};
+ghost use Rattle.smp_frame.specs.Faults.{is_memory};
 
 use crate::records::field;
 use crate::{Columns, FrameFault};
@@ -63,7 +64,7 @@ pub(crate) fn layout_of(
     columns: &Columns,
     header: &ByteRecord,
 ) -> Result<Layout, FrameFault>
-    ensures { Reads result (Layouts.layout_of columns.now (fields_of header.now)) }
+    ensures { Reads is_memory result (Layouts.layout_of columns.now (fields_of header.now)) }
 {
     Ok(Layout {
         width: header.len(),
@@ -79,7 +80,7 @@ pub(crate) fn layout_of(
 
 #[tactic(auto, using(crate::proofs::RecordFields::drop_field))]
 fn column_in(alloc: Global, header: &ByteRecord, name: &Text) -> Result<Column, FrameFault>
-    ensures { Reads result (Layouts.column_in (fields_of header.now) name.now) }
+    ensures { Reads is_memory result (Layouts.column_in (fields_of header.now) name.now) }
 {
     let mut found = None;
     for place in 0..header.len() {
@@ -104,7 +105,7 @@ fn asked_in(
     header: &ByteRecord,
     name: &Option<Text>,
 ) -> Result<Option<Column>, FrameFault>
-    ensures { Reads result (Layouts.asked_in (fields_of header.now) name.now) }
+    ensures { Reads is_memory result (Layouts.asked_in (fields_of header.now) name.now) }
 {
     match name {
         Some(name) => Ok(Some(column_in(alloc, header, name)?)),
@@ -113,7 +114,7 @@ fn asked_in(
 }
 
 fn columns_in(alloc: Global, header: &ByteRecord, names: &[Text]) -> Result<ColumnList, FrameFault>
-    ensures { Reads result (Layouts.columns_in (fields_of header.now) names.now) }
+    ensures { Reads is_memory result (Layouts.columns_in (fields_of header.now) names.now) }
 {
     let mut items = Vec::new(alloc);
     for name in names {

@@ -2,7 +2,8 @@ ghost use Rattle.std.specs.Prelude.{◌≡◌, length, IfOk};
 ghost use Rattle.smp_frame.specs.Frames.{frame_of, units_of};
 ghost use Rattle.smp_frame.specs.Bounds.{HaveValues, IsFrame};
 ghost use Rattle.smp_frame.specs.Kept.Readers.{IsReading, rows_left};
-ghost use Rattle.smp_frame.specs.Reads.{Reads};
+ghost use Rattle.smp_faults.specs.Memory.{Reads};
+ghost use Rattle.smp_frame.specs.Faults.{is_memory};
 
 use crate::layout::layout_of;
 use crate::records::{is_text, next_record, reader_of};
@@ -27,7 +28,7 @@ use std::alloc::Global;
 /// probabilities it is [`FrameFault::NotFraction`], [`FrameFault::TooLarge`] or [`FrameFault::NotProbability`]. Where
 /// memory runs out it is [`FrameFault::NoMemory`].
 pub fn read_frame(alloc: Global, bytes: &[u8], columns: &Columns) -> Result<Frame, FrameFault>
-    ensures reads { Reads result (frame_of columns.now bytes.now) }
+    ensures reads { Reads is_memory result (frame_of columns.now bytes.now) }
     ensures bounds { IfOk result IsFrame }
     // a value for each column of values that is asked for
     ensures columns { IfOk result (HaveValues (length columns.now.values)) }
@@ -37,7 +38,7 @@ pub fn read_frame(alloc: Global, bytes: &[u8], columns: &Columns) -> Result<Fram
 
 #[tactic(auto, unfolding(crate::specs::Frames::frame_of))]
 fn frame_in(alloc: Global, bytes: &[u8], columns: &Columns) -> Result<Frame, FrameFault>
-    ensures { Reads result (frame_of columns.now bytes.now) }
+    ensures { Reads is_memory result (frame_of columns.now bytes.now) }
 {
     let mut reader = reader_of(alloc, bytes);
     let mut header = ByteRecord::new(alloc);
@@ -52,7 +53,7 @@ fn frame_left(
     header: &mut ByteRecord,
 ) -> Result<Frame, FrameFault>
     requires { IsReading reader.old }
-    ensures { Reads result (units_of columns.now (rows_left reader.old)) }
+    ensures { Reads is_memory result (units_of columns.now (rows_left reader.old)) }
 {
     if !next_record(reader, header)? {
         return Err(FrameFault::NoHeader);

@@ -7,7 +7,8 @@ ghost use Rattle.csv.specs.Records.{fields_of};
 ghost use Rattle.smp_frame.specs.Frames;
 ghost use Rattle.smp_frame.specs.Frames.{units_from};
 ghost use Rattle.smp_frame.specs.Kept.Readers.{IsReading, rows_left};
-ghost use Rattle.smp_frame.specs.Reads.{Gives, Reads};
+ghost use Rattle.smp_faults.specs.Memory.{Gives, Reads};
+ghost use Rattle.smp_frame.specs.Faults.{is_memory};
 
 use crate::fields::{prob_in, size_in, text_in, values_in};
 use crate::layout::Layout;
@@ -27,7 +28,7 @@ pub(crate) fn units_left(
     reader: &mut Reader<&[u8]>,
 ) -> Result<Vec<Unit>, FrameFault>
     requires { IsReading reader.old }
-    ensures { Gives (λ units. units.items) result (units_from layout.now 1 [] (rows_left reader.old)) }
+    ensures { Gives is_memory (λ units. units.items) result (units_from layout.now 1 [] (rows_left reader.old)) }
 {
     let mut row = ByteRecord::new(alloc);
     let mut seen = IndexSet::new(alloc);
@@ -48,7 +49,7 @@ fn add_units(
     requires reading { IsReading reader.old }
     requires unseen { seen.old.keys ≡ [] }
     requires none { units.old.items ≡ [] }
-    ensures { Gives (λ _. units.new.items) result (units_from layout.now 1 [] (rows_left reader.old)) }
+    ensures { Gives is_memory (λ _. units.new.items) result (units_from layout.now 1 [] (rows_left reader.old)) }
 {
     for number in 1..=MAX_ROWS {
         if !next_record(reader, row)? {
@@ -72,7 +73,7 @@ fn unit_of(
     seen: &mut IndexSet<String>,
     row: &ByteRecord,
 ) -> Result<Unit, FrameFault>
-    ensures reads { Reads result (Frames.unit_of layout.now number (map string_bytes seen.old.keys) (fields_of row.now)) }
+    ensures reads { Reads is_memory result (Frames.unit_of layout.now number (map string_bytes seen.old.keys) (fields_of row.now)) }
     ensures seen { IfOk result (λ unit. map string_bytes seen.new.keys ≡ map string_bytes seen.old.keys ++ unit.id ∷ []) }
 {
     if row.len() != layout.width {

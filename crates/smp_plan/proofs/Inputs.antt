@@ -3,7 +3,7 @@ use Rattle.std.proofs.Common.{◌≡◌, ℕ, List, [], Some, Result, Ok, Err, r
 use Rattle.smp_io.specs.Store.{Files}
 use Rattle.smp_log.specs.Heads.{head_of}
 use Rattle.smp_design.specs.Designs.{design_of}
-use Rattle.smp_design.specs.Reads as design
+use Rattle.smp_design.specs.Faults.{is_memory}
 use Rattle.smp_design.specs.declared.design.Design.{Design}
 use Rattle.smp_design.specs.declared.fault.DesignFault.{DesignFault}
 use Rattle.smp_design.specs.declared.fault.DesignFault.TheVariants as design_fault
@@ -14,7 +14,9 @@ use Rattle.smp_strata.specs.declared.misfit.Misfit.{Misfit}
 use Rattle.smp_strata.specs.declared.misfit.Misfit.TheVariants as misfits
 use Rattle.smp_plan.specs.Plans.{Plan}
 use Rattle.smp_plan.specs.Inputs.{DesignSource, Held, Given, Made, FrameSource, FrameHeld, FrameMade, design_names, frame_names, input_names, ReadDesign, frame_content, design_stage, frame_stage, plan_of, plan_stage}
-use Rattle.smp_plan.specs.Stops.{Stop, Refused, ◌>>=◌, without}
+use Rattle.smp_faults.specs.Memory as memory
+use Rattle.smp_faults.specs.Steps.{◌>>=◌}
+use Rattle.smp_plan.specs.Stops.{Stop, Refused, without}
 use Rattle.smp_status.specs.Codes.{Class, IsRefusal, IsNoMemory, class_of, design_status, misfit_status}
 use Rattle.smp_plan.specs.Reads.{Told, IsErrorOf, IsCaused, ReadCause, Reads}
 use Rattle.smp_plan.specs.Planned.{GivesPlan}
@@ -115,7 +117,7 @@ module _ (bytes : List ℕ) (now : Told) where
   unfolding design_stage
   staged_fault fault is fs = rw is refl
 
-  pub made_refused : (fault : DesignFault) → design.Reads {A = Design} (Err fault) (design_of bytes) → Reads [] (design_stage (Made bytes)) (Err (design_status fault)) now now
+  pub made_refused : (fault : DesignFault) → memory.Reads {A = Design} is_memory (Err fault) (design_of bytes) → Reads [] (design_stage (Made bytes)) (Err (design_status fault)) now now
   made_refused design_fault.NoMemory is = refusing (design_status design_fault.NoMemory) IsNoMemory refl tt (λ fs. tt) tt
   made_refused design_fault.Syntax is = refusing (design_status design_fault.Syntax) IsRefusal refl refl (staged_fault design_fault.Syntax is) tt
   made_refused design_fault.Version is = refusing (design_status design_fault.Version) IsRefusal refl refl (staged_fault design_fault.Version is) tt

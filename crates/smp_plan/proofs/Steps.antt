@@ -4,7 +4,8 @@ use Rattle.smp_io.specs.Counts.{Rose}
 use Rattle.smp_io.specs.Store.{Files}
 use Rattle.smp_words.specs.Words.{all_distinct}
 use Rattle.smp_status.specs.declared.status.Status.{Status}
-use Rattle.smp_plan.specs.Stops.{Stop, ◌>>=◌, without}
+use Rattle.smp_faults.specs.Steps.{◌>>=◌}
+use Rattle.smp_plan.specs.Stops.{Stop, without}
 use Rattle.smp_status.specs.Codes.{Class, IsDone, IsUsage, IsRefusal, IsReadFault, IsWriteFault, IsNoMemory, class_of}
 use Rattle.smp_plan.specs.Reads.{Told, IsErrorOf, IsCaused, ReadCause, Reads}
 use Rattle.smp_plan.proofs.Names.{contains_left, contains_right, Apart, apart}

@@ -9,11 +9,6 @@ pub data Stop : Type 0 where
   Refused : Status → Stop
   Missing : List ℕ → Stop
 
-infixl 10 ◌>>=◌
-abbrev pub ◌>>=◌ : {A B E : Type 0} → Result A E → (A → Result B E) → Result B E
-(Ok x) >>= f = f x
-(Err e) >>= f = Err e
-
 -- what there is, or a refusal
 abbrev pub or_refused : {A : Type 0} → Status → Option A → Result A Stop
 or_refused refusal (Some x) = Ok x

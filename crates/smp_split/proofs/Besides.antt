@@ -3,7 +3,7 @@ use Rattle.std.proofs.Common.{◌≡◌, ℕ, ◌-◌, ◌≤◌, true, false, c
 use Rattle.std.proofs.lemmas.Bool.{cases_Bool, ltb-true, ltb-false, and_parts}
 use Rattle.smp_split.specs.Besides.{Both, BothBelong, with_first, with_second, beside}
 use Rattle.smp_fractions.specs.Fractions.{Fraction, Same, times}
-use Rattle.smp_split.specs.Lenses.{View, fixed, as_unit, Lens}
+use Rattle.smp_split.specs.Lenses.{OuterUnit, fixed, as_unit, Lens}
 use Rattle.smp_split.specs.Means.{mean_of}
 use Rattle.smp_split.specs.Trees.{Tree, LawfulEnd, Lawful}
 use Rattle.smp_fractions.proofs.Fractions.{same_refl, same_trans, times_comm}
@@ -12,7 +12,7 @@ use Rattle.smp_split.proofs.MeanOf.{mean_of_end, mean_of_same, mean_of-times, me
 
 module _ {A B : Type 0} (a : Tree A) (b : Tree B) (in_a : A → Type 0) (in_b : B → Type 0) where
   -- the first design, while the second one stands at t
-  abbrev first_view : B → ℕ → View
+  abbrev first_view : B → ℕ → OuterUnit
   first_view t k = cond (nat_lt k a.units) (as_unit k) (fixed (b.value t (k - a.units)))
 
   pub first_lens : (t : B) → Lens a in_a (beside a b) (with_first t) (first_view t)
@@ -26,7 +26,7 @@ module _ {A B : Type 0} (a : Tree A) (b : Tree B) (in_a : A → Type 0) (in_b : 
   }
 
   -- the second design, where the first one is done at s
-  abbrev second_view : A → ℕ → View
+  abbrev second_view : A → ℕ → OuterUnit
   second_view s k = cond (nat_lt k a.units) (fixed (a.value s k)) (as_unit (k - a.units))
 
   pub second_lens : (s : A) → a.done s ≡ true → Lens b in_b (beside a b) (with_second s) (second_view s)

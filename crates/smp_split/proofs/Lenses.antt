@@ -5,7 +5,7 @@ use Rattle.smp_fractions.specs.Fractions.{Fraction, Same, whole, times}
 use Rattle.smp_split.specs.Parts.{moved}
 use Rattle.smp_split.specs.Trees.{Part, Tree, EachPart, IsPart, LawfulParts, LawfulSplit, LawfulEnd, Lawful, weight_sum, picked, weighted}
 use Rattle.smp_split.specs.Paths.{Entry, IsStep, Leads}
-use Rattle.smp_split.specs.Lenses.{View, fixed, as_unit, as_share, seen, Within, Lens, Shows, Closes, Inside}
+use Rattle.smp_split.specs.Lenses.{OuterUnit, fixed, as_unit, as_share, seen, Within, Lens, Shows, Closes, Inside}
 use Rattle.smp_fractions.proofs.Fractions.{same_refl, same_sym, same_trans, plus_same, times_same, times-plus, times_left_comm, times-zero}
 use Rattle.smp_split.proofs.Means.{weighted_same}
 use Rattle.smp_split.proofs.Parts.{weighted-same, weight_sum-moved, weighted-moved, picked-moved, each_moved}
@@ -23,7 +23,7 @@ module _ {Inner : Type 0} (inner : Tree Inner) (belongs : Inner → Type 0) wher
   all_parts P h (p ∷ ps) = (h p, all_parts P h ps)
 
   -- inner parts keep what an outer unit is seen to have
-  seen_even : (i : Inner) (parts : List (Part Inner)) → LawfulParts inner belongs i parts → (view : View) → Within inner.units view → Same (weighted (λ j. seen view (inner.value j)) parts) (times (whole (weight_sum parts)) (seen view (inner.value i)))
+  seen_even : (i : Inner) (parts : List (Part Inner)) → LawfulParts inner belongs i parts → (view : OuterUnit) → Within inner.units view → Same (weighted (λ j. seen view (inner.value j)) parts) (times (whole (weight_sum parts)) (seen view (inner.value i)))
   seen_even i parts split (fixed c) within = weighted-same (λ j. c) c parts (all_parts (λ p. c ≡ c) (λ p. refl) parts)
   seen_even i parts split (as_unit k) within = split.even k within
   seen_even i parts split (as_share a k) within =
@@ -32,7 +32,7 @@ module _ {Inner : Type 0} (inner : Tree Inner) (belongs : Inner → Type 0) wher
 
 -- Inner parts that are lawful, put in place, are lawful parts of an outer state, where each of them falls and belongs, and where the outer
 -- units have the values that their views give them, in the state as in the parts.
-module _ {Inner Outer : Type 0} (inner : Tree Inner) (belongs : Inner → Type 0) (outer : Tree Outer) (outside : Outer → Type 0) (put : Inner → Outer) (view : ℕ → View) (i : Inner) (s : Outer) where
+module _ {Inner Outer : Type 0} (inner : Tree Inner) (belongs : Inner → Type 0) (outer : Tree Outer) (outside : Outer → Type 0) (put : Inner → Outer) (view : ℕ → OuterUnit) (i : Inner) (s : Outer) where
   pub record Through : Type 0 where
     pub within : (k : ℕ) → k < outer.units → Within inner.units (view k)
     pub part : (p : Part Inner) → IsPart inner belongs i p → IsPart outer outside s (record { weight = p.weight; state = put p.state })
@@ -55,7 +55,7 @@ module _ {Inner Outer : Type 0} (inner : Tree Inner) (belongs : Inner → Type 0
         subst W (sym (weight_sum-moved put parts)) (even_of through parts split k h));
   }
 
-module _ {Inner Outer : Type 0} (inner : Tree Inner) (belongs : Inner → Type 0) (outer : Tree Outer) (put : Inner → Outer) (view : ℕ → View) (lens : Lens inner belongs outer put view) where
+module _ {Inner Outer : Type 0} (inner : Tree Inner) (belongs : Inner → Type 0) (outer : Tree Outer) (put : Inner → Outer) (view : ℕ → OuterUnit) (lens : Lens inner belongs outer put view) where
   module _ (outside : Outer → Type 0) (member : (i : Inner) → belongs i → outside (put i)) where
     part_through : (i : Inner) (p : Part Inner) → IsPart inner belongs i p → IsPart outer outside (put i) (record { weight = p.weight; state = put p.state })
     part_through i p is = record { heavy = is.heavy; falls = lens.falls i p.state is.falls; member = member p.state is.member }
@@ -71,7 +71,7 @@ module _ {Inner Outer : Type 0} (inner : Tree Inner) (belongs : Inner → Type 0
 
   -- ---- where the outer design is done with the inner one
 
-  shows : (v : View) (value : ℕ → Fraction) (selected : ℕ → Bool) (b : Bool) → ((k : ℕ) → k < inner.units → Same (value k) (whole (cond (selected k) 1 0))) → Within inner.units v → Shows v selected b → Same (seen v value) (whole (cond b 1 0))
+  shows : (v : OuterUnit) (value : ℕ → Fraction) (selected : ℕ → Bool) (b : Bool) → ((k : ℕ) → k < inner.units → Same (value k) (whole (cond (selected k) 1 0))) → Within inner.units v → Shows v selected b → Same (seen v value) (whole (cond b 1 0))
   shows (fixed c) value selected b end within show = show
   shows (as_unit k) value selected b end within show = rw show (end k within)
   shows (as_share a k) value selected b end within show = same_trans (times_same (same_refl a) (end k within)) show

@@ -2,7 +2,7 @@
 use Rattle.std.proofs.Common.{◌≡◌, ℕ, zero, suc, ◌<◌, ◌≤◌, true, false, List, [], ◌∷◌, arith, refl, sym, ap, subst, ◌∙◌, inl, inr}
 use Rattle.std.proofs.lemmas.Bool.{cases_Bool}
 use Rattle.smp_fractions.specs.Fractions.{Fraction, Same, whole, plus, times, divided}
-use Rattle.smp_split.specs.Lenses.{View, Lens}
+use Rattle.smp_split.specs.Lenses.{OuterUnit, Lens}
 use Rattle.smp_split.specs.Means.{mean_of_within, mean_of}
 use Rattle.smp_split.specs.Parts.{moved}
 use Rattle.smp_split.specs.Trees.{Part, Tree, EachPart, IsPart, Lawful, weight_sum, weighted}
@@ -121,7 +121,7 @@ module _ {State : Type 0} where
 -- ---- through a lens
 
 module _ {Inner Outer : Type 0} (inner : Tree Inner) (belongs : Inner → Type 0) (lawful : Lawful inner belongs) (outer : Tree Outer) (outside : Outer → Type 0) (outer_lawful : Lawful outer outside)
-    (put : Inner → Outer) (view : ℕ → View) (lens : Lens inner belongs outer put view) (member : (i : Inner) → belongs i → outside (put i)) (f : Outer → Fraction) where
+    (put : Inner → Outer) (view : ℕ → OuterUnit) (lens : Lens inner belongs outer put view) (member : (i : Inner) → belongs i → outside (put i)) (f : Outer → Fraction) where
   abbrev on : Inner → Fraction
   on i = mean_of outer f (put i)
 

@@ -2,5 +2,5 @@ pub mod Sources
 pub mod Tapes
 pub mod TapeSources
 pub mod TapeText
-pub mod Reads
+pub mod Faults
 pub mod Laws

@@ -2,7 +2,8 @@ ghost use Rattle.std.specs.Prelude.{◌≡◌, ◌∷◌, ◌<◌, ◌^◌, leng
 ghost use Rattle.std.specs.Io.BufRead.{strip_last};
 ghost use Rattle.smp_tape.specs.TapeText.{lines_in, tape_of};
 ghost use Rattle.smp_tape.specs.TapeText;
-ghost use Rattle.smp_tape.specs.Reads.{Gives};
+ghost use Rattle.smp_faults.specs.Memory.{Gives};
+ghost use Rattle.smp_tape.specs.Faults.{is_memory};
 
 use crate::TapeFault;
 use smp_lines::{cut_before, number};
@@ -11,7 +12,7 @@ use std::alloc::Global;
 // The values of a tape, a value a line.
 #[tactic(auto, unfolding(crate::specs::TapeText::tape_of))]
 pub(crate) fn values_in(alloc: Global, bytes: &[u8]) -> Result<Vec<u128>, TapeFault>
-    ensures { Gives (λ v. v.items) result (tape_of bytes.now) }
+    ensures { Gives is_memory (λ v. v.items) result (tape_of bytes.now) }
 {
     let mut values = Vec::new(alloc);
     let mut rest = bytes;

@@ -1,6 +1,7 @@
 ghost use Rattle.std.specs.Prelude.{◌≡◌, ◌≤◌, [], length, take, drop, IfOk};
 ghost use Rattle.smp_tape.specs.TapeSources.{tape_source};
-ghost use Rattle.smp_tape.specs.Reads.{ReadsTape};
+ghost use Rattle.smp_faults.specs.Memory.{Gives};
+ghost use Rattle.smp_tape.specs.Faults.{is_memory};
 ghost use Rattle.smp_tape.specs.TapeText.{tape_of};
 ghost use Rattle.smp_tape.specs.Tapes.{Values};
 
@@ -35,7 +36,8 @@ impl Tape {
     ///
     /// [`TapeFault::Line`] names the first line that isn't such a number, an empty line among them.
     pub fn read(alloc: Global, bytes: &[u8]) -> Result<Tape, TapeFault>
-        ensures { ReadsTape result (tape_of bytes.now) }
+        ensures values { Gives is_memory (λ tape. tape.left) result (tape_of bytes.now) }
+        ensures untaken { IfOk result (λ tape. tape.taken ≡ []) }
     {
         match values_in(alloc, bytes) {
             Ok(values) => Ok(Tape { values, next: 0 }),

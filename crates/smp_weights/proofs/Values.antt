@@ -13,7 +13,8 @@ use Rattle.smp_fractions.proofs.Fractions.{same_refl, same_sym, same_trans, plus
 use Rattle.smp_weights.specs.Arithmetic.{lowest_terms, sum_of, difference_of}
 use Rattle.smp_weights.specs.Chosen.{Chosen, weight}
 use Rattle.smp_weights.specs.Totals as Totals
-use Rattle.smp_weights.specs.Totals.{◌>>=◌, term_of, with_term, with_terms, total_of, gains, losses, estimate_of}
+use Rattle.smp_faults.specs.Steps.{◌>>=◌}
+use Rattle.smp_weights.specs.Totals.{term_of, with_term, with_terms, total_of, gains, losses, estimate_of}
 use Rattle.smp_weights.specs.Values.{weighted_total}
 use Rattle.smp_weights.proofs.Arithmetic.{lowest_terms_value, product_value, sum_value, difference_value}
 

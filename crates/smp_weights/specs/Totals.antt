@@ -1,18 +1,13 @@
 -- Weighted totals in exact arithmetic.
-use Rattle.std.specs.Prelude.{Bool, if◌then◌else◌, List, [], ◌∷◌, filter, ℤ, Result, Ok, Err}
+use Rattle.std.specs.Prelude.{Bool, if◌then◌else◌, List, [], ◌∷◌, filter, ℤ, Result, Ok}
 use Rattle.std.specs.Int.{is_negative, is_positive}
+use Rattle.smp_faults.specs.Steps.{◌>>=◌}
 use Rattle.smp_frac.specs.declared.fractions.Frac.{Frac}
 use Rattle.smp_frac.specs.declared.fractions.Wide.{Wide}
 use Rattle.smp_frac.specs.declared.signed.Signed.{Signed}
 use Rattle.smp_fractions.specs.Fractions.{whole, integer}
 use Rattle.smp_weights.specs.Arithmetic.{lowest_terms, product_of, sum_of, difference_of}
 use Rattle.smp_weights.specs.Chosen.{Chosen, weight}
-
-infixl 10 ◌>>=◌
--- one step and then, unless it is too wide, the next
-abbrev pub ◌>>=◌ : {A B : Type 0} → Result A Wide → (A → Result B Wide) → Result B Wide
-(Ok answer) >>= next = next answer
-(Err wide) >>= next = Err wide
 
 -- the term of a unit: its value, without the sign, times its weight
 abbrev pub term_of : Chosen ℤ → Result Frac Wide

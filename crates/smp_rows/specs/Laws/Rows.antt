@@ -8,7 +8,7 @@ use Rattle.smp_prob.specs.declared.standings.Standing.{Standing}
 use Rattle.smp_prob.specs.declared.standings.Standing.TheVariants.{Certain, Free, Never}
 use Rattle.smp_prob.specs.Standings.{standing, is_taken, free_or_never}
 use Rattle.smp_fractions.specs.Fractions.{Same, whole}
-use Rattle.smp_split.specs.Lenses.{View, fixed, as_unit, seen, Within, Lens, Shows, Closes}
+use Rattle.smp_split.specs.Lenses.{OuterUnit, fixed, as_unit, seen, Within, Lens, Shows, Closes}
 use Rattle.smp_split.specs.Trees.{Tree, Lawful}
 use Rattle.smp_fractions.proofs.Fractions.{same_refl}
 use Rattle.smp_split.proofs.Lenses.{split_through, end_through}
@@ -29,7 +29,7 @@ free_within request row unit is =
     ]
 
 -- how a row that stands so sees the free units
-abbrev pub row_view : Standing → View
+abbrev pub row_view : Standing → OuterUnit
 row_view Certain = fixed (whole 1)
 row_view (Free k) = as_unit k
 row_view Never = fixed (whole 0)

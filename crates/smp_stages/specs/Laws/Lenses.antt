@@ -7,7 +7,7 @@ use Rattle.std.proofs.lemmas.List.{set-set}
 use Rattle.std.proofs.lemmas.Option.{slice_get_within}
 use Rattle.smp_fractions.specs.Fractions.{Same, whole, times}
 use Rattle.smp_fractions.proofs.Fractions.{same_refl, times_comm}
-use Rattle.smp_split.specs.Lenses.{View, fixed, as_unit, as_share, seen, Within, Lens}
+use Rattle.smp_split.specs.Lenses.{OuterUnit, fixed, as_unit, as_share, seen, Within, Lens}
 use Rattle.smp_split.specs.Parts.{moved}
 use Rattle.smp_split.specs.Trees.{Part, Tree}
 use Rattle.smp_stages.specs.declared.places.Place.{Place}
@@ -87,21 +87,21 @@ module _ {Design State : Type 0} (tree_of : Design → Tree State) where
 
     -- ---- what the rows see
 
-    abbrev first_view : Place → View
+    abbrev first_view : Place → OuterUnit
     first_view place = cond (nat_eq place.stage i) (as_unit place.unit) (fixed (unit_value tree_of stages states place))
 
-    abbrev second_view : Place → Place → View
+    abbrev second_view : Place → Place → OuterUnit
     second_view first second =
         cond (nat_eq second.stage i) (as_share (unit_value tree_of stages states first) second.unit)
         (cond (nat_eq first.stage i) (as_share (unit_value tree_of stages states second) first.unit)
         (fixed (times (unit_value tree_of stages states first) (unit_value tree_of stages states second))))
 
-    abbrev view_at : Option Seat → View
+    abbrev view_at : Option Seat → OuterUnit
     view_at (Some (First place)) = first_view place
     view_at (Some (Second first second)) = second_view first second
     view_at other = fixed (whole 0)
 
-    abbrev pub view : ℕ → View
+    abbrev pub view : ℕ → OuterUnit
     view row = view_at (slice_get seats row)
 
     in_inner : (place : Place) → place.stage ≡ i → place.unit < units_of tree_of (slice_get stages place.stage)
