@@ -1,12 +1,9 @@
 //! A design and its parts.
 
-ghost use Rattle.std.specs.Prelude.{◌≡◌};
-
 use crate::Method;
-use smp_frac::Text;
+use smp_frac::{Items, Text};
 use smp_frame::Columns;
 use smp_prob::Order;
-use std::marker::Model;
 
 /// The design of a sample.
 #[derive(Drop)]
@@ -49,32 +46,4 @@ pub struct Quota {
 }
 
 /// Quotas in a list.
-#[derive(Drop)]
-pub struct Quotas {
-    items: Vec<Quota>,
-}
-
-impl Model for Quotas {
-    ghost use Rattle.std.specs.Prelude.{List};
-    ghost use Rattle.smp_design.specs.declared.design.Quota as quota;
-
-    ghost Value = { List quota.Quota };
-
-    ghost view = { λ quotas. quotas.items.items };
-}
-
-impl Quotas {
-    /// The quotas of a vector.
-    pub fn from_vec(items: Vec<Quota>) -> Quotas
-        ensures { result ≡ items.items }
-    {
-        Quotas { items }
-    }
-
-    /// The quotas in their order.
-    pub fn as_slice(&self) -> &[Quota]
-        ensures { result.now ≡ self.now }
-    {
-        self.items.as_slice()
-    }
-}
+pub type Quotas = Items<Quota>;

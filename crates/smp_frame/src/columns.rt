@@ -1,39 +1,9 @@
 //! The columns that are asked of a frame.
 
-ghost use Rattle.std.specs.Prelude.{◌≡◌};
-
-use smp_frac::Text;
-use std::marker::Model;
+use smp_frac::{Items, Text};
 
 /// Names in a list, such as those of columns.
-#[derive(Drop)]
-pub struct Names {
-    items: Vec<Text>,
-}
-
-impl Model for Names {
-    ghost use Rattle.std.specs.Prelude.{List, ℕ};
-
-    ghost Value = { List (List ℕ) };
-
-    ghost view = { λ names. names.items.items };
-}
-
-impl Names {
-    /// The names of a vector.
-    pub fn from_vec(items: Vec<Text>) -> Names
-        ensures { result ≡ items.items }
-    {
-        Names { items }
-    }
-
-    /// The names in their order.
-    pub fn as_slice(&self) -> &[Text]
-        ensures { result.now ≡ self.now }
-    {
-        self.items.as_slice()
-    }
-}
+pub type Names = Items<Text>;
 
 /// The columns that are asked of a frame, by their names in its header. One column may be asked for more than once.
 #[derive(Drop)]

@@ -9,9 +9,8 @@ ghost use Rattle.smp_frame.specs.Faults.{is_memory};
 use crate::records::field;
 use crate::{Columns, FrameFault};
 use csv::ByteRecord;
-use smp_frac::{NoMemory, Text};
+use smp_frac::{Items, NoMemory, Text};
 use std::alloc::Global;
-use std::marker::Model;
 
 /// An asked column.
 #[derive(Drop)]
@@ -19,29 +18,6 @@ pub(crate) struct Column {
     pub name: Text,
     /// The place of its field in each row, counted from 0.
     pub place: usize,
-}
-
-/// Columns in a list.
-#[derive(Drop)]
-pub(crate) struct ColumnList {
-    items: Vec<Column>,
-}
-
-impl Model for ColumnList {
-    ghost use Rattle.std.specs.Prelude.{List};
-    ghost use Rattle.smp_frame.specs.declared.layout.Column as column;
-
-    ghost Value = { List column.Column };
-
-    ghost view = { λ columns. columns.items.items };
-}
-
-impl ColumnList {
-    pub fn as_slice(&self) -> &[Column]
-        ensures { result.now ≡ self.now }
-    {
-        self.items.as_slice()
-    }
 }
 
 /// How many fields each row has, and the asked columns.
@@ -54,7 +30,7 @@ pub(crate) struct Layout {
     pub size: Option<Column>,
     pub second_size: Option<Column>,
     pub prob: Option<Column>,
-    pub values: ColumnList,
+    pub values: Items<Column>,
 }
 
 /// Looks for the asked columns in a header.
@@ -113,12 +89,16 @@ fn asked_in(
     }
 }
 
-fn columns_in(alloc: Global, header: &ByteRecord, names: &[Text]) -> Result<ColumnList, FrameFault>
+fn columns_in(
+    alloc: Global,
+    header: &ByteRecord,
+    names: &[Text],
+) -> Result<Items<Column>, FrameFault>
     ensures { Reads is_memory result (Layouts.columns_in (fields_of header.now) names.now) }
 {
     let mut items = Vec::new(alloc);
     for name in names {
         items.push(column_in(alloc, header, name)?)?;
     }
-    Ok(ColumnList { items })
+    Ok(Items::from_vec(items))
 }

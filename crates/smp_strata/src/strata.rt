@@ -1,11 +1,8 @@
 //! The strata of a plan, and their first stage units.
 
-ghost use Rattle.std.specs.Prelude.{◌≡◌};
-
-use smp_frac::Text;
+use smp_frac::{Items, Text};
 use smp_frame::Numbers;
 use smp_prob::{Places, Request};
-use std::marker::Model;
 
 /// A first stage unit: a row of the frame, or all rows of a psu.
 #[derive(Drop)]
@@ -19,34 +16,7 @@ pub struct FirstUnit {
 }
 
 /// First stage units in a list.
-#[derive(Drop)]
-pub struct Units {
-    units: Vec<FirstUnit>,
-}
-
-impl Model for Units {
-    ghost use Rattle.std.specs.Prelude.{List};
-    ghost use Rattle.smp_strata.specs.declared.strata.FirstUnit as first;
-
-    ghost Value = { List first.FirstUnit };
-
-    ghost view = { λ u. u.units.items };
-}
-
-impl Units {
-    pub(crate) fn from_vec(units: Vec<FirstUnit>) -> Units
-        ensures { result ≡ units.items }
-    {
-        Units { units }
-    }
-
-    /// The units in order of first appearance.
-    pub fn as_slice(&self) -> &[FirstUnit]
-        ensures { result.now ≡ self.now }
-    {
-        self.units.as_slice()
-    }
-}
+pub type Units = Items<FirstUnit>;
 
 /// A stratum, and what is asked of it.
 #[derive(Drop)]
