@@ -1,11 +1,11 @@
 //! The units in rising order of their sizes, and the last of them that is open.
 
 ghost use Rattle.std.specs.Prelude.{◌≡◌, ℕ, ◌-◌, ◌<◌, ◌≤◌, length, slice_index, IfOk};
-ghost use Rattle.std.specs.List.{range_with_len};
 ghost use Rattle.std.specs.List.Sorted.{IsPermutation};
 ghost use Rattle.smp_values.specs.Largest.{largest_of};
 ghost use Rattle.smp_brewer.specs.Kept.Orders.{IsRanked, ranked_size};
 
+use smp_places::numbers_below;
 use std::alloc::{AllocError, Global};
 
 // The size of a unit, or 0 where there is none.
@@ -16,17 +16,6 @@ fn size_at(sizes: &[u32], unit: usize) -> u32
         Some(&size) => size,
         None => 0,
     }
-}
-
-// The numbers below `count`, in order.
-fn numbers(alloc: Global, count: usize) -> Result<Vec<usize>, AllocError>
-    ensures { IfOk result (λ numbers. numbers.items ≡ range_with_len 0 count) }
-{
-    let mut numbers = Vec::with_capacity(alloc, count)?;
-    for number in 0..count {
-        numbers.push(number)?;
-    }
-    Ok(numbers)
 }
 
 // Puts units in rising order of their sizes.
@@ -42,7 +31,7 @@ fn rank(sizes: &[u32], order: &mut [usize])
 pub(crate) fn ranking(alloc: Global, sizes: &[u32]) -> Result<Vec<usize>, AllocError>
     ensures { IfOk result (λ order. IsRanked sizes.now order.items (length order.items)) }
 {
-    let mut order = numbers(alloc, sizes.len())?;
+    let mut order = numbers_below(alloc, sizes.len())?;
     rank(sizes, order.as_mut_slice());
     Ok(order)
 }

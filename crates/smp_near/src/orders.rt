@@ -2,10 +2,10 @@
 #![tactic(auto)]
 
 ghost use Rattle.std.specs.Prelude.{◌≡◌, length, IfOk};
-ghost use Rattle.std.specs.List.{range_with_len};
 ghost use Rattle.std.specs.List.Sorted.{IsPermutation};
 ghost use Rattle.smp_near.specs.Kept.Trees.{IsOrder};
 
+use smp_places::numbers_below;
 use std::alloc::{AllocError, Global};
 
 // A coordinate of a point, or 0 where there is none.
@@ -55,17 +55,6 @@ fn arrange<const K: usize>(coords: &[[i32; K]], order: &mut [usize])
     }
 }
 
-// The numbers below `count`, in order.
-fn numbers(alloc: Global, count: usize) -> Result<Vec<usize>, AllocError>
-    ensures { IfOk result (λ numbers. numbers.items ≡ range_with_len 0 count) }
-{
-    let mut numbers = Vec::with_capacity(alloc, count)?;
-    for number in 0..count {
-        numbers.push(number)?;
-    }
-    Ok(numbers)
-}
-
 /// The numbers of the points, in the order of a tree.
 pub(crate) fn order_of<const K: usize>(
     alloc: Global,
@@ -73,7 +62,7 @@ pub(crate) fn order_of<const K: usize>(
 ) -> Result<Vec<usize>, AllocError>
     ensures { IfOk result (λ order. IsOrder (length coords.now) order.items) }
 {
-    let mut order = numbers(alloc, coords.len())?;
+    let mut order = numbers_below(alloc, coords.len())?;
     arrange(coords, order.as_mut_slice());
     Ok(order)
 }

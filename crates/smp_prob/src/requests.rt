@@ -1,12 +1,12 @@
 ghost use Rattle.std.specs.Prelude.{◌≡◌, ◌≤◌, position, nat_eq, IfOk};
-ghost use Rattle.std.specs.List.{range_with_len};
 ghost use Rattle.smp_frac.specs.Fractions.{fraction};
 ghost use Rattle.smp_fractions.specs.Fractions.{Same, over};
 ghost use Rattle.smp_prob.specs.Standings.{Rises};
 
 use crate::{Places, Shapes, Standing};
 use smp_frac::{Frac, NoMemory, gcd};
-use std::alloc::{AllocError, Global};
+use smp_places::numbers_below;
+use std::alloc::Global;
 
 /// Requested inclusion probabilities: which units are certain, and which are free.
 ///
@@ -43,7 +43,7 @@ impl Request {
     {
         Ok(Request {
             certain: Places::from_vec(Vec::new(alloc)),
-            free: Places::from_vec(first_places(alloc, shapes.len())?),
+            free: Places::from_vec(numbers_below(alloc, shapes.len())?),
             shape: Shapes::from_slice(alloc, shapes)?,
             r,
             total,
@@ -121,13 +121,6 @@ impl Request {
             Standing::Never => lowest(0, 1),
         }
     }
-}
-
-// The places of so many units, in order.
-fn first_places(alloc: Global, units: usize) -> Result<Vec<usize>, AllocError>
-    ensures { IfOk result (λ places. places.items ≡ range_with_len 0 units) }
-{
-    (0..units).collect(alloc)
 }
 
 // The fraction in lowest terms.

@@ -1,9 +1,9 @@
 ghost use Rattle.std.specs.Prelude.{◌≡◌, ◌+◌, ◌<◌, ◌≤◌, length, slice_index, nat_eq, IfOk};
-ghost use Rattle.std.specs.List.{range_with_len};
 ghost use Rattle.smp_split.specs.Orders.{Placing, IsMirrored, frame_order, undrawn_order, exchanged_order, next_place};
 
 use crate::NoMemory;
-use std::alloc::{AllocError, Global};
+use smp_places::numbers_below;
+use std::alloc::Global;
 use std::marker::Model;
 
 /// The order in which units are taken. It may be drawn, by steps that exchange two units each: the first decides which
@@ -25,21 +25,14 @@ impl Model for UnitOrder {
     ghost invariant = { λ a. IsMirrored a.places.items a.units.items a.left };
 }
 
-// The numbers below a count, in order.
-fn numbers(alloc: Global, count: usize) -> Result<Vec<usize>, AllocError>
-    ensures { IfOk result (λ list. list.items ≡ range_with_len 0 count) }
-{
-    (0..count).collect(alloc)
-}
-
 impl UnitOrder {
     /// So many units as they stand in the frame. No step is left.
     pub fn in_frame(alloc: Global, units: usize) -> Result<UnitOrder, NoMemory>
         ensures { IfOk result (λ order. order ≡ frame_order units) }
     {
         Ok(UnitOrder {
-            places: numbers(alloc, units)?,
-            units: numbers(alloc, units)?,
+            places: numbers_below(alloc, units)?,
+            units: numbers_below(alloc, units)?,
             left: 0,
         })
     }
@@ -49,8 +42,8 @@ impl UnitOrder {
         ensures { IfOk result (λ order. order ≡ undrawn_order units) }
     {
         Ok(UnitOrder {
-            places: numbers(alloc, units)?,
-            units: numbers(alloc, units)?,
+            places: numbers_below(alloc, units)?,
+            units: numbers_below(alloc, units)?,
             left: units.saturating_sub(1),
         })
     }

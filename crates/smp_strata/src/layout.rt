@@ -1,7 +1,6 @@
 //! How the rows of a frame lie in first stage units, and these in strata.
 
 ghost use Rattle.std.specs.Prelude.{◌≡◌, ◌≤◌, ◌<◌, All, IfOk, length, map, slice_index};
-ghost use Rattle.std.specs.List.{range_with_len};
 ghost use Rattle.smp_frame.specs.Bounds.{IsFrame};
 ghost use Rattle.smp_strata.specs.Clusters.{clusters, first_row, psu_names, stratum_names, stratum_number};
 ghost use Rattle.smp_strata.specs.Rows.{rows_of};
@@ -13,7 +12,8 @@ use crate::names::{Numbered, numbered_texts};
 use smp_design::Second;
 use smp_frac::{NoMemory, Text};
 use smp_frame::Unit;
-use std::alloc::{AllocError, Global};
+use smp_places::numbers_below;
+use std::alloc::Global;
 
 /// The first stage units of a frame, in order of first appearance.
 #[derive(Drop)]
@@ -87,13 +87,6 @@ struct Homes {
     count: usize,
 }
 
-// The first places of a list.
-fn first_places(alloc: Global, count: usize) -> Result<Vec<usize>, AllocError>
-    ensures { IfOk result (λ places. places.items ≡ range_with_len 0 count) }
-{
-    (0..count).collect(alloc)
-}
-
 // The number of each row's first stage unit, and how many there are.
 fn homes_of(alloc: Global, units: &[Unit], second: Option<Second>) -> Result<Homes, NoMemory>
     ensures numbers { IfOk result (λ h. h.numbers.items ≡ Layouts.homes_of second units.now) }
@@ -101,7 +94,7 @@ fn homes_of(alloc: Global, units: &[Unit], second: Option<Second>) -> Result<Hom
 {
     match second {
         None => Ok(Homes {
-            numbers: first_places(alloc, units.len())?,
+            numbers: numbers_below(alloc, units.len())?,
             count: units.len(),
         }),
         Some(_) => {
