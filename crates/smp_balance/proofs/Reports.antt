@@ -12,10 +12,10 @@ use Rattle.smp_frac.specs.Fractions.{fraction, signed_fraction}
 use Rattle.smp_prob.specs.declared.standings.Standing.{Standing}
 use Rattle.smp_prob.specs.declared.standings.Standing.TheVariants.{Certain, Free, Never}
 use Rattle.smp_prob.specs.Standings.{standing, is_taken, asked_fraction}
-use Rattle.smp_weights.specs.Arithmetic.{lowest_terms}
+use Rattle.smp_frac.specs.LowestTerms.{lowest_terms}
 use Rattle.smp_weights.specs.Chosen.{Chosen, weight}
 use Rattle.smp_weights.specs.Values.{weighted_total}
-use Rattle.smp_weights.proofs.Arithmetic.{lowest_terms_value}
+use Rattle.smp_frac.proofs.LowestTerms.{lowest_terms-value}
 use Rattle.smp_weights.proofs.Values.{estimate_value}
 use Rattle.smp_landing.specs.Cube.{Balancing}
 use Rattle.smp_balance.specs.Strata.{Stratum, IsStratum, value_in}
@@ -69,7 +69,7 @@ module _ (s : Stratum) (ok : IsStratum s) (leaf : Balancing) (column : ℕ) wher
       let known : value_in s column k ≡ known_value s column k = sym (ap (λ (b : Bool). cond b (value_in s column k) (pos 0)) can) in
       times_same (subst (λ (z : ℤ). Same (integer (value_in s column k)) (integer z)) known (same_refl (integer (value_in s column k))))
       (inverse_same (fraction (lowest_terms (asked_fraction s.request k))) (asked_fraction s.request k) (λ none. omega (arith, ints, positive, none))
-      (same_trans (lowest_terms_value (asked_fraction s.request k)) (no_sign_at s.request k)))
+      (same_trans (lowest_terms-value (asked_fraction s.request k)) (no_sign_at s.request k)))
 
   last_is : (n : ℕ) → Same (weighted_total (map (weighed s column) (filter (is_selected s leaf) (n ∷ [])))) (counts n)
   last_is n =

@@ -17,33 +17,32 @@ use Rattle.smp_prob.specs.declared.standings.Standing.TheVariants.{Certain, Free
 use Rattle.smp_prob.specs.Requests.{IsRequest}
 use Rattle.smp_prob.specs.Standings.{standing, fraction_at, asked_fraction}
 use Rattle.smp_flight.specs.Requests.{AreValues}
-use Rattle.smp_weights.specs.Arithmetic.{lowest_terms}
+use Rattle.smp_frac.specs.LowestTerms.{lowest_terms}
 use Rattle.smp_weights.specs.Chosen.{chosen_units}
-use Rattle.smp_frac.proofs.Coprime.{part_positive}
-use Rattle.smp_frac.proofs.Gcds.{IsGcd-greatest_common_divisor}
 use Rattle.smp_rows.specs.Laws.Rows.{free_within}
-use Rattle.smp_weights.proofs.Arithmetic.{unsigned, lowest_terms_is}
+use Rattle.smp_fractions.specs.Bounds.{absolute}
+use Rattle.smp_frac.proofs.LowestTerms.{lowest_terms-positive, same-lowest_terms}
 use Rattle.smp_balance.specs.Strata.{Stratum, value_in, values_of}
 use Rattle.smp_balance.specs.Totals.{can_be_selected, known_value}
 use Rattle.smp_balance.specs.Lines.{known_total}
 
 -- a probability has no sign
-no_sign : (request : Request) (f : Frac) (stand : Standing) → Same (fraction f) (fraction_at request stand) → Same (fraction f) (unsigned (fraction_at request stand))
+no_sign : (request : Request) (f : Frac) (stand : Standing) → Same (fraction f) (fraction_at request stand) → Same (fraction f) (absolute (fraction_at request stand))
 no_sign request f Certain h = h
 no_sign request f (Free u) h = h
 no_sign request f Never h = h
 
 -- so it is what it is without one
-unsigned_is : (request : Request) (stand : Standing) → Same (unsigned (fraction_at request stand)) (fraction_at request stand)
+unsigned_is : (request : Request) (stand : Standing) → Same (absolute (fraction_at request stand)) (fraction_at request stand)
 unsigned_is request Certain = same_refl (whole 1)
 unsigned_is request (Free u) = same_refl (fraction_at request (Free u))
 unsigned_is request Never = same_refl (whole 0)
 
-pub no_sign_at : (request : Request) (k : ℕ) → Same (unsigned (asked_fraction request k)) (asked_fraction request k)
+pub no_sign_at : (request : Request) (k : ℕ) → Same (absolute (asked_fraction request k)) (asked_fraction request k)
 no_sign_at request k = unsigned_is request (standing request k)
 
 pub asked_is : (request : Request) (f : Frac) (k : ℕ) → Same (fraction f) (asked_fraction request k) → f ≡ lowest_terms (asked_fraction request k)
-asked_is request f k h = lowest_terms_is f (asked_fraction request k) (no_sign request f (standing request k) h)
+asked_is request f k h = same-lowest_terms f (asked_fraction request k) (no_sign request f (standing request k) h)
 
 -- ---- the sum of a column stays small
 
@@ -83,9 +82,6 @@ all_chosen f g [] (suc n) e = absurd (omega arith)
 all_chosen f g (k ∷ us) zero e = absurd (omega arith)
 all_chosen f g (k ∷ us) (suc n) e = ap (λ rest. record { value = f k; asked = g k } ∷ rest) (all_chosen f g us n (omega arith))
 
-lowest_positive : (a : Fraction) → 1 ≤ unsigned_abs a.num → 1 ≤ (lowest_terms a).num
-lowest_positive a some = part_positive (unsigned_abs a.num) _ some (IsGcd-greatest_common_divisor (unsigned_abs a.num) a.den).0
-
 fraction_positive : (request : Request) → IsRequest request → (k : ℕ) (stand : Standing) → standing request k ≡ stand → can_be_selected stand ≡ true → 1 ≤ unsigned_abs (fraction_at request stand).num
 fraction_positive request ok k Certain is can = omega arith
 fraction_positive request ok k Never is can = absurd (cc)
@@ -95,7 +91,7 @@ fraction_positive request ok k (Free u) is can =
     mul-pos shape (ok.drawn (omega (arith, l)))
 
 pub asked_positive : (request : Request) → IsRequest request → (k : ℕ) → can_be_selected (standing request k) ≡ true → 1 ≤ (lowest_terms (asked_fraction request k)).num
-asked_positive request ok k can = lowest_positive (asked_fraction request k) (fraction_positive request ok k (standing request k) refl can)
+asked_positive request ok k can = lowest_terms-positive (asked_fraction request k) (fraction_positive request ok k (standing request k) refl can)
 
 -- ---- one after another
 

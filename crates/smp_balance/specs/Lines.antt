@@ -6,7 +6,7 @@ use Rattle.smp_prob.specs.Standings.{standing, asked_fraction}
 use Rattle.smp_frac.specs.declared.signed.Signed.{Signed}
 use Rattle.smp_frac.specs.declared.fractions.Frac.{Frac}
 use Rattle.smp_frac.specs.declared.fractions.Wide.{Wide}
-use Rattle.smp_weights.specs.Arithmetic.{lowest_terms}
+use Rattle.smp_frac.specs.LowestTerms.{lowest_terms}
 use Rattle.smp_weights.specs.Chosen.{Chosen}
 use Rattle.smp_weights.specs.Totals.{estimate_of}
 use Rattle.smp_balance.specs.declared.lines.DrawnStratum as code

@@ -3,7 +3,7 @@
 ghost use Rattle.std.specs.Prelude.{◌≡◌, ◌++◌, ◌<◌, IfOk, OnOk, length, string_bytes};
 ghost use Rattle.smp_prob.specs.Requests.{IsRequest};
 ghost use Rattle.smp_prob.specs.Standings.{IsRising, asked_fraction};
-ghost use Rattle.smp_weights.specs.Arithmetic.{lowest_terms};
+ghost use Rattle.smp_frac.specs.LowestTerms.{lowest_terms};
 ghost use Rattle.smp_balance.specs.Strata.{value_in};
 ghost use Rattle.smp_balance.specs.Totals.{known_value};
 ghost use Rattle.smp_balance.specs.Lines as Lines;

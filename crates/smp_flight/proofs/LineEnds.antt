@@ -12,9 +12,9 @@ use Rattle.smp_fractions.specs.Fractions.{Same, over}
 use Rattle.smp_fractions.proofs.Fractions.{cancel, same_trans}
 use Rattle.smp_fractions.proofs.Over.{over_same}
 use Rattle.smp_frac.specs.Divisors.{greatest_common_divisor}
-use Rattle.smp_frac.proofs.Gcds.{IsGcd-greatest_common_divisor}
-use Rattle.smp_frac.proofs.Coprime.{coprime_parts, divisor_positive, part_positive}
-use Rattle.smp_frac.proofs.Lowest.{same_value}
+use Rattle.smp_frac.specs.Laws.Gcds.{IsGcd-greatest_common_divisor}
+use Rattle.smp_frac.specs.Laws.Coprime.{coprime_parts, divisor_positive, part_positive}
+use Rattle.smp_frac.specs.Laws.Lowest.{same_value}
 use Rattle.smp_kernel.specs.Vectors.{entry}
 use Rattle.smp_kernel.proofs.Primitive.{dvd_of_primitive, one_from_le}
 use Rattle.smp_values.specs.Values.{is_fractional}

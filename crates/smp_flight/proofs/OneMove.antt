@@ -8,7 +8,7 @@ use Rattle.std.specs.Int.{IsGcd}
 use Prim.Native.Nat.{◌∣◌}
 use Rattle.smp_fractions.specs.Fractions.{Same, AtMost, whole, times}
 use Rattle.smp_fractions.proofs.Fractions.{cancel, same_sym, same_trans}
-use Rattle.smp_frac.proofs.Coprime.{dvd_of_coprime}
+use Rattle.smp_frac.specs.Laws.Coprime.{dvd_of_coprime}
 use Rattle.smp_kernel.specs.Elimination.{cut}
 use Rattle.smp_kernel.specs.Reduced.{IsReduced}
 use Rattle.smp_kernel.specs.Searches.{Search, found, none, too_wide}

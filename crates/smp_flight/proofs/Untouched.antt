@@ -6,7 +6,7 @@ use Rattle.std.proofs.lemmas.Nat.Gcd.{dvd_refl, dvd_trans, dvd_antisymm}
 use Rattle.std.proofs.Math.Nat.{dvd-mul_left, mul-div_cancel_left}
 use Prim.Native.Nat.{◌∣◌}
 use Rattle.smp_frac.specs.Divisors.{greatest_common_divisor}
-use Rattle.smp_frac.proofs.Gcds.{IsGcd-greatest_common_divisor}
+use Rattle.smp_frac.specs.Laws.Gcds.{IsGcd-greatest_common_divisor}
 use Rattle.smp_flight.specs.declared.reaches.Reach.{Reach}
 use Rattle.smp_flight.specs.Moves.{Line, IsLine, entry_of}
 use Rattle.smp_flight.specs.declared.ends.End.{End}

@@ -1,7 +1,5 @@
 pub mod Contents
-pub mod Coprime
-pub mod Gcds
-pub mod Lowest
+pub mod LowestTerms
 pub mod Orders
 pub mod Products
 pub mod Sums

@@ -5,9 +5,9 @@ use Rattle.std.proofs.lemmas.Nat.Gcd.{IsGcd-swap}
 use Rattle.std.proofs.Math.Nat.{mul-div_cancel', mul-div_cancel_left}
 use Rattle.smp_frac.specs.declared.fractions.Frac.{Frac}
 use Rattle.smp_frac.specs.Divisors.{greatest_common_divisor}
-use Rattle.smp_frac.proofs.Gcds.{greatest_from_IsGcd}
-use Rattle.smp_frac.proofs.Coprime.{coprime_divisors, coprime_product, coprime_parts, quotient_divides, part_positive, divisor_positive, IsGcd-times}
-use Rattle.smp_frac.proofs.Lowest.{lowest_from_coprime, coprime_from_lowest, same_value}
+use Rattle.smp_frac.specs.Laws.Gcds.{greatest_from_IsGcd}
+use Rattle.smp_frac.specs.Laws.Coprime.{coprime_divisors, coprime_product, coprime_parts, quotient_divides, part_positive, divisor_positive, IsGcd-times}
+use Rattle.smp_frac.specs.Laws.Lowest.{lowest_from_coprime, coprime_from_lowest, same_value}
 
 -- g is what a and d have in common, and h what c and b have
 module _ (a b c d g h : ℕ) (pb : 1 ≤ b) (pd : 1 ≤ d) (ab : IsGcd a b 1) (cd : IsGcd c d 1) (ad : IsGcd a d g) (cb : IsGcd c b h) where

@@ -5,8 +5,8 @@ use Rattle.std.proofs.lemmas.Bool.{cases_lt}
 use Rattle.std.proofs.lemmas.Nat.Gcd.{IsGcd-swap}
 use Rattle.std.proofs.Math.Nat.{mul-div_cancel', dvd-add}
 use Prim.Native.Nat.{◌∣◌}
-use Rattle.smp_frac.proofs.Coprime.{terms_apart, dvd_first, dvd_second}
-use Rattle.smp_frac.proofs.Lowest.{same_value}
+use Rattle.smp_frac.specs.Laws.Coprime.{terms_apart, dvd_first, dvd_second}
+use Rattle.smp_frac.specs.Laws.Lowest.{same_value}
 
 -- the numerator of a sum has no divisor in common with what the denominators have beside their own
 pub sum_apart : (a b c d g : ℕ) → 1 ≤ d → IsGcd a b 1 → IsGcd b d g → IsGcd (a * (d / g) + c * (b / g)) (b / g) 1

@@ -10,9 +10,9 @@ use Rattle.smp_fractions.proofs.Fractions.{cancel}
 use Rattle.smp_frac.specs.declared.fractions.Frac.{Frac}
 use Rattle.smp_frac.specs.Divisors.{greatest_common_divisor}
 use Rattle.smp_frac.specs.Fractions.{lowest_text, fraction_text}
-use Rattle.smp_frac.proofs.Coprime.{divisor_positive, part_positive}
-use Rattle.smp_frac.proofs.Gcds.{IsGcd-greatest_common_divisor}
-use Rattle.smp_frac.proofs.Lowest.{lowest_parts}
+use Rattle.smp_frac.specs.Laws.Coprime.{divisor_positive, part_positive}
+use Rattle.smp_frac.specs.Laws.Gcds.{IsGcd-greatest_common_divisor}
+use Rattle.smp_frac.specs.Laws.Lowest.{lowest_parts}
 use Rattle.smp_frac.proofs.Unique.{same_fraction}
 
 -- n over d in lowest terms

@@ -13,8 +13,8 @@ use Rattle.smp_frac.specs.declared.fractions.Frac.{Frac}
 use Rattle.smp_fractions.specs.Fractions.{Same}
 use Rattle.smp_frac.specs.Divisors.{greatest_common_divisor}
 use Rattle.smp_frac.specs.Fractions.{fraction}
-use Rattle.smp_frac.proofs.Coprime.{dvd_of_coprime}
-use Rattle.smp_frac.proofs.Lowest.{coprime_from_lowest}
+use Rattle.smp_frac.specs.Laws.Coprime.{dvd_of_coprime}
+use Rattle.smp_frac.specs.Laws.Lowest.{coprime_from_lowest}
 use Rattle.std.specs.Int.{IsGcd}
 
 abbrev lowest : (n d : ℕ) → 1 ≤ d → greatest_common_divisor n d ≡ 1 → Frac

@@ -28,6 +28,7 @@ pub struct Frac {
 
 impl Frac {
     ghost use Rattle.smp_frac.specs.Fractions.{fraction, fraction_text, sum_size, product_size};
+    ghost use Rattle.smp_frac.specs.LowestTerms.{lowest_terms};
 
     /// The fraction `num/den` in lowest terms, or `None` where `den` is 0.
     pub fn new(num: u128, den: u128) -> Option<Frac>
@@ -37,11 +38,20 @@ impl Frac {
         if den == 0 {
             return None;
         }
+        Some(Frac::over(num, den))
+    }
+
+    /// The fraction `num/den` in lowest terms.
+    pub fn over(num: u128, den: u128) -> Frac
+        requires { 1 ≤ den }
+        ensures lowest { result ≡ lowest_terms (over num den) }
+        ensures value { Same (fraction result) (over num den) }
+    {
         let divisor = gcd(num, den);
-        Some(Frac {
+        Frac {
             num: num / divisor,
             den: den / divisor,
-        })
+        }
     }
 
     /// The numerator.

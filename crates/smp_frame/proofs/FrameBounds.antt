@@ -8,7 +8,8 @@ use Rattle.std.proofs.lemmas.List.{get_or-map}
 use Rattle.std.proofs.lemmas.List.Elements.{All-cons, All-map}
 use Rattle.smp_lines.specs.Decimals.{is_decimal}
 use Rattle.smp_frame.specs.Limits.{max_rows, number_limit}
-use Rattle.smp_frame.specs.LowestTerms.{lowest_terms}
+use Rattle.smp_fractions.specs.Fractions.{over, whole}
+use Rattle.smp_frac.specs.LowestTerms.{lowest_terms}
 use Rattle.smp_faults.specs.Steps.{◌>>=◌, guard}
 use Rattle.smp_frame.specs.Records.{field, records_of}
 use Rattle.smp_frame.specs.Fields.{size_of, size_in, sides_of, prob_of, prob_in, is_minus, without_minus, field_value, values_in}
@@ -24,7 +25,7 @@ use Rattle.smp_frame.specs.declared.layout.Layout.{Layout}
 use Rattle.smp_frame.specs.declared.frame.Unit as unit
 use Rattle.smp_frame.specs.declared.fault.FrameFault.{FrameFault}
 use Rattle.smp_frame.specs.declared.fault.FrameFault.TheVariants.{RowLength, NotText, RepeatedId}
-use Rattle.smp_frame.proofs.LowestTerms.{lowest_terms-at_most_one, lowest_terms-den}
+use Rattle.smp_frac.proofs.LowestTerms.{lowest_terms-at_most_one, lowest_terms-den}
 
 -- a reading that has no fault, and the reading before it
 record GoesOn {A B : Type 0} (next : A → Result B FrameFault) (reading : Result A FrameFault) (y : B) : Type 0 where
@@ -47,7 +48,7 @@ passes false fault next y h = absurd (cc h)
 ok_is : {A : Type 0} (x y : A) → ◌≡◌ {A = Result A FrameFault} (Ok x) (Ok y) → x ≡ y
 ok_is x y h = cc h
 
-terms_are_probability : (n d : ℕ) → 0 < d → n ≤ d → d < number_limit → IsProbability (lowest_terms n d)
+terms_are_probability : (n d : ℕ) → 0 < d → n ≤ d → d < number_limit → IsProbability (lowest_terms (over n d))
 terms_are_probability n d some le small =
     record { at_most_one = lowest_terms-at_most_one n d le; small = omega (arith, small, lowest_terms-den n d some) }
 
@@ -176,7 +177,7 @@ units_are_small layout number ids (row ∷ rows) units within h =
     })
 
 no_unit : unit.Unit
-no_unit = record { id = []; stratum = []; psu = []; size = 0; second_size = 0; prob = lowest_terms 0 1; values = [] }
+no_unit = record { id = []; stratum = []; psu = []; size = 0; second_size = 0; prob = lowest_terms (whole 0); values = [] }
 
 -- a frame, with so many values for each unit
 record IsCounted (count : ℕ) (units : List unit.Unit) : Type 0 where

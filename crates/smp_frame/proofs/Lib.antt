@@ -1,7 +1,6 @@
 pub mod FrameBounds
 pub mod Front
 pub mod Ids
-pub mod LowestTerms
 pub mod Machine
 pub mod Marks
 pub mod NextUnit

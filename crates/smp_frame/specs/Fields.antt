@@ -5,7 +5,8 @@ use Rattle.smp_lines.specs.Cuts.{cut_at}
 use Rattle.smp_lines.specs.Decimals.{is_decimal}
 use Rattle.smp_frac.specs.declared.fractions.Frac.{Frac}
 use Rattle.smp_frame.specs.Limits.{number_limit}
-use Rattle.smp_frame.specs.LowestTerms.{lowest_terms}
+use Rattle.smp_fractions.specs.Fractions.{over}
+use Rattle.smp_frac.specs.LowestTerms.{lowest_terms}
 use Rattle.smp_faults.specs.Steps.{◌>>=◌, guard}
 use Rattle.smp_frame.specs.Records.{field}
 use Rattle.smp_frame.specs.declared.layout.Column.{Column}
@@ -42,11 +43,11 @@ prob_of number name text = do
   _ ← guard (is_decimal sides.0 && is_decimal sides.1) (NotFraction number name)
   _ ← guard (nat_lt num number_limit && nat_lt den number_limit) (TooLarge number name)
   _ ← guard (nat_lt 0 den && nat_le num den) (NotProbability number name)
-  Ok (lowest_terms num den)
+  Ok (lowest_terms (over num den))
 
 -- the probability in an asked column, or 1
 abbrev pub prob_in : ℕ → List (List ℕ) → Option Column → Result Frac FrameFault
-prob_in number row None = Ok (lowest_terms 1 1)
+prob_in number row None = Ok (lowest_terms (over 1 1))
 prob_in number row (Some column) = prob_of number column.name (field row column.place)
 
 -- whether a minus, the byte 45, stands in front

@@ -3,7 +3,6 @@ pub mod Fields
 pub mod Frames
 pub mod Layouts
 pub mod Limits
-pub mod LowestTerms
 pub mod Faults
 pub mod Records
 pub mod Kept

@@ -1,13 +1,12 @@
 //! What the fields of a row write.
 
-ghost use Rattle.std.specs.Prelude.{◌≡◌, ◌<◌, ◌≤◌, IfOk, true};
+ghost use Rattle.std.specs.Prelude.{◌≡◌, ◌<◌, IfOk, true};
 ghost use Rattle.std.specs.List.{list_all};
 ghost use Rattle.std.specs.Str.{is_utf8};
 ghost use Rattle.csv.specs.Records.{fields_of};
 ghost use Rattle.smp_lines.specs.Decimals.{number_below};
 ghost use Rattle.smp_frame.specs.Fields;
 ghost use Rattle.smp_frame.specs.Limits.{number_limit};
-ghost use Rattle.smp_frame.specs.LowestTerms.{lowest_terms};
 ghost use Rattle.smp_faults.specs.Memory.{Reads};
 ghost use Rattle.smp_frame.specs.Faults.{is_memory};
 
@@ -62,7 +61,7 @@ pub(crate) fn prob_in(
 {
     match column {
         Some(column) => prob_of(alloc, number, &column.name, field(row, column.place)),
-        None => Ok(lowest(1, 1)),
+        None => Ok(Frac::over(1, 1)),
     }
 }
 
@@ -125,7 +124,7 @@ fn prob_of(alloc: Global, row: u64, name: &Text, text: &[u8]) -> Result<Frac, Fr
             column: name.copy(alloc)?,
         });
     }
-    Ok(lowest(num, den))
+    Ok(Frac::over(num, den))
 }
 
 // The texts on both sides of the first slash. A text without a slash stands over 1.
@@ -145,17 +144,6 @@ fn small_number(text: &[u8]) -> Option<u128>
     match number(text) {
         Some(value) if value <= MAX_NUMBER => Some(value),
         _ => None,
-    }
-}
-
-// The fraction in lowest terms.
-fn lowest(num: u128, den: u128) -> Frac
-    requires { 1 ≤ den }
-    ensures { result ≡ lowest_terms num den }
-{
-    match Frac::new(num, den) {
-        Some(fraction) => fraction,
-        None => unreachable!(),
     }
 }
 

@@ -14,7 +14,7 @@ use Rattle.smp_kernel.specs.Vectors.{entry, IsZero, IsPrimitive, Within}
 use Rattle.std.proofs.Math.Nat.{dvd-zero, dvd-mul_left, pos_of_dvd_of_pos}
 use Rattle.std.proofs.lemmas.Nat.Gcd.{dvd_trans}
 use Rattle.smp_frac.specs.Divisors.{IsContent, IsContentOfFirst, greatest_common_divisor}
-use Rattle.smp_frac.proofs.Gcds.{IsGcd-greatest_common_divisor}
+use Rattle.smp_frac.specs.Laws.Gcds.{IsGcd-greatest_common_divisor}
 use Rattle.smp_frac.proofs.Contents.{content_more}
 use Rattle.smp_kernel.specs.Reduced.{IsReduced, IsTooLong, content_of_first, primitive_part, quotients}
 use lib.IntN.{*ℤ-zero}

@@ -11,7 +11,7 @@ use Rattle.smp_fractions.proofs.Integers.{diff-same, diffs}
 use Rattle.smp_fractions.proofs.Over.{zero-over, over_from_cross, cross_from_over}
 use Rattle.smp_frac.specs.declared.fractions.Frac.{Frac}
 use Rattle.smp_frac.specs.Fractions.{fraction}
-use Rattle.smp_frac.proofs.Lowest.{lowest_from_coprime}
+use Rattle.smp_frac.specs.Laws.Lowest.{lowest_from_coprime}
 use Rattle.smp_frac.proofs.Unique.{same_frac}
 use Rattle.smp_prob.specs.Given.{IsWholeNumber, common_multiple, numerator_over, given_fraction, expected_size}
 use Rattle.smp_prob.proofs.Multiples.{common_multiple_positive, denominators_divide}

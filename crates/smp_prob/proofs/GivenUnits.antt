@@ -12,7 +12,7 @@ use Rattle.smp_fractions.specs.Fractions.{Same, whole, over}
 use Rattle.smp_fractions.proofs.Fractions.{cancel, same_sym, same_trans}
 use Rattle.smp_fractions.proofs.Over.{over_one, over_zero, over_same}
 use Rattle.smp_frac.specs.declared.fractions.Frac.{Frac}
-use Rattle.smp_frac.proofs.Coprime.{dvd_second}
+use Rattle.smp_frac.specs.Laws.Coprime.{dvd_second}
 use Rattle.smp_prob.specs.declared.requests.Request.{Request}
 use Rattle.smp_prob.specs.Given.{AreGiven, IsWholeNumber, common_multiple, draws, expected_size, free_numerators, given_fraction, given_of, has_whole_sum, is_certain, is_free, largest_multiple, most_units, numerator_over}
 use Rattle.smp_prob.specs.Kept.Numerators.{full, between, over_of}

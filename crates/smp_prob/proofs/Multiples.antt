@@ -9,8 +9,8 @@ use Rattle.std.proofs.Math.Nat.{one-dvd}
 use Prim.Native.Nat.{◌∣◌}
 use Rattle.smp_frac.specs.declared.fractions.Frac.{Frac}
 use Rattle.smp_frac.specs.Divisors.{greatest_common_divisor, IsCommonMultiple, IsLeastMultiple}
-use Rattle.smp_frac.proofs.Coprime.{IsLeastMultiple-from_gcd}
-use Rattle.smp_frac.proofs.Gcds.{IsGcd-greatest_common_divisor}
+use Rattle.smp_frac.specs.Laws.Coprime.{IsLeastMultiple-from_gcd}
+use Rattle.smp_frac.specs.Laws.Gcds.{IsGcd-greatest_common_divisor}
 use Rattle.smp_prob.specs.Given.{IsLeastMultipleOf, least_multiple, common_multiple}
 
 IsLeastMultiple-least_multiple : (a b : ℕ) → 1 ≤ a → 1 ≤ b → IsLeastMultiple a b (least_multiple a b)

@@ -8,7 +8,7 @@ use Rattle.smp_fractions.specs.Fractions.{Same, over}
 use Rattle.smp_fractions.proofs.Over.{over_from_cross}
 use Rattle.smp_frac.specs.declared.fractions.Frac.{Frac}
 use Rattle.smp_frac.specs.Fractions.{fraction}
-use Rattle.smp_frac.proofs.Coprime.{part_positive}
+use Rattle.smp_frac.specs.Laws.Coprime.{part_positive}
 use Rattle.smp_prob.specs.Requested.{places}
 use Rattle.smp_prob.specs.Given.{is_certain, is_free, numerator_over}
 

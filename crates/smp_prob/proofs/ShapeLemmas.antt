@@ -8,7 +8,7 @@ use Rattle.std.proofs.lemmas.List.Sums.{sum_by-cons, sum_by-le}
 use Rattle.std.proofs.lemmas.Nat.Gcd.{dvd_refl, dvd_trans}
 use Prim.Native.Nat.{◌∣◌}
 use Rattle.smp_frac.specs.Divisors.{greatest_common_divisor}
-use Rattle.smp_frac.proofs.Gcds.{IsGcd-greatest_common_divisor}
+use Rattle.smp_frac.specs.Laws.Gcds.{IsGcd-greatest_common_divisor}
 use Rattle.smp_prob.specs.Shapes.{size_divisor, shape_of}
 
 -- the greatest common divisor of d and all sizes divides d

@@ -113,24 +113,13 @@ impl Request {
         ensures { Same (fraction result) (asked_fraction self.now unit) }
     {
         match self.standing(unit) {
-            Standing::Certain => lowest(1, 1),
+            Standing::Certain => Frac::over(1, 1),
             Standing::Free(place) => {
                 let shape = self.shape.as_slice()[place] as u128;
-                lowest(shape * self.r as u128, self.total as u128)
+                Frac::over(shape * self.r as u128, self.total as u128)
             }
-            Standing::Never => lowest(0, 1),
+            Standing::Never => Frac::over(0, 1),
         }
-    }
-}
-
-// The fraction in lowest terms.
-fn lowest(num: u128, den: u128) -> Frac
-    requires { 1 ≤ den }
-    ensures { Same (fraction result) (over num den) }
-{
-    match Frac::new(num, den) {
-        Some(fraction) => fraction,
-        None => unreachable!(),
     }
 }
 

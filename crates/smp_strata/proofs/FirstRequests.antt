@@ -1,6 +1,6 @@
 -- The request over the first stage units of a stratum.
 use Rattle.std.proofs.Common.{◌≡◌, ℕ, zero, suc, ◌+◌, ◌*◌, ◌<◌, ◌≤◌, ◌==◌, max, pos, true, false, not, Bool, List, [], ◌∷◌, length, map, filter, get_or, true≢false, nat_lt, Option, Some, None, inl, inr, arith, refl, sym, ap, subst, ◌∙◌}
-use Rattle.std.specs.Prelude.{All, IsSome, IsTrue, OnSome, unsigned_abs}
+use Rattle.std.specs.Prelude.{All, IsSome, IsTrue, OnSome}
 use Rattle.std.specs.List.{list_any}
 use Rattle.std.specs.Str.{bytes_eq}
 use Rattle.std.proofs.lemmas.Bool.{cases_Bool, eqb-true, ltb-false}
@@ -8,15 +8,16 @@ use Rattle.std.proofs.lemmas.List.{get_or-map, length-map}
 use Rattle.std.proofs.lemmas.List.Folds.{list_any_at}
 use Rattle.std.proofs.lemmas.List.Elements.{All-filter, All-map}
 use Rattle.std.proofs.lemmas.List.Sums.{count_by-le-length, length-filter}
-use Rattle.smp_fractions.specs.Fractions.{Fraction, Same, over, sum_below, whole}
+use Rattle.smp_fractions.specs.Bounds.{absolute}
+use Rattle.smp_fractions.specs.Fractions.{Fraction, Same, sum_below, whole}
 use Rattle.smp_fractions.proofs.Fractions.{same_sym, same_trans}
 use Rattle.smp_frac.specs.declared.fractions.Frac.{Frac}
 use Rattle.smp_frac.specs.Fractions.{fraction}
 use Rattle.smp_frac.proofs.Unique.{same_frac}
 use Rattle.smp_frame.specs.Bounds.{IsFrame}
 use Rattle.smp_frame.specs.Limits.{max_rows}
-use Rattle.smp_frame.specs.LowestTerms.{lowest_terms}
-use Rattle.smp_frame.proofs.LowestTerms.{lowest_terms-value}
+use Rattle.smp_frac.specs.LowestTerms.{lowest_terms}
+use Rattle.smp_frac.proofs.LowestTerms.{lowest_terms-value}
 use Rattle.smp_prob.specs.Given.{AreGiven, IsWholeNumber, common_multiple, expected_size, given_fraction, largest_multiple}
 use Rattle.smp_design.specs.Bounds.{HasOnlyProbabilities, IsDesign}
 use Rattle.smp_design.specs.Words.{row}
@@ -112,11 +113,8 @@ module _ (probs : List Frac) where
     where
       by_num : nonneg size → Same (fraction (sum_of probs)) size
       by_num (n, is) =
-          let terms : Same (fraction (lowest_terms n size.den)) (over n size.den) = lowest_terms-value n size.den in
-          let one : max 1 size.den ≡ size.den = (let some = size.positive in omega (arith, some)) in
-          let value : Same (over n size.den) size = record { cross = rw (is, one) refl } in
-          let terms_are : lowest_terms n size.den ≡ sum_of probs = ap (λ z. lowest_terms (unsigned_abs z) size.den) (sym is) in
-          subst (λ f. Same (fraction f) size) terms_are (same_trans terms value)
+          let plain : Same (absolute size) size = record { cross = rw is refl } in
+          same_trans (lowest_terms-value size) plain
 
   pub sum_is : (f : Frac) → Same (fraction f) size → f ≡ sum_of probs
   sum_is f same = same_frac f (sum_of probs) (same_trans same (same_sym sum_of-value))
@@ -181,7 +179,7 @@ module _ (design : Design) (units : List unit.Unit) where
         few = omega (arith, few, length-map cs (λ g. prob_at units (first_row g)));
         at_most_one = All-map (λ (f : Frac). f.num ≤ f.den) (λ g. prob_at units (first_row g)) cs
             (λ j d l. (let here : first_row (get_or cs j d) < length units = (own j d l).within 0 0 (omega (arith, (own j d l).some)) in
-            (frame.probabilities (first_row (get_or cs j d)) (lowest_terms 1 1) (omega (arith, here, length-map units (λ (u : unit.Unit). u.prob)))).at_most_one));
+            (frame.probabilities (first_row (get_or cs j d)) (lowest_terms (whole 1)) (omega (arith, here, length-map units (λ (u : unit.Unit). u.prob)))).at_most_one));
       }
 
   module _ (is : IsServed design units) where

@@ -10,7 +10,8 @@ use Rattle.std.proofs.lemmas.List.FromFn.{get_or-map-range_with_len, length-map-
 use Rattle.smp_frame.specs.Limits.{max_rows}
 use Rattle.smp_frac.specs.declared.fractions.Frac.{Frac}
 use Rattle.smp_frame.specs.Bounds.{IsFrame}
-use Rattle.smp_frame.specs.LowestTerms.{lowest_terms}
+use Rattle.smp_fractions.specs.Fractions.{whole}
+use Rattle.smp_frac.specs.LowestTerms.{lowest_terms}
 use Rattle.smp_prob.specs.Given.{AreGiven, common_multiple, largest_multiple}
 use Rattle.smp_design.specs.declared.design.Second as second
 use Rattle.smp_design.specs.declared.design.Design.{Design}
@@ -165,5 +166,5 @@ are_given units clustered group frame rows few within = record {
       (λ k d l. (let cluster : ℕ = get_or group k d in
       let own : AreRows (length units) (get_or clustered cluster []) = rows cluster [] (within k d l) in
       let here : first_row (get_or clustered cluster []) < length units = own.within 0 0 (omega (arith, own.some)) in
-      (frame.probabilities (first_row (get_or clustered cluster [])) (lowest_terms 1 1) (omega (arith, here, length-map units (λ (u : unit.Unit). u.prob)))).at_most_one));
+      (frame.probabilities (first_row (get_or clustered cluster [])) (lowest_terms (whole 1)) (omega (arith, here, length-map units (λ (u : unit.Unit). u.prob)))).at_most_one));
 }

@@ -1,8 +1,8 @@
 -- Why a frame doesn't serve a design: the first misfit, in the order of their kinds.
-use Rattle.std.specs.Prelude.{◌≡◌, ℕ, nat_lt, nat_eq, ◌==◌, ◌&&◌, not, unsigned_abs, Bool, if◌then◌else◌, List, [], ◌∷◌, Option, Some, None, Result, Ok, Err, length, ⊤}
+use Rattle.std.specs.Prelude.{◌≡◌, ℕ, nat_lt, nat_eq, ◌==◌, ◌&&◌, not, Bool, if◌then◌else◌, List, [], ◌∷◌, Option, Some, None, Result, Ok, Err, length, ⊤}
 use Rattle.std.specs.List.{list_any, range_with_len}
 use Rattle.std.specs.Str.{bytes_eq}
-use Rattle.smp_frame.specs.LowestTerms.{lowest_terms}
+use Rattle.smp_frac.specs.LowestTerms.{lowest_terms}
 use Rattle.smp_frac.specs.declared.fractions.Frac.{Frac}
 use Rattle.smp_prob.specs.Requested.{positive_units}
 use Rattle.smp_prob.specs.Given.{common_multiple, expected_size, largest_multiple}
@@ -100,7 +100,7 @@ denominator design units =
 
 -- the sum of probabilities in lowest terms
 abbrev pub sum_of : List Frac → Frac
-sum_of probs = let sum = expected_size probs in lowest_terms (unsigned_abs sum.num) sum.den
+sum_of probs = lowest_terms (expected_size probs)
 
 -- probabilities that don't add up to a whole number
 abbrev pub unwhole : List ℕ → Frac → Option Misfit

@@ -1,7 +1,8 @@
 -- The rows of a frame by their numbers, of which the first is 0: what stands in a row, and the sums over some rows.
 use Rattle.std.specs.Prelude.{ℕ, ◌^◌, ℤ, pos, ◌+ℤ◌, nat_abs, nat_le, ◌||◌, Bool, List, [], length, map, fold, sum_by, slice_index, slice_index_or}
 use Rattle.std.specs.List.{list_any, range_with_len}
-use Rattle.smp_frame.specs.LowestTerms.{lowest_terms}
+use Rattle.smp_fractions.specs.Fractions.{whole}
+use Rattle.smp_frac.specs.LowestTerms.{lowest_terms}
 use Rattle.smp_frac.specs.declared.fractions.Frac.{Frac}
 use Rattle.smp_frame.specs.declared.frame.Unit as unit
 use Rattle.smp_frame.specs.Bounds.{probs_of, sizes_of, second_sizes_of}
@@ -27,7 +28,7 @@ second_size_at units row = slice_index (second_sizes_of units) row
 
 -- its probability, where the frame has a column of these
 abbrev pub prob_at : List unit.Unit → ℕ → Frac
-prob_at units row = slice_index_or (probs_of units) row (lowest_terms 1 1)
+prob_at units row = slice_index_or (probs_of units) row (lowest_terms (whole 1))
 
 -- its value in a column of values
 abbrev pub value_at : List unit.Unit → ℕ → ℕ → ℤ

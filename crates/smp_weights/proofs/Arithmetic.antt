@@ -4,33 +4,18 @@ use Rattle.std.proofs.Props.{props}
 use Rattle.std.proofs.lemmas.Bool.{cases_Bool, lt-ltb, le-ltb}
 use Rattle.std.proofs.lemmas.Int.{ints}
 use Rattle.std.proofs.lemmas.Result.{IfOk-weaker}
-use Rattle.std.specs.Prelude.{unsigned_abs, if◌then◌else◌}
+use Rattle.std.specs.Prelude.{if◌then◌else◌}
 use Rattle.smp_fractions.specs.Fractions.{Fraction, Same, plus, minus, times, positive_product}
-use Rattle.smp_fractions.proofs.Fractions.{same_sym, same_trans}
 use Rattle.smp_frac.specs.declared.fractions.Frac.{Frac}
 use Rattle.smp_frac.specs.declared.fractions.Wide.{Wide}
 use Rattle.smp_frac.specs.declared.signed.Signed.{Signed}
 use Rattle.smp_frac.specs.Fractions.{fraction, signed_fraction, product_size, sum_size, difference_size}
-use Rattle.smp_frac.proofs.Gcds.{IsGcd-greatest_common_divisor}
-use Rattle.smp_frac.proofs.Lowest.{same_value}
-use Rattle.smp_frac.proofs.Unique.{same_frac}
-use Rattle.smp_weights.specs.Arithmetic.{lowest_terms, signed_lowest_terms, within_limit, product_of, sum_of, difference_of}
-use Rattle.smp_weights.specs.Divided.{not_negative}
-
--- ---- lowest terms
-
--- a fraction without its sign
-abbrev pub unsigned : Fraction → Fraction
-unsigned a = record { num = pos (unsigned_abs a.num); den = a.den; positive = a.positive }
-
-pub lowest_terms_value : (a : Fraction) → Same (fraction (lowest_terms a)) (unsigned a)
-lowest_terms_value a =
-    let divides = IsGcd-greatest_common_divisor (unsigned_abs a.num) a.den in
-    record { cross = ap pos (same_value (unsigned_abs a.num) a.den _ divides.0 divides.1) }
-
--- a fraction in lowest terms is that of its value
-pub lowest_terms_is : (f : Frac) (a : Fraction) → Same (fraction f) (unsigned a) → f ≡ lowest_terms a
-lowest_terms_is f a same = same_frac f (lowest_terms a) (same_trans same (same_sym (lowest_terms_value a)))
+use Rattle.smp_frac.specs.Laws.Gcds.{IsGcd-greatest_common_divisor}
+use Rattle.smp_frac.specs.Laws.Lowest.{same_value}
+use Rattle.smp_frac.specs.LowestTerms.{lowest_terms}
+use Rattle.smp_frac.proofs.LowestTerms.{lowest_terms-value, same-lowest_terms}
+use Rattle.smp_weights.specs.Arithmetic.{signed_lowest_terms, within_limit, product_of, sum_of, difference_of}
+use Rattle.smp_weights.specs.Signs.{not_negative}
 
 abbrev ratio : (z : ℤ) (d : ℕ) → 1 ≤ d → Fraction
 ratio z d some = record { num = z; den = d; positive = some }
@@ -49,7 +34,8 @@ not_above zero d n e some positive h = absurd (omega (arith, some))
 not_above (suc m) d n e some positive h = omega (arith, ints, h, positive_product (suc m) d some positive)
 
 signed_terms_value : (z : ℤ) (d : ℕ) (some : 1 ≤ d) → Same (signed_fraction (signed_lowest_terms (ratio z d some))) (ratio z d some)
-signed_terms_value (pos n) d some = rw (not_negative n) (lowest_terms_value (ratio (pos n) d some))
+unfolding lowest_terms
+signed_terms_value (pos n) d some = rw (not_negative n) (lowest_terms-value (ratio (pos n) d some))
 signed_terms_value (negsuc n) d some =
     let divides = IsGcd-greatest_common_divisor (suc n) d in
     record { cross = below_zero n d _ _ (same_value (suc n) d _ divides.0 divides.1) }
@@ -79,9 +65,9 @@ by_signs true size sign (pos n) d some same =
     absurd (not_above size.num d n size.den (sign refl) some same.cross)
 by_signs true size sign (negsuc n) d some same =
     let plain : Same (fraction size) (ratio (pos (suc n)) d some) = record { cross = ap pos (both_below size.num d n size.den same.cross) } in
-    same_signed true true refl size _ (lowest_terms_is size (ratio (negsuc n) d some) plain) sign _
+    same_signed true true refl size _ (same-lowest_terms size (ratio (negsuc n) d some) plain) sign _
 by_signs false size sign (pos n) d some same =
-    same_signed false _ (sym (not_negative n)) size _ (lowest_terms_is size (ratio (pos n) d some) same) sign _
+    same_signed false _ (sym (not_negative n)) size _ (same-lowest_terms size (ratio (pos n) d some) same) sign _
 by_signs false size sign (negsuc n) d some same =
     absurd (omega (arith, ints, same.cross, positive_product (suc n) size.den (omega arith) size.positive))
 
@@ -105,21 +91,21 @@ within_limit_holds needed a P h =
 
 pub product_is : (p q : Frac) (r : Result Frac Wide) → IfOk r (λ f. Same (fraction f) (times (fraction p) (fraction q))) → OnOk r (product_size p q < 2 ^ 126) → OnErr r (2 ^ 126 ≤ product_size p q) → r ≡ product_of p q
 product_is p q r value fits wide =
-    limited_is r _ (product_size p q) (2 ^ 126) (IfOk-weaker r _ _ (λ f same. lowest_terms_is f (times (fraction p) (fraction q)) same) value) fits wide
+    limited_is r _ (product_size p q) (2 ^ 126) (IfOk-weaker r _ _ (λ f same. same-lowest_terms f (times (fraction p) (fraction q)) same) value) fits wide
 
 pub sum_is : (p q : Frac) (r : Result Frac Wide) → IfOk r (λ f. Same (fraction f) (plus (fraction p) (fraction q))) → OnOk r (sum_size p q < 2 ^ 126) → OnErr r (2 ^ 126 ≤ sum_size p q) → r ≡ sum_of p q
 sum_is p q r value fits wide =
-    limited_is r _ (sum_size p q) (2 ^ 126) (IfOk-weaker r _ _ (λ f same. lowest_terms_is f (plus (fraction p) (fraction q)) same) value) fits wide
+    limited_is r _ (sum_size p q) (2 ^ 126) (IfOk-weaker r _ _ (λ f same. same-lowest_terms f (plus (fraction p) (fraction q)) same) value) fits wide
 
 pub difference_is : (p q : Frac) (r : Result Signed Wide) → IfOk r (λ d. Same (signed_fraction d) (minus (fraction p) (fraction q))) → OnOk r (difference_size p q < 2 ^ 126) → OnErr r (2 ^ 126 ≤ difference_size p q) → r ≡ difference_of p q
 difference_is p q r value fits wide =
     limited_is r _ (difference_size p q) (2 ^ 126) (IfOk-weaker r _ _ (λ d same. signed_lowest_terms_is d (minus (fraction p) (fraction q)) same) value) fits wide
 
 pub product_value : (p q : Frac) → IfOk (product_of p q) (λ f. Same (fraction f) (times (fraction p) (fraction q)))
-product_value p q = within_limit_holds (product_size p q) _ _ (lowest_terms_value (times (fraction p) (fraction q)))
+product_value p q = within_limit_holds (product_size p q) _ _ (lowest_terms-value (times (fraction p) (fraction q)))
 
 pub sum_value : (p q : Frac) → IfOk (sum_of p q) (λ f. Same (fraction f) (plus (fraction p) (fraction q)))
-sum_value p q = within_limit_holds (sum_size p q) _ _ (lowest_terms_value (plus (fraction p) (fraction q)))
+sum_value p q = within_limit_holds (sum_size p q) _ _ (lowest_terms-value (plus (fraction p) (fraction q)))
 
 pub difference_value : (p q : Frac) → IfOk (difference_of p q) (λ d. Same (signed_fraction d) (minus (fraction p) (fraction q)))
 difference_value p q = within_limit_holds (difference_size p q) _ _ (signed_lowest_terms_value (minus (fraction p) (fraction q)))

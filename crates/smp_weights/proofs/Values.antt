@@ -10,13 +10,15 @@ use Rattle.smp_frac.specs.declared.signed.Signed.{Signed}
 use Rattle.smp_frac.specs.Fractions.{fraction, signed_fraction}
 use Rattle.smp_fractions.specs.Fractions.{Fraction, Same, whole, integer, negated, plus, times}
 use Rattle.smp_fractions.proofs.Fractions.{same_refl, same_sym, same_trans, plus_same, times_same, plus_swap, plus_assoc, plus_left_comm, plus_negated, plus_cancel, plus_minus, plus-zero, zero-plus, zero-times, zero-plus-zero}
-use Rattle.smp_weights.specs.Arithmetic.{lowest_terms, sum_of, difference_of}
+use Rattle.smp_frac.specs.LowestTerms.{lowest_terms}
+use Rattle.smp_weights.specs.Arithmetic.{sum_of, difference_of}
 use Rattle.smp_weights.specs.Chosen.{Chosen, weight}
 use Rattle.smp_weights.specs.Totals as Totals
 use Rattle.smp_faults.specs.Steps.{◌>>=◌}
 use Rattle.smp_weights.specs.Totals.{term_of, with_term, with_terms, total_of, gains, losses, estimate_of}
 use Rattle.smp_weights.specs.Values.{weighted_total}
-use Rattle.smp_weights.proofs.Arithmetic.{lowest_terms_value, product_value, sum_value, difference_value}
+use Rattle.smp_frac.proofs.LowestTerms.{lowest_terms-value}
+use Rattle.smp_weights.proofs.Arithmetic.{product_value, sum_value, difference_value}
 
 -- ---- sums of terms
 
@@ -38,7 +40,7 @@ term_value u =
     let p = lowest_terms (integer u.value) in
     let q = lowest_terms (weight u.asked) in
     IfOk-weaker (term_of u) _ _
-    (λ f same. same_trans same (times_same (lowest_terms_value (integer u.value)) (lowest_terms_value (weight u.asked))))
+    (λ f same. same_trans same (times_same (lowest_terms-value (integer u.value)) (lowest_terms-value (weight u.asked))))
     (product_value p q)
 
 with_term_value : (total : Frac) (u : Chosen ℤ) → IfOk (with_term total u) (λ s. Same (fraction s) (plus (fraction total) (sized u)))
@@ -57,7 +59,7 @@ with_terms_value total (u ∷ us) =
 total_value : (us : List (Chosen ℤ)) → IfOk (total_of us) (λ s. Same (fraction s) (sized_sum us))
 total_value us =
     IfOk-weaker (total_of us) _ _
-    (λ s value. same_trans value (same_trans (plus_same (lowest_terms_value (whole 0)) (same_refl (sized_sum us))) (zero-plus (sized_sum us))))
+    (λ s value. same_trans value (same_trans (plus_same (lowest_terms-value (whole 0)) (same_refl (sized_sum us))) (zero-plus (sized_sum us))))
     (with_terms_value Totals.zero us)
 
 -- the units above zero have the weighted total and what those below it take off

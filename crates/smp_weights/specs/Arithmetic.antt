@@ -1,32 +1,20 @@
 -- Exact arithmetic on fractions in lowest terms.
-use Rattle.std.specs.Prelude.{ℕ, ◌/◌, ◌^◌, nat_lt, if◌then◌else◌, unsigned_abs, Result, Ok, Err}
+use Rattle.std.specs.Prelude.{ℕ, ◌^◌, nat_lt, if◌then◌else◌, Result, Ok, Err}
 use Rattle.std.specs.Int.{is_negative}
 use Rattle.smp_fractions.specs.Fractions.{Fraction, plus, minus, times}
 use Rattle.smp_frac.specs.declared.fractions.Frac.{Frac}
 use Rattle.smp_frac.specs.declared.fractions.Wide.{Wide}
 use Rattle.smp_frac.specs.declared.signed.Signed.{Signed}
-use Rattle.smp_frac.specs.Divisors.{greatest_common_divisor}
 use Rattle.smp_frac.specs.Fractions.{fraction, product_size, sum_size, difference_size}
-use Rattle.smp_weights.specs.Divided.{denominator_positive, parts_lowest, numerator_positive}
+use Rattle.smp_frac.specs.LowestTerms.{lowest_terms}
+use Rattle.smp_weights.specs.Signs.{numerator_positive}
 
--- a fraction in lowest terms, without its sign
-abbrev pub lowest_terms : Fraction → Frac
-lowest_terms a =
-    let size = unsigned_abs a.num in
-    let divisor = greatest_common_divisor size a.den in
-    record {
-      num = size / divisor;
-      den = a.den / divisor;
-      positive = denominator_positive size a.den a.positive;
-      lowest = parts_lowest size a.den a.positive;
-    }
-
--- and with its sign
+-- a fraction in lowest terms with its sign
 abbrev pub signed_lowest_terms : Fraction → Signed
 signed_lowest_terms a = record {
   minus = is_negative a.num;
   size = lowest_terms a;
-  sign = numerator_positive a.num a.den;
+  sign = numerator_positive a.num a.den a.positive;
 }
 
 -- a result, where the greatest number that it needs is below 2^126, and else `Wide`

@@ -1,6 +1,6 @@
 pub mod Arithmetic
 pub mod Chosen
-pub mod Divided
+pub mod Signs
 pub mod Sample
 pub mod Totals
 pub mod Values

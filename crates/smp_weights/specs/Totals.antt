@@ -6,7 +6,8 @@ use Rattle.smp_frac.specs.declared.fractions.Frac.{Frac}
 use Rattle.smp_frac.specs.declared.fractions.Wide.{Wide}
 use Rattle.smp_frac.specs.declared.signed.Signed.{Signed}
 use Rattle.smp_fractions.specs.Fractions.{whole, integer}
-use Rattle.smp_weights.specs.Arithmetic.{lowest_terms, product_of, sum_of, difference_of}
+use Rattle.smp_frac.specs.LowestTerms.{lowest_terms}
+use Rattle.smp_weights.specs.Arithmetic.{product_of, sum_of, difference_of}
 use Rattle.smp_weights.specs.Chosen.{Chosen, weight}
 
 -- the term of a unit: its value, without the sign, times its weight

@@ -4,8 +4,8 @@ use Rattle.smp_fractions.specs.Fractions.{positive_product}
 use Rattle.smp_fractions.proofs.Fractions.{numerator_positive, minus_from_sum, part_minus_sum}
 use Rattle.smp_fractions.proofs.Over.{cross_from_over}
 use Rattle.smp_frac.specs.Fractions.{fraction}
-use Rattle.smp_frac.proofs.Coprime.{part_positive}
-use Rattle.smp_frac.proofs.Lowest.{coprime_from_lowest}
+use Rattle.smp_frac.specs.Laws.Coprime.{part_positive}
+use Rattle.smp_frac.specs.Laws.Lowest.{coprime_from_lowest}
 use Rattle.smp_frac.proofs.Sums.{difference_apart, difference_rest_apart, difference_value, difference_value_below}
 use Rattle.smp_frac.proofs.differences.difference.Goals as goal
 

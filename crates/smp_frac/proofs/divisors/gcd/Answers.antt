@@ -1,5 +1,5 @@
 use Rattle.std.proofs.lemmas.Nat.Gcd.{IsGcd-from_zero, IsGcd-from_mod}
-use Rattle.smp_frac.proofs.Gcds.{greatest_from_IsGcd}
+use Rattle.smp_frac.specs.Laws.Gcds.{greatest_from_IsGcd}
 use Rattle.smp_frac.proofs.divisors.gcd.Goals as goal
 
 pub loop-y-preserved : goal.loop-y-preserved

@@ -1,6 +1,6 @@
 use Rattle.std.proofs.Common.{◌≡◌, ◌≤◌, ℕ, ◌*◌, ◌/◌, arith, sym, subst}
 use Rattle.smp_frac.specs.Divisors.{IsLeastMultiple}
-use Rattle.smp_frac.proofs.Coprime.{divisor_positive, IsLeastMultiple-from_gcd, least_at_most}
+use Rattle.smp_frac.specs.Laws.Coprime.{divisor_positive, IsLeastMultiple-from_gcd, least_at_most}
 use Rattle.smp_frac.proofs.divisors.lcm_within.Goals as goal
 
 pub nonzero_div-a : goal.nonzero_div-a

@@ -3,7 +3,8 @@ use Rattle.smp_fractions.specs.Fractions.{Same, whole, integer}
 use Rattle.smp_frac.specs.Fractions.{fraction}
 use Rattle.smp_weights.specs.Arithmetic.{product_of}
 use Rattle.smp_weights.specs.Chosen.{weight}
-use Rattle.smp_weights.proofs.Arithmetic.{lowest_terms_is, product_is}
+use Rattle.smp_frac.proofs.LowestTerms.{same-lowest_terms}
+use Rattle.smp_weights.proofs.Arithmetic.{product_is}
 use Rattle.smp_weights.proofs.totals.term.Goals as goal
 
 pub returns : goal.returns
@@ -13,4 +14,4 @@ returns c =
     let size : Same (fraction c.unwrap-size.result) (whole (unsigned_abs c.args.value)) =
     subst (λ (n : ℕ). Same (fraction c.unwrap-size.result) (whole n)) value (record { cross = over_one.cross }) in
     product_is c.unwrap-size.result c.weight_of.result c.mul.result c.mul.ensures.value c.mul.ensures.fits c.mul.ensures.wide
-    ∙ ap₂ product_of (lowest_terms_is c.unwrap-size.result (integer c.args.value) size) (lowest_terms_is c.weight_of.result (weight c.args.asked) c.weight_of.ensures)
+    ∙ ap₂ product_of (same-lowest_terms c.unwrap-size.result (integer c.args.value) size) (same-lowest_terms c.weight_of.result (weight c.args.asked) c.weight_of.ensures)

@@ -3,7 +3,7 @@ use Rattle.std.proofs.lemmas.List.{drop_all}
 use mir.Syntax.{w64}
 use Rattle.smp_fractions.specs.Fractions.{whole}
 use Rattle.smp_weights.specs.Totals.{has_sign}
-use Rattle.smp_weights.proofs.Arithmetic.{lowest_terms_is}
+use Rattle.smp_frac.proofs.LowestTerms.{same-lowest_terms}
 use Rattle.smp_weights.proofs.Steps.{is_wide}
 use Rattle.smp_weights.proofs.Counted.{counted, left_out}
 use Rattle.smp_weights.proofs.totals.total.Goals.{then-chosen-place+then-has_sign+in_ok-total, else-chosen-place, else-chosen-place-via-then-chosen-place+else-has_sign, else-chosen-place-via-else-chosen-place}
@@ -12,7 +12,7 @@ use Rattle.smp_weights.proofs.totals.total.Goals as goal
 pub loop-place-init : goal.loop-place-init
 loop-place-init c =
     let none = rw c.unwrap-total.ensures at c.new.ensures.value in
-    rw (lowest_terms_is c.unwrap-total.result (whole 0) (record { cross = none.cross })) refl
+    rw (same-lowest_terms c.unwrap-total.result (whole 0) (record { cross = none.cross })) refl
 
 pub loop-place-preserved : goal.loop-place-preserved
 loop-place-preserved c =

@@ -3,8 +3,8 @@ use Rattle.std.proofs.lemmas.Result.{IfOk-weaker}
 use Rattle.smp_fractions.specs.Fractions.{Same, positive_product, over, plus}
 use Rattle.smp_fractions.proofs.Over.{cross_from_over}
 use Rattle.smp_frac.specs.Fractions.{fraction}
-use Rattle.smp_frac.proofs.Coprime.{part_positive}
-use Rattle.smp_frac.proofs.Lowest.{coprime_from_lowest}
+use Rattle.smp_frac.specs.Laws.Coprime.{part_positive}
+use Rattle.smp_frac.specs.Laws.Lowest.{coprime_from_lowest}
 use Rattle.smp_frac.proofs.Sums.{sum_apart, sum_rest_apart, sum_value}
 use Rattle.smp_frac.proofs.fractions.Frac.add.Goals as goal
 

@@ -5,8 +5,8 @@ use Rattle.std.proofs.lemmas.Nat.Gcd.{dvd_trans}
 use Rattle.std.proofs.Math.Nat.{mul-div_cancel', pos_of_dvd_of_pos}
 use Prim.Native.Nat.{◌∣◌}
 use Rattle.smp_frac.specs.Divisors.{greatest_common_divisor}
-use Rattle.smp_frac.proofs.Gcds.{greatest_from_IsGcd, IsGcd-greatest_common_divisor}
-use Rattle.smp_frac.proofs.Coprime.{coprime_parts, coprime_over, divisor_positive, part_positive}
+use Rattle.smp_frac.specs.Laws.Gcds.{greatest_from_IsGcd, IsGcd-greatest_common_divisor}
+use Rattle.smp_frac.specs.Laws.Coprime.{coprime_parts, coprime_over, divisor_positive, part_positive}
 
 pub lowest_from_coprime : (n d : ℕ) → IsGcd n d 1 → greatest_common_divisor n d ≡ 1
 lowest_from_coprime n d r = sym (greatest_from_IsGcd n d 1 r)
