@@ -10,11 +10,11 @@ use Rattle.smp_fractions.specs.Fractions.{Same, whole}
 use Rattle.smp_split.specs.Trees.{Tree}
 use Rattle.smp_split.proofs.Lenses.{leaves_through}
 use Rattle.smp_fractions.proofs.Fractions.{same_refl}
-use Rattle.smp_rows.specs.Rows.{row_value, rows_tree, Serves, Fills}
+use Rattle.smp_rows.specs.Rows.{row_value, rows_tree, SelectsAsRequested, AddsUpTo}
 use Rattle.smp_rows.specs.Laws.Rows.{free_within, row_view, rows_lens, rows_close}
 
 module _ {State : Type 0} (rows : ℕ) (request : Request) (tree : Tree State) where
-  module _ (state : State) (serves : Serves request tree state) where
+  module _ (state : State) (serves : SelectsAsRequested request tree state) where
     by_standing : (stands : Standing) → ((unit : ℕ) → stands ≡ Free unit → unit < length request.free) → Same (row_value (tree.value state) stands) (fraction_at request stands)
     by_standing Certain within = same_refl (whole 1)
     by_standing (Free unit) within = serves.values unit (within unit refl)
@@ -23,7 +23,7 @@ module _ {State : Type 0} (rows : ℕ) (request : Request) (tree : Tree State) w
     pub value_is_asked : (row : ℕ) → Same (row_value (tree.value state) (standing request row)) (asked_fraction request row)
     value_is_asked row = by_standing (standing request row) (λ unit is. free_within request row unit is)
 
-    pub rows_select : (belongs : State → Type 0) (n : ℕ) → length request.free ≡ tree.units → AddsUp tree request.r state → Fills request rows n → LeavesSelect (rows_tree rows request tree) n state
+    pub rows_select : (belongs : State → Type 0) (n : ℕ) → length request.free ≡ tree.units → AddsUp tree request.r state → AddsUpTo request rows n → LeavesSelect (rows_tree rows request tree) n state
     rows_select belongs n paired adds fills =
         leaves_through tree belongs (rows_tree rows request tree) (λ s. s) (λ row. row_view (standing request row)) (rows_lens rows request tree belongs paired) (rows_close rows request tree belongs)
         (λ leaf. selected_count tree leaf ≡ request.r) (λ leaf. selected_count (rows_tree rows request tree) leaf ≡ n)

@@ -36,10 +36,10 @@ pub record BelongsToRows {State : Type 0} (request : Request) (tree : Tree State
 
 -- The design serves its request from this state on: each free unit has the probability that is requested of it, and where the values add up
 -- to n, each leaf selects n of them.
-pub record Serves {State : Type 0} (request : Request) (tree : Tree State) (state : State) : Type 0 where
+pub record SelectsAsRequested {State : Type 0} (request : Request) (tree : Tree State) (state : State) : Type 0 where
   pub values : (unit : ℕ) → unit < length request.free → Same (tree.value state unit) (free_fraction request unit)
   pub count : (n : ℕ) → AddsUp tree n state → LeavesSelect tree n state
 
 -- where r of the free units are drawn, n rows are selected
-abbrev pub Fills : Request → ℕ → ℕ → Type 0
-Fills request rows n = (drawn : ℕ → Bool) → count_by drawn (range_with_len 0 (length request.free)) ≡ request.r → count_taken request drawn rows ≡ n
+abbrev pub AddsUpTo : Request → ℕ → ℕ → Type 0
+AddsUpTo request rows n = (drawn : ℕ → Bool) → count_by drawn (range_with_len 0 (length request.free)) ≡ request.r → count_taken request drawn rows ≡ n

@@ -2,7 +2,7 @@ ghost use Rattle.std.specs.Prelude.{ℕ, ◌<◌, All};
 ghost use Rattle.smp_split.specs.Counts.{AddsUp, LeavesSelect, LeavesSelectAround};
 ghost use Rattle.smp_fractions.specs.Fractions.{Same};
 ghost use Rattle.smp_split.specs.Means.{inclusion_probability};
-ghost use Rattle.smp_rows.specs.Rows.{rows_tree, BelongsToRows, Serves, Fills};
+ghost use Rattle.smp_rows.specs.Rows.{rows_tree, BelongsToRows, SelectsAsRequested, AddsUpTo};
 ghost use Rattle.smp_prob.specs.Standings.{AreApart, asked_fraction};
 ghost use Rattle.smp_rows.specs.Laws.Rows.{rows_lawful};
 
@@ -28,12 +28,12 @@ impl<'a, D: Splitting> Rows<'a, D> {
     pub fn select_as_asked(&self, state: &D::State)
         requires belongs { BelongsToRows self.now.request.now (D.tree self.now.design)
             (D.belongs self.now.design) state.now }
-        requires serves { Serves self.now.request.now (D.tree self.now.design) state.now }
+        requires serves { SelectsAsRequested self.now.request.now (D.tree self.now.design) state.now }
         ensures probability { (row : ℕ) → row < self.now.rows → Same
             (inclusion_probability (rows_tree self.now.rows self.now.request.now (D.tree self.now.design)) state.now row)
             (asked_fraction self.now.request.now row) }
         ensures count { (n : ℕ) → AddsUp (D.tree self.now.design) self.now.request.now.r state.now →
-            Fills self.now.request.now self.now.rows n →
+            AddsUpTo self.now.request.now self.now.rows n →
             LeavesSelect (rows_tree self.now.rows self.now.request.now (D.tree self.now.design)) n state.now }
         ensures around { AreApart self.now.request.now →
             All (λ unit. unit < self.now.rows) self.now.request.now.free →

@@ -5,7 +5,7 @@ use Rattle.smp_prob.specs.Given.{expected_size}
 use Rattle.smp_prob.specs.Standings.{asked_fraction}
 use Rattle.smp_prob.specs.declared.requests.Request.{Request}
 use Rattle.smp_values.specs.Starts.{IsWhole}
-use Rattle.smp_rows.specs.Rows.{Fills}
+use Rattle.smp_rows.specs.Rows.{AddsUpTo}
 use Rattle.smp_design.specs.declared.design.Design.{Design}
 use Rattle.smp_design.specs.declared.design.Second as second
 use Rattle.smp_frame.specs.declared.frame.Unit as unit
@@ -16,7 +16,7 @@ use Rattle.smp_strata.specs.declared.strata.Stratum as stratum
 -- a request for a whole number of units selects n of so many
 pub record IsFor (request : Request) (units n : ℕ) : Type 0 where
   pub whole : IsWhole request
-  pub fills : Fills request units n
+  pub fills : AddsUpTo request units n
 
 -- the request of a second stage draws the second stage's n of so many rows, where there is a second stage
 abbrev pub SecondDraws : Option second.Second → ℕ → Option Request → Type 0

@@ -4,7 +4,7 @@ use Rattle.std.specs.List.{range_with_len, slice_get}
 use Rattle.smp_split.specs.Counts.{AddsUp}
 use Rattle.smp_values.specs.Starts.{IsWhole}
 use Rattle.smp_design.specs.Words.{row}
-use Rattle.smp_rows.specs.Rows.{Serves}
+use Rattle.smp_rows.specs.Rows.{SelectsAsRequested}
 use Rattle.smp_methods.specs.declared.any.AnyState.{AnyState}
 use Rattle.smp_methods.specs.Designs.{first_state, method_of}
 use Rattle.smp_stages.specs.declared.places.Stage.{Stage}
@@ -35,7 +35,7 @@ first_numbers c =
 pub record StageStarts (s : Selecting) (state : AnyState) : Type 0 where
   pub is : state ≡ first_state s.design
   pub member : belongs_to s state
-  pub serves : Serves s.request (method_of s.design).tree state
+  pub serves : SelectsAsRequested s.request (method_of s.design).tree state
   pub adds_up : IsWhole s.request → AddsUp (method_of s.design).tree s.request.r state
   pub around : SelectsAround s.design state
 
