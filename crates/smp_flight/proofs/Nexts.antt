@@ -1,15 +1,9 @@
 -- The step has the properties of a search and of a move.
-use Rattle.std.proofs.Common.{◌≡◌, ℕ, ◌+◌, ◌*◌, ◌<◌, ◌≤◌, ◌^◌, ◌&&◌, max, Bool, true, false, nat_le, List, ℤ, pos, ◌*ℤ◌, take, length, get_or, arith, refl, sym, ap, ◌∙◌, subst, inl, inr, mul-pos}
-use Rattle.std.specs.List.{list_all}
-use Rattle.std.specs.Int.RustNames.{unsigned_abs}
+use Rattle.std.proofs.Common.{◌≡◌, ℕ, ◌+◌, ◌*◌, ◌<◌, ◌≤◌, ◌^◌, ◌&&◌, Bool, true, false, nat_le, List, ℤ, pos, ◌*ℤ◌, take, length, get_or, arith, refl, sym, ap, ◌∙◌, subst, inl, inr, mul-pos}
 use Rattle.std.proofs.lemmas.Bool.{cases_Bool, and_parts, and_from, leb-true, le-leb, true≢false}
 use Rattle.std.proofs.lemmas.Int.{ints}
 use Rattle.std.proofs.lemmas.List.{length-map, length-take-le, take_all, take-map, take-take}
-use Rattle.std.proofs.lemmas.List.Elements.{All-get_or, All-from_get_or}
-use Rattle.std.proofs.lemmas.List.Sums.{AllPass-from_list_all, list_all-from_AllPass}
 use Rattle.std.proofs.lemmas.Nat.Gcd.{dvd_refl}
-use Rattle.smp_fractions.specs.Fractions.{Same, whole, times}
-use Rattle.smp_fractions.proofs.Fractions.{cancel}
 use Rattle.smp_kernel.specs.Vectors.{entry, IsZero, Within}
 use Rattle.smp_kernel.specs.Elimination.{cut, AreIndependent}
 use Rattle.smp_kernel.specs.Searches.{Search, found, none, too_wide, IsSearch}
@@ -21,15 +15,18 @@ use Rattle.smp_kernel.proofs.Reduce.{primitive_part_is, length-primitive_part}
 use Rattle.smp_kernel.proofs.Primitive.{not_primitive}
 use Rattle.smp_kernel.proofs.Ring.{zero_of_product, positive_some}
 use Rattle.smp_kernel.proofs.FoundCircuits.{circuit_length, circuit_last, cut_circuit_short}
-use Rattle.smp_flight.specs.declared.lines.Ratio.{Ratio}
 use Rattle.smp_prob.specs.Shares.{Shares}
 use Rattle.smp_flight.specs.States.{Units, Flight, IsUnits, IsFlight, size, column, columns_of, started}
-use Rattle.smp_flight.specs.Moves.{Line, Move, IsOrder, IsLine, IsDirection, IsMove, Fits, fraction_of, sized, turned}
-use Rattle.smp_flight.specs.Steps.{move, independent, wide, reach, extent, weights, direction, end_of, move_along, entries_fit, fits, next_along, next_of, next_on}
+use Rattle.smp_moves.specs.Moves.{Line, Move, IsOrder, IsLine, Fits, turned}
+use Rattle.smp_flight.specs.Moves.{IsDirection, IsMove, sized}
+use Rattle.smp_moves.specs.Ends.{move, independent, wide, reach, extent, weights, end_of, move_along, entries_fit}
+use Rattle.smp_flight.specs.Steps.{direction, fits, next_along, next_of, next_on}
 use Rattle.smp_flight.specs.Statements.{Finds, IsWide, IsNext}
-use Rattle.smp_flight.specs.Kept.Ends.{IsOver}
-use Rattle.smp_flight.proofs.Entries.{order_within, order_front, length-sized, entry-sized, turned_line}
-use Rattle.smp_flight.proofs.LineEnds.{IsLowest, lowest_is, reached, greatest, moved, extent_is}
+use Rattle.smp_moves.specs.Kept.Ends.{IsOver}
+use Rattle.smp_moves.proofs.Entries.{order_within, order_front, turned_line}
+use Rattle.smp_flight.proofs.Entries.{length-sized, entry-sized}
+use Rattle.smp_moves.proofs.LineEnds.{IsLowest, lowest_is, reached, greatest, moved, extent_is}
+use Rattle.smp_moves.proofs.Weights.{weights_at, weights_same, within_from, within_to}
 
 -- ---- the line of the circuit that is found
 
@@ -69,20 +66,6 @@ direction_line units s order ok w line d = record {
 
 -- ---- its move
 
-weights_at : (c p q m n N U M V w x : ℕ) → 1 ≤ c → 1 ≤ U → 1 ≤ V → N * q ≡ p * (c * U) → M * n ≡ m * (c * V) → M * U * x ≡ w * (N * V) → w * (p * n) ≡ x * (m * q)
-weights_at c p q m n N U M V w x pc pu pv hp hm hw =
-    cancel (w * (p * n)) (x * (m * q)) (c * U * (c * V)) (let a : 1 ≤ c * U = mul-pos pc pu in let b : 1 ≤ c * V = mul-pos pc pv in mul-pos a b)
-    (let h1 : N * q * (w * n * (c * V)) ≡ p * (c * U) * (w * n * (c * V)) = ap (λ y. y * (w * n * (c * V))) hp in
-    let h2 : M * n * (x * q * (c * U)) ≡ m * (c * V) * (x * q * (c * U)) = ap (λ y. y * (x * q * (c * U))) hm in
-    let h3 : M * U * x * (q * n * c) ≡ w * (N * V) * (q * n * c) = ap (λ y. y * (q * n * c)) hw in
-    omega arith)
-
-pub weights_same : (w x : ℕ) (r t : Ratio) → 1 ≤ r.den → 1 ≤ t.den → w * (r.num * t.den) ≡ x * (t.num * r.den) → Same (times (whole w) (fraction_of r)) (times (whole x) (fraction_of t))
-weights_same w x r t pr pt h =
-    let er : max 1 r.den ≡ r.den = omega arith in
-    let et : max 1 t.den ≡ t.den = omega arith in
-    record { cross = rw (er, et) (ap pos (omega (arith, h))) }
-
 module _ (units : Units) (s : Shares) (is_over : IsOver units.requested.den s) (order : List ℕ) (w : List ℤ) (line : Line) (ok : IsLine s line) (is_dir : IsDirection units order w line) where
   abbrev first : ℕ
   first = units.requested.den
@@ -117,16 +100,6 @@ module _ (units : Units) (s : Shares) (is_over : IsOver units.requested.den s) (
       }
 
 -- ---- the gates
-
-pub within_from : (limit : ℕ) (es : List ℤ) → list_all (λ e. nat_le (unsigned_abs e) limit) es ≡ true → Within limit es
-within_from limit es h =
-    let all = AllPass-from_list_all (λ e. nat_le (unsigned_abs e) limit) es h in
-    All-from_get_or (λ e. unsigned_abs e ≤ limit) es (pos 0) (λ i l. leb-true (unsigned_abs (entry es i)) limit (All-get_or (λ e. nat_le (unsigned_abs e) limit ≡ true) es i (pos 0) l all))
-
-pub within_to : (limit : ℕ) (es : List ℤ) → Within limit es → list_all (λ e. nat_le (unsigned_abs e) limit) es ≡ true
-within_to limit es w =
-    list_all-from_AllPass (λ e. nat_le (unsigned_abs e) limit) es
-    (All-from_get_or (λ e. nat_le (unsigned_abs e) limit ≡ true) es (pos 0) (λ i l. le-leb (unsigned_abs (entry es i)) limit (w i (pos 0) l)))
 
 module _ (first : ℕ) (s : Shares) (line : Line) where
   abbrev plus_end : Shares

@@ -15,15 +15,16 @@ use Rattle.smp_kernel.specs.Searches.{Search, found, none, too_wide}
 use Rattle.smp_kernel.proofs.Reduce.{one_reduced}
 use Rattle.smp_kernel.proofs.SearchLaw.{one_answer}
 use Rattle.smp_prob.specs.Shares.{Shares}
-use Rattle.smp_flight.specs.declared.lines.Ratio.{Ratio}
+use Rattle.smp_moves.specs.declared.lines.Ratio.{Ratio}
 use Rattle.smp_flight.specs.States.{Units, Flight, IsFlight, columns_of}
-use Rattle.smp_flight.specs.Moves.{Line, Move, IsOrder, IsLine, IsDirection, IsGreatest, MakesWhole, IsMoved, IsMove, Fits, fraction_of, sized, turned}
-use Rattle.smp_flight.specs.Steps.{Next, move, independent, wide, extent}
+use Rattle.smp_moves.specs.Moves.{Line, Move, IsOrder, IsLine, IsGreatest, MakesWhole, IsMoved, Fits, fraction_of, turned}
+use Rattle.smp_flight.specs.Moves.{IsDirection, IsMove, sized}
+use Rattle.smp_moves.specs.Ends.{Next, move, independent, wide, extent}
 use Rattle.smp_flight.specs.Statements.{Finds, IsFlown, IsWide, IsNext, GoesBothWays}
-use Rattle.smp_flight.specs.Kept.Ends.{IsOver}
+use Rattle.smp_moves.specs.Kept.Ends.{IsOver}
 use Rattle.smp_fractions.proofs.Differences.{over_cross}
-use Rattle.smp_flight.proofs.Entries.{turned_line}
-use Rattle.smp_flight.proofs.LineEnds.{greatest, extent_some}
+use Rattle.smp_moves.proofs.Entries.{turned_line}
+use Rattle.smp_moves.proofs.LineEnds.{greatest, extent_some}
 use Rattle.smp_flight.proofs.Nexts.{direction_line, flight_over}
 
 -- ---- fractions in lowest terms

@@ -10,9 +10,10 @@ use Rattle.smp_kernel.specs.Reduced.{primitive_part}
 use Rattle.smp_kernel.proofs.Reduce.{primitive_part_is, length-primitive_part, one_reduced, reduced_within}
 use Rattle.smp_flight.specs.States.{Units, size, column, columns_of}
 use Rattle.smp_flight.specs.Moves.{sized}
-use Rattle.smp_flight.specs.Steps.{direction, entries_fit}
+use Rattle.smp_moves.specs.Ends.{entries_fit}
+use Rattle.smp_flight.specs.Steps.{direction}
 use Rattle.smp_flight.proofs.Entries.{length-sized, entry-sized}
-use Rattle.smp_flight.proofs.Nexts.{within_from}
+use Rattle.smp_moves.proofs.Weights.{within_from}
 
 -- ---- arrays as lists
 

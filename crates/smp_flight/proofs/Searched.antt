@@ -9,14 +9,16 @@ use Rattle.smp_flight.specs.Searches.{search, search_is}
 use Rattle.smp_values.specs.Values.{fractional_units}
 use Rattle.smp_values.proofs.Units.{fractional_units_length}
 use Rattle.smp_flight.specs.States.{AreFirst, Flight, IsFlight, Tracked, Units, columns_of}
-use Rattle.smp_flight.specs.Moves.{IsLine, IsOrder, sized}
-use Rattle.smp_flight.specs.Steps.{move, wide, direction, entries_fit, next_along, next_of, next_on, next}
+use Rattle.smp_moves.specs.Moves.{IsLine, IsOrder}
+use Rattle.smp_flight.specs.Moves.{sized}
+use Rattle.smp_moves.specs.Ends.{move, wide, entries_fit}
+use Rattle.smp_flight.specs.Steps.{direction, next_along, next_of, next_on, next}
 use Rattle.smp_flight.specs.Statements.{Finds}
 use Rattle.smp_flight.specs.Answers.{Allows, AreSearched, IsFirstMove, IsMoveOf, answer_of, move_of}
 use Rattle.smp_flight.specs.Kept.Lines.{IsPaddedIn}
 use Rattle.smp_flight.specs.declared.steps.Next.{Next as Answer}
 use Rattle.smp_flight.specs.declared.steps.Next.TheVariants as answers
-use Rattle.smp_flight.proofs.Entries.{frame_order, order_front}
+use Rattle.smp_moves.proofs.Entries.{frame_order, order_front}
 use Rattle.smp_flight.proofs.Firsts.{from_each}
 use Rattle.smp_flight.proofs.Fitting.{moves_within}
 use Rattle.smp_flight.proofs.Reordered.{independent_in_frame}

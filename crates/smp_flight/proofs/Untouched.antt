@@ -7,15 +7,15 @@ use Rattle.std.proofs.Math.Nat.{dvd-mul_left, mul-div_cancel_left}
 use Prim.Native.Nat.{◌∣◌}
 use Rattle.smp_frac.specs.Divisors.{greatest_common_divisor}
 use Rattle.smp_frac.specs.Laws.Gcds.{IsGcd-greatest_common_divisor}
-use Rattle.smp_flight.specs.declared.reaches.Reach.{Reach}
-use Rattle.smp_flight.specs.Moves.{Line, IsLine, entry_of}
+use Rattle.smp_moves.specs.declared.reaches.Reach.{Reach}
+use Rattle.smp_moves.specs.Moves.{Line, IsLine, entry_of}
 use Rattle.smp_flight.specs.declared.ends.End.{End}
-use Rattle.smp_flight.specs.Steps.{advanced, advanced_numbers, common_factor, reach}
+use Rattle.smp_moves.specs.Ends.{advanced, advanced_numbers, common_factor, reach}
 use Rattle.smp_flight.specs.Kept.Windows.{Windowed, is_in, shares_in}
 use Rattle.smp_flight.specs.Kept.Ends.{IsEndOf}
-use Rattle.smp_flight.proofs.Entries.{off_line, place_or}
-use Rattle.smp_flight.proofs.LineEnds.{divides_first, divides_each, divides_common}
-use Rattle.smp_flight.proofs.Places.{advanced_at, length_advanced}
+use Rattle.smp_moves.proofs.Entries.{off_line, place_or}
+use Rattle.smp_moves.proofs.LineEnds.{divides_first, divides_each, divides_common}
+use Rattle.smp_moves.proofs.Places.{advanced_at, length_advanced}
 use Rattle.smp_flight.proofs.Advancing.{advanced_none}
 use Rattle.smp_flight.proofs.Windowed.{in_or, get_or-numerators_over, length-numerators_over, over_out}
 

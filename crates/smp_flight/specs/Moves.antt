@@ -1,36 +1,11 @@
--- A move of the flight phase (Deville and Tillé 2004), by its properties: a direction that the columns take to 0, how far the values can follow
--- it and its opposite before one of them would leave 0 or 1, the states at both ends, and the weights that keep each value in the mean.
-use Rattle.std.specs.Prelude.{◌≡◌, ◌≢◌, ℕ, ◌*◌, ◌≤◌, ◌^◌, true, cond, nat_eq, List, [], ◌∷◌, ℤ, pos, neg_ℤ, ◌*ℤ◌, length, map, slice_index, take}
-use Rattle.std.specs.List.{All, AllPairs}
+-- A move of the flight phase (Deville and Tillé 2004): the direction of a circuit, which the columns take to 0, and the move along it.
+use Rattle.std.specs.Prelude.{◌≡◌, ℕ, List, [], ◌∷◌, ℤ, pos, ◌*ℤ◌, length, take}
 use Rattle.std.specs.Int.{IsGcd}
-use Prim.Native.Nat.{◌∣◌}
-use Rattle.smp_fractions.specs.Fractions.{Fraction, Same, AtMost, whole, integer, plus, times, over}
-use Rattle.smp_kernel.specs.Vectors.{IsZero, Within}
+use Rattle.smp_fractions.specs.Fractions.{Same, whole, times}
 use Rattle.smp_kernel.specs.Reduced.{IsReduced}
 use Rattle.smp_prob.specs.Shares.{Shares}
-use Rattle.smp_values.specs.Values.{is_fractional, value_at}
-use Rattle.smp_flight.specs.declared.lines.Ratio.{Ratio}
 use Rattle.smp_flight.specs.States.{Units, size}
-
--- ---- lines
-
--- a vector over the units, by the units at which it may not be 0 and its entries there
-pub record Line : Type 0 where
-  pub units : List ℕ
-  pub entries : List ℤ
-
-abbrev pub entry_at : List ℕ → List ℤ → ℕ → ℤ
-entry_at [] entries k = pos 0
-entry_at (u ∷ units) [] k = pos 0
-entry_at (u ∷ units) (e ∷ entries) k = cond (nat_eq u k) e (entry_at units entries k)
-
--- the entry at a unit
-abbrev pub entry_of : Line → ℕ → ℤ
-entry_of line k = entry_at line.units line.entries k
-
--- the opposite
-abbrev pub turned : Line → Line
-turned line = record { units = line.units; entries = map neg_ℤ line.entries }
+use Rattle.smp_moves.specs.Moves.{Line, Move, IsGreatest, IsMoved, fraction_of, turned}
 
 -- the size of each unit times its factor
 abbrev pub sized : Units → List ℕ → List ℤ → List ℤ
@@ -44,50 +19,6 @@ pub record IsDirection (units : Units) (order : List ℕ) (w : List ℤ) (line :
   pub lengths : length line.entries ≡ length line.units
   pub entries : IsReduced (sized units line.units w) line.entries
 
--- ---- along a line
-
-abbrev pub fraction_of : Ratio → Fraction
-fraction_of r = over r.num r.den
-
--- the value of a unit, so far along a line
-abbrev pub along : Shares → Line → Fraction → ℕ → Fraction
-along s line t k = plus (value_at s k) (times t (integer (entry_of line k)))
-
--- so far along a line no value is below 0 or past 1
-pub record StaysWithin (s : Shares) (line : Line) (t : Fraction) : Type 0 where
-  pub low : (k : ℕ) → AtMost (whole 0) (along s line t k)
-  pub high : (k : ℕ) → AtMost (along s line t k) (whole 1)
-
--- the greatest fraction for which the values so far along the line lie from 0 to 1, in lowest terms
-pub record IsGreatest (s : Shares) (line : Line) (r : Ratio) : Type 0 where
-  pub some : 1 ≤ r.den
-  pub reduced : IsGcd r.num r.den 1
-  pub stays : StaysWithin s line (fraction_of r)
-  pub greatest : (t : Fraction) → StaysWithin s line t → AtMost t (fraction_of r)
-
--- each value, times d, is whole
-abbrev pub MakesWhole : ℕ → Shares → Type 0
-MakesWhole d t = (k : ℕ) → t.den ∣ slice_index t.numer k * d
-
--- the values r along the line, over the first denominator times the least number that makes all of them whole
-pub record IsMoved (first : ℕ) (s : Shares) (line : Line) (r : Ratio) (t : Shares) : Type 0 where
-  pub same_length : length t.numer ≡ length s.numer
-  pub values : (k : ℕ) → Same (value_at t k) (along s line (fraction_of r) k)
-  pub positive : 1 ≤ t.den
-  pub times : ℕ
-  pub multiple : t.den ≡ first * times
-  pub least : (m : ℕ) → 1 ≤ m → MakesWhole (first * m) t → times ≤ m
-
--- ---- the move
-
--- the weights of the two ends, how far the direction is followed to the first and its opposite to the second, and the direction
-pub record Move : Type 0 where
-  pub plus_weight : ℕ
-  pub minus_weight : ℕ
-  pub up : Ratio
-  pub down : Ratio
-  pub direction : Line
-
 -- The move along the circuit w of the first of these units, with the values at both ends. The weights are as `down` to `up`, in whole numbers
 -- without common divisor.
 pub record IsMove (units : Units) (s : Shares) (order : List ℕ) (w : List ℤ) (m : Move) (plus_end minus_end : Shares) : Type 0 where
@@ -99,21 +30,3 @@ pub record IsMove (units : Units) (s : Shares) (order : List ℕ) (w : List ℤ)
   pub weights : Same (times (whole m.plus_weight) (fraction_of m.up)) (times (whole m.minus_weight) (fraction_of m.down))
   pub coprime : IsGcd m.plus_weight m.minus_weight 1
 
--- no entry of the direction, and neither denominator, passes its gate
-pub record Fits (m : Move) (plus_end minus_end : Shares) : Type 0 where
-  pub entries : Within (2 ^ 44) m.direction.entries
-  pub plus_den : plus_end.den ≤ 2 ^ 80
-  pub minus_den : minus_end.den ≤ 2 ^ 80
-
--- ---- what a search goes through
-
--- fractional units, each of them once
-pub record IsOrder (s : Shares) (order : List ℕ) : Type 0 where
-  pub going : All (λ k. is_fractional s k ≡ true) order
-  pub distinct : AllPairs (λ k l. k ≢ l) order
-
--- a line over fractional units, each of them once, that isn't 0
-pub record IsLine (s : Shares) (line : Line) : Type 0 where
-  pub lengths : length line.entries ≡ length line.units
-  pub order : IsOrder s line.units
-  pub some : IsZero line.entries → ⊥

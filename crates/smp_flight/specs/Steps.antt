@@ -1,18 +1,15 @@
 -- One step of the flight phase, as a function of the state: the move along the circuit that a search finds, nothing where the columns are
 -- independent, or wide where a number would pass its gate. That it is the one with the properties of a search and of a move is a law of its own.
-use Rattle.std.specs.Prelude.{ℕ, suc, ◌+◌, ◌-◌, ◌*◌, ◌/◌, ◌^◌, nat_le, nat_lt, ◌&&◌, Bool, cond, if◌then◌else◌, List, [], ◌∷◌, ℤ, pos, negsuc, fold, length, map, slice_index, take}
-use Rattle.std.specs.List.{range_with_len, list_all}
-use Rattle.std.specs.Int.RustNames.{unsigned_abs}
-use Rattle.smp_frac.specs.Divisors.{greatest_common_divisor}
+use Rattle.std.specs.Prelude.{ℕ, ◌^◌, nat_le, ◌&&◌, Bool, if◌then◌else◌, List, ℤ, length, take}
 use Rattle.smp_kernel.specs.Searches.{Search, found, none, too_wide}
 use Rattle.smp_kernel.specs.Reduced.{primitive_part}
 use Rattle.smp_prob.specs.Shares.{Shares}
 use Rattle.smp_values.specs.Values.{fractional_units}
-use Rattle.smp_flight.specs.declared.lines.Ratio.{Ratio}
-use Rattle.smp_flight.specs.declared.reaches.Reach.{Reach}
 use Rattle.smp_flight.specs.States.{Units, Flight, columns_of}
+use Rattle.smp_moves.specs.Moves.{Line, Move, turned}
+use Rattle.smp_moves.specs.Ends.{Next, move, independent, wide, entries_fit, end_of, move_along, chosen_line}
 use Rattle.smp_flight.specs.Searches.{search}
-use Rattle.smp_flight.specs.Moves.{Line, Move, entry_of, sized, turned}
+use Rattle.smp_flight.specs.Moves.{sized}
 
 -- the direction of the circuit w of the first of these units
 abbrev pub direction : Units → List ℕ → List ℤ → Line
@@ -21,82 +18,11 @@ direction units order w = record {
   entries = primitive_part (sized units (take (length w) order) w);
 }
 
--- ---- how far a line can be followed
-
--- what is left of the value a / d in the direction of an entry, as a numerator
-abbrev pub room : ℕ → ℕ → ℤ → ℕ
-room d a (pos n) = d - a
-room d a (negsuc n) = a
-
-abbrev pub reach_at : Shares → ℕ → ℤ → Reach
-reach_at s unit e = record { left = room s.den (slice_index s.numer unit) e; size = unsigned_abs e }
-
--- of two units, the one that meets its end first; where the size is 0 none is met
-abbrev pub nearer : Reach → Reach → Reach
-nearer a b = if nat_lt (b.left * a.size) (a.left * b.size) then b else a
-
-abbrev pub reach_from : Shares → Reach → List ℕ → List ℤ → Reach
-reach_from s so_far [] entries = so_far
-reach_from s so_far (u ∷ units) [] = so_far
-reach_from s so_far (u ∷ units) (e ∷ entries) = reach_from s (nearer so_far (reach_at s u e)) units entries
-
--- that of the unit of a line that meets its end first
-abbrev pub reach : Shares → Line → Reach
-reach s line = reach_from s (record { left = 1; size = 0 }) line.units line.entries
-
--- a / b in lowest terms
-abbrev pub lowest : ℕ → ℕ → Ratio
-lowest a b = record { num = a / greatest_common_divisor a b; den = b / greatest_common_divisor a b }
-
--- how far the line is followed
-abbrev pub extent : Shares → Line → Ratio
-extent s line = lowest (reach s line).left (s.den * (reach s line).size)
-
--- ---- the values at the end of a line
-
--- a value over d, after a move that uses up the room of a reach, as a numerator over d times the size of the reach
-abbrev pub advanced : ℕ → Reach → ℤ → ℕ
-advanced a r (pos n) = a * r.size + r.left * n
-advanced a r (negsuc n) = a * r.size - r.left * suc n
-
-abbrev pub advanced_numbers : List ℕ → Line → Reach → List ℕ
-advanced_numbers numer line r = map (λ k. advanced (slice_index numer k) r (entry_of line k)) (range_with_len 0 (length numer))
-
--- what all these numerators have in common with a multiple of the first denominator
-abbrev pub common_factor : ℕ → List ℕ → ℕ
-common_factor times numbers = fold greatest_common_divisor times numbers
-
--- the values at the end of a line, where the first denominator is this
-abbrev pub end_of : ℕ → Shares → Line → Shares
-end_of first s line =
-    let r = reach s line in
-    let full = s.den * r.size in
-    let numbers = advanced_numbers s.numer line r in
-    let common = common_factor (full / first) numbers in
-    record { numer = map (λ n. n / common) numbers; den = full / common }
-
 -- ---- the step
-
--- the weights of both ends, as a fraction in lowest terms
-abbrev pub weights : Reach → Reach → Ratio
-weights up down = lowest (down.left * up.size) (up.left * down.size)
-
-abbrev pub move_along : Shares → Line → Move
-move_along s line =
-    let w = weights (reach s line) (reach s (turned line)) in
-    record { plus_weight = w.num; minus_weight = w.den; up = extent s line; down = extent s (turned line); direction = line }
-
-abbrev pub entries_fit : Line → Bool
-entries_fit line = list_all (λ e. nat_le (unsigned_abs e) (2 ^ 44)) line.entries
 
 abbrev pub fits : ℕ → Shares → Line → Bool
 fits first s line =
     entries_fit line && (nat_le (end_of first s line).den (2 ^ 80) && nat_le (end_of first s (turned line)).den (2 ^ 80))
-
-pub data Next : Type 0 where
-  move : Move → Next
-  independent : Next
-  wide : Next
 
 abbrev pub next_along : ℕ → Shares → Line → Next
 next_along first s line = if fits first s line then move (move_along s line) else wide
@@ -115,12 +41,6 @@ abbrev pub next : Units → Flight → Next
 next units s = next_on units (fractional_units s.shares) s
 
 -- ---- the end that is chosen
-
-abbrev pub chosen_line : Move → Bool → Line
-chosen_line m plus = cond plus m.direction (turned m.direction)
-
-abbrev pub chosen_extent : Move → Bool → Ratio
-chosen_extent m plus = cond plus m.up m.down
 
 abbrev pub chosen : Units → Flight → Move → Bool → Flight
 chosen units s m plus = record {

@@ -11,7 +11,8 @@ use Rattle.smp_split.proofs.Steps.{picked_is_part, value_within}
 use Rattle.smp_values.specs.Values.{value_at}
 use Rattle.smp_flight.specs.States as flights
 use Rattle.smp_flight.specs.States.{Units, Flight, IsFlight, IsUnits, column, row_count, size}
-use Rattle.smp_flight.specs.Steps.{Next, move, independent, wide, next}
+use Rattle.smp_moves.specs.Ends.{Next, move, independent, wide}
+use Rattle.smp_flight.specs.Steps.{next}
 use Rattle.smp_landing.specs.Cube.{Balancing, flying, pairing, IsBalancing, cube_tree, cube_parts, flight_kind, flight_parts}
 use Rattle.smp_landing.specs.Laws.Splits.{cube_lawful, ends_at}
 use Rattle.smp_landing.specs.Landings.{IsBeforeLanding}

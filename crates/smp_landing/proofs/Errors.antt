@@ -13,9 +13,10 @@ use Rattle.smp_split.proofs.Steps.{leads_keep, leads_belong}
 use Rattle.smp_values.specs.Steps.{parts_on, pivotal_parts}
 use Rattle.smp_values.specs.Values.{fractional, fractional_units, is_fractional, value_at}
 use Rattle.smp_flight.specs.States.{Units, Flight, IsFlight, row_count}
-use Rattle.smp_flight.specs.Moves.{Move, fraction_of}
-use Rattle.smp_flight.specs.Steps.{Next, move, independent, wide, next, chosen, chosen_line, chosen_extent}
-use Rattle.smp_flight.proofs.Entries.{frame_order, off_line, order_going, place_or}
+use Rattle.smp_moves.specs.Moves.{Move, fraction_of}
+use Rattle.smp_moves.specs.Ends.{Next, move, independent, wide, chosen_line, chosen_extent}
+use Rattle.smp_flight.specs.Steps.{next, chosen}
+use Rattle.smp_moves.proofs.Entries.{frame_order, off_line, order_going, place_or}
 use Rattle.smp_landing.specs.Cube.{Balancing, flying, pairing, values_in, IsBalancing, cube_tree, cube_parts, flight_parts}
 use Rattle.smp_landing.specs.Landings.{ErrorIsBounded, ExactWithoutLanding}
 use Rattle.smp_landing.specs.Laws.Splits.{cube_lawful, ends_at, values_ok}

@@ -10,9 +10,10 @@ use Rattle.smp_split.proofs.Steps.{picked_is_part, picked_belongs, leads_belong,
 use Rattle.smp_values.specs.Steps.{kind_on, pivotal_parts}
 use Rattle.smp_values.specs.Values.{fractional_count, fractional_units}
 use Rattle.smp_flight.specs.States.{Units, Flight, IsFlight, columns_of, row_count}
-use Rattle.smp_flight.specs.Steps.{Next, move, independent, wide, next}
+use Rattle.smp_moves.specs.Ends.{Next, move, independent, wide}
+use Rattle.smp_flight.specs.Steps.{next}
 use Rattle.smp_flight.specs.Statements.{IsNext}
-use Rattle.smp_flight.proofs.Entries.{frame_order}
+use Rattle.smp_moves.proofs.Entries.{frame_order}
 use Rattle.smp_flight.proofs.Nexts.{independent_columns, next_is}
 use Rattle.smp_landing.specs.Cube.{Balancing, flying, pairing, values_in, rows_in, left_in, IsBalancing, cube_tree, cube_kind, cube_parts, flight_kind, flight_parts, landed}
 use Rattle.smp_landing.specs.Landings.{NoDirectionLeft, NextDoesNotFit, FlightsKeepTotals, TotalsStay, FewAreLeft, DropsAreIndependent, LeftIsCounted}

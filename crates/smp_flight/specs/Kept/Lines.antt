@@ -1,8 +1,6 @@
 -- What the code keeps of a search and of a line.
-use Rattle.std.specs.Prelude.{◌≡◌, ℕ, ◌++◌, ◌<◌, ◌≤◌, ◌^◌, List, ℤ, length, slice_index, take, ⊤}
+use Rattle.std.specs.Prelude.{◌≡◌, ℕ, ◌++◌, ◌<◌, ◌≤◌, List, ℤ, length, slice_index, take, ⊤}
 use Rattle.std.specs.List.{filter}
-use Rattle.std.specs.Int.RustNames.{unsigned_abs}
-use Rattle.smp_kernel.specs.Vectors.{entry}
 use Rattle.smp_kernel.specs.Searched.{answer, ArePadded}
 use Rattle.smp_kernel.specs.declared.searches.Searched.{Searched}
 use Rattle.smp_flight.specs.Searches.{search}
@@ -11,11 +9,12 @@ use Rattle.smp_values.specs.Values.{fractional_units, is_fractional}
 use Rattle.smp_values.proofs.Units.{units_from}
 use Rattle.smp_flight.specs.States.{Units}
 use Rattle.smp_flight.specs.Steps.{direction}
-use Rattle.smp_flight.specs.Answers.{line_of, IsPadded}
-use Rattle.smp_flight.specs.declared.lines.Line.{Line as LineOfPlaces}
+use Rattle.smp_moves.specs.Answers.{line_of, IsPadded}
+use Rattle.smp_moves.specs.declared.lines.Line.{Line as LineOfPlaces}
 use Rattle.smp_flight.specs.declared.fronts.Front.{Front}
 use Rattle.smp_flight.specs.declared.steps.Next.{Next as Answer}
 use Rattle.smp_flight.specs.declared.steps.Next.TheVariants as answers
+use Rattle.smp_moves.specs.Kept.Ends.{HasSmallEntries}
 
 -- the units in the first places of an array
 abbrev pub front_units : Front → List ℕ
@@ -44,10 +43,6 @@ pub record IsStanding (s : Shares) (front still : Front) : Type 0 where
 pub record IsSearched (q : ℕ) (columns : List (List ℤ)) (result : Searched) : Type 0 where
   pub is : answer result ≡ search q columns
   pub padded : ArePadded q result
-
--- no entry passes its gate
-abbrev pub HasSmallEntries : LineOfPlaces → Type 0
-HasSmallEntries l = (i : ℕ) → unsigned_abs (entry l.entries i) ≤ 2 ^ 44
 
 -- the direction of the circuit w of the first of these units
 pub record IsLineOf (units : Units) (order : List ℕ) (w : List ℤ) (line : LineOfPlaces) : Type 0 where

@@ -14,18 +14,19 @@ use Rattle.smp_values.specs.Steps.{steps_tree}
 use Rattle.smp_values.proofs.Pivotal.{steps_lawful}
 use Rattle.smp_values.proofs.Units.{fractional_units_length}
 use Rattle.smp_flight.specs.States.{Units, Flight, IsFlight, columns_of, column}
-use Rattle.smp_flight.specs.Moves.{Move, fraction_of, entry_of}
-use Rattle.smp_flight.specs.Steps.{Next, move, independent, wide, next, chosen, chosen_line, chosen_extent}
+use Rattle.smp_moves.specs.Moves.{Move, fraction_of, entry_of}
+use Rattle.smp_moves.specs.Ends.{Next, move, independent, wide, chosen_line, chosen_extent}
+use Rattle.smp_flight.specs.Steps.{next, chosen}
 use Rattle.smp_kernel.specs.Searches.{none}
 use Rattle.smp_flight.specs.Statements.{Finds, GoesBothWays, IsNext}
-use Rattle.smp_flight.proofs.Entries.{frame_order}
+use Rattle.smp_moves.proofs.Entries.{frame_order}
 use Rattle.smp_flight.proofs.Nexts.{IsKnown, known, next_is}
 use Rattle.smp_flight.proofs.Moved.{IsChosen, chosen_is}
 use Rattle.smp_flight.proofs.Sizes.{flown_both_ways}
 use Rattle.smp_flight.proofs.MoveTotals.{end_total}
 use Rattle.smp_landing.specs.Totals.{total}
 use Rattle.smp_landing.specs.Cube.{Balancing, flying, pairing, values_in, IsBalancing, cube_tree, flight_parts, dropped, landed}
-use Rattle.smp_flight.proofs.Evens.{even_ends, entry_of_turned}
+use Rattle.smp_moves.proofs.Evens.{even_ends, entry_of_turned}
 
 -- ---- a move
 
