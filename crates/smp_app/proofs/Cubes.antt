@@ -4,7 +4,7 @@ use Rattle.std.specs.List.{filter, range_with_len, slice_get}
 use Rattle.std.proofs.lemmas.List.{length-map}
 use Rattle.smp_split.specs.Paths.{Entry}
 use Rattle.smp_landing.specs.Cube.{Balancing}
-use Rattle.smp_balance.specs.Strata.{IsStratum}
+use Rattle.smp_balance.specs.Strata.{AreStratumUnits}
 use Rattle.smp_balance.specs.Totals.{is_selected}
 use Rattle.smp_balance.specs.Reports.{TellsColumn}
 use Rattle.smp_balance.proofs.Balances.{each_is_balanced}
@@ -43,7 +43,7 @@ module _ (plan : FramePlan) (planned : IsPlanned plan) (cube : plan.design.metho
   drawable = subst CanBeDrawn planned.parts_are planned.drawable
 
   -- the stratum, as the cube draws from it
-  pub is_stratum : IsStratum (balancing s)
+  pub is_stratum : AreStratumUnits (balancing s)
   is_stratum = cube_stratum all drawable cube h s is
 
   -- ---- what was drawn of it

@@ -6,7 +6,7 @@ use Rattle.smp_fractions.specs.Bounds.{IsAround}
 use Rattle.smp_fractions.specs.Fractions.{Fraction, Same, integer, sum_below}
 use Rattle.smp_prob.specs.Given.{expected_size}
 use Rattle.smp_split.specs.Means.{mean, inclusion_probability}
-use Rattle.smp_balance.specs.Balances.{IsBalanced}
+use Rattle.smp_balance.specs.Totals.{IsBalanced}
 use Rattle.smp_balance.specs.Reports.{TellsColumn}
 use Rattle.smp_design.specs.declared.design.Second as second
 use Rattle.smp_design.specs.declared.method.Method.TheVariants.{Cube}

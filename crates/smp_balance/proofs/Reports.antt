@@ -18,7 +18,7 @@ use Rattle.smp_weights.specs.Values.{weighted_total}
 use Rattle.smp_frac.proofs.LowestTerms.{lowest_terms-value}
 use Rattle.smp_weights.proofs.Values.{estimate_value}
 use Rattle.smp_landing.specs.Cube.{Balancing}
-use Rattle.smp_balance.specs.Strata.{Stratum, IsStratum, value_in}
+use Rattle.smp_balance.specs.Strata.{StratumUnits, AreStratumUnits, value_in}
 use Rattle.smp_balance.specs.Totals.{can_be_selected, counted, known_of, known_value, estimate, is_selected}
 use Rattle.smp_balance.specs.Lines.{known_total, weighed, column_estimate}
 use Rattle.smp_balance.specs.Reports.{EachLineTells}
@@ -29,7 +29,7 @@ integer_plus a b = record { cross = omega (arith, ints) }
 
 -- ---- what is known
 
-known_below : (s : Stratum) (column n : ℕ) → Same (integer (known_total s column n)) (sum_below n (known_of s (suc column)))
+known_below : (s : StratumUnits) (column n : ℕ) → Same (integer (known_total s column n)) (sum_below n (known_of s (suc column)))
 known_below s column zero = same_refl (whole 0)
 known_below s column (suc n) =
     same_trans (same_sym (integer_plus (known_total s column n) (known_value s column n)))
@@ -49,7 +49,7 @@ one_more n =
     ap (range_with_len 0) on ∙ sym (map-id (range_with_len 0 (n + 1))) ∙ map-range_with_len_more (λ (k : ℕ). k) 0 n n (omega arith)
     ∙ ap (λ (ks : List ℕ). ks ++ n ∷ []) (map-id (range_with_len 0 n))
 
-module _ (s : Stratum) (ok : IsStratum s) (leaf : Balancing) (column : ℕ) where
+module _ (s : StratumUnits) (ok : AreStratumUnits s) (leaf : Balancing) (column : ℕ) where
   abbrev counts : ℕ → Fraction
   counts k = cond (is_selected s leaf k) (counted s (suc column) k) (whole 0)
 

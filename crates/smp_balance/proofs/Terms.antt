@@ -18,7 +18,7 @@ use Rattle.smp_flight.specs.States.{column}
 use Rattle.smp_flight.specs.Requests.{columns_with}
 use Rattle.smp_flight.specs.Totals.{expanded, addend}
 use Rattle.smp_landing.proofs.Starts.{starts_requested}
-use Rattle.smp_balance.specs.Strata.{Stratum, IsStratum, values_of, value_in, free_values, free_units}
+use Rattle.smp_balance.specs.Strata.{StratumUnits, AreStratumUnits, values_of, value_in, free_values, free_units}
 use Rattle.smp_balance.specs.Totals.{can_be_selected, counted, is_undecided, known_value}
 use Rattle.smp_rows.proofs.Sums.{free_is, at_free}
 
@@ -33,7 +33,7 @@ entry_with (z ∷ sizes) [] u j e l = absurd (omega arith)
 entry_with (z ∷ sizes) (x ∷ xs) zero j e l = refl
 entry_with (z ∷ sizes) (x ∷ xs) (suc u) j e l = entry_with sizes xs u j (omega arith) (le_of_suc-le-suc l)
 
-module _ (s : Stratum) (ok : IsStratum s) where
+module _ (s : StratumUnits) (ok : AreStratumUnits s) where
   abbrev free_at : ℕ → ℕ
   free_at u = slice_index s.request.free u
 

@@ -22,7 +22,7 @@ use Rattle.smp_weights.specs.Chosen.{chosen_units}
 use Rattle.smp_rows.specs.Laws.Rows.{free_within}
 use Rattle.smp_fractions.specs.Bounds.{absolute}
 use Rattle.smp_frac.proofs.LowestTerms.{lowest_terms-positive, same-lowest_terms}
-use Rattle.smp_balance.specs.Strata.{Stratum, value_in, values_of}
+use Rattle.smp_balance.specs.Strata.{StratumUnits, value_in, values_of}
 use Rattle.smp_balance.specs.Totals.{can_be_selected, known_value}
 use Rattle.smp_balance.specs.Lines.{known_total}
 
@@ -46,7 +46,7 @@ asked_is request f k h = same-lowest_terms f (asked_fraction request k) (no_sign
 
 -- ---- the sum of a column stays small
 
-value_small : (s : Stratum) → AreValues s.values → (column k : ℕ) → k < length s.values → unsigned_abs (value_in s column k) ≤ 2 ^ 31
+value_small : (s : StratumUnits) → AreValues s.values → (column k : ℕ) → k < length s.values → unsigned_abs (value_in s column k) ≤ 2 ^ 31
 value_small s ok column k l =
     let small : unsigned_abs (value_in s column k) ≤ 2 ^ 31 - 1 = entry_within (2 ^ 31 - 1) (values_of s k) (ok.within k l) column in
     omega (arith, small)
@@ -55,10 +55,10 @@ term_small : (b : Bool) (z : ℤ) → unsigned_abs z ≤ 2 ^ 31 → unsigned_abs
 term_small true z h = h
 term_small false z h = omega arith
 
-known_small : (s : Stratum) → AreValues s.values → (column k : ℕ) → k < length s.values → unsigned_abs (known_value s column k) ≤ 2 ^ 31
+known_small : (s : StratumUnits) → AreValues s.values → (column k : ℕ) → k < length s.values → unsigned_abs (known_value s column k) ≤ 2 ^ 31
 known_small s ok column k l = term_small (can_be_selected (standing s.request k)) (value_in s column k) (value_small s ok column k l)
 
-pub total_small : (s : Stratum) → AreValues s.values → (column n : ℕ) → n ≤ length s.values → unsigned_abs (known_total s column n) ≤ n * 2 ^ 31
+pub total_small : (s : StratumUnits) → AreValues s.values → (column n : ℕ) → n ≤ length s.values → unsigned_abs (known_total s column n) ≤ n * 2 ^ 31
 total_small s ok column zero l = omega arith
 total_small s ok column (suc n) l =
     let here = known_small s ok column n (omega (arith, l)) in
@@ -66,7 +66,7 @@ total_small s ok column (suc n) l =
     let both = abs_sum (known_total s column n) (known_value s column n) in
     omega (arith, here, before, both)
 
-pub total_fits : (s : Stratum) → AreValues s.values → (column n : ℕ) → length s.values ≤ 200000 → n < length s.values → (FitsSigned w64 (known_total s column n +ℤ known_value s column n)) × (SFits w64 (known_value s column n))
+pub total_fits : (s : StratumUnits) → AreValues s.values → (column n : ℕ) → length s.values ≤ 200000 → n < length s.values → (FitsSigned w64 (known_total s column n +ℤ known_value s column n)) × (SFits w64 (known_value s column n))
 total_fits s ok column n few l =
     let next = total_small s ok column (suc n) (omega (arith, l)) in
     let here = known_small s ok column n l in (

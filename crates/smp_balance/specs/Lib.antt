@@ -1,6 +1,5 @@
 pub mod Strata
 pub mod Totals
-pub mod Balances
 pub mod Lines
 pub mod Reports
 pub mod Kept

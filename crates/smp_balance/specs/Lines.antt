@@ -10,7 +10,7 @@ use Rattle.smp_frac.specs.LowestTerms.{lowest_terms}
 use Rattle.smp_weights.specs.Chosen.{Chosen}
 use Rattle.smp_weights.specs.Totals.{estimate_of}
 use Rattle.smp_balance.specs.declared.lines.DrawnStratum as code
-use Rattle.smp_balance.specs.Strata.{Stratum, IsStratum, column_count, value_in}
+use Rattle.smp_balance.specs.Strata.{StratumUnits, AreStratumUnits, column_count, value_in}
 use Rattle.smp_balance.specs.Totals.{can_be_selected, known_value}
 
 -- What was drawn of a stratum: its number, from 1; how many units were undecided where the landing began; how many balancing columns
@@ -19,7 +19,7 @@ pub record Drawn : Type 0 where
   pub number : ℕ
   pub left : ℕ
   pub columns : ℕ
-  pub stratum : Stratum
+  pub stratum : StratumUnits
   pub units : List ℕ
 
 abbrev pub drawn_view : code.DrawnStratum → Drawn
@@ -32,13 +32,13 @@ drawn_view drawn = record {
 }
 
 -- the sum of a column over those of the first n units that can be selected
-abbrev pub known_total : Stratum → ℕ → ℕ → ℤ
+abbrev pub known_total : StratumUnits → ℕ → ℕ → ℤ
 known_total s column zero = pos 0
 known_total s column (suc n) =
     known_total s column n +ℤ known_value s column n
 
 -- the drawn units with their values in a column and their probabilities
-abbrev pub weighed : Stratum → ℕ → ℕ → Chosen ℤ
+abbrev pub weighed : StratumUnits → ℕ → ℕ → Chosen ℤ
 weighed s column k = record {
   value = value_in s column k;
   asked = lowest_terms (asked_fraction s.request k);
@@ -75,7 +75,7 @@ balance_lines drawn =
 
 -- what is told can be told: the units have a value in each column, and those that are drawn can be selected
 pub record IsTold (drawn : Drawn) : Type 0 where
-  pub stratum : IsStratum drawn.stratum
+  pub stratum : AreStratumUnits drawn.stratum
   pub few : length drawn.stratum.values ≤ 200000
   pub columns : drawn.columns ≡ column_count drawn.stratum
   pub units : All (λ k. can_be_selected (standing drawn.stratum.request k) ≡ true) drawn.units

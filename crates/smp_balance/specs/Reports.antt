@@ -4,7 +4,7 @@ use Rattle.std.specs.List.{filter, range_with_len}
 use Rattle.smp_fractions.specs.Fractions.{Same, integer}
 use Rattle.smp_frac.specs.Fractions.{signed_fraction}
 use Rattle.smp_landing.specs.Cube.{Balancing}
-use Rattle.smp_balance.specs.Strata.{IsStratum}
+use Rattle.smp_balance.specs.Strata.{AreStratumUnits}
 use Rattle.smp_balance.specs.Totals.{known, estimate, is_selected}
 use Rattle.smp_balance.specs.Lines.{Drawn, known_total, column_estimate}
 
@@ -17,6 +17,6 @@ pub record TellsColumn (drawn : Drawn) (leaf : Balancing) (column : ℕ) : Type 
 
 abbrev pub EachLineTells : Type 0
 EachLineTells =
-    (drawn : Drawn) (leaf : Balancing) → IsStratum drawn.stratum
+    (drawn : Drawn) (leaf : Balancing) → AreStratumUnits drawn.stratum
     → drawn.units ≡ filter (is_selected drawn.stratum leaf) (range_with_len 0 (length drawn.stratum.values))
     → (column : ℕ) → TellsColumn drawn leaf column

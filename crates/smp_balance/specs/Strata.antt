@@ -13,40 +13,40 @@ use Rattle.smp_landing.specs.Cube.{Balancing, cube_tree}
 use Rattle.smp_landing.specs.Method.{started}
 
 -- the request for the units of the stratum, and the balancing values of each unit
-pub record Stratum : Type 0 where
+pub record StratumUnits : Type 0 where
   pub request : Request
   pub values : List (List ℤ)
 
 -- the balancing values of a unit, and that in a column
-abbrev pub values_of : Stratum → ℕ → List ℤ
+abbrev pub values_of : StratumUnits → ℕ → List ℤ
 values_of s k = slice_index_or s.values k []
 
-abbrev pub value_in : Stratum → ℕ → ℕ → ℤ
+abbrev pub value_in : StratumUnits → ℕ → ℕ → ℤ
 value_in s column k = entry (values_of s k) column
 
 -- how many balancing columns there are, and how many rows: the probabilities are the first
-abbrev pub column_count : Stratum → ℕ
+abbrev pub column_count : StratumUnits → ℕ
 column_count s = length (values_of s 0)
 
-abbrev pub row_count : Stratum → ℕ
+abbrev pub row_count : StratumUnits → ℕ
 row_count s = suc (column_count s)
 
 -- the balancing values of the free units, in their order
-abbrev pub free_values : Stratum → List (List ℤ)
+abbrev pub free_values : StratumUnits → List (List ℤ)
 free_values s = map (values_of s) s.request.free
 
 -- the units that the cube draws from, its draw tree, and its state before the first step
-abbrev pub free_units : Stratum → Units
+abbrev pub free_units : StratumUnits → Units
 free_units s = units_of s.request (free_values s)
 
-abbrev pub tree_of : Stratum → Tree Balancing
+abbrev pub tree_of : StratumUnits → Tree Balancing
 tree_of s = cube_tree (free_units s)
 
-abbrev pub start_of : Stratum → Balancing
+abbrev pub start_of : StratumUnits → Balancing
 start_of s = started (free_units s)
 
 -- a request for these units: each free one is one of them and stands as that, and each has balancing values
-pub record IsStratum (s : Stratum) : Type 0 where
+pub record AreStratumUnits (s : StratumUnits) : Type 0 where
   pub request : IsRequest s.request
   pub rising : IsRising s.request
   pub inside : (u : ℕ) → u < length s.request.free → slice_index s.request.free u < length s.values

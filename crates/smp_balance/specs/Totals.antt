@@ -6,10 +6,13 @@ use Rattle.smp_prob.specs.declared.standings.Standing.{Standing}
 use Rattle.smp_prob.specs.declared.standings.Standing.TheVariants.{Free, Never}
 use Rattle.smp_prob.specs.Shares.{Shares}
 use Rattle.smp_prob.specs.Standings.{standing, is_taken, asked_fraction}
-use Rattle.smp_values.specs.Values.{is_fractional, is_one, value_at}
+use Rattle.smp_values.specs.Values.{fractional_count, is_fractional, is_one, value_at}
 use Rattle.smp_rows.specs.Rows.{row_value}
-use Rattle.smp_landing.specs.Cube.{Balancing, values_in}
-use Rattle.smp_balance.specs.Strata.{Stratum, value_in}
+use Rattle.smp_moves.specs.Balances as moves
+use Rattle.smp_moves.specs.Balances.{Balance}
+use Rattle.smp_landing.specs.Cube.{Balancing, left_in, rows_in, values_in}
+use Rattle.smp_landing.specs.Landings.{HasIndependentColumns, IsStuck}
+use Rattle.smp_balance.specs.Strata.{StratumUnits, AreStratumUnits, free_units, row_count, start_of, tree_of, value_in}
 
 -- whether a unit can be selected: its probability isn't 0
 abbrev pub can_be_selected : Standing → Bool
@@ -17,40 +20,40 @@ can_be_selected Never = false
 can_be_selected other = true
 
 -- the balancing value of a unit that can be selected, and 0 of any other
-abbrev pub known_value : Stratum → ℕ → ℕ → ℤ
+abbrev pub known_value : StratumUnits → ℕ → ℕ → ℤ
 known_value s column k =
     cond (can_be_selected (standing s.request k)) (value_in s column k) (pos 0)
 
 -- What a unit counts for in the total of a row: 1 in the first row; in any other its balancing value over the probability that is asked for
 -- it, and 0 where that is 0.
-abbrev pub counted : Stratum → ℕ → ℕ → Fraction
+abbrev pub counted : StratumUnits → ℕ → ℕ → Fraction
 counted s zero k = whole 1
 counted s (suc column) k =
     times (integer (known_value s column k)) (inverse (asked_fraction s.request k))
 
 -- the value of a unit at a state: 1 where it is certain, and 0 where it is never selected
-abbrev pub value_of : Stratum → Balancing → ℕ → Fraction
+abbrev pub value_of : StratumUnits → Balancing → ℕ → Fraction
 value_of s state k = row_value (value_at (values_in state)) (standing s.request k)
 
 -- The total of a row at a state: the sum over the units of what each counts for, times its value. In the first row that is the sum of the
 -- values. A unit of probability 0 has the value 0, so it adds nothing.
-abbrev pub total : Stratum → Balancing → ℕ → Fraction
+abbrev pub total : StratumUnits → Balancing → ℕ → Fraction
 total s state row = sum_below (length s.values) (λ k. times (counted s row k) (value_of s state k))
 
 -- What is known: the sum of the probabilities; of a column the sum over the units that can be selected.
-abbrev pub known_of : Stratum → ℕ → ℕ → Fraction
+abbrev pub known_of : StratumUnits → ℕ → ℕ → Fraction
 known_of s zero k = asked_fraction s.request k
 known_of s (suc column) k = integer (known_value s column k)
 
-abbrev pub known : Stratum → ℕ → Fraction
+abbrev pub known : StratumUnits → ℕ → Fraction
 known s row = sum_below (length s.values) (known_of s row)
 
 -- whether a unit is selected at a leaf
-abbrev pub is_selected : Stratum → Balancing → ℕ → Bool
+abbrev pub is_selected : StratumUnits → Balancing → ℕ → Bool
 is_selected s leaf k = is_taken (is_one (values_in leaf)) (standing s.request k)
 
 -- the estimate at a leaf: the number of selected units; of a column the sum of their values over their probabilities
-abbrev pub estimate : Stratum → Balancing → ℕ → Fraction
+abbrev pub estimate : StratumUnits → Balancing → ℕ → Fraction
 estimate s leaf row =
     sum_below (length s.values) (λ k. cond (is_selected s leaf k) (counted s row k) (whole 0))
 
@@ -60,8 +63,33 @@ is_undecided values (Free u) = is_fractional values u
 is_undecided values other = false
 
 -- the sum of |x| over the probability, over the units that are undecided at a state; in the first row, their number
-abbrev pub error_bound : Stratum → Balancing → ℕ → Fraction
+abbrev pub error_bound : StratumUnits → Balancing → ℕ → Fraction
 error_bound s state row =
     sum_below (length s.values)
     (λ k. cond (is_undecided (values_in state) (standing s.request k)) (absolute (counted s row k))
     (whole 0))
+
+-- ---- what is balanced
+
+-- what the cube balances of a stratum, by the search of its free units and the totals of all
+abbrev pub balance_of : StratumUnits → Balance Balancing
+balance_of s = record {
+  tree = tree_of s;
+  rows = rows_in;
+  left = left_in;
+  undecided = λ state. fractional_count (values_in state);
+  all_rows = row_count s;
+  total = total s;
+  known = known s;
+  estimate = estimate s;
+  bound = error_bound s;
+  independent = HasIndependentColumns (free_units s);
+  stuck = IsStuck (free_units s);
+}
+
+-- every selection from the stratum is balanced
+abbrev pub IsBalanced : StratumUnits → Type 0
+IsBalanced s = moves.IsBalanced (balance_of s) (start_of s)
+
+abbrev pub EachIsBalanced : Type 0
+EachIsBalanced = (s : StratumUnits) → AreStratumUnits s → IsBalanced s

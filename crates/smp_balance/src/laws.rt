@@ -1,6 +1,6 @@
 //! What holds of every selection from a stratum.
 
-ghost use Rattle.smp_balance.specs.Balances.{EachIsBalanced};
+ghost use Rattle.smp_balance.specs.Totals.{EachIsBalanced};
 ghost use Rattle.smp_balance.specs.Reports.{EachLineTells};
 
 /// The law that every selection from a stratum by the cube is balanced: its flight keeps each total in force exactly, its landing begins only

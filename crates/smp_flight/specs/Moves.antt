@@ -29,4 +29,3 @@ pub record IsMove (units : Units) (s : Shares) (order : List ℕ) (w : List ℤ)
   pub minus_moved : IsMoved units.requested.den s (turned m.direction) m.down minus_end
   pub weights : Same (times (whole m.plus_weight) (fraction_of m.up)) (times (whole m.minus_weight) (fraction_of m.down))
   pub coprime : IsGcd m.plus_weight m.minus_weight 1
-

@@ -1,6 +1,4 @@
-mod Before
-mod Landed
-mod Runs
-mod Errors
+mod Settled
+mod Owed
 mod Counts
 pub mod Starts

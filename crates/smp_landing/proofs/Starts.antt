@@ -13,14 +13,12 @@ use Rattle.smp_values.proofs.Requests.{requested_values}
 use Rattle.smp_flight.specs.States as flights
 use Rattle.smp_flight.specs.States.{Units, IsFlight}
 use Rattle.smp_flight.specs.Requests.{units_of}
-use Rattle.smp_landing.specs.Cube.{cube_tree}
-use Rattle.smp_landing.specs.Landings.{IsBalanced}
+use Rattle.smp_landing.specs.Cube.{IsBalancing, cube_tree}
+use Rattle.smp_landing.specs.Landings.{IsBalanced, weighed_of}
 use Rattle.smp_landing.specs.Method.{method_of, started}
-use Rattle.smp_landing.proofs.Before.{started_before, before_member, before_path}
 use Rattle.smp_landing.proofs.Counts.{cube_count}
-use Rattle.smp_landing.proofs.Errors.{error_is_bounded, exact_without_landing}
-use Rattle.smp_landing.proofs.Landed.{lands_there, flights_keep, totals_stay, few_are_left, drops_are_independent, left_is_counted}
-use Rattle.smp_landing.proofs.Runs.{lands_or_not}
+use Rattle.smp_landing.proofs.Owed.{IsFlying, cube_owes, cube_start}
+use Rattle.smp_moves.proofs.Owed.{is_balanced}
 
 pub starts_requested : (request : Request) (xs : List (List ℤ)) → IsRequest request → IsRequested (cube_tree (units_of request xs)) request (started (units_of request xs))
 starts_requested request xs is =
@@ -32,15 +30,4 @@ module _ (units : Units) (is_flight : IsFlight units (flights.started units)) wh
 
   pub cube_balances : IsBalanced units (started units)
   cube_balances =
-      let start = started_before units is_flight in
-      record {
-        flights = flights_keep units (started units) start;
-        totals = totals_stay units (started units) start;
-        exact = exact_without_landing units (started units) start;
-        landing = λ before s lands. lands_there units s (before_member units s (before_path units before (started units) s lands.leads lands.flight start)) lands.begins;
-        lands = λ path to leads. lands_or_not units path (started units) to leads;
-        drops = drops_are_independent units (started units) start;
-        few = few_are_left units (started units) start;
-        error = error_is_bounded units (started units) start;
-        left = left_is_counted units (started units) start;
-      }
+      is_balanced (weighed_of units) (IsBalancing units) IsFlying (cube_owes units) (started units) (cube_start units is_flight)

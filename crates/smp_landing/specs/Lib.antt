@@ -1,5 +1,4 @@
 pub mod Cube
-pub mod Totals
 pub mod Landings
 pub mod Method
 pub mod Laws

@@ -13,7 +13,7 @@ use Rattle.smp_kernel.specs.Vectors.{Within}
 use Rattle.smp_flight.specs.Requests.{AreValues}
 use Rattle.smp_balance.specs.Lines as lines
 use Rattle.smp_balance.specs.Lines.{IsTold}
-use Rattle.smp_balance.specs.Strata.{IsStratum}
+use Rattle.smp_balance.specs.Strata.{AreStratumUnits}
 use Rattle.smp_balance.specs.Totals.{can_be_selected}
 use Rattle.smp_design.specs.declared.method.Method.{Method}
 use Rattle.smp_design.specs.declared.method.Method.TheVariants.{Cube}
@@ -91,7 +91,7 @@ module _ (plan : Parts) (drawable : CanBeDrawn plan) (cube : plan.method ≡ Cub
       (All-map (Within (2 ^ 31 - 1)) (λ (u : FirstUnit). u.values) s.units (All-weaker (IsFirst plan.second) (λ u. Within (2 ^ 31 - 1) u.values) (λ u first. near_within u.values first.near) s.units own.stratum.firsts))
       (few_columns plan.method plan.order own.columns cube own.method)
 
-  pub is_stratum : IsStratum (balancing s)
+  pub is_stratum : AreStratumUnits (balancing s)
   is_stratum = record {
     request = own.stratum.over.sound;
     rising = own.stratum.over.rising;

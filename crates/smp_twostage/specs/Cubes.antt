@@ -12,7 +12,7 @@ use Rattle.smp_strata.specs.declared.strata.Stratum.{Stratum}
 use Rattle.smp_twostage.specs.Selections.{first_number}
 
 -- a stratum as the cube draws from it: its request, and the balancing values of its first stage units
-abbrev pub balancing : Stratum → balance.Stratum
+abbrev pub balancing : Stratum → balance.StratumUnits
 balancing s = record { request = s.request; values = map (λ u. u.values) s.units }
 
 -- The stratum's part of a path leads through the cube's tree, from the requested probabilities to a leaf, and it ends the selection in the

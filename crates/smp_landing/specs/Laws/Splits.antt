@@ -24,7 +24,8 @@ use Rattle.smp_flight.proofs.Nexts.{IsKnown, known, next_is}
 use Rattle.smp_flight.proofs.Moved.{IsChosen, chosen_is}
 use Rattle.smp_flight.proofs.Sizes.{flown_both_ways}
 use Rattle.smp_flight.proofs.MoveTotals.{end_total}
-use Rattle.smp_landing.specs.Totals.{total}
+use Rattle.smp_moves.specs.Owed.{weighed_total}
+use Rattle.smp_landing.specs.Landings.{weighed_of}
 use Rattle.smp_landing.specs.Cube.{Balancing, flying, pairing, values_in, IsBalancing, cube_tree, flight_parts, dropped, landed}
 use Rattle.smp_moves.proofs.Evens.{even_ends, entry_of_turned}
 
@@ -62,7 +63,7 @@ module _ (units : Units) (f : Flight) (left : ℕ) (ok : IsFlight units f) (m : 
   }
 
   -- it keeps the total of each row in force, at both ends
-  pub both_totals : (row : ℕ) → row < f.rows → EachPart (λ p. Same (total units p.state row) (total units (flying f left) row)) (flight_parts units f left (move m))
+  pub both_totals : (row : ℕ) → row < f.rows → EachPart (λ p. Same (weighed_total (weighed_of units) p.state row) (weighed_total (weighed_of units) (flying f left) row)) (flight_parts units f left (move m))
   both_totals row l =
       let order : List ℕ = fractional_units f.shares in
       (end_total units f order ok m knows true row l, (end_total units f order ok m knows false row l, tt))

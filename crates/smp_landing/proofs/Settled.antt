@@ -1,0 +1,98 @@
+-- A unit whose value is 0 or 1 keeps it.
+use Rattle.std.proofs.Common.{◌≡◌, ◌≢◌, ℕ, ◌<◌, Bool, true, false, List, [], ◌∷◌, set, length, get_or, arith, refl, sym, ap, ◌∙◌, subst, inl, inr}
+use Rattle.std.proofs.lemmas.Bool.{cases_Bool, true≢false}
+use Rattle.std.proofs.lemmas.List.{get_or-set_other}
+use Rattle.smp_fractions.specs.Fractions.{Fraction, Same, over}
+use Rattle.smp_fractions.proofs.Fractions.{same_refl, same_trans, plus_same, plus-zero, times-zero}
+use Rattle.smp_prob.specs.Shares.{Shares}
+use Rattle.smp_split.specs.Trees.{Part, EachPart}
+use Rattle.smp_split.proofs.Parts.{each_moved}
+use Rattle.smp_values.specs.Steps.{parts_on, pivotal_parts}
+use Rattle.smp_values.specs.Values.{fractional, fractional_units, is_fractional, value_at}
+use Rattle.smp_flight.specs.States.{Units, Flight, IsFlight}
+use Rattle.smp_moves.specs.Moves.{Move, fraction_of}
+use Rattle.smp_moves.specs.Ends.{Next, move, independent, wide, chosen_line, chosen_extent}
+use Rattle.smp_flight.specs.Steps.{next, chosen}
+use Rattle.smp_moves.proofs.Entries.{frame_order, off_line, order_going, place_or}
+use Rattle.smp_landing.specs.Cube.{Balancing, flying, pairing, values_in, IsBalancing, cube_parts, flight_parts}
+use Rattle.smp_landing.specs.Landings.{weighed_of}
+use Rattle.smp_moves.specs.Owed.{HasKept}
+use Rattle.smp_landing.specs.Laws.Splits.{ends_at}
+
+-- the unit k has the value v for good
+pub record IsSettledAt (k : ℕ) (v : Fraction) (s : Shares) : Type 0 where
+  pub still : is_fractional s k ≡ false
+  pub same : Same (value_at s k) v
+
+-- ---- a pivotal step
+
+module _ (s : Shares) (k : ℕ) (v : Fraction) (settled : IsSettledAt k v s) where
+  other_place : (i : ℕ) → is_fractional s i ≡ true → k ≢ i
+  other_place i h e = true≢false (sym h ∙ subst (λ (x : ℕ). is_fractional s x ≡ false) e settled.still)
+
+  same_settled : (numer : List ℕ) → get_or numer k 0 ≡ get_or s.numer k 0 → IsSettledAt k v (record { numer = numer; den = s.den })
+  same_settled numer e = record {
+    still = ap (fractional s.den) e ∙ settled.still;
+    same = subst (λ (n : ℕ). Same (over n s.den) v) (sym e) settled.same;
+  }
+
+  one_settled : (i x : ℕ) → is_fractional s i ≡ true → IsSettledAt k v (record { numer = set s.numer i x; den = s.den })
+  one_settled i x h = same_settled (set s.numer i x) (get_or-set_other s.numer i k x 0 (other_place i h))
+
+  two_settled : (i j x y : ℕ) → is_fractional s i ≡ true → is_fractional s j ≡ true → IsSettledAt k v (record { numer = set (set s.numer i x) j y; den = s.den })
+  two_settled i j x y h m = same_settled (set (set s.numer i x) j y) (get_or-set_other (set s.numer i x) j k y 0 (other_place j m) ∙ get_or-set_other s.numer i k x 0 (other_place i h))
+
+  parts_settled : (order : List ℕ) → ((j : ℕ) → j < length order → is_fractional s (get_or order j 0) ≡ true) → EachPart (λ p. IsSettledAt k v p.state) (parts_on s order)
+  parts_settled [] going = tt
+  parts_settled (i ∷ []) going = (one_settled i _ (going 0 (omega arith)), (one_settled i _ (going 0 (omega arith)), tt))
+  parts_settled (i ∷ j ∷ order) going =
+      let a : is_fractional s i ≡ true = going 0 (omega arith) in
+      let b : is_fractional s j ≡ true = going 1 (omega arith) in
+      (two_settled i j _ _ a b, (two_settled i j _ _ a b, tt))
+
+-- ---- each step
+
+module _ (units : Units) (k : ℕ) (v : Fraction) where
+  module _ (f : Flight) (left : ℕ) (ok : IsFlight units f) (settled : IsSettledAt k v f.shares) where
+    module _ (m : Move) (is : next units f ≡ move m) (plus_way : Bool) where
+      end_same : Same (value_at (chosen units f m plus_way).shares k) (value_at f.shares k)
+      end_same =
+          let end = ends_at units f left ok m is plus_way in
+          let t = fraction_of (chosen_extent m plus_way) in
+          same_trans (end.moved.values k)
+          (elim (place_or (chosen_line m plus_way).units k) [
+            | inl h ↦ absurd (true≢false (sym (subst (λ (x : ℕ). is_fractional f.shares x ≡ true) h.2 (order_going f.shares (chosen_line m plus_way).units end.line_ok.order h.0 h.1)) ∙ settled.still))
+            | inr out ↦ rw (off_line f.shares (chosen_line m plus_way) end.line_ok k out) (same_trans (plus_same (same_refl (value_at f.shares k)) (times-zero t)) (plus-zero (value_at f.shares k)))
+          ])
+
+      end_settled : IsSettledAt k v (chosen units f m plus_way).shares
+      end_settled = record {
+        still = elim (cases_Bool (is_fractional (chosen units f m plus_way).shares k)) [
+          | inr e ↦ e
+          | inl e ↦ absurd (true≢false (sym ((ends_at units f left ok m is plus_way).fewer k e) ∙ settled.still))
+        ];
+        same = same_trans end_same settled.same;
+      }
+
+    flight_settled : (a : Next) → next units f ≡ a → EachPart (λ p. IsSettledAt k v (values_in p.state)) (flight_parts units f left a)
+    flight_settled (move m) is = (end_settled m is true, (end_settled m is false, tt))
+    flight_settled independent is = (settled, tt)
+    flight_settled wide is = (settled, tt)
+
+  step_settled : (s : Balancing) → IsBalancing units s → IsSettledAt k v (values_in s) → EachPart (λ p. IsSettledAt k v (values_in p.state)) (cube_parts units s)
+  step_settled (flying f left) ok settled = flight_settled f left ok settled (next units f) refl
+  step_settled (pairing s left) ok settled =
+      each_moved (λ t. pairing t left) (λ p. IsSettledAt k v p.state) (λ p. IsSettledAt k v (values_in p.state)) (λ p h. h) (pivotal_parts s)
+      (parts_settled s k v settled (fractional_units s) (order_going s (fractional_units s) (frame_order s)))
+
+-- as what is owed
+all_kept : (units : Units) (s : Balancing) (k : ℕ) (ps : List (Part Balancing)) → EachPart (λ p. IsSettledAt k (value_at (values_in s) k) (values_in p.state)) ps →
+    EachPart (λ p. HasKept (weighed_of units) s p.state k) ps
+all_kept units s k [] each = tt
+all_kept units s k (p ∷ ps) each = (record { still = each.0.still; same = each.0.same }, all_kept units s k ps each.1)
+
+pub settled_kept : (units : Units) (s : Balancing) → IsBalancing units s → (k : ℕ) → is_fractional (values_in s) k ≡ false →
+    EachPart (λ p. HasKept (weighed_of units) s p.state k) (cube_parts units s)
+settled_kept units s ok k still =
+    all_kept units s k (cube_parts units s)
+    (step_settled units k (value_at (values_in s) k) s ok (record { still = still; same = same_refl (value_at (values_in s) k) }))
