@@ -17,6 +17,8 @@ pub mod Expected
 pub mod Founds
 pub mod Apart
 pub mod Members
+pub mod Laid
+pub mod Looked
 pub mod MisfitOrder
 pub mod Pushes
 pub mod Serving

@@ -12,7 +12,7 @@ ghost use Rattle.smp_strata.specs.Clusters.{clusters as clusters_of, first_row};
 ghost use Rattle.smp_strata.specs.Draws.{IsAllocated};
 ghost use Rattle.smp_strata.specs.Misfits.{Reports, first_apart, first_found, misfit_of, probs_misfit, psu_short, psu_too_large, second_too_many, short, sizes_misfit, sum_of, unit_in_two, unwhole, when};
 ghost use Rattle.smp_strata.specs.declared.misfit.Misfit.TheVariants as misfits;
-ghost use Rattle.smp_strata.specs.Kept.Layouts.{AreRows, IsLaidOut, homes_of, prob_of};
+ghost use Rattle.smp_strata.specs.Kept.Layouts.{AreRows, IsLaidOut, denominator_at, homes_of, probs_in, short_at, unwhole_at};
 ghost use Rattle.smp_strata.specs.Kept.Sized.{AreSizes, HasSizes};
 
 use crate::Misfit;
@@ -158,11 +158,8 @@ fn strata_fit(
     requires few { All (λ group. length group ≤ max_rows) strata.now.members.items }
     requires within { All (All (λ member. member < length cluster_sizes.now))
         strata.now.members.items }
-    ensures { Reports result (first_found
-        (λ stratum. short (slice_index_or strata.now.names.items stratum [])
-        (map (slice_index cluster_sizes.now)
-        (slice_index_or strata.now.members.items stratum []))
-        (slice_index sizes.now stratum))
+    ensures { Reports result (first_found (short_at cluster_sizes.now sizes.now
+        strata.now.names.items strata.now.members.items)
         (range_with_len 0 (length strata.now.names.items))) }
 {
     for stratum in 0..strata.names.len() {
@@ -246,11 +243,8 @@ fn strata_have_denominators(
     requires few { All (λ group. length group ≤ max_rows) strata.now.members.items }
     requires within { All (All (λ member. member < length clusters.now))
         strata.now.members.items }
-    ensures { Reports result (first_found
-        (λ stratum. when (nat_lt largest_multiple (common_multiple
-        (map (prob_of units.now clusters.now)
-        (slice_index_or strata.now.members.items stratum []))))
-        (misfits.Denominator (slice_index_or strata.now.names.items stratum [])))
+    ensures { Reports result (first_found (denominator_at units.now clusters.now
+        strata.now.names.items strata.now.members.items)
         (range_with_len 0 (length strata.now.names.items))) }
 {
     for stratum in 0..strata.names.len() {
@@ -288,12 +282,9 @@ fn strata_are_whole(
     requires within { All (All (λ member. member < length clusters.now))
         strata.now.members.items }
     requires denominators { (stratum : ℕ) → stratum < length strata.now.names.items
-        → common_multiple (map (prob_of units.now clusters.now)
-        (slice_index_or strata.now.members.items stratum [])) ≤ largest_multiple }
-    ensures { Reports result (first_found
-        (λ stratum. unwhole (slice_index_or strata.now.names.items stratum [])
-        (sum_of (map (prob_of units.now clusters.now)
-        (slice_index_or strata.now.members.items stratum []))))
+        → common_multiple (probs_in units.now clusters.now strata.now.members.items stratum) ≤ largest_multiple }
+    ensures { Reports result (first_found (unwhole_at units.now clusters.now
+        strata.now.names.items strata.now.members.items)
         (range_with_len 0 (length strata.now.names.items))) }
 {
     for stratum in 0..strata.names.len() {

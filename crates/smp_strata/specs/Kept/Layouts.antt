@@ -1,5 +1,5 @@
 -- Rows and their first stage units, and these and their strata, by numbers.
-use Rattle.std.specs.Prelude.{ℕ, ◌<◌, ◌≤◌, ◌≡◌, List, [], Option, Some, None, length, map, slice_index_or, All}
+use Rattle.std.specs.Prelude.{ℕ, ◌<◌, ◌≤◌, ◌≡◌, nat_lt, List, [], Option, Some, None, length, map, slice_index, slice_index_or, All}
 use Rattle.std.specs.List.{position_or_len, range_with_len}
 use Rattle.std.specs.Str.{bytes_eq}
 use Rattle.smp_frame.specs.Bounds.{HaveValues, IsFrame}
@@ -9,6 +9,10 @@ use Rattle.smp_design.specs.declared.design.Design.{Design}
 use Rattle.smp_design.specs.declared.design.Second as second
 use Rattle.smp_frac.specs.declared.fractions.Frac.{Frac}
 use Rattle.smp_frame.specs.declared.frame.Unit as unit
+use Rattle.smp_prob.specs.Given.{common_multiple, largest_multiple}
+use Rattle.smp_strata.specs.Misfits.{short, sum_of, unwhole, when}
+use Rattle.smp_strata.specs.declared.misfit.Misfit.{Misfit}
+use Rattle.smp_strata.specs.declared.misfit.Misfit.TheVariants.{Denominator}
 use Rattle.smp_strata.specs.Clusters.{clusters, psu_names, first_row, stratum_names, stratum_number}
 use Rattle.smp_strata.specs.Rows.{prob_at, rows_of, psu_at}
 use Rattle.smp_strata.specs.Kept.Groups.{places_of, AreAmong}
@@ -61,3 +65,27 @@ pub record IsLaidOut (asked : Design) (units : List unit.Unit) (clustered : List
   pub strata_homes : strata.homes.items ≡ strata_homes units clustered
   pub groups : AreGroups strata.homes.items (length strata.names.items)
       strata.members.items strata.places.items
+
+-- ---- what is looked for at a stratum's number
+
+-- the probabilities of its first stage units
+abbrev pub probs_in : List unit.Unit → List (List ℕ) → List (List ℕ) → ℕ → List Frac
+probs_in units clustered members k =
+    map (prob_of units clustered) (slice_index_or members k [])
+
+-- too large a common denominator of these, or a sum of them that isn't whole
+abbrev pub denominator_at : List unit.Unit → List (List ℕ) → List (List ℕ) → List (List ℕ) → ℕ → Option Misfit
+denominator_at units clustered names members k =
+    when (nat_lt largest_multiple (common_multiple (probs_in units clustered members k)))
+    (Denominator (slice_index_or names k []))
+
+abbrev pub unwhole_at : List unit.Unit → List (List ℕ) → List (List ℕ) → List (List ℕ) → ℕ → Option Misfit
+unwhole_at units clustered names members k =
+    unwhole (slice_index_or names k []) (sum_of (probs_in units clustered members k))
+
+-- fewer positive sizes than its number of units
+abbrev pub short_at : List ℕ → List ℕ → List (List ℕ) → List (List ℕ) → ℕ → Option Misfit
+short_at cluster_sizes samples names members k =
+    short (slice_index_or names k [])
+    (map (slice_index cluster_sizes) (slice_index_or members k []))
+    (slice_index samples k)

@@ -1,13 +1,14 @@
-use Rattle.std.proofs.Common.{◌≡◌, ◌∙◌, sym, refl, rules, length, map, get_or, nat_lt, [], true, false, None, Err}
+use Rattle.std.proofs.Common.{◌≡◌, ◌∙◌, sym, refl, rules, length, get_or, [], true, false, None, Err}
 use Rattle.std.proofs.lemmas.Bool.{ltb-false}
 use Rattle.smp_design.specs.Words.{row}
 use Rattle.smp_prob.specs.Given.{common_multiple, largest_multiple}
-use Rattle.smp_strata.specs.Kept.Layouts.{prob_of}
+use Rattle.smp_strata.specs.Kept.Layouts.{denominator_at, probs_in}
 use Rattle.smp_strata.specs.declared.misfit.Misfit.TheVariants.{Denominator}
-use Rattle.smp_strata.specs.Misfits.{denominator, when}
+use Rattle.smp_strata.specs.Misfits.{denominator}
 use Rattle.smp_strata.proofs.Founds.{none_at, when_false}
 use Rattle.smp_strata.proofs.Totals.{how_many}
 use Rattle.smp_strata.proofs.Members.{denominators_are, few_members, groups_within, unwhole_are}
+use Rattle.smp_strata.proofs.Laid.{all_rows, groups}
 use Rattle.smp_strata.proofs.MisfitOrder.{passed, probs_1, probs_2}
 use Rattle.smp_strata.proofs.checks.probs_fit.Goals.{then-draws_whole+in_ok-strata_are_whole, else-draws_whole}
 use Rattle.smp_strata.proofs.checks.probs_fit.Goals as goal
@@ -17,73 +18,58 @@ strata_have_denominators-requires-clause-members c = how_many _ _ _ _ c.requires
 
 pub strata_have_denominators-requires-clause-few : goal.strata_have_denominators-requires-clause-few
 strata_have_denominators-requires-clause-few c =
-    let all_rows = rw c.requires.layout.rows at c.requires.layout.all_rows in
-    let groups = rw (c.requires.layout.strata_homes, c.requires.layout.rows, c.requires.layout.names) at c.requires.layout.groups in
-    few_members c.args.design.now c.args.units.now all_rows c.args.strata.now.members.items c.args.strata.now.places.items groups c.requires.layout.frame.few
+    few_members c.args.design.now c.args.units.now (all_rows c.requires.layout) c.args.strata.now.members.items c.args.strata.now.places.items (groups c.requires.layout) c.requires.layout.frame.few
 
 pub strata_have_denominators-requires-clause-within : goal.strata_have_denominators-requires-clause-within
 strata_have_denominators-requires-clause-within c =
-    let all_rows = rw c.requires.layout.rows at c.requires.layout.all_rows in
-    let groups = rw (c.requires.layout.strata_homes, c.requires.layout.rows, c.requires.layout.names) at c.requires.layout.groups in
-    rw c.requires.layout.rows (groups_within c.args.design.now c.args.units.now all_rows c.args.strata.now.members.items c.args.strata.now.places.items groups)
+    rw c.requires.layout.rows (groups_within c.args.design.now c.args.units.now (all_rows c.requires.layout) c.args.strata.now.members.items c.args.strata.now.places.items (groups c.requires.layout))
 
 pub returns-in_err-strata_have_denominators : goal.returns-in_err-strata_have_denominators
 returns-in_err-strata_have_denominators c =
-    let all_rows = rw c.requires.layout.rows at c.requires.layout.all_rows in
-    let groups = rw (c.requires.layout.strata_homes, c.requires.layout.rows, c.requires.layout.names) at c.requires.layout.groups in
     let said = rw (c.requires.layout.names, c.requires.layout.rows) at c.in_err-strata_have_denominators.ensures in
     let same : c.from_residual.result ≡ Err c.in_err-strata_have_denominators.field-0.0 = search rules in
     rw same (passed (Unit {0}) (Unit {0}) c.in_err-strata_have_denominators.field-0.0 _ _ said (λ m at.
-    probs_1 c.args.design.now c.args.units.now m (sym (denominators_are c.args.design.now c.args.units.now all_rows c.args.strata.now.members.items c.args.strata.now.places.items groups) ∙ at)))
+    probs_1 c.args.design.now c.args.units.now m (sym (denominators_are c.args.design.now c.args.units.now (all_rows c.requires.layout) c.args.strata.now.members.items c.args.strata.now.places.items (groups c.requires.layout)) ∙ at)))
 
 pub strata_are_whole-requires-clause-members : goal.strata_are_whole-requires-clause-members
 strata_are_whole-requires-clause-members c = how_many _ _ _ _ c.requires.layout.groups
 
 pub strata_are_whole-requires-clause-few : goal.strata_are_whole-requires-clause-few
 strata_are_whole-requires-clause-few c =
-    let all_rows = rw c.requires.layout.rows at c.requires.layout.all_rows in
-    let groups = rw (c.requires.layout.strata_homes, c.requires.layout.rows, c.requires.layout.names) at c.requires.layout.groups in
-    few_members c.args.design.now c.args.units.now all_rows c.args.strata.now.members.items c.args.strata.now.places.items groups c.requires.layout.frame.few
+    few_members c.args.design.now c.args.units.now (all_rows c.requires.layout) c.args.strata.now.members.items c.args.strata.now.places.items (groups c.requires.layout) c.requires.layout.frame.few
 
 pub strata_are_whole-requires-clause-within : goal.strata_are_whole-requires-clause-within
 strata_are_whole-requires-clause-within c =
-    let all_rows = rw c.requires.layout.rows at c.requires.layout.all_rows in
-    let groups = rw (c.requires.layout.strata_homes, c.requires.layout.rows, c.requires.layout.names) at c.requires.layout.groups in
-    rw c.requires.layout.rows (groups_within c.args.design.now c.args.units.now all_rows c.args.strata.now.members.items c.args.strata.now.places.items groups)
+    rw c.requires.layout.rows (groups_within c.args.design.now c.args.units.now (all_rows c.requires.layout) c.args.strata.now.members.items c.args.strata.now.places.items (groups c.requires.layout))
 
 pub strata_are_whole-requires-clause-denominators : goal.strata_are_whole-requires-clause-denominators
 strata_are_whole-requires-clause-denominators c = λ k here.
-    ltb-false largest_multiple (common_multiple (map (prob_of c.args.units.now c.args.clusters.now) (get_or c.args.strata.now.members.items k [])))
+    ltb-false largest_multiple (common_multiple (probs_in c.args.units.now c.args.clusters.now c.args.strata.now.members.items k))
     (when_false _ (Denominator (get_or c.args.strata.now.names.items k []))
-    (none_at (λ j. when (nat_lt largest_multiple (common_multiple (map (prob_of c.args.units.now c.args.clusters.now) (get_or c.args.strata.now.members.items j [])))) (Denominator (get_or c.args.strata.now.names.items j [])))
-    (length c.args.strata.now.names.items) c.in_ok-strata_have_denominators.ensures k here))
+    (none_at (denominator_at c.args.units.now c.args.clusters.now c.args.strata.now.names.items c.args.strata.now.members.items) (length c.args.strata.now.names.items) c.in_ok-strata_have_denominators.ensures k here))
 
 pub returns-in_err-strata_are_whole : goal.returns-in_err-strata_are_whole
 returns-in_err-strata_are_whole c =
-    let all_rows = rw c.requires.layout.rows at c.requires.layout.all_rows in
-    let groups = rw (c.requires.layout.strata_homes, c.requires.layout.rows, c.requires.layout.names) at c.requires.layout.groups in
     let fits : denominator c.args.design.now c.args.units.now ≡ None =
-    sym (denominators_are c.args.design.now c.args.units.now all_rows c.args.strata.now.members.items c.args.strata.now.places.items groups)
+    sym (denominators_are c.args.design.now c.args.units.now (all_rows c.requires.layout) c.args.strata.now.members.items c.args.strata.now.places.items (groups c.requires.layout))
     ∙ rw (c.requires.layout.names, c.requires.layout.rows) at c.in_ok-strata_have_denominators.ensures in
     let whole : (row c.args.design.now.method).draws_whole ≡ true = sym c.draws_whole.ensures ∙ c.if-draws_whole.true in
     let said = rw (c.requires.layout.names, c.requires.layout.rows) at c.in_err-strata_are_whole.ensures in
     let same : c.from_residual-in_err-strata_are_whole.result ≡ Err c.in_err-strata_are_whole.field-0.0 = search rules in
     rw same (passed (Unit {0}) (Unit {0}) c.in_err-strata_are_whole.field-0.0 _ _ said (λ m at.
     probs_2 c.args.design.now c.args.units.now fits _
-    (rw whole (sym (unwhole_are c.args.design.now c.args.units.now all_rows c.args.strata.now.members.items c.args.strata.now.places.items groups) ∙ at))))
+    (rw whole (sym (unwhole_are c.args.design.now c.args.units.now (all_rows c.requires.layout) c.args.strata.now.members.items c.args.strata.now.places.items (groups c.requires.layout)) ∙ at))))
 
 pub returns : goal.returns
 returns c =
-    let all_rows = rw c.requires.layout.rows at c.requires.layout.all_rows in
-    let groups = rw (c.requires.layout.strata_homes, c.requires.layout.rows, c.requires.layout.names) at c.requires.layout.groups in
     let fits : denominator c.args.design.now c.args.units.now ≡ None =
-    sym (denominators_are c.args.design.now c.args.units.now all_rows c.args.strata.now.members.items c.args.strata.now.places.items groups)
+    sym (denominators_are c.args.design.now c.args.units.now (all_rows c.requires.layout) c.args.strata.now.members.items c.args.strata.now.places.items (groups c.requires.layout))
     ∙ rw (c.requires.layout.names, c.requires.layout.rows) at c.in_ok-strata_have_denominators.ensures in
     elim c.if-draws_whole.branch [
       | then-draws_whole+in_ok-strata_are_whole w ↦
           (let whole : (row c.args.design.now.method).draws_whole ≡ true = sym c.draws_whole.ensures ∙ w.if-draws_whole.true in
           probs_2 c.args.design.now c.args.units.now fits None
-          (rw whole (sym (unwhole_are c.args.design.now c.args.units.now all_rows c.args.strata.now.members.items c.args.strata.now.places.items groups)
+          (rw whole (sym (unwhole_are c.args.design.now c.args.units.now (all_rows c.requires.layout) c.args.strata.now.members.items c.args.strata.now.places.items (groups c.requires.layout))
           ∙ rw (c.requires.layout.names, c.requires.layout.rows) at w.in_ok-strata_are_whole.ensures)))
       | else-draws_whole w ↦
           (let whole : (row c.args.design.now.method).draws_whole ≡ false = sym c.draws_whole.ensures ∙ w.if-draws_whole.false in

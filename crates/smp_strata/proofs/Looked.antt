@@ -1,0 +1,21 @@
+-- What a loop over the strata reads of one of them, by its number.
+use Rattle.std.proofs.Common.{◌≡◌, ℕ, ◌<◌, List, [], length, map, get_or, arith, ap, ◌∙◌}
+use Rattle.std.proofs.lemmas.List.{get_or_default}
+use Rattle.smp_frame.specs.declared.frame.Unit as unit
+use Rattle.smp_strata.specs.Kept.Layouts.{prob_of, probs_in}
+use Rattle.smp_strata.specs.declared.layout.Strata.{Strata}
+
+module _ (strata : Strata) (paired : length strata.members.items ≡ length strata.names.items) (k : ℕ)
+    (here : k < length strata.names.items) where
+  pub name : (read : List ℕ) → read ≡ get_or strata.names.items k read → read ≡ get_or strata.names.items k []
+  name read is = is ∙ get_or_default strata.names.items k read [] here
+
+  pub member : k < length strata.members.items
+  member = omega (arith, here, paired)
+
+  pub group : (read : List ℕ) → read ≡ get_or strata.members.items k read → read ≡ get_or strata.members.items k []
+  group read is = is ∙ get_or_default strata.members.items k read [] member
+
+  pub probs : (units : List unit.Unit) (clustered : List (List ℕ)) (read : List ℕ) → read ≡ get_or strata.members.items k read
+      → map (prob_of units clustered) read ≡ probs_in units clustered strata.members.items k
+  probs units clustered read is = ap (map (prob_of units clustered)) (group read is)
