@@ -2,14 +2,23 @@
 use Rattle.std.specs.Prelude.{ℕ, ◌^◌}
 use Rattle.smp_prob.specs.Shares.{Shares}
 use Rattle.smp_split.specs.Trees.{Tree}
-use Rattle.smp_split.specs.Orders.{Ordered, IsInOrder, ordered_tree}
-use Rattle.smp_values.specs.Steps.{steps_tree}
-use Rattle.smp_values.specs.Values.{IsValues, exchanged_values}
+use Rattle.smp_split.specs.Orders.{Ordered}
+use Rattle.smp_values.specs.InOrder.{StepRule, IsPlacedBy, placed_tree}
+use Rattle.smp_values.specs.Steps.{pivotal_kind, pivotal_parts}
 
--- pivotal steps on the values of so many units, once their order is drawn
+-- pivotal steps, of which each settles a value at least
+abbrev pub pivotal_rule : StepRule
+pivotal_rule = record {
+  most = 2 ^ 80;
+  kind = pivotal_kind;
+  parts = pivotal_parts;
+  rank = λ fractional. fractional;
+}
+
+-- these steps on the values of so many units, once their order is drawn
 abbrev pub pivotal_tree : ℕ → Tree (Ordered Shares)
-pivotal_tree units = ordered_tree (steps_tree units) exchanged_values
+pivotal_tree units = placed_tree pivotal_rule units
 
 -- a state of a selection of so many units
 abbrev pub IsPivotal : ℕ → Ordered Shares → Type 0
-IsPivotal units s = IsInOrder units (IsValues units (2 ^ 80)) s
+IsPivotal units s = IsPlacedBy pivotal_rule units s

@@ -1,27 +1,22 @@
 -- The steps of a systematic selection.
-use Rattle.std.proofs.Common.{◌≡◌, ℕ, ◌+◌, ◌-◌, ◌^◌, ◌<◌, ◌≤◌, Bool, true, false, cond, nat_eq, length, get_or, arith, refl, ap, ◌∙◌}
+use Rattle.std.proofs.Common.{◌≡◌, ℕ, ◌+◌, ◌<◌, ◌≤◌, Bool, true, false, cond, nat_eq, length, get_or, arith, refl, ap, ◌∙◌}
 use Rattle.std.proofs.lemmas.Bool.{eq-eqb, ne_eqb}
 use Rattle.std.proofs.lemmas.Bool.Decides.{Decides-at}
 use Rattle.std.specs.Bool.{Decides}
 use Rattle.std.proofs.lemmas.List.FromFn.{get_or-range_with_len}
 use Rattle.std.specs.List.{count_by, range_with_len}
-use Rattle.smp_split.specs.Counts.{LeavesSelectAround, draws_selecting, selected_after}
-use Rattle.smp_split.specs.Methods.{Starts}
+use Rattle.smp_split.specs.Counts.{draws_selecting, selected_after}
 use Rattle.smp_split.specs.Trees.{weight_sum, picked}
 use Rattle.smp_split.specs.Orders.{Placing, Ordered, in_order, frame_order}
 use Rattle.smp_split.proofs.Orders.{inner_bound, inner_picked, place_in}
 use Rattle.smp_split.proofs.Parts.{weight_sum-equal, picked-equal}
-use Rattle.smp_split.proofs.Methods.{starts_around}
 use Rattle.smp_split.proofs.NumberSums.{sums_same, sum_by-range}
-use Rattle.smp_prob.specs.declared.orders.Order.{Order}
 use Rattle.smp_prob.specs.Shares.{Shares}
-use Rattle.smp_values.specs.Starts.{ordered_values}
-use Rattle.smp_values.specs.Values.{IsValues, exchanged_values}
-use Rattle.smp_values.proofs.Requests.{starts_in_order}
-use Rattle.smp_systematic.specs.Method.{method_of}
-use Rattle.smp_systematic.specs.Systematic.{IsSystematic, PointsAt, cumulated, takes, sampled, place_of, numerator_of, places_tree, systematic_tree}
+use Rattle.smp_values.specs.InOrder.{places_tree}
+use Rattle.smp_values.specs.Values.{exchanged_values}
+use Rattle.smp_systematic.specs.Systematic.{IsSystematic, PointsAt, cumulated, takes, sampled, place_of, numerator_of, systematic_rule, systematic_tree}
 use Rattle.smp_systematic.specs.Laws.Points.{meets_decides}
-use Rattle.smp_systematic.specs.Laws.Splits.{sampled_at, draws_taking, leaf_around}
+use Rattle.smp_systematic.specs.Laws.Splits.{sampled_at, draws_taking}
 
 either_is : (den : ℕ) (b : Bool) → 1 ≤ den → nat_eq (cond b den 0) den ≡ b
 either_is den true one = eq-eqb den den refl
@@ -31,13 +26,13 @@ module _ (units : ℕ) (s : Ordered Shares) (drawn : nat_eq s.order.left 0 ≡ t
   -- ---- the systematic draw
 
   pub system_bound : weight_sum ((systematic_tree units).parts s) ≡ s.state.den
-  system_bound = inner_bound (places_tree units) exchanged_values s drawn ∙ weight_sum-equal (sampled s.state) s.state.den
+  system_bound = inner_bound (places_tree systematic_rule units) exchanged_values s drawn ∙ weight_sum-equal (sampled s.state) s.state.den
 
   pub draw_within : (draw : ℕ) → draw < weight_sum ((systematic_tree units).parts s) → draw < s.state.den
   draw_within draw h = rw system_bound at h
 
   pub system_picked : (draw : ℕ) → draw < s.state.den → picked s ((systematic_tree units).parts s) draw ≡ in_order s.order (sampled s.state draw)
-  system_picked draw h = rw (inner_picked (places_tree units) exchanged_values s draw drawn, picked-equal (sampled s.state) s.state s.state.den draw h) refl
+  system_picked draw h = rw (inner_picked (places_tree systematic_rule units) exchanged_values s draw drawn, picked-equal (sampled s.state) s.state s.state.den draw h) refl
 
   module _ (ok : IsSystematic units s) where
     -- a draw selects a unit where it takes its place
@@ -67,11 +62,3 @@ draws_in_frame s ok frame unit here =
     let none : 0 + unit ≡ unit = omega arith in
     let place : place_of s unit ≡ unit = ap (λ (o : Placing). get_or o.places unit 0) frame ∙ get_or-range_with_len 0 (length s.state.numer) unit 0 here ∙ none in
     draws_are (length s.state.numer) s drawn ok unit here ∙ ap (λ p. get_or s.state.numer p 0) place
-
--- a selection starts from any values in range, in either order
-module _ (order : Order) (s : Shares) (few : length s.numer < 2 ^ 64) (ok : IsValues (length s.numer) (2 ^ 126 - 1) s) where
-  pub systematic_around : LeavesSelectAround (method_of (ordered_values order s)).tree (ordered_values order s)
-  systematic_around = leaf_around (length s.numer) (ordered_values order s) (starts_in_order order (2 ^ 126 - 1) s few ok)
-
-  pub systematic_starts : Starts (method_of (ordered_values order s)) (ordered_values order s)
-  systematic_starts = starts_around (method_of (ordered_values order s)) (ordered_values order s) (starts_in_order order (2 ^ 126 - 1) s few ok) systematic_around

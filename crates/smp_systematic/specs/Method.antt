@@ -1,22 +1,13 @@
 -- Systematic selection as a method, and where it starts.
-use Rattle.std.specs.Prelude.{length}
-use Rattle.smp_prob.specs.declared.orders.Order.{Order}
-use Rattle.smp_prob.specs.declared.requests.Request.{Request}
-use Rattle.smp_prob.specs.Shares.{Shares, shares_of}
+use Rattle.smp_prob.specs.Shares.{Shares}
 use Rattle.smp_split.specs.Methods.{Method}
 use Rattle.smp_split.specs.Orders.{Ordered}
-use Rattle.smp_values.specs.Starts.{ordered_values}
-use Rattle.smp_systematic.specs.Systematic.{IsSystematic, systematic_tree}
-use Rattle.smp_systematic.specs.Laws.Splits.{systematic_lawful}
-
+use Rattle.smp_values.specs.InOrder.{placed_method}
+use Rattle.smp_systematic.specs.Systematic.{systematic_rule}
+use Rattle.smp_systematic.specs.Laws.Splits.{systematic_law}
 -- the state before the first step, with the requested values
-abbrev pub started : Request → Order → Ordered Shares
-started request order = ordered_values order (shares_of request)
+pub use Rattle.smp_values.specs.InOrder.{started}
 
 -- the method over as many units as the design has
 abbrev pub method_of : Ordered Shares → Method (Ordered Shares)
-method_of design = record {
-  tree = systematic_tree (length design.state.numer);
-  belongs = IsSystematic (length design.state.numer);
-  lawful = systematic_lawful (length design.state.numer);
-}
+method_of design = placed_method systematic_rule systematic_law design

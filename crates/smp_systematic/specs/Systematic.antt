@@ -6,9 +6,9 @@ use Rattle.std.specs.List.{list_any, range_with_len}
 use Rattle.smp_prob.specs.Shares.{Shares}
 use Rattle.smp_split.specs.Trees.{Tree}
 use Rattle.smp_split.specs.Parts.{equal_parts}
-use Rattle.smp_split.specs.Orders.{Ordered, IsInOrder, ordered_tree}
+use Rattle.smp_split.specs.Orders.{Ordered}
 use Rattle.smp_split.specs.declared.kind.Kind.TheVariants.{System}
-use Rattle.smp_values.specs.Values.{IsValues, exchanged_values, values_tree}
+use Rattle.smp_values.specs.InOrder.{StepRule, IsPlacedBy, placed_tree}
 
 -- the sum of the first k numerators
 abbrev pub cumulated : List ℕ → ℕ → ℕ
@@ -38,19 +38,22 @@ sampled s draw = record {
   den = s.den;
 }
 
--- the design over places: one step, in which each draw below the denominator is a part of weight 1
-abbrev pub places_tree : ℕ → Tree Shares
-places_tree units =
-    values_tree units (λ _. System) (λ s. equal_parts s.den (sampled s))
-    (λ fractional. if nat_eq fractional 0 then 0 else 1)
+-- one step, in which each draw below the denominator is a part of weight 1
+abbrev pub systematic_rule : StepRule
+systematic_rule = record {
+  most = 2 ^ 126 - 1;
+  kind = λ _. System;
+  parts = λ s. equal_parts s.den (sampled s);
+  rank = λ fractional. if nat_eq fractional 0 then 0 else 1;
+}
 
--- the design over units, once their order is drawn
+-- this step on the values of so many units, once their order is drawn
 abbrev pub systematic_tree : ℕ → Tree (Ordered Shares)
-systematic_tree units = ordered_tree (places_tree units) exchanged_values
+systematic_tree units = placed_tree systematic_rule units
 
 -- a state of a selection of so many units
 abbrev pub IsSystematic : ℕ → Ordered Shares → Type 0
-IsSystematic units s = IsInOrder units (IsValues units (2 ^ 126 - 1)) s
+IsSystematic units s = IsPlacedBy systematic_rule units s
 
 -- ---- a unit and a draw, once the order is drawn
 

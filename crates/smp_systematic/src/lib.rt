@@ -5,9 +5,16 @@
 //! where such a point falls on its piece. So each unit is selected with its probability, and one step settles all of them.
 #![tactic(auto)]
 
-mod design;
+mod draws;
+mod places;
 mod sample;
-mod state;
 
-pub use crate::design::{Systematic, draws_of_units};
-pub use crate::state::SystematicState;
+pub use crate::draws::{draws_in_frame_order, draws_of_units};
+pub use crate::places::SystematicPlaces;
+use smp_values::{OrderedDesign, OrderedState};
+
+/// A design that selects systematically, in the order of the frame or in an order that is drawn first.
+pub type Systematic = OrderedDesign<SystematicPlaces>;
+
+/// A state of a systematic selection.
+pub type SystematicState = OrderedState<SystematicPlaces>;

@@ -8,5 +8,6 @@ pub mod Sums
 pub mod Near
 pub mod Designs
 pub mod Requests
+pub mod InOrder
 pub mod Pivotal
 pub mod Largest

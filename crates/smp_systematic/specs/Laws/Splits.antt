@@ -20,7 +20,8 @@ use Rattle.smp_values.specs.Values.{IsValues, fractional, fractional_count, is_s
 use Rattle.smp_values.proofs.Designs.{in_order_lawful, in_order_around}
 use Rattle.smp_values.proofs.Fractional.{fractional_den}
 use Rattle.smp_values.proofs.Near.{IsNear, near_settled}
-use Rattle.smp_systematic.specs.Systematic.{IsSystematic, cumulated, takes, sampled, places_tree, systematic_tree}
+use Rattle.smp_values.specs.InOrder.{LawfulRule, places_tree}
+use Rattle.smp_systematic.specs.Systematic.{IsSystematic, cumulated, takes, sampled, systematic_rule, systematic_tree}
 use Rattle.smp_systematic.specs.Laws.Points.{points, meets_count, points_next, points_zero, gap_of}
 
 -- ---- what a draw leads to
@@ -66,7 +67,7 @@ module _ (units : ℕ) (s : Shares) (ok : IsValues units (2 ^ 126 - 1) s) where
             rw none (omega arith))
       ]
 
-  sampled_part : is_settled s ≡ false → (draw : ℕ) → IsPart (places_tree units) (IsValues units (2 ^ 126 - 1)) s (record { weight = 1; state = sampled s draw })
+  sampled_part : is_settled s ≡ false → (draw : ℕ) → IsPart (places_tree systematic_rule units) (IsValues units (2 ^ 126 - 1)) s (record { weight = 1; state = sampled s draw })
   sampled_part going draw = record {
     heavy = omega arith;
     falls = rw (sampled_done s draw, going) (omega arith);
@@ -93,11 +94,11 @@ module _ (units : ℕ) (s : Shares) (ok : IsValues units (2 ^ 126 - 1) s) where
       even_over at den_of s.den (get_or s.numer place 0) (equal_parts s.den (sampled s)) (each_equal (sampled s) (λ p. p.state.den ≡ s.den) s.den (λ _ _. refl))
       (rw weights (omega (arith, total)))
 
-  pub places_split : is_settled s ≡ false → LawfulSplit (places_tree units) (IsValues units (2 ^ 126 - 1)) s
+  pub places_split : is_settled s ≡ false → LawfulSplit (places_tree systematic_rule units) (IsValues units (2 ^ 126 - 1)) s
   places_split going = record {
     some = rw (weight_sum-equal (sampled s) s.den) ok.positive;
     narrow = rw (weight_sum-equal (sampled s) s.den) (omega (arith, ok.narrow));
-    each = each_equal (sampled s) (IsPart (places_tree units) (IsValues units (2 ^ 126 - 1)) s) s.den (λ draw _. sampled_part going draw);
+    each = each_equal (sampled s) (IsPart (places_tree systematic_rule units) (IsValues units (2 ^ 126 - 1)) s) s.den (λ draw _. sampled_part going draw);
     even = sampled_even;
   }
 
@@ -139,3 +140,6 @@ systematic_lawful units = in_order_lawful units (2 ^ 126 - 1) (λ _. System) (λ
 -- each leaf selects one of the whole numbers of units around the sum of the values
 pub leaf_around : (units : ℕ) (s : Ordered Shares) → IsSystematic units s → LeavesSelectAround (systematic_tree units) s
 leaf_around units = in_order_around units (2 ^ 126 - 1) (λ _. System) (λ t. equal_parts t.den (sampled t)) one_step (places_split units) (λ total den t here going. places_near units t here going total den)
+
+pub systematic_law : LawfulRule systematic_rule
+systematic_law = record { wide = omega arith; lawful = systematic_lawful; around = leaf_around }
