@@ -6,6 +6,7 @@ ghost use Rattle.smp_split.specs.Counts.{LeavesSelectAround};
 ghost use Rattle.smp_split.specs.Methods.{Starts};
 ghost use Rattle.smp_values.specs.Starts.{IsRequested};
 ghost use Rattle.smp_localpiv.specs.Coordinates.{points_from};
+ghost use Rattle.smp_localpiv.specs.Local.{IsLocal, local_tree};
 ghost use Rattle.smp_localpiv.specs.Method.{method_of, started, started_from};
 
 use crate::design::LocalPivotal;
@@ -15,6 +16,7 @@ use smp_frac::NoMemory;
 use smp_frame::Numbers;
 use smp_prob::Request;
 use smp_split::{Kind, Splitting};
+use smp_values::SelectionState;
 use std::alloc::Global;
 use std::marker::Model;
 
@@ -144,6 +146,32 @@ fn located<const K: usize>(
     LocalPivotal::new(alloc, request, coords.as_slice())
 }
 
+impl SelectionState for AnyLocalState {
+    ghost tree = { λ s. local_tree (length s.state.numer) };
+
+    ghost belongs = { λ s. IsLocal (length s.state.numer) s };
+
+    fn is_done(&self) -> bool {
+        in_each!(States, &self.state, inner => inner.is_done())
+    }
+
+    fn kind(&self) -> Kind {
+        in_each!(States, &self.state, inner => inner.kind())
+    }
+
+    fn bound(&self) -> u128 {
+        in_each!(States, &self.state, inner => inner.bound())
+    }
+
+    fn advance(&mut self, draw: u128) {
+        in_each!(States, &mut self.state, inner => inner.advance(draw))
+    }
+
+    fn is_selected(&self, unit: usize) -> bool {
+        in_each!(States, &self.state, inner => inner.is_selected(unit))
+    }
+}
+
 impl Splitting for AnyLocalPivotal {
     type State = AnyLocalState;
 
@@ -158,22 +186,22 @@ impl Splitting for AnyLocalPivotal {
     }
 
     fn done(&self, state: &AnyLocalState) -> bool {
-        in_each!(States, &state.state, inner => inner.is_done())
+        state.is_done()
     }
 
     fn kind(&self, state: &AnyLocalState) -> Kind {
-        in_each!(States, &state.state, inner => inner.kind())
+        state.kind()
     }
 
     fn bound(&self, state: &AnyLocalState) -> u128 {
-        in_each!(States, &state.state, inner => inner.bound())
+        state.bound()
     }
 
     fn advance(&self, state: &mut AnyLocalState, draw: u128) {
-        in_each!(States, &mut state.state, inner => inner.advance(draw))
+        state.advance(draw);
     }
 
     fn selected(&self, state: &AnyLocalState, unit: usize) -> bool {
-        in_each!(States, &state.state, inner => inner.is_selected(unit))
+        state.is_selected(unit)
     }
 }

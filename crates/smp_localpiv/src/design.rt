@@ -16,7 +16,7 @@ use smp_near::Points;
 use smp_places::Amounts;
 use smp_prob::Request;
 use smp_split::{Kind, Splitting};
-use smp_values::Values;
+use smp_values::{SelectionState, Values};
 use std::alloc::Global;
 use std::marker::Model;
 

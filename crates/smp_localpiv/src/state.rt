@@ -1,16 +1,16 @@
 //! A state of a local pivotal selection, and its steps.
 
-ghost use Rattle.std.specs.Prelude.{◌≡◌, ◌^◌, ◌<◌, ◌≤◌, true, false, length, None};
+ghost use Rattle.std.specs.Prelude.{◌≡◌, ◌^◌, ◌<◌, ◌≤◌, true, length, None};
 ghost use Rattle.smp_split.specs.Trees.{weight_sum, picked};
-ghost use Rattle.smp_values.specs.Values.{fractional_at, fractional_count, is_fractional, is_one, is_settled, with_one};
-ghost use Rattle.smp_localpiv.specs.Local.{IsLocal, Local, MayMeet, kind_of, located_values, meeting, neighbour, parts_from, settling};
+ghost use Rattle.smp_values.specs.Values.{fractional_at, fractional_count, is_fractional, with_one};
+ghost use Rattle.smp_localpiv.specs.Local.{IsLocal, Local, MayMeet, local_tree, located_values, meeting, neighbour, settling};
 ghost use Rattle.smp_localpiv.specs.Kept.States.{IsKept, IsWeighed, chosen_unit};
 ghost use Rattle.smp_localpiv.specs.Laws.Neighbours.{IsMet};
 
 use smp_near::Points;
 use smp_places::Amounts;
 use smp_split::Kind;
-use smp_values::{Values, pair_apply, pair_bound};
+use smp_values::{SelectionState, Values, pair_apply, pair_bound};
 use std::marker::Model;
 
 /// A state of a local pivotal selection: the points of the units, their values, and the unit that meets its neighbour
@@ -50,69 +50,6 @@ impl<const K: usize> LocalState<K> {
             weights,
             chosen: None,
         }
-    }
-
-    /// Whether no step is left, as each value is 0 or 1.
-    pub(crate) fn is_done(&self) -> bool
-        ensures { result ≡ is_settled self.now.state }
-    {
-        self.left() == 0
-    }
-
-    /// The kind of the next step: a choice, a pair of units, or a unit that is left alone.
-    pub(crate) fn kind(&self) -> Kind
-        ensures { result ≡ kind_of self.now }
-    {
-        if self.chosen.is_some() {
-            Kind::Pivot
-        } else if self.left() > 1 {
-            Kind::Choose
-        } else {
-            Kind::Lone
-        }
-    }
-
-    /// The bound of the next step's draw.
-    pub(crate) fn bound(&self) -> u128
-        requires state { IsLocal (length self.now.state.numer) self.now }
-        requires going { is_settled self.now.state ≡ false }
-        ensures { result ≡ weight_sum (parts_from self.now self.now.chosen) }
-    {
-        match self.chosen {
-            Some((unit, other)) => pair_bound(
-                self.values.numerator(unit),
-                self.values.numerator(other),
-                self.values.denominator(),
-            ),
-            None if self.left() > 1 => self.left() as u128,
-            None => self.values.denominator(),
-        }
-    }
-
-    /// Makes the step that this draw leads to.
-    pub(crate) fn advance(&mut self, draw: u128)
-        requires state { IsLocal (length self.old.state.numer) self.old }
-        requires going { is_settled self.old.state ≡ false }
-        requires within { draw < weight_sum (parts_from self.old self.old.chosen) }
-        ensures { self.new ≡ picked self.old (parts_from self.old self.old.chosen) draw }
-    {
-        match self.chosen {
-            Some((unit, other)) => self.meet(unit, other, draw),
-            None if self.left() > 1 => {
-                let unit = self.fractional_at(draw);
-                let other = self.neighbour(unit);
-                self.chosen = Some((unit, other));
-            }
-            None => self.settle_alone(draw),
-        }
-    }
-
-    /// Whether a unit is selected, which is whether its value is 1.
-    pub(crate) fn is_selected(&self, unit: usize) -> bool
-        requires { unit < length self.now.state.numer }
-        ensures { result ≡ is_one self.now.state unit }
-    {
-        self.values.is_one(unit)
     }
 
     // How many units are fractional.
@@ -185,5 +122,53 @@ impl<const K: usize> LocalState<K> {
         let wins = draw < self.values.numerator(unit);
         let settled = if wins { self.values.denominator() } else { 0 };
         self.set_value(unit, settled);
+    }
+}
+
+impl<const K: usize> SelectionState for LocalState<K> {
+    ghost tree = { λ s. local_tree (length s.state.numer) };
+
+    ghost belongs = { λ s. IsLocal (length s.state.numer) s };
+
+    fn is_done(&self) -> bool {
+        self.left() == 0
+    }
+
+    fn kind(&self) -> Kind {
+        if self.chosen.is_some() {
+            Kind::Pivot
+        } else if self.left() > 1 {
+            Kind::Choose
+        } else {
+            Kind::Lone
+        }
+    }
+
+    fn bound(&self) -> u128 {
+        match self.chosen {
+            Some((unit, other)) => pair_bound(
+                self.values.numerator(unit),
+                self.values.numerator(other),
+                self.values.denominator(),
+            ),
+            None if self.left() > 1 => self.left() as u128,
+            None => self.values.denominator(),
+        }
+    }
+
+    fn advance(&mut self, draw: u128) {
+        match self.chosen {
+            Some((unit, other)) => self.meet(unit, other, draw),
+            None if self.left() > 1 => {
+                let unit = self.fractional_at(draw);
+                let other = self.neighbour(unit);
+                self.chosen = Some((unit, other));
+            }
+            None => self.settle_alone(draw),
+        }
+    }
+
+    fn is_selected(&self, unit: usize) -> bool {
+        self.values.is_one(unit)
     }
 }

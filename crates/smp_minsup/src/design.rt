@@ -14,7 +14,7 @@ use crate::state::SupportState;
 use smp_frac::NoMemory;
 use smp_prob::Request;
 use smp_split::{Kind, Splitting};
-use smp_values::Values;
+use smp_values::{SelectionState, Values};
 use std::alloc::Global;
 use std::marker::Model;
 

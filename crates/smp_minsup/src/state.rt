@@ -1,14 +1,13 @@
 //! A state of a minimum support selection.
 
-ghost use Rattle.std.specs.Prelude.{◌≡◌, ℕ, ◌<◌, false, length};
-ghost use Rattle.smp_split.specs.Trees.{weight_sum, picked};
+ghost use Rattle.std.specs.Prelude.{◌≡◌, false, length};
 ghost use Rattle.smp_prob.specs.Shares.{Shares};
-ghost use Rattle.smp_values.specs.Values.{is_one, is_settled};
-ghost use Rattle.smp_minsup.specs.Support.{IsSupport, support_parts, support_tree};
+ghost use Rattle.smp_minsup.specs.Support.{IsSupport, support_tree};
 ghost use Rattle.smp_minsup.specs.Kept.Ranked.{IsCut, shares_over, shares_kept};
 
 use crate::ranked::Ranked;
 use smp_split::Kind;
+use smp_values::SelectionState;
 use std::marker::Model;
 
 /// A state of a minimum support selection: the value of each unit, over one denominator.
@@ -42,36 +41,26 @@ impl SupportState {
             settled: false,
         }
     }
+}
 
-    /// Whether no step is left, as each value is 0 or 1.
-    pub(crate) fn is_done(&self) -> bool
-        requires { IsSupport (length self.now.numer) self.now }
-        ensures { result ≡ is_settled self.now }
-    {
+impl SelectionState for SupportState {
+    ghost tree = { λ s. support_tree (length s.numer) };
+
+    ghost belongs = { λ s. IsSupport (length s.numer) s };
+
+    fn is_done(&self) -> bool {
         self.settled || self.ranked.is_settled(self.den)
     }
 
-    /// The kind of the next step.
-    pub(crate) fn kind(&self) -> Kind
-        ensures { result ≡ (support_tree (length self.now.numer)).kind self.now }
-    {
+    fn kind(&self) -> Kind {
         Kind::Support
     }
 
-    /// The bound of the next step's draw.
-    pub(crate) fn bound(&self) -> u128
-        ensures { result ≡ weight_sum (support_parts self.now) }
-    {
+    fn bound(&self) -> u128 {
         self.den
     }
 
-    /// Makes the step that this draw leads to.
-    pub(crate) fn advance(&mut self, draw: u128)
-        requires state { IsSupport (length self.old.numer) self.old }
-        requires going { is_settled self.old ≡ false }
-        requires within { draw < weight_sum (support_parts self.old) }
-        ensures { self.new ≡ picked self.old (support_parts self.old) draw }
-    {
+    fn advance(&mut self, draw: u128) {
         let lambda = self.ranked.lambda(self.den);
         if draw < lambda {
             self.settled = true;
@@ -82,12 +71,7 @@ impl SupportState {
         }
     }
 
-    /// Whether a unit is selected: its value is 1.
-    pub(crate) fn is_selected(&self, unit: usize) -> bool
-        requires state { IsSupport (length self.now.numer) self.now }
-        requires unit { unit < length self.now.numer }
-        ensures { result ≡ is_one self.now unit }
-    {
+    fn is_selected(&self, unit: usize) -> bool {
         if self.settled {
             self.ranked.is_large(unit)
         } else {

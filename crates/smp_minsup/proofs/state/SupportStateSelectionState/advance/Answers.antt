@@ -3,7 +3,7 @@ use Rattle.smp_minsup.specs.Support.{lambda, settled, lowered}
 use Rattle.smp_minsup.specs.Kept.Ranked.{RankedUnits, large_count, lowered_by, shares_over, shares_kept}
 use Rattle.smp_minsup.specs.Laws.Splits.{lambda_less}
 use Rattle.smp_minsup.proofs.States.{opened, lower_within, lowered_paired, lowered_is, lowered_narrow, cut_again, settled_is, picked_settled, picked_lowered}
-use Rattle.smp_minsup.proofs.state.SupportState.advance.Goals as goal
+use Rattle.smp_minsup.proofs.state.SupportStateSelectionState.advance.Goals as goal
 
 pub lambda-lambda-requires-clause-cut : goal.lambda-lambda-requires-clause-cut
 lambda-lambda-requires-clause-cut c = let o = opened c.self.inside.settled c.self.inside.den c.self.inside.ranked c.args.self.now c.self.view_is c.self.invariant c.requires.state c.requires.going in o.cut

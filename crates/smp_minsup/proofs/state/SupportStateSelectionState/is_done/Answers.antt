@@ -2,7 +2,7 @@ use Rattle.std.proofs.Common.{sym, ap, ◌∙◌}
 use Rattle.smp_values.specs.Values.{is_settled}
 use Rattle.smp_minsup.specs.Kept.Ranked.{shares_kept}
 use Rattle.smp_minsup.proofs.States.{kept_done}
-use Rattle.smp_minsup.proofs.state.SupportState.is_done.Goals as goal
+use Rattle.smp_minsup.proofs.state.SupportStateSelectionState.is_done.Goals as goal
 
 pub returns-then-self : goal.returns-then-self
 returns-then-self c =

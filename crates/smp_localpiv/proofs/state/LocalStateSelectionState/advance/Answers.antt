@@ -4,7 +4,7 @@ use Rattle.smp_values.specs.Values.{fractional_count}
 use Rattle.smp_localpiv.specs.Local.{Local, choosing, neighbour, parts_from}
 use Rattle.smp_localpiv.specs.Kept.States.{chosen_unit}
 use Rattle.smp_localpiv.proofs.Steps.{choice_within, choice_picked, ready, settling_picked}
-use Rattle.smp_localpiv.proofs.state.LocalState.advance.Goals as goal
+use Rattle.smp_localpiv.proofs.state.LocalStateSelectionState.advance.Goals as goal
 
 pub meet-requires : goal.meet-requires
 meet-requires g c =

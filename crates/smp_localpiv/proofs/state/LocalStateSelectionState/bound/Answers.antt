@@ -3,7 +3,7 @@ use Rattle.smp_values.specs.Values.{is_fractional}
 use Rattle.smp_localpiv.specs.Local.{Local}
 use Rattle.smp_localpiv.specs.Kept.States.{chosen_unit}
 use Rattle.smp_localpiv.proofs.Steps.{between, choice_bound, meeting_bound, ready}
-use Rattle.smp_localpiv.proofs.state.LocalState.bound.Goals as goal
+use Rattle.smp_localpiv.proofs.state.LocalStateSelectionState.bound.Goals as goal
 
 pub numerator-requires-in-Some : goal.numerator-requires-in-Some
 numerator-requires-in-Some g c =
