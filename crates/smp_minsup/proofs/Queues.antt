@@ -5,7 +5,7 @@ use Rattle.std.specs.List.{All, AllByRecursion, count_by}
 use Rattle.std.specs.List.Sorted.{IsPermutation}
 use Rattle.std.proofs.lemmas.Bool.{cases_Bool, cases_eq, eqb-true, eq-eqb, ne_eqb}
 use Rattle.std.proofs.lemmas.List.Sums.{sum_by-cons, count_by-le-length}
-use Rattle.std.proofs.lemmas.List.Sorted.{All-permutation, sum_by_popped, sum_by_pushed}
+use Rattle.std.proofs.lemmas.List.Sorted.{All-permutation, length_permutation, sum_by_popped, sum_by_pushed}
 use Rattle.smp_split.proofs.NumberSums.{weight_true, weight_false}
 use Rattle.smp_minsup.specs.Kept.Ranked.{IsQueue}
 
@@ -107,3 +107,9 @@ module _ {Entry : Type 0} (unit : Entry → ℕ) where
           all_of : (P : Entry → Type 0) (x : Entry) (xs : List Entry) → P x → All P xs → All P (x ∷ xs)
           all_of P x xs one all zero d l = one
           all_of P x xs one all (suc j) d l = all j d (omega (arith, l))
+
+-- a queue from which an entry was taken had one
+pub some_taken : {X : Type 0} (queue rest : List X) (e : X) → IsPermutation queue (e ∷ rest) → 1 ≤ length queue
+some_taken queue rest e taken =
+    let less : suc (length rest) ≡ length queue = length_permutation queue (e ∷ rest) taken in
+    omega (arith, less)

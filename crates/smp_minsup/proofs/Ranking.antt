@@ -10,6 +10,7 @@ use Rattle.std.proofs.lemmas.Bool.{cases_Bool, cases_lt, cases_eq, lt-ltb, le-lt
 use Rattle.std.proofs.lemmas.Grind.{same_number_lists}
 use Rattle.std.proofs.lemmas.List.{get_or-set_same, get_or-set_other}
 use Rattle.std.proofs.lemmas.List.FromFn.{length-map-range_with_len, get_or-map-range_with_len}
+use Rattle.std.proofs.lemmas.List.Sorted.{length_permutation}
 use Rattle.smp_minsup.specs.Support.{is_larger}
 use Rattle.smp_split.proofs.NumberSums.{weight_false}
 use Rattle.smp_minsup.specs.Laws.Ranks.{larger_is}
@@ -156,8 +157,11 @@ module _ (raw : List ℕ) (large : List Bool) (offset : ℕ) (smalls : List (ℕ
           | inr ne ↦ rw (get_or-set_other raw e.1 j (e.0 + offset) 0 ne) (kept.above j (simp length-set at l) (sym (placed_other large e.1 true j ne) ∙ is))
         ]
 
-    pub promoted : (rest : List (ℕ × ℕ)) (more : List (Reverse (ℕ × ℕ))) → IsPermutation smalls (e ∷ rest) → IsPermutation (record { 0 = (e.0 + offset, e.1) } ∷ larges) more → IsHeap by_numer rest → IsHeap by_numer_reversed more → length rest + 1 ≡ length smalls → length more ≡ length larges + 1 → IsKept up_raw up_large offset rest more small_after large_after
-    promoted rest more taken put small_order large_order less longer =
+    pub promoted : (rest : List (ℕ × ℕ)) (more : List (Reverse (ℕ × ℕ))) → IsPermutation smalls (e ∷ rest) → IsPermutation (record { 0 = (e.0 + offset, e.1) } ∷ larges) more → IsHeap by_numer rest → IsHeap by_numer_reversed more
+        → IsKept up_raw up_large offset rest more small_after large_after
+    promoted rest more taken put small_order large_order =
+        let less : suc (length rest) ≡ length smalls = length_permutation smalls (e ∷ rest) taken in
+        let longer : length more ≡ suc (length larges) = length_permutation (record { 0 = (e.0 + offset, e.1) } ∷ larges) more put in
         let n : length up_raw ≡ length raw = simp length-set refl in
         let same_small : (j : ℕ) → j ≢ e.1 → small_entry up_raw j ≡ small_entry raw j = λ j ne. ap (λ (a : ℕ). (a, j)) (get_or-set_other raw e.1 j (e.0 + offset) 0 ne) in
         let same_large : (j : ℕ) → j ≢ e.1 → large_entry up_raw j ≡ large_entry raw j = λ j ne. ap (λ (a : ℕ). record { 0 = (a, j) }) (get_or-set_other raw e.1 j (e.0 + offset) 0 ne) in
@@ -209,8 +213,11 @@ module _ (raw : List ℕ) (large : List Bool) (offset : ℕ) (smalls : List (ℕ
           | inr ne ↦ rw (get_or-set_other raw e.0.1 j (e.0.0 - offset) 0 ne) (kept.above j (simp length-set at l) (sym (placed_other large e.0.1 false j ne) ∙ is))
         ]
 
-    pub demoted : (rest : List (Reverse (ℕ × ℕ))) (more : List (ℕ × ℕ)) → IsPermutation larges (e ∷ rest) → IsPermutation ((e.0.0 - offset, e.0.1) ∷ smalls) more → IsHeap by_numer_reversed rest → IsHeap by_numer more → length rest + 1 ≡ length larges → length more ≡ length smalls + 1 → IsKept down_raw down_large offset more rest small_after large_after
-    demoted rest more taken put large_order small_order less longer =
+    pub demoted : (rest : List (Reverse (ℕ × ℕ))) (more : List (ℕ × ℕ)) → IsPermutation larges (e ∷ rest) → IsPermutation ((e.0.0 - offset, e.0.1) ∷ smalls) more → IsHeap by_numer_reversed rest → IsHeap by_numer more
+        → IsKept down_raw down_large offset more rest small_after large_after
+    demoted rest more taken put large_order small_order =
+        let less : suc (length rest) ≡ length larges = length_permutation larges (e ∷ rest) taken in
+        let longer : length more ≡ suc (length smalls) = length_permutation ((e.0.0 - offset, e.0.1) ∷ smalls) more put in
         let n : length down_raw ≡ length raw = simp length-set refl in
         let same_small : (j : ℕ) → j ≢ e.0.1 → small_entry down_raw j ≡ small_entry raw j = λ j ne. ap (λ (a : ℕ). (a, j)) (get_or-set_other raw e.0.1 j (e.0.0 - offset) 0 ne) in
         let same_large : (j : ℕ) → j ≢ e.0.1 → large_entry down_raw j ≡ large_entry raw j = λ j ne. ap (λ (a : ℕ). record { 0 = (a, j) }) (get_or-set_other raw e.0.1 j (e.0.0 - offset) 0 ne) in

@@ -3,7 +3,7 @@ use Rattle.std.specs.BinaryHeap.{IsHeap, heap_items, heap_len, heap_capacity}
 use Rattle.std.specs.List.Sorted.{IsPermutation}
 use Rattle.smp_minsup.specs.Kept.Ranked.{RankedUnits, IsMostSmall, large_count, placed, by_numer_reversed}
 use Rattle.smp_minsup.proofs.Ranking.{length_view, at_small, small_known, small_in, small_numer, most_small, some_small, some_false, promoted, up_view}
-use Rattle.smp_minsup.proofs.Queues.{on_ok}
+use Rattle.smp_minsup.proofs.Queues.{on_ok, some_taken}
 use Rattle.smp_minsup.proofs.ranked.Ranked.promote.Goals as goal
 
 pub unreachable-requires : goal.unreachable-requires
@@ -14,24 +14,17 @@ unreachable-requires c =
     let some : 1 ≤ length (heap_items c.self.inside.smalls) =
     some_small c.self.inside.raw.items c.self.inside.large.items c.self.inside.offset (heap_items c.self.inside.smalls) (heap_items c.self.inside.larges) (heap_capacity c.self.inside.smalls) (heap_capacity c.self.inside.larges) c.self.invariant
     left.0 (omega (arith, left.1.0, c.self.invariant.paired)) left.1.1 in
-    let none : heap_len c.self.inside.smalls ≡ 0 = c.in_default.ensures.none in
-    let len : length (heap_items c.self.inside.smalls) ≡ heap_len c.self.inside.smalls = search rules in
-    omega (arith, some, none, len)
-
-first_some : (c : goal.In-Some) → 1 ≤ length (heap_items c.self.inside.smalls)
-first_some c = search rules
-
-first_some' : (c : goal.After-push) → 1 ≤ length (heap_items c.self.inside.smalls)
-first_some' c = search rules
+    let none : length (heap_items c.self.inside.smalls) ≡ 0 = search (rules, c.in_default.ensures.none) in
+    omega (arith, some, none)
 
 pub overflow_add-raw : goal.overflow_add-raw
 overflow_add-raw c =
     let numer_is = small_numer c.self.inside.raw.items c.self.inside.large.items c.self.inside.offset (heap_items c.self.inside.smalls) (heap_items c.self.inside.larges) (heap_capacity c.self.inside.smalls) (heap_capacity c.self.inside.larges) c.self.invariant
-    (c.in-Some.numer, c.in-Some.unit) (first_some c) c.in-Some.ensures.top in
+    (c.in-Some.numer, c.in-Some.unit) (some_taken _ _ _ c.in-Some.ensures.permutation) c.in-Some.ensures.top in
     let known = small_known c.self.inside.raw.items c.self.inside.large.items c.self.inside.offset (heap_items c.self.inside.smalls) (heap_items c.self.inside.larges) (heap_capacity c.self.inside.smalls) (heap_capacity c.self.inside.larges) c.self.invariant
-    (c.in-Some.numer, c.in-Some.unit) (first_some c) c.in-Some.ensures.top in
+    (c.in-Some.numer, c.in-Some.unit) (some_taken _ _ _ c.in-Some.ensures.permutation) c.in-Some.ensures.top in
     let flag = small_in c.self.inside.raw.items c.self.inside.large.items c.self.inside.offset (heap_items c.self.inside.smalls) (heap_items c.self.inside.larges) (heap_capacity c.self.inside.smalls) (heap_capacity c.self.inside.larges) c.self.invariant
-    (c.in-Some.numer, c.in-Some.unit) (first_some c) c.in-Some.ensures.top in
+    (c.in-Some.numer, c.in-Some.unit) (some_taken _ _ _ c.in-Some.ensures.permutation) c.in-Some.ensures.top in
     let same = at_small c.self.inside.raw.items c.self.inside.large.items c.self.inside.offset c.in-Some.unit known flag in
     let narrow = subst (λ (v : RankedUnits). (unit : ℕ) → get_or v.numer unit 0 < 2 ^ 126) (sym c.self.view_is) c.requires.narrow in
     let low : c.self.inside.offset < 2 ^ 126 = c.self.invariant.low in
@@ -42,29 +35,27 @@ overflow_add-raw c =
 room : (c : goal.After-push) → heap_len c.self.inside.larges < heap_capacity c.self.inside.larges
 room c =
     let len : length (heap_items c.self.inside.larges) ≡ heap_len c.self.inside.larges = search rules in
-    omega (arith, len, first_some' c, c.self.invariant.all, c.self.invariant.large_room)
+    omega (arith, len, some_taken _ _ _ c.in-Some.ensures.permutation, c.self.invariant.all, c.self.invariant.large_room)
 
 pub invariant_of-self : goal.invariant_of-self
 invariant_of-self c =
     let ok = c.push.ensures.succeeds (room c) in
-    let less : length (heap_items c.pop.new.self) + 1 ≡ length (heap_items c.self.inside.smalls) = search rules in
     let put : IsPermutation (record { 0 = (c.in-Some.numer + c.self.inside.offset, c.in-Some.unit) } ∷ heap_items c.self.inside.larges) (heap_items c.push.new.self) = search (rules, ok) in
-    let longer : length (heap_items c.push.new.self) ≡ length (heap_items c.self.inside.larges) + 1 = search (rules, ok) in
     let order : IsHeap by_numer_reversed (heap_items c.push.new.self) = on_ok (IsHeap by_numer_reversed (heap_items c.self.inside.larges) → IsHeap by_numer_reversed (heap_items c.push.new.self)) c.push.result ok c.push.ensures.heap_order c.self.invariant.large_order in
     promoted c.self.inside.raw.items c.self.inside.large.items c.self.inside.offset (heap_items c.self.inside.smalls) (heap_items c.self.inside.larges) (heap_capacity c.self.inside.smalls) (heap_capacity c.self.inside.larges) (heap_capacity c.pop.new.self) (heap_capacity c.push.new.self) c.self.invariant
     (omega (arith, c.in-Some.ensures.capacity)) c.push.ensures.capacity
-    (c.in-Some.numer, c.in-Some.unit) (first_some' c) c.in-Some.ensures.top
-    (heap_items c.pop.new.self) (heap_items c.push.new.self) c.in-Some.ensures.permutation put (c.in-Some.ensures.heap_order c.self.invariant.small_order).0 order less longer
+    (c.in-Some.numer, c.in-Some.unit) (some_taken _ _ _ c.in-Some.ensures.permutation) c.in-Some.ensures.top
+    (heap_items c.pop.new.self) (heap_items c.push.new.self) c.in-Some.ensures.permutation put (c.in-Some.ensures.heap_order c.self.invariant.small_order).0 order
 
 pub returns-clause-most : goal.returns-clause-most
 returns-clause-most c =
     subst (λ (v : RankedUnits). IsMostSmall v c.in-Some.unit) c.self.view_is
     (most_small c.self.inside.raw.items c.self.inside.large.items c.self.inside.offset (heap_items c.self.inside.smalls) (heap_items c.self.inside.larges) (heap_capacity c.self.inside.smalls) (heap_capacity c.self.inside.larges) c.self.invariant
-    (c.in-Some.numer, c.in-Some.unit) (first_some' c) c.in-Some.ensures.top (c.in-Some.ensures.heap_order c.self.invariant.small_order).1)
+    (c.in-Some.numer, c.in-Some.unit) (some_taken _ _ _ c.in-Some.ensures.permutation) c.in-Some.ensures.top (c.in-Some.ensures.heap_order c.self.invariant.small_order).1)
 
 pub returns-clause-placed : goal.returns-clause-placed
 returns-clause-placed c =
     up_view c.self.inside.raw.items c.self.inside.large.items c.self.inside.offset (heap_items c.self.inside.smalls) (heap_items c.self.inside.larges) (heap_capacity c.self.inside.smalls) (heap_capacity c.self.inside.larges) (heap_capacity c.pop.new.self) (heap_capacity c.push.new.self) c.self.invariant
     (omega (arith, c.in-Some.ensures.capacity)) c.push.ensures.capacity
-    (c.in-Some.numer, c.in-Some.unit) (first_some' c) c.in-Some.ensures.top
+    (c.in-Some.numer, c.in-Some.unit) (some_taken _ _ _ c.in-Some.ensures.permutation) c.in-Some.ensures.top
     ∙ ap (λ (v : RankedUnits). placed v c.in-Some.unit true) c.self.view_is
