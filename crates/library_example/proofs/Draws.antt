@@ -4,7 +4,7 @@ use Rattle.smp_fractions.specs.Fractions.{Same}
 use Rattle.smp_fractions.proofs.Fractions.{same_trans}
 use Rattle.smp_prob.specs.Requested.{requested_fraction, requested_of}
 use Rattle.smp_prob.specs.Shares.{Shares}
-use Rattle.smp_prob.specs.Standings.{asked_fraction, IsRising}
+use Rattle.smp_prob.specs.Inclusions.{asked_fraction, IsRising}
 use Rattle.smp_prob.specs.declared.orders.Order.TheVariants.{Frame}
 use Rattle.smp_prob.specs.declared.requests.Request.{Request}
 use Rattle.smp_tape.specs.declared.draws.DrawFault.{DrawFault}

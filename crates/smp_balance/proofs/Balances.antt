@@ -8,7 +8,7 @@ use Rattle.smp_fractions.specs.Bounds.{absolute, DifferByAtMost}
 use Rattle.smp_fractions.proofs.Fractions.{same_refl, same_sym, same_trans, plus_same, plus_assoc, plus_left_comm, plus-zero, sum-zero}
 use Rattle.smp_fractions.proofs.Bounds.{plus_most, same_most, most_of_same, differ_same, differ_by_same}
 use Rattle.smp_kernel.specs.Vectors.{Within}
-use Rattle.smp_prob.specs.Standings.{standing}
+use Rattle.smp_prob.specs.Inclusions.{inclusion}
 use Rattle.smp_split.specs.Trees.{picked}
 use Rattle.smp_values.specs.Values.{is_fractional, is_one, value_at}
 use Rattle.smp_flight.specs.States as flights
@@ -58,37 +58,37 @@ module _ (s : StratumUnits) (ok : AreStratumUnits s) where
   -- ---- the sums over all units, by those over the free ones
 
   abbrev fixed : ℕ → Fraction
-  fixed row = sum_below (length s.values) (λ k. fixed_at s ok row k (standing s.request k))
+  fixed row = sum_below (length s.values) (λ k. fixed_at s ok row k (inclusion s.request k))
 
-  apart : (f g h : ℕ → Fraction) → ((k : ℕ) → k < length s.values → Same (f k) (plus (at_free g (standing s.request k)) (h k))) → Same (sum_below (length s.values) f) (plus (sum_below (length s.request.shape) g) (sum_below (length s.values) h))
+  apart : (f g h : ℕ → Fraction) → ((k : ℕ) → k < length s.values → Same (f k) (plus (at_free g (inclusion s.request k)) (h k))) → Same (sum_below (length s.values) f) (plus (sum_below (length s.request.shape) g) (sum_below (length s.values) h))
   apart f g h each =
       subst (λ (m : ℕ). Same (sum_below (length s.values) f) (plus (sum_below m g) (sum_below (length s.values) h))) (sym ok.request.paired)
       (sum_apart s.request (length s.values) ok.inside ok.stands g f h each)
 
   total_is : (at : Balancing) (row : ℕ) → Same (total s at row) (plus (weighed_total (weighed_of (free_units s)) at row) (fixed row))
   total_is at row =
-      apart (λ k. times (counted s row k) _) (λ u. times (expanded (free_units s) row u) (value_at (values_in at) u)) (λ k. fixed_at s ok row k (standing s.request k))
-      (λ k _. total_term s ok (value_at (values_in at)) row k (standing s.request k) refl)
+      apart (λ k. times (counted s row k) _) (λ u. times (expanded (free_units s) row u) (value_at (values_in at) u)) (λ k. fixed_at s ok row k (inclusion s.request k))
+      (λ k _. total_term s ok (value_at (values_in at)) row k (inclusion s.request k) refl)
 
   estimate_is : (leaf : Balancing) (row : ℕ) → Same (estimate s leaf row) (plus (weighed_estimate (weighed_of (free_units s)) leaf row) (fixed row))
   estimate_is leaf row =
-      apart (λ k. cond _ (counted s row k) (whole 0)) (λ u. cond (is_one (values_in leaf) u) (expanded (free_units s) row u) (whole 0)) (λ k. fixed_at s ok row k (standing s.request k))
-      (λ k _. estimate_term s ok (is_one (values_in leaf)) row k (standing s.request k) refl)
+      apart (λ k. cond _ (counted s row k) (whole 0)) (λ u. cond (is_one (values_in leaf) u) (expanded (free_units s) row u) (whole 0)) (λ k. fixed_at s ok row k (inclusion s.request k))
+      (λ k _. estimate_term s ok (is_one (values_in leaf)) row k (inclusion s.request k) refl)
 
-  known_of_is : (row k : ℕ) → known_of s row k ≡ known_at s ok row k (standing s.request k)
+  known_of_is : (row k : ℕ) → known_of s row k ≡ known_at s ok row k (inclusion s.request k)
   known_of_is zero k = refl
   known_of_is (suc j) k = refl
 
   known_is : (row : ℕ) → Same (known s row) (plus (target (free_units s) row) (fixed row))
   known_is row =
-      apart (known_of s row) (addend (free_units s) row) (λ k. fixed_at s ok row k (standing s.request k))
-      (λ k _. rw (known_of_is row k) (known_term s ok row k (standing s.request k) refl))
+      apart (known_of s row) (addend (free_units s) row) (λ k. fixed_at s ok row k (inclusion s.request k))
+      (λ k _. rw (known_of_is row k) (known_term s ok row k (inclusion s.request k) refl))
 
   error_is : (at : Balancing) (row : ℕ) → Same (error_bound s at row) (free.error_bound (free_units s) (values_in at) row)
   error_is at row =
       same_trans
       (apart (λ k. cond _ (absolute (counted s row k)) (whole 0)) (λ u. cond (is_fractional (values_in at) u) (absolute (expanded (free_units s) row u)) (whole 0)) (λ k. whole 0)
-      (λ k _. error_term s ok (values_in at) row k (standing s.request k) refl))
+      (λ k _. error_term s ok (values_in at) row k (inclusion s.request k) refl))
       (same_trans (plus_same (same_refl (free.error_bound (free_units s) (values_in at) row)) (sum-zero (length s.values) (λ k. whole 0) (λ k _. same_refl (whole 0)))) (plus-zero (free.error_bound (free_units s) (values_in at) row)))
 
   -- ---- the cube of the free units

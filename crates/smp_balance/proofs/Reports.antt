@@ -9,9 +9,9 @@ use Rattle.std.proofs.lemmas.List.FromFn.{map-range_with_len_more}
 use Rattle.smp_fractions.specs.Fractions.{Fraction, Same, whole, integer, plus, times, sum_below}
 use Rattle.smp_fractions.proofs.Fractions.{same_refl, same_sym, same_trans, plus_same, plus_assoc, times_same, plus-zero, zero-plus, inverse_same}
 use Rattle.smp_frac.specs.Fractions.{fraction, signed_fraction}
-use Rattle.smp_prob.specs.declared.standings.Standing.{Standing}
-use Rattle.smp_prob.specs.declared.standings.Standing.TheVariants.{Certain, Free, Never}
-use Rattle.smp_prob.specs.Standings.{standing, is_taken, asked_fraction}
+use Rattle.smp_prob.specs.declared.inclusions.Inclusion.{Inclusion}
+use Rattle.smp_prob.specs.declared.inclusions.Inclusion.TheVariants.{Certain, Free, Never}
+use Rattle.smp_prob.specs.Inclusions.{inclusion, is_taken, asked_fraction}
 use Rattle.smp_frac.specs.LowestTerms.{lowest_terms}
 use Rattle.smp_weights.specs.Chosen.{Chosen, weight}
 use Rattle.smp_weights.specs.Values.{weighted_total}
@@ -56,7 +56,7 @@ module _ (s : StratumUnits) (ok : AreStratumUnits s) (leaf : Balancing) (column 
   abbrev selected_below : ℕ → List ℕ
   selected_below n = filter (is_selected s leaf) (range_with_len 0 n)
 
-  open_at : (stand : Standing) (selected : ℕ → Bool) → is_taken selected stand ≡ true → can_be_selected stand ≡ true
+  open_at : (stand : Inclusion) (selected : ℕ → Bool) → is_taken selected stand ≡ true → can_be_selected stand ≡ true
   open_at Certain selected h = refl
   open_at (Free u) selected h = refl
   open_at Never selected h = absurd (true≢false (sym h))
@@ -64,7 +64,7 @@ module _ (s : StratumUnits) (ok : AreStratumUnits s) (leaf : Balancing) (column 
   -- the term of a selected unit
   term_is : (k : ℕ) → is_selected s leaf k ≡ true → Same (times (integer (value_in s column k)) (weight (lowest_terms (asked_fraction s.request k)))) (counted s (suc column) k)
   term_is k selected =
-      let can = open_at (standing s.request k) _ selected in
+      let can = open_at (inclusion s.request k) _ selected in
       let positive : 1 ≤ (lowest_terms (asked_fraction s.request k)).num = asked_positive s.request ok.request k can in
       let known : value_in s column k ≡ known_value s column k = sym (ap (λ (b : Bool). cond b (value_in s column k) (pos 0)) can) in
       times_same (subst (λ (z : ℤ). Same (integer (value_in s column k)) (integer z)) known (same_refl (integer (value_in s column k))))

@@ -7,10 +7,10 @@ use Rattle.smp_fractions.specs.Bounds.{absolute}
 use Rattle.smp_fractions.proofs.Fractions.{same_refl, same_sym, same_trans, times_same, times-one, times-zero, zero-plus, plus-zero, zero-plus-zero, inverse_same}
 use Rattle.smp_balance.proofs.Absolute.{absolute_same}
 use Rattle.smp_kernel.specs.Vectors.{entry}
-use Rattle.smp_prob.specs.declared.standings.Standing.{Standing}
-use Rattle.smp_prob.specs.declared.standings.Standing.TheVariants.{Certain, Free, Never}
+use Rattle.smp_prob.specs.declared.inclusions.Inclusion.{Inclusion}
+use Rattle.smp_prob.specs.declared.inclusions.Inclusion.TheVariants.{Certain, Free, Never}
 use Rattle.smp_prob.specs.Shares.{Shares, shares_of}
-use Rattle.smp_prob.specs.Standings.{standing, is_taken, fraction_at, free_fraction, asked_fraction}
+use Rattle.smp_prob.specs.Inclusions.{inclusion, is_taken, fraction_at, free_fraction, asked_fraction}
 use Rattle.smp_values.specs.Values.{is_fractional, value_at}
 use Rattle.smp_rows.specs.Rows.{row_value}
 use Rattle.smp_rows.specs.Laws.Rows.{free_within}
@@ -47,7 +47,7 @@ module _ (s : StratumUnits) (ok : AreStratumUnits s) where
   free_asked : (u : ℕ) → u < length s.request.free → Same (value_at (shares_of s.request) u) (free_fraction s.request u)
   free_asked u l = (starts_requested s.request (free_values s) ok.request).values u l
 
-  asked_at : (k : ℕ) (stand : Standing) → standing s.request k ≡ stand → asked_fraction s.request k ≡ fraction_at s.request stand
+  asked_at : (k : ℕ) (stand : Inclusion) → inclusion s.request k ≡ stand → asked_fraction s.request k ≡ fraction_at s.request stand
   asked_at k stand is = ap (fraction_at s.request) is
 
   some_asked : (u : ℕ) → u < length s.request.free → (free_fraction s.request u).num ≢ pos 0
@@ -59,11 +59,11 @@ module _ (s : StratumUnits) (ok : AreStratumUnits s) where
       omega (arith, both, is)
 
   -- the value of a unit that can be selected
-  known_there : (j k : ℕ) (stand : Standing) → standing s.request k ≡ stand → can_be_selected stand ≡ true → known_value s j k ≡ value_in s j k
+  known_there : (j k : ℕ) (stand : Inclusion) → inclusion s.request k ≡ stand → can_be_selected stand ≡ true → known_value s j k ≡ value_in s j k
   known_there j k stand is can =
-      ap (λ (at : Standing). cond (can_be_selected at) (value_in s j k) (pos 0)) is ∙ ap (λ (b : Bool). cond b (value_in s j k) (pos 0)) can
+      ap (λ (at : Inclusion). cond (can_be_selected at) (value_in s j k) (pos 0)) is ∙ ap (λ (b : Bool). cond b (value_in s j k) (pos 0)) can
 
-  pub counted_is : (row k u : ℕ) → standing s.request k ≡ Free u → Same (counted s row k) (expanded (free_units s) row u)
+  pub counted_is : (row k u : ℕ) → inclusion s.request k ≡ Free u → Same (counted s row k) (expanded (free_units s) row u)
   counted_is zero k u is = same_refl (whole 1)
   counted_is (suc j) k u is =
       let l = free_within s.request k u is in
@@ -76,32 +76,32 @@ module _ (s : StratumUnits) (ok : AreStratumUnits s) where
 
   -- ---- what a certain unit adds, whatever is drawn
 
-  abbrev pub fixed_at : ℕ → ℕ → Standing → Fraction
+  abbrev pub fixed_at : ℕ → ℕ → Inclusion → Fraction
   fixed_at row k Certain = counted s row k
   fixed_at row k (Free u) = whole 0
   fixed_at row k Never = whole 0
 
   -- ---- what any unit adds
 
-  pub total_term : (value : ℕ → Fraction) (row k : ℕ) (stand : Standing) → standing s.request k ≡ stand →
+  pub total_term : (value : ℕ → Fraction) (row k : ℕ) (stand : Inclusion) → inclusion s.request k ≡ stand →
       Same (times (counted s row k) (row_value value stand)) (plus (at_free (λ u. times (expanded (free_units s) row u) (value u)) stand) (fixed_at row k stand))
   total_term value row k Certain is = same_trans (times-one (counted s row k)) (same_sym (zero-plus (counted s row k)))
   total_term value row k Never is = same_trans (times-zero (counted s row k)) (same_sym zero-plus-zero)
   total_term value row k (Free u) is =
       same_trans (times_same (counted_is row k u is) (same_refl (value u))) (same_sym (plus-zero (times (expanded (free_units s) row u) (value u))))
 
-  pub estimate_term : (selected : ℕ → Bool) (row k : ℕ) (stand : Standing) → standing s.request k ≡ stand →
+  pub estimate_term : (selected : ℕ → Bool) (row k : ℕ) (stand : Inclusion) → inclusion s.request k ≡ stand →
       Same (cond (is_taken selected stand) (counted s row k) (whole 0)) (plus (at_free (λ u. cond (selected u) (expanded (free_units s) row u) (whole 0)) stand) (fixed_at row k stand))
   estimate_term selected row k Certain is = same_sym (zero-plus (counted s row k))
   estimate_term selected row k Never is = same_sym zero-plus-zero
   estimate_term selected row k (Free u) is =
       same_trans (cond_same (selected u) (counted_is row k u is)) (same_sym (plus-zero (cond (selected u) (expanded (free_units s) row u) (whole 0))))
 
-  abbrev pub known_at : ℕ → ℕ → Standing → Fraction
+  abbrev pub known_at : ℕ → ℕ → Inclusion → Fraction
   known_at zero k stand = fraction_at s.request stand
   known_at (suc j) k stand = integer (cond (can_be_selected stand) (value_in s j k) (pos 0))
 
-  pub known_term : (row k : ℕ) (stand : Standing) → standing s.request k ≡ stand → Same (known_at row k stand) (plus (at_free (addend (free_units s) row) stand) (fixed_at row k stand))
+  pub known_term : (row k : ℕ) (stand : Inclusion) → inclusion s.request k ≡ stand → Same (known_at row k stand) (plus (at_free (addend (free_units s) row) stand) (fixed_at row k stand))
   known_term zero k Certain is = same_sym (zero-plus (whole 1))
   known_term zero k Never is = same_sym zero-plus-zero
   known_term zero k (Free u) is =
@@ -118,7 +118,7 @@ module _ (s : StratumUnits) (ok : AreStratumUnits s) where
       subst (λ (z : ℤ). Same (integer z) (plus (integer (entry (column (free_units s) u) (suc j))) (whole 0))) value
       (same_sym (plus-zero (integer (entry (column (free_units s) u) (suc j)))))
 
-  pub error_term : (values : Shares) (row k : ℕ) (stand : Standing) → standing s.request k ≡ stand →
+  pub error_term : (values : Shares) (row k : ℕ) (stand : Inclusion) → inclusion s.request k ≡ stand →
       Same (cond (is_undecided values stand) (absolute (counted s row k)) (whole 0)) (plus (at_free (λ u. cond (is_fractional values u) (absolute (expanded (free_units s) row u)) (whole 0)) stand) (whole 0))
   error_term values row k Certain is = same_sym zero-plus-zero
   error_term values row k Never is = same_sym zero-plus-zero

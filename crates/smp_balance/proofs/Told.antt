@@ -12,10 +12,10 @@ use Rattle.smp_frac.specs.Fractions.{fraction}
 use Rattle.smp_kernel.proofs.Fits.{abs_sum}
 use Rattle.smp_kernel.proofs.Limits.{entry_within}
 use Rattle.smp_prob.specs.declared.requests.Request.{Request}
-use Rattle.smp_prob.specs.declared.standings.Standing.{Standing}
-use Rattle.smp_prob.specs.declared.standings.Standing.TheVariants.{Certain, Free, Never}
+use Rattle.smp_prob.specs.declared.inclusions.Inclusion.{Inclusion}
+use Rattle.smp_prob.specs.declared.inclusions.Inclusion.TheVariants.{Certain, Free, Never}
 use Rattle.smp_prob.specs.Requests.{IsRequest}
-use Rattle.smp_prob.specs.Standings.{standing, fraction_at, asked_fraction}
+use Rattle.smp_prob.specs.Inclusions.{inclusion, fraction_at, asked_fraction}
 use Rattle.smp_flight.specs.Requests.{AreValues}
 use Rattle.smp_frac.specs.LowestTerms.{lowest_terms}
 use Rattle.smp_weights.specs.Chosen.{chosen_units}
@@ -27,22 +27,22 @@ use Rattle.smp_balance.specs.Totals.{can_be_selected, known_value}
 use Rattle.smp_balance.specs.Lines.{known_total}
 
 -- a probability has no sign
-no_sign : (request : Request) (f : Frac) (stand : Standing) → Same (fraction f) (fraction_at request stand) → Same (fraction f) (absolute (fraction_at request stand))
+no_sign : (request : Request) (f : Frac) (stand : Inclusion) → Same (fraction f) (fraction_at request stand) → Same (fraction f) (absolute (fraction_at request stand))
 no_sign request f Certain h = h
 no_sign request f (Free u) h = h
 no_sign request f Never h = h
 
 -- so it is what it is without one
-unsigned_is : (request : Request) (stand : Standing) → Same (absolute (fraction_at request stand)) (fraction_at request stand)
+unsigned_is : (request : Request) (stand : Inclusion) → Same (absolute (fraction_at request stand)) (fraction_at request stand)
 unsigned_is request Certain = same_refl (whole 1)
 unsigned_is request (Free u) = same_refl (fraction_at request (Free u))
 unsigned_is request Never = same_refl (whole 0)
 
 pub no_sign_at : (request : Request) (k : ℕ) → Same (absolute (asked_fraction request k)) (asked_fraction request k)
-no_sign_at request k = unsigned_is request (standing request k)
+no_sign_at request k = unsigned_is request (inclusion request k)
 
 pub asked_is : (request : Request) (f : Frac) (k : ℕ) → Same (fraction f) (asked_fraction request k) → f ≡ lowest_terms (asked_fraction request k)
-asked_is request f k h = same-lowest_terms f (asked_fraction request k) (no_sign request f (standing request k) h)
+asked_is request f k h = same-lowest_terms f (asked_fraction request k) (no_sign request f (inclusion request k) h)
 
 -- ---- the sum of a column stays small
 
@@ -56,7 +56,7 @@ term_small true z h = h
 term_small false z h = omega arith
 
 known_small : (s : StratumUnits) → AreValues s.values → (column k : ℕ) → k < length s.values → unsigned_abs (known_value s column k) ≤ 2 ^ 31
-known_small s ok column k l = term_small (can_be_selected (standing s.request k)) (value_in s column k) (value_small s ok column k l)
+known_small s ok column k l = term_small (can_be_selected (inclusion s.request k)) (value_in s column k) (value_small s ok column k l)
 
 pub total_small : (s : StratumUnits) → AreValues s.values → (column n : ℕ) → n ≤ length s.values → unsigned_abs (known_total s column n) ≤ n * 2 ^ 31
 total_small s ok column zero l = omega arith
@@ -82,7 +82,7 @@ all_chosen f g [] (suc n) e = absurd (omega arith)
 all_chosen f g (k ∷ us) zero e = absurd (omega arith)
 all_chosen f g (k ∷ us) (suc n) e = ap (λ rest. record { value = f k; asked = g k } ∷ rest) (all_chosen f g us n (omega arith))
 
-fraction_positive : (request : Request) → IsRequest request → (k : ℕ) (stand : Standing) → standing request k ≡ stand → can_be_selected stand ≡ true → 1 ≤ unsigned_abs (fraction_at request stand).num
+fraction_positive : (request : Request) → IsRequest request → (k : ℕ) (stand : Inclusion) → inclusion request k ≡ stand → can_be_selected stand ≡ true → 1 ≤ unsigned_abs (fraction_at request stand).num
 fraction_positive request ok k Certain is can = omega arith
 fraction_positive request ok k Never is can = absurd (cc)
 fraction_positive request ok k (Free u) is can =
@@ -90,8 +90,8 @@ fraction_positive request ok k (Free u) is can =
     let shape : 1 ≤ slice_index request.shape u = ok.positive u (omega (arith, l, ok.paired)) in
     mul-pos shape (ok.drawn (omega (arith, l)))
 
-pub asked_positive : (request : Request) → IsRequest request → (k : ℕ) → can_be_selected (standing request k) ≡ true → 1 ≤ (lowest_terms (asked_fraction request k)).num
-asked_positive request ok k can = lowest_terms-positive (asked_fraction request k) (fraction_positive request ok k (standing request k) refl can)
+pub asked_positive : (request : Request) → IsRequest request → (k : ℕ) → can_be_selected (inclusion request k) ≡ true → 1 ≤ (lowest_terms (asked_fraction request k)).num
+asked_positive request ok k can = lowest_terms-positive (asked_fraction request k) (fraction_positive request ok k (inclusion request k) refl can)
 
 -- ---- one after another
 

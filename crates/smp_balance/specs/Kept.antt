@@ -2,7 +2,7 @@
 use Rattle.std.specs.Prelude.{ℕ, ℤ, List, map}
 use Rattle.smp_frac.specs.declared.fractions.Frac.{Frac}
 use Rattle.smp_frac.specs.LowestTerms.{lowest_terms}
-use Rattle.smp_prob.specs.Standings.{asked_fraction}
+use Rattle.smp_prob.specs.Inclusions.{asked_fraction}
 use Rattle.smp_balance.specs.Strata.{value_in}
 use Rattle.smp_balance.specs.Lines.{Drawn}
 

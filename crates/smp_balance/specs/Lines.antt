@@ -2,7 +2,7 @@
 use Rattle.std.specs.Prelude.{◌≡◌, ℕ, zero, suc, ◌+◌, ◌<◌, ◌≤◌, ◌++◌, true, if◌then◌else◌, List, ℤ, pos, ◌+ℤ◌, length, map, All, codes, Result, Ok, Err}
 use Rattle.std.specs.List.{flat_map, range_with_len}
 use Rattle.std.specs.Fmt.{decimal, signed_decimal}
-use Rattle.smp_prob.specs.Standings.{standing, asked_fraction}
+use Rattle.smp_prob.specs.Inclusions.{inclusion, asked_fraction}
 use Rattle.smp_frac.specs.declared.signed.Signed.{Signed}
 use Rattle.smp_frac.specs.declared.fractions.Frac.{Frac}
 use Rattle.smp_frac.specs.declared.fractions.Wide.{Wide}
@@ -78,5 +78,5 @@ pub record IsTold (drawn : Drawn) : Type 0 where
   pub stratum : AreStratumUnits drawn.stratum
   pub few : length drawn.stratum.values ≤ 200000
   pub columns : drawn.columns ≡ column_count drawn.stratum
-  pub units : All (λ k. can_be_selected (standing drawn.stratum.request k) ≡ true) drawn.units
+  pub units : All (λ k. can_be_selected (inclusion drawn.stratum.request k) ≡ true) drawn.units
   pub within : All (λ k. k < length drawn.stratum.values) drawn.units

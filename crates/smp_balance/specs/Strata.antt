@@ -2,9 +2,9 @@
 -- from, those that are certain, and those that are never selected.
 use Rattle.std.specs.Prelude.{◌≡◌, ℕ, suc, ◌<◌, List, [], ℤ, length, map, slice_index, slice_index_or}
 use Rattle.smp_prob.specs.declared.requests.Request.{Request}
-use Rattle.smp_prob.specs.declared.standings.Standing.TheVariants.{Free}
+use Rattle.smp_prob.specs.declared.inclusions.Inclusion.TheVariants.{Free}
 use Rattle.smp_prob.specs.Requests.{IsRequest}
-use Rattle.smp_prob.specs.Standings.{IsRising, standing}
+use Rattle.smp_prob.specs.Inclusions.{IsRising, inclusion}
 use Rattle.smp_kernel.specs.Vectors.{entry}
 use Rattle.smp_split.specs.Trees.{Tree}
 use Rattle.smp_flight.specs.States.{Units}
@@ -51,5 +51,5 @@ pub record AreStratumUnits (s : StratumUnits) : Type 0 where
   pub rising : IsRising s.request
   pub inside : (u : ℕ) → u < length s.request.free → slice_index s.request.free u < length s.values
   pub stands : (u : ℕ) → u < length s.request.free
-      → standing s.request (slice_index s.request.free u) ≡ Free u
+      → inclusion s.request (slice_index s.request.free u) ≡ Free u
   pub values : AreValues s.values

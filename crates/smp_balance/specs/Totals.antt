@@ -2,10 +2,10 @@
 use Rattle.std.specs.Prelude.{ℕ, zero, suc, Bool, true, false, cond, ℤ, pos, length}
 use Rattle.smp_fractions.specs.Fractions.{Fraction, whole, integer, times, inverse, sum_below}
 use Rattle.smp_fractions.specs.Bounds.{absolute}
-use Rattle.smp_prob.specs.declared.standings.Standing.{Standing}
-use Rattle.smp_prob.specs.declared.standings.Standing.TheVariants.{Free, Never}
+use Rattle.smp_prob.specs.declared.inclusions.Inclusion.{Inclusion}
+use Rattle.smp_prob.specs.declared.inclusions.Inclusion.TheVariants.{Free, Never}
 use Rattle.smp_prob.specs.Shares.{Shares}
-use Rattle.smp_prob.specs.Standings.{standing, is_taken, asked_fraction}
+use Rattle.smp_prob.specs.Inclusions.{inclusion, is_taken, asked_fraction}
 use Rattle.smp_values.specs.Values.{fractional_count, is_fractional, is_one, value_at}
 use Rattle.smp_rows.specs.Rows.{row_value}
 use Rattle.smp_moves.specs.Balances as moves
@@ -15,14 +15,14 @@ use Rattle.smp_landing.specs.Landings.{HasIndependentColumns, IsStuck}
 use Rattle.smp_balance.specs.Strata.{StratumUnits, AreStratumUnits, free_units, row_count, start_of, tree_of, value_in}
 
 -- whether a unit can be selected: its probability isn't 0
-abbrev pub can_be_selected : Standing → Bool
+abbrev pub can_be_selected : Inclusion → Bool
 can_be_selected Never = false
 can_be_selected other = true
 
 -- the balancing value of a unit that can be selected, and 0 of any other
 abbrev pub known_value : StratumUnits → ℕ → ℕ → ℤ
 known_value s column k =
-    cond (can_be_selected (standing s.request k)) (value_in s column k) (pos 0)
+    cond (can_be_selected (inclusion s.request k)) (value_in s column k) (pos 0)
 
 -- What a unit counts for in the total of a row: 1 in the first row; in any other its balancing value over the probability that is asked for
 -- it, and 0 where that is 0.
@@ -33,7 +33,7 @@ counted s (suc column) k =
 
 -- the value of a unit at a state: 1 where it is certain, and 0 where it is never selected
 abbrev pub value_of : StratumUnits → Balancing → ℕ → Fraction
-value_of s state k = row_value (value_at (values_in state)) (standing s.request k)
+value_of s state k = row_value (value_at (values_in state)) (inclusion s.request k)
 
 -- The total of a row at a state: the sum over the units of what each counts for, times its value. In the first row that is the sum of the
 -- values. A unit of probability 0 has the value 0, so it adds nothing.
@@ -50,7 +50,7 @@ known s row = sum_below (length s.values) (known_of s row)
 
 -- whether a unit is selected at a leaf
 abbrev pub is_selected : StratumUnits → Balancing → ℕ → Bool
-is_selected s leaf k = is_taken (is_one (values_in leaf)) (standing s.request k)
+is_selected s leaf k = is_taken (is_one (values_in leaf)) (inclusion s.request k)
 
 -- the estimate at a leaf: the number of selected units; of a column the sum of their values over their probabilities
 abbrev pub estimate : StratumUnits → Balancing → ℕ → Fraction
@@ -58,7 +58,7 @@ estimate s leaf row =
     sum_below (length s.values) (λ k. cond (is_selected s leaf k) (counted s row k) (whole 0))
 
 -- whether a unit that stands so is undecided, where the free units have these values
-abbrev pub is_undecided : Shares → Standing → Bool
+abbrev pub is_undecided : Shares → Inclusion → Bool
 is_undecided values (Free u) = is_fractional values u
 is_undecided values other = false
 
@@ -66,7 +66,7 @@ is_undecided values other = false
 abbrev pub error_bound : StratumUnits → Balancing → ℕ → Fraction
 error_bound s state row =
     sum_below (length s.values)
-    (λ k. cond (is_undecided (values_in state) (standing s.request k)) (absolute (counted s row k))
+    (λ k. cond (is_undecided (values_in state) (inclusion s.request k)) (absolute (counted s row k))
     (whole 0))
 
 -- ---- what is balanced

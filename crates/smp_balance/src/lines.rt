@@ -2,7 +2,7 @@
 
 ghost use Rattle.std.specs.Prelude.{◌≡◌, ◌++◌, ◌<◌, IfOk, OnOk, length, string_bytes};
 ghost use Rattle.smp_prob.specs.Requests.{IsRequest};
-ghost use Rattle.smp_prob.specs.Standings.{IsRising, asked_fraction};
+ghost use Rattle.smp_prob.specs.Inclusions.{IsRising, asked_fraction};
 ghost use Rattle.smp_frac.specs.LowestTerms.{lowest_terms};
 ghost use Rattle.smp_balance.specs.Strata.{value_in};
 ghost use Rattle.smp_balance.specs.Totals.{known_value};
@@ -11,7 +11,7 @@ ghost use Rattle.smp_balance.specs.Lines.{IsTold, balance_line, balance_lines, d
 ghost use Rattle.smp_balance.specs.Kept.{asked_of, values_in};
 
 use smp_frac::{Frac, NoMemory, Signed, Wide};
-use smp_prob::{Request, Standing};
+use smp_prob::{Inclusion, Request};
 use smp_weights::estimate;
 use std::alloc::{AllocError, Global};
 
@@ -125,9 +125,9 @@ fn known_value(drawn: &DrawnStratum, unit: usize, column: usize) -> i64
     requires column { column < drawn.now.columns }
     ensures { result ≡ known_value (drawn_view drawn.now).stratum column unit }
 {
-    match drawn.request.standing(unit) {
-        Standing::Never => 0,
-        Standing::Certain | Standing::Free(_) => value_at(drawn, unit, column),
+    match drawn.request.inclusion(unit) {
+        Inclusion::Never => 0,
+        Inclusion::Certain | Inclusion::Free(_) => value_at(drawn, unit, column),
     }
 }
 

@@ -6,7 +6,7 @@ use Rattle.std.proofs.lemmas.List.Sums.{sum_by-cons}
 use Rattle.smp_fractions.proofs.Fractions.{same_refl}
 use Rattle.smp_prob.specs.declared.requests.Request.{Request}
 use Rattle.smp_prob.specs.Requests.{IsRequest}
-use Rattle.smp_prob.specs.Standings.{free_fraction}
+use Rattle.smp_prob.specs.Inclusions.{free_fraction}
 use Rattle.smp_split.specs.Methods.{Starts}
 use Rattle.smp_split.proofs.Methods.{starts}
 use Rattle.smp_values.specs.Starts.{IsRequested}

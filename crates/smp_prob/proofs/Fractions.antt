@@ -13,7 +13,7 @@ use Rattle.smp_frac.specs.Laws.Gcds.{IsGcd-greatest_common_divisor}
 use Rattle.smp_prob.specs.declared.requests.Request.{Request}
 use Rattle.smp_prob.specs.Requests.{IsRequest}
 use Rattle.smp_prob.specs.Shares.{common_divisor, common_denominator, numerators}
-use Rattle.smp_prob.specs.Standings.{free_fraction}
+use Rattle.smp_prob.specs.Inclusions.{free_fraction}
 
 -- a quotient of a number that isn't 0
 quotient_positive : (g factor r : ℕ) → factor * g ≡ r → 1 ≤ r → 1 ≤ factor

@@ -19,7 +19,7 @@ use Rattle.smp_prob.specs.Kept.Numerators.{full, between, over_of}
 use Rattle.smp_prob.specs.Requested.{places}
 use Rattle.smp_prob.specs.Requests.{IsRequest}
 use Rattle.smp_prob.specs.Shapes.{shape_of}
-use Rattle.smp_prob.specs.Standings.{AreApart, AreBelow, IsRising, asked_fraction, count_taken}
+use Rattle.smp_prob.specs.Inclusions.{AreApart, AreBelow, IsRising, asked_fraction, count_taken}
 use Rattle.smp_prob.proofs.Draws.{divides-whole, whole-draws, whole-shapes, share-cross, draws_positive, share_below, narrow, out_narrow, no_draws}
 use Rattle.smp_prob.proofs.Expected.{given_is_over, expected_whole}
 use Rattle.smp_prob.proofs.Multiples.{common_multiple_positive, denominators_divide}

@@ -14,9 +14,9 @@ use Rattle.smp_fractions.specs.Fractions.{Same, whole}
 use Rattle.smp_fractions.proofs.Fractions.{same_refl}
 use Rattle.smp_fractions.proofs.Over.{over_same}
 use Rattle.smp_prob.specs.declared.requests.Request.{Request}
-use Rattle.smp_prob.specs.declared.standings.Standing.TheVariants.{Certain, Free, Never}
+use Rattle.smp_prob.specs.declared.inclusions.Inclusion.TheVariants.{Certain, Free, Never}
 use Rattle.smp_prob.specs.Requested.{is_certain, is_free, certain_units, places, requested_of, requested_fraction}
-use Rattle.smp_prob.specs.Standings.{Rises, AreApart, IsRising, standing, is_taken, count_taken, asked_fraction}
+use Rattle.smp_prob.specs.Inclusions.{Rises, AreApart, IsRising, inclusion, is_taken, count_taken, asked_fraction}
 use Rattle.smp_prob.specs.Kept.Cuts.{IsFeasible}
 use Rattle.smp_prob.specs.Requests.{IsRequest}
 use Rattle.smp_prob.proofs.RequestedUnits.{in_proportion}
@@ -154,13 +154,13 @@ pub record IsPickedBy (p q : ℕ → Bool) (zs : List ℕ) (request : Request) :
 
 module _ (p q : ℕ → Bool) (zs : List ℕ) (request : Request) (is : IsPickedBy p q zs request) where
   module _ (k : ℕ) (here : k < length zs) where
-    pub stands_certain : p (get_or zs k 0) ≡ true → standing request k ≡ Certain
+    pub stands_certain : p (get_or zs k 0) ≡ true → inclusion request k ≡ Certain
     stands_certain certain = rw (is.certain, position-picked p zs k here certain) refl
 
-    pub stands_free : p (get_or zs k 0) ≡ false → q (get_or zs k 0) ≡ true → standing request k ≡ Free (count_by q (take k zs))
+    pub stands_free : p (get_or zs k 0) ≡ false → q (get_or zs k 0) ≡ true → inclusion request k ≡ Free (count_by q (take k zs))
     stands_free open_ free = rw (is.certain, is.free, position-left p zs k here open_, position-picked q zs k here free) refl
 
-    pub stands_never : p (get_or zs k 0) ≡ false → q (get_or zs k 0) ≡ false → standing request k ≡ Never
+    pub stands_never : p (get_or zs k 0) ≡ false → q (get_or zs k 0) ≡ false → inclusion request k ≡ Never
     stands_never open_ none = rw (is.certain, is.free, position-left p zs k here open_, position-left q zs k here none) refl
 
   -- a free unit stands as such
@@ -182,7 +182,7 @@ module _ (p q : ℕ → Bool) (zs : List ℕ) (request : Request) (is : IsPicked
       rw (is.certain, is.free, position-left p zs k here open_, position-found (places q 0 zs) u k (places_rise q 0 zs) there refl) refl
 
   -- the units that are selected are the certain ones, and those of the free ones that are drawn
-  count-taken : (drawn : ℕ → Bool) (k : ℕ) → k ≤ length zs → count_below k (λ unit. is_taken drawn (standing request unit)) ≡ count_by p (take k zs) + count_below (count_by q (take k zs)) drawn
+  count-taken : (drawn : ℕ → Bool) (k : ℕ) → k ≤ length zs → count_below k (λ unit. is_taken drawn (inclusion request unit)) ≡ count_by p (take k zs) + count_below (count_by q (take k zs)) drawn
   count-taken drawn zero le = refl
   count-taken drawn (suc k) le =
       let here : k < length zs = omega (arith, le) in
@@ -208,10 +208,10 @@ module _ (p q : ℕ → Bool) (zs : List ℕ) (request : Request) (is : IsPicked
   count-selected drawn =
       let all = count-taken drawn (length zs) (omega arith) in
       let each : take (length zs) zs ≡ zs = take-length zs in
-      let total : count_below (length zs) (λ unit. is_taken drawn (standing request unit)) ≡ count_by p zs + count_below (count_by q zs) drawn =
+      let total : count_below (length zs) (λ unit. is_taken drawn (inclusion request unit)) ≡ count_by p zs + count_below (count_by q zs) drawn =
       all ∙ ap (λ (ys : List ℕ). count_by p ys + count_below (count_by q ys) drawn) each in
       let free : count_by q zs ≡ length request.free = rw is.free (sym (length-places q 0 zs)) in
-      count_range (λ unit. is_taken drawn (standing request unit)) (length zs) ∙ total
+      count_range (λ unit. is_taken drawn (inclusion request unit)) (length zs) ∙ total
       ∙ ap (λ (m : ℕ). count_by p zs + count_below m drawn) free
       ∙ ap (λ (m : ℕ). count_by p zs + m) (sym (count_range drawn (length request.free)))
 

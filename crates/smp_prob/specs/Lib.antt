@@ -3,5 +3,5 @@ pub mod Requested
 pub mod Requests
 pub mod Given
 pub mod Shares
-pub mod Standings
+pub mod Inclusions
 pub mod Kept

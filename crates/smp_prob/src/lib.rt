@@ -2,6 +2,7 @@
 #![tactic(auto)]
 
 mod faults;
+mod inclusions;
 mod lists;
 mod orders;
 mod picked;
@@ -9,12 +10,11 @@ mod probabilities;
 mod proportional;
 mod requests;
 mod shapes;
-mod standings;
 
 pub use faults::{GivenFault, ProbFault};
+pub use inclusions::Inclusion;
 pub use lists::{Places, Shapes};
 pub use orders::Order;
 pub use probabilities::{expected_size, given};
 pub use proportional::requested;
 pub use requests::Request;
-pub use standings::Standing;

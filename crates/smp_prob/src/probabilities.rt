@@ -8,7 +8,7 @@ ghost use Rattle.smp_prob.specs.Given.{AreGiven, IsLeastMultipleOf, IsWholeNumbe
 ghost use Rattle.smp_prob.specs.Kept.Numerators.{over_of};
 ghost use Rattle.smp_prob.specs.Requests.{IsRequest};
 ghost use Rattle.smp_prob.specs.Shapes.{shape_of};
-ghost use Rattle.smp_prob.specs.Standings.{AreApart, AreBelow, IsRising, count_taken, asked_fraction};
+ghost use Rattle.smp_prob.specs.Inclusions.{AreApart, AreBelow, IsRising, count_taken, asked_fraction};
 
 use crate::picked::pick;
 use crate::shapes::{shape_of, size_divisor, sum_of};

@@ -1,9 +1,9 @@
 ghost use Rattle.std.specs.Prelude.{◌≡◌, ◌≤◌, position, nat_eq, IfOk};
 ghost use Rattle.smp_frac.specs.Fractions.{fraction};
 ghost use Rattle.smp_fractions.specs.Fractions.{Same, over};
-ghost use Rattle.smp_prob.specs.Standings.{Rises};
+ghost use Rattle.smp_prob.specs.Inclusions.{Rises};
 
-use crate::{Places, Shapes, Standing};
+use crate::{Inclusion, Places, Shapes};
 use smp_frac::{Frac, NoMemory, gcd};
 use smp_places::numbers_below;
 use std::alloc::Global;
@@ -31,7 +31,7 @@ pub struct Request {
 impl Request {
     ghost use Rattle.std.specs.Prelude.{◌≡◌, EachIndex, slice_index};
     ghost use Rattle.smp_prob.specs.Requests.{IsRequest, all_free};
-    ghost use Rattle.smp_prob.specs.Standings.{IsRising, standing, free_fraction, asked_fraction};
+    ghost use Rattle.smp_prob.specs.Inclusions.{IsRising, inclusion, free_fraction, asked_fraction};
     ghost use Rattle.smp_prob.specs.Shares.{common_divisor, common_denominator, numerators};
 
     /// The request in which every unit is free: unit i is selected with the probability `shapes[i] * r / total`. The
@@ -93,16 +93,16 @@ impl Request {
     }
 
     /// Where a unit stands: it is certain, a free unit, or never selected. It takes time logarithmic in their number.
-    pub fn standing(&self, unit: usize) -> Standing
+    pub fn inclusion(&self, unit: usize) -> Inclusion
         requires { IsRising self.now }
-        ensures { result ≡ standing self.now unit }
+        ensures { result ≡ inclusion self.now unit }
     {
         if place_of(self.certain.as_slice(), unit).is_some() {
-            return Standing::Certain;
+            return Inclusion::Certain;
         }
         match place_of(self.free.as_slice(), unit) {
-            Some(place) => Standing::Free(place),
-            None => Standing::Never,
+            Some(place) => Inclusion::Free(place),
+            None => Inclusion::Never,
         }
     }
 
@@ -112,13 +112,13 @@ impl Request {
         requires ordered { IsRising self.now }
         ensures { Same (fraction result) (asked_fraction self.now unit) }
     {
-        match self.standing(unit) {
-            Standing::Certain => Frac::over(1, 1),
-            Standing::Free(place) => {
+        match self.inclusion(unit) {
+            Inclusion::Certain => Frac::over(1, 1),
+            Inclusion::Free(place) => {
                 let shape = self.shape.as_slice()[place] as u128;
                 Frac::over(shape * self.r as u128, self.total as u128)
             }
-            Standing::Never => Frac::over(0, 1),
+            Inclusion::Never => Frac::over(0, 1),
         }
     }
 }

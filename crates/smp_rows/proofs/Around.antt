@@ -8,9 +8,9 @@ use Rattle.smp_fractions.specs.Fractions.{Fraction, Same, whole, plus, times, ov
 use Rattle.smp_fractions.proofs.Around.{around_same, around_more}
 use Rattle.smp_fractions.proofs.Fractions.{same_refl, same_sym, same_trans, plus_same, plus_left_comm, plus-zero, zero-plus, one-times, sum_same}
 use Rattle.smp_prob.specs.declared.requests.Request.{Request}
-use Rattle.smp_prob.specs.declared.standings.Standing.{Standing}
-use Rattle.smp_prob.specs.declared.standings.Standing.TheVariants.{Certain, Free, Never}
-use Rattle.smp_prob.specs.Standings.{AreApart, standing, is_taken, count_taken}
+use Rattle.smp_prob.specs.declared.inclusions.Inclusion.{Inclusion}
+use Rattle.smp_prob.specs.declared.inclusions.Inclusion.TheVariants.{Certain, Free, Never}
+use Rattle.smp_prob.specs.Inclusions.{AreApart, inclusion, is_taken, count_taken}
 use Rattle.smp_split.specs.Counts.{LeavesSelectAround, selected_count}
 use Rattle.smp_split.specs.Means.{value_sum}
 use Rattle.smp_split.specs.Trees.{Tree}
@@ -37,35 +37,35 @@ plus_turned a b =
 -- ---- the certain rows
 
 -- 1 for a certain row, and 0 for any other
-abbrev certain_of : Standing → ℕ
+abbrev certain_of : Inclusion → ℕ
 certain_of Certain = 1
 certain_of (Free unit) = 0
 certain_of Never = 0
 
 module _ (rows : ℕ) (request : Request) (inside : (u : ℕ) → u < length request.free → slice_index request.free u < rows) (apart : AreApart request) where
   abbrev certain_rows : ℕ
-  certain_rows = sum_by (λ row. certain_of (standing request row)) (range_with_len 0 rows)
+  certain_rows = sum_by (λ row. certain_of (inclusion request row)) (range_with_len 0 rows)
 
   -- 1 for each certain row, and what the free units give
-  rows_sum : (f : Standing → Fraction) (g : ℕ → Fraction) → Same (f Certain) (whole 1) → ((u : ℕ) → Same (f (Free u)) (g u)) → Same (f Never) (whole 0)
-      → Same (sum_below rows (λ row. f (standing request row))) (plus (whole certain_rows) (sum_below (length request.free) g))
+  rows_sum : (f : Inclusion → Fraction) (g : ℕ → Fraction) → Same (f Certain) (whole 1) → ((u : ℕ) → Same (f (Free u)) (g u)) → Same (f Never) (whole 0)
+      → Same (sum_below rows (λ row. f (inclusion request row))) (plus (whole certain_rows) (sum_below (length request.free) g))
   rows_sum f g one each none =
       let free : Fraction = sum_below (length request.free) g in
-      let certain : Fraction = sum_below rows (λ row. whole (certain_of (standing request row))) in
-      same_trans (sum_apart request rows inside apart g (λ row. f (standing request row)) (λ row. whole (certain_of (standing request row))) (λ row _. by_standing (standing request row)))
-      (same_trans (plus_turned free certain) (plus_same (sum-whole rows (λ row. certain_of (standing request row))) (same_refl free)))
+      let certain : Fraction = sum_below rows (λ row. whole (certain_of (inclusion request row))) in
+      same_trans (sum_apart request rows inside apart g (λ row. f (inclusion request row)) (λ row. whole (certain_of (inclusion request row))) (λ row _. by_inclusion (inclusion request row)))
+      (same_trans (plus_turned free certain) (plus_same (sum-whole rows (λ row. certain_of (inclusion request row))) (same_refl free)))
     where
-      by_standing : (stands : Standing) → Same (f stands) (plus (at_free g stands) (whole (certain_of stands)))
-      by_standing Certain = same_trans one (same_sym (zero-plus (whole 1)))
-      by_standing (Free u) = same_trans (each u) (same_sym (plus-zero (g u)))
-      by_standing Never = same_trans none (same_sym (plus-zero (whole 0)))
+      by_inclusion : (stands : Inclusion) → Same (f stands) (plus (at_free g stands) (whole (certain_of stands)))
+      by_inclusion Certain = same_trans one (same_sym (zero-plus (whole 1)))
+      by_inclusion (Free u) = same_trans (each u) (same_sym (plus-zero (g u)))
+      by_inclusion Never = same_trans none (same_sym (plus-zero (whole 0)))
 
   -- as many rows are taken as are certain and as free units are drawn
   pub rows_taken : (drawn : ℕ → Bool) → count_taken request drawn rows ≡ certain_rows + count_by drawn (range_with_len 0 (length request.free))
   rows_taken drawn =
       let one_of : Bool → ℕ = λ b. cond b 1 0 in
       whole_sum (count_taken request drawn rows) certain_rows (count_by drawn (range_with_len 0 (length request.free)))
-      (same_trans (same_sym (sum-whole rows (λ row. one_of (is_taken drawn (standing request row)))))
+      (same_trans (same_sym (sum-whole rows (λ row. one_of (is_taken drawn (inclusion request row)))))
       (same_trans (rows_sum (λ stands. whole (one_of (is_taken drawn stands))) (λ u. whole (one_of (drawn u))) (same_refl (whole 1)) (λ u. same_refl (whole (one_of (drawn u)))) (same_refl (whole 0)))
       (plus_same (same_refl (whole certain_rows)) (sum-whole (length request.free) (λ u. one_of (drawn u))))))
 
@@ -83,7 +83,7 @@ module _ (rows : ℕ) (request : Request) (inside : (u : ℕ) → u < length req
     rows_around belongs state around =
         let own : Fraction = value_sum tree (λ _. whole 1) state in
         let all : Fraction = value_sum (rows_tree rows request tree) (λ _. whole 1) state in
-        leaves_through tree belongs (rows_tree rows request tree) (λ s. s) (λ row. row_view (standing request row)) (rows_lens rows request tree belongs paired) (rows_close rows request tree belongs)
+        leaves_through tree belongs (rows_tree rows request tree) (λ s. s) (λ row. row_view (inclusion request row)) (rows_lens rows request tree belongs paired) (rows_close rows request tree belongs)
         (λ leaf. IsAround (selected_count tree leaf) own) (λ leaf. IsAround (selected_count (rows_tree rows request tree) leaf) all)
         (λ leaf done is. around_same (selected_count (rows_tree rows request tree) leaf) (rows_value state) (rw (rows_selected leaf) (around_more certain_rows (selected_count tree leaf) own is)))
         state around

@@ -3,15 +3,15 @@
 use Rattle.std.specs.Prelude.{◌≡◌, ℕ, ◌<◌, Bool, length}
 use Rattle.std.specs.List.{count_by, range_with_len}
 use Rattle.smp_prob.specs.declared.requests.Request.{Request}
-use Rattle.smp_prob.specs.declared.standings.Standing.{Standing}
-use Rattle.smp_prob.specs.declared.standings.Standing.TheVariants.{Certain, Free, Never}
-use Rattle.smp_prob.specs.Standings.{IsRising, standing, is_taken, count_taken, free_fraction}
+use Rattle.smp_prob.specs.declared.inclusions.Inclusion.{Inclusion}
+use Rattle.smp_prob.specs.declared.inclusions.Inclusion.TheVariants.{Certain, Free, Never}
+use Rattle.smp_prob.specs.Inclusions.{IsRising, inclusion, is_taken, count_taken, free_fraction}
 use Rattle.smp_fractions.specs.Fractions.{Fraction, Same, whole}
 use Rattle.smp_split.specs.Counts.{AddsUp, LeavesSelect}
 use Rattle.smp_split.specs.Trees.{Tree}
 
 -- the value of a row that stands so, where the free units have these values
-abbrev pub row_value : (ℕ → Fraction) → Standing → Fraction
+abbrev pub row_value : (ℕ → Fraction) → Inclusion → Fraction
 row_value value Certain = whole 1
 row_value value (Free unit) = value unit
 row_value value Never = whole 0
@@ -24,8 +24,8 @@ rows_tree rows request tree = record {
   kind = tree.kind;
   parts = tree.parts;
   rank = tree.rank;
-  value = λ state row. row_value (tree.value state) (standing request row);
-  selected = λ state row. is_taken (tree.selected state) (standing request row);
+  value = λ state row. row_value (tree.value state) (inclusion request row);
+  selected = λ state row. is_taken (tree.selected state) (inclusion request row);
 }
 
 -- the state is one of the design, whose units are the free units of the request

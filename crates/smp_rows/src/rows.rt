@@ -3,10 +3,10 @@ ghost use Rattle.smp_split.specs.Counts.{AddsUp, LeavesSelect, LeavesSelectAroun
 ghost use Rattle.smp_fractions.specs.Fractions.{Same};
 ghost use Rattle.smp_split.specs.Means.{inclusion_probability};
 ghost use Rattle.smp_rows.specs.Rows.{rows_tree, BelongsToRows, SelectsAsRequested, AddsUpTo};
-ghost use Rattle.smp_prob.specs.Standings.{AreApart, asked_fraction};
+ghost use Rattle.smp_prob.specs.Inclusions.{AreApart, asked_fraction};
 ghost use Rattle.smp_rows.specs.Laws.Rows.{rows_lawful};
 
-use smp_prob::{Request, Standing};
+use smp_prob::{Inclusion, Request};
 use smp_split::{Kind, Splitting, mean_is_value};
 
 /// A design over the free units of a request, as one over all rows of the frame.
@@ -74,10 +74,10 @@ impl<'a, D: Splitting> Splitting for Rows<'a, D> {
     }
 
     fn selected(&self, state: &D::State, unit: usize) -> bool {
-        match self.request.standing(unit) {
-            Standing::Certain => true,
-            Standing::Free(unit) => self.design.selected(state, unit),
-            Standing::Never => false,
+        match self.request.inclusion(unit) {
+            Inclusion::Certain => true,
+            Inclusion::Free(unit) => self.design.selected(state, unit),
+            Inclusion::Never => false,
         }
     }
 }

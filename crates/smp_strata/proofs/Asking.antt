@@ -14,7 +14,7 @@ use Rattle.smp_design.specs.declared.design.Design.{Design}
 use Rattle.smp_design.specs.Words.{row}
 use Rattle.smp_design.specs.declared.design.Second as second
 use Rattle.smp_frame.specs.declared.frame.Unit as unit
-use Rattle.smp_prob.specs.Standings.{asked_fraction}
+use Rattle.smp_prob.specs.Inclusions.{asked_fraction}
 use Rattle.smp_strata.specs.Asked.{cluster_of, fraction_by, fraction_in_psu, fraction_in_stratum, row_fraction}
 use Rattle.smp_strata.specs.Bounds.{AreSeated, IsStratum}
 use Rattle.smp_strata.specs.Draws.{DrawsInStratum}

@@ -7,7 +7,7 @@ use Rattle.smp_fractions.proofs.Fractions.{sum_same}
 use Rattle.smp_frac.specs.declared.fractions.Frac.{Frac}
 use Rattle.smp_frac.specs.Fractions.{fraction}
 use Rattle.smp_prob.specs.Given.{expected_size, given_fraction}
-use Rattle.smp_prob.specs.Standings.{asked_fraction}
+use Rattle.smp_prob.specs.Inclusions.{asked_fraction}
 use Rattle.smp_prob.specs.declared.requests.Request.{Request}
 use Rattle.smp_design.specs.declared.design.Design.{Design}
 use Rattle.smp_frame.specs.declared.frame.Unit as unit

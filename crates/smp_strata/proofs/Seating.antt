@@ -9,7 +9,7 @@ use Rattle.std.proofs.lemmas.Option.{slice_get-map, slice_get_within, slice_get-
 use Rattle.smp_fractions.specs.Fractions.{times}
 use Rattle.smp_design.specs.declared.design.Design.{Design}
 use Rattle.smp_frame.specs.declared.frame.Unit as unit
-use Rattle.smp_prob.specs.Standings.{asked_fraction}
+use Rattle.smp_prob.specs.Inclusions.{asked_fraction}
 use Rattle.smp_strata.specs.Clusters.{clusters, clusters_in, stratum_names}
 use Rattle.smp_strata.specs.Plans.{first_of, stratum_of}
 use Rattle.smp_strata.specs.Seats.{IsSeat, seat_fraction, stage_fraction}

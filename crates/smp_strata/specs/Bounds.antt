@@ -4,7 +4,7 @@ use Rattle.smp_frame.specs.Bounds.{AreNear}
 use Rattle.smp_frame.specs.Limits.{max_rows}
 use Rattle.smp_prob.specs.declared.requests.Request.{Request}
 use Rattle.smp_prob.specs.Requests.{IsRequest}
-use Rattle.smp_prob.specs.Standings.{AreApart, IsRising}
+use Rattle.smp_prob.specs.Inclusions.{AreApart, IsRising}
 use Rattle.smp_values.specs.Starts.{IsWhole}
 use Rattle.smp_design.specs.declared.method.Method.{Method}
 use Rattle.smp_design.specs.Words.{row}

@@ -2,7 +2,7 @@
 use Rattle.std.specs.Prelude.{◌≡◌, ℕ, List, Option, Some, None, length, slice_get, All, IfSome}
 use Rattle.smp_fractions.specs.Fractions.{Fraction, Same, whole, sum_below}
 use Rattle.smp_prob.specs.Given.{expected_size}
-use Rattle.smp_prob.specs.Standings.{asked_fraction}
+use Rattle.smp_prob.specs.Inclusions.{asked_fraction}
 use Rattle.smp_prob.specs.declared.requests.Request.{Request}
 use Rattle.smp_values.specs.Starts.{IsWhole}
 use Rattle.smp_rows.specs.Rows.{AddsUpTo}

@@ -3,7 +3,7 @@
 ghost use Rattle.std.specs.Prelude.{◌≡◌, ◌^◌, ◌<◌, ◌≤◌, All, length, slice_index_or};
 ghost use Rattle.smp_frac.specs.Fractions.{fraction};
 ghost use Rattle.smp_fractions.specs.Fractions.{Same, over, times};
-ghost use Rattle.smp_prob.specs.Standings.{IsRising, asked_fraction};
+ghost use Rattle.smp_prob.specs.Inclusions.{IsRising, asked_fraction};
 ghost use Rattle.smp_prob.specs.Requests.{IsRequest};
 ghost use Rattle.smp_strata.specs.Bounds.{IsStratum};
 ghost use Rattle.smp_strata.specs.Kept.Built.{AreSeats};
@@ -13,7 +13,7 @@ ghost use Rattle.smp_strata.specs.declared.strata.Seat.{Seat};
 use crate::{Seat, Stratum};
 use smp_design::{Method, Order};
 use smp_frac::Frac;
-use smp_prob::{Request, Standing};
+use smp_prob::{Inclusion, Request};
 use std::marker::Model;
 
 /// A plan: the strata of a frame, and what is asked of each.
@@ -143,13 +143,13 @@ fn terms_of(request: &Request, unit: usize) -> Terms
     ensures den { result.den < 2 ^ 49 }
     ensures positive { 1 ≤ result.den }
 {
-    match request.standing(unit) {
-        Standing::Certain => Terms { num: 1, den: 1 },
-        Standing::Free(place) => Terms {
+    match request.inclusion(unit) {
+        Inclusion::Certain => Terms { num: 1, den: 1 },
+        Inclusion::Free(place) => Terms {
             num: request.shape.as_slice()[place] as u64 * request.r as u64,
             den: request.total,
         },
-        Standing::Never => Terms { num: 0, den: 1 },
+        Inclusion::Never => Terms { num: 0, den: 1 },
     }
 }
 

@@ -4,7 +4,7 @@ use Rattle.std.specs.Prelude.{◌&&◌, is_some, option_map, unwrap_or}
 use Rattle.std.specs.List.{slice_get}
 use Rattle.std.proofs.lemmas.Option.{slice_get_within, slice_get-map}
 use Rattle.smp_prob.specs.declared.orders.Order.{Order}
-use Rattle.smp_prob.specs.Standings.{standing, is_taken}
+use Rattle.smp_prob.specs.Inclusions.{inclusion, is_taken}
 use Rattle.smp_split.specs.Embeds.{embedded}
 use Rattle.smp_split.specs.Lenses.{as_unit}
 use Rattle.smp_split.specs.Paths.{Entry, Leads}
@@ -86,7 +86,7 @@ module _ (plan : Parts) (drawable : CanBeDrawn plan) (cube : plan.method ≡ Cub
       let request = (is_planned plan drawable h s is).stratum.over.sound in
       let leads : Leads (tree_by ways.Cube) (start_by ways.Cube) (goes.part at) last.0 = subst (λ (p : Procedure). Leads (tree_by p) (start_by p) (goes.part at) last.0) way_is own.0 in
       let done : (tree_by ways.Cube).done last.0 ≡ true = subst (λ (p : Procedure). (tree_by p).done last.0 ≡ true) way_is own.1 in
-      let rows = came_whole outer (λ _. Unit {0}) (rows_tree (length s.units) s.request outer) (λ t. t) (λ row. row_view (standing s.request row))
+      let rows = came_whole outer (λ _. Unit {0}) (rows_tree (length s.units) s.request outer) (λ t. t) (λ row. row_view (inclusion s.request row))
       (rows_lens (length s.units) s.request outer (λ _. Unit {0}) (sym request.paired)) (rows_close (length s.units) s.request outer (λ _. Unit {0}))
       (goes.part at) (states.Cube (started (units_of s.request (free_values s)))) last.0 leads in
       let cubes = came_whole inner (λ _. Unit {0}) outer states.Cube (λ k. as_unit k)
@@ -104,7 +104,7 @@ module _ (plan : Parts) (drawable : CanBeDrawn plan) (cube : plan.method ≡ Cub
 
 module _ (plan : Parts) (drawable : CanBeDrawn plan) (cube : plan.method ≡ Cube) (ends : List AnyState) (h : ℕ) (s : Stratum) (is : slice_get plan.strata h ≡ Some s) (leaf : Balancing) (leaf_is : slice_get ends (first_number plan h) ≡ Some (states.Cube leaf)) where
   abbrev selected_by : Procedure → ℕ → Bool
-  selected_by way k = is_taken ((method_of (design_of way s.request (free_values s))).tree.selected (states.Cube leaf)) (standing s.request k)
+  selected_by way k = is_taken ((method_of (design_of way s.request (free_values s))).tree.selected (states.Cube leaf)) (inclusion s.request k)
 
   is_the_cube : procedure plan.method plan.order (column_count s) ≡ ways.Cube
   is_the_cube = is_cube plan.method plan.order (column_count s) cube (has_procedure plan s (is_planned plan drawable h s is))

@@ -5,10 +5,10 @@ use Rattle.std.specs.List.{slice_get}
 use Rattle.std.proofs.lemmas.Bool.{and_parts}
 use Rattle.smp_fractions.specs.Fractions.{Fraction, times}
 use Rattle.smp_prob.specs.declared.requests.Request.{Request}
-use Rattle.smp_prob.specs.declared.standings.Standing.{Standing}
-use Rattle.smp_prob.specs.declared.standings.Standing.TheVariants.{Certain, Free, Never}
+use Rattle.smp_prob.specs.declared.inclusions.Inclusion.{Inclusion}
+use Rattle.smp_prob.specs.declared.inclusions.Inclusion.TheVariants.{Certain, Free, Never}
 use Rattle.smp_prob.specs.Requests.{IsRequest}
-use Rattle.smp_prob.specs.Standings.{asked_fraction, fraction_at, is_taken, standing}
+use Rattle.smp_prob.specs.Inclusions.{asked_fraction, fraction_at, is_taken, inclusion}
 use Rattle.smp_design.specs.declared.method.Method.{Method}
 use Rattle.smp_rows.specs.Laws.Rows.{free_within}
 use Rattle.smp_methods.specs.declared.any.AnyState.{AnyState}
@@ -49,15 +49,15 @@ positive_times a b first second =
 
 -- a unit that is taken has a positive probability
 module _ (request : Request) (sound : IsRequest request) (chosen : ℕ → Bool) where
-  taken_at : (stands : Standing) → ((unit : ℕ) → stands ≡ Free unit → unit < length request.free) → is_taken chosen stands ≡ true → is_positive (fraction_at request stands).num ≡ true
+  taken_at : (stands : Inclusion) → ((unit : ℕ) → stands ≡ Free unit → unit < length request.free) → is_taken chosen stands ≡ true → is_positive (fraction_at request stands).num ≡ true
   taken_at Certain within taken = refl
   taken_at (Free unit) within taken =
       let here : unit < length request.free = within unit refl in
       positive_number (slice_index request.shape unit * request.r) (mul-pos (sound.positive unit (omega (arith, here, sound.paired))) (sound.drawn (omega (arith, here))))
   taken_at Never within taken = absurd (true≢false (sym taken))
 
-  taken_positive : (unit : ℕ) → is_taken chosen (standing request unit) ≡ true → is_positive (asked_fraction request unit).num ≡ true
-  taken_positive unit = taken_at (standing request unit) (free_within request unit)
+  taken_positive : (unit : ℕ) → is_taken chosen (inclusion request unit) ≡ true → is_positive (asked_fraction request unit).num ≡ true
+  taken_positive unit = taken_at (inclusion request unit) (free_within request unit)
 
 module _ (plan : Parts) (drawable : CanBeDrawn plan) (states : List AnyState) where
   -- a unit that is selected in its stage

@@ -6,7 +6,7 @@ use Rattle.smp_fractions.specs.Bounds.{IsAround}
 use Rattle.smp_fractions.specs.Fractions.{Same, whole, times}
 use Rattle.smp_fractions.proofs.Around.{around_same}
 use Rattle.smp_fractions.proofs.Fractions.{same_sym, same_trans, one-times, sum_same}
-use Rattle.smp_prob.specs.Standings.{asked_fraction}
+use Rattle.smp_prob.specs.Inclusions.{asked_fraction}
 use Rattle.smp_split.specs.Counts.{LeavesSelectAround, selected_count}
 use Rattle.smp_split.specs.Means.{value_sum}
 use Rattle.smp_split.specs.Paths.{AtEachLeaf}

@@ -5,9 +5,9 @@ use Rattle.std.specs.List.{count_by, range_with_len, slice_get}
 use Rattle.smp_fractions.specs.Fractions.{Fraction, Same, whole, integer, inverse, times, sum_below}
 use Rattle.smp_fractions.proofs.Fractions.{same_refl, same_sym, same_trans, times_same, sum_same, times-zero, times-one, times_comm, times_left_comm}
 use Rattle.smp_prob.specs.declared.requests.Request.{Request}
-use Rattle.smp_prob.specs.declared.standings.Standing.{Standing}
-use Rattle.smp_prob.specs.declared.standings.Standing.TheVariants.{Certain, Free, Never}
-use Rattle.smp_prob.specs.Standings.{fraction_at, standing}
+use Rattle.smp_prob.specs.declared.inclusions.Inclusion.{Inclusion}
+use Rattle.smp_prob.specs.declared.inclusions.Inclusion.TheVariants.{Certain, Free, Never}
+use Rattle.smp_prob.specs.Inclusions.{fraction_at, inclusion}
 use Rattle.smp_design.specs.declared.method.Method.{Method}
 use Rattle.smp_split.specs.Counts.{LeavesSelect, selected_count}
 use Rattle.smp_split.specs.Paths.{AtEachLeaf}
@@ -80,18 +80,18 @@ weighs_any a n is x =
     subst (λ (z : ℤ). Same (times (weighted (record { num = z; den = a.den; positive = a.positive }) x) (record { num = z; den = a.den; positive = a.positive })) (integer (known (record { num = z; den = a.den; positive = a.positive }) x))) (sym is)
     (weighs n a.den a.positive x)
 
-asked_positive : (request : Request) (stand : Standing) → IsProbability (fraction_at request stand)
+asked_positive : (request : Request) (stand : Inclusion) → IsProbability (fraction_at request stand)
 asked_positive request Certain = (1, refl)
 asked_positive request (Free unit) = (_, refl)
 asked_positive request Never = (0, refl)
 
 first_positive : (s : Option Stratum) (unit : ℕ) → IsProbability (unit_fraction s unit)
 first_positive None unit = (0, refl)
-first_positive (Some s) unit = asked_positive s.request (standing s.request unit)
+first_positive (Some s) unit = asked_positive s.request (inclusion s.request unit)
 
 stage_positive : (request : Option Request) (place : ℕ) → IsProbability (stage_fraction request place)
 stage_positive None place = (1, refl)
-stage_positive (Some request) place = asked_positive request (standing request place)
+stage_positive (Some request) place = asked_positive request (inclusion request place)
 
 place_positive : (u : Option FirstUnit) (place : ℕ) → IsProbability (place_fraction u place)
 place_positive None place = (0, refl)

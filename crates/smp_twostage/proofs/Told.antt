@@ -6,9 +6,9 @@ use Rattle.std.proofs.lemmas.Bool.{and_parts, eqb-true, leb-true}
 use Rattle.std.proofs.lemmas.List.{length-map}
 use Rattle.std.proofs.lemmas.List.Elements.{All-from_get_or, All-map, All-weaker, filter_passes}
 use Rattle.smp_prob.specs.declared.orders.Order.{Order}
-use Rattle.smp_prob.specs.declared.standings.Standing.{Standing}
-use Rattle.smp_prob.specs.declared.standings.Standing.TheVariants.{Certain, Free, Never}
-use Rattle.smp_prob.specs.Standings.{is_taken, standing}
+use Rattle.smp_prob.specs.declared.inclusions.Inclusion.{Inclusion}
+use Rattle.smp_prob.specs.declared.inclusions.Inclusion.TheVariants.{Certain, Free, Never}
+use Rattle.smp_prob.specs.Inclusions.{is_taken, inclusion}
 use Rattle.smp_kernel.specs.Vectors.{Within}
 use Rattle.smp_flight.specs.Requests.{AreValues}
 use Rattle.smp_balance.specs.Lines as lines
@@ -42,17 +42,17 @@ use Rattle.smp_twostage.proofs.Numbers.{passing}
 
 -- ---- a first stage unit that is selected can be
 
-taken_open : (chosen : ℕ → Bool) (stands : Standing) → is_taken chosen stands ≡ true → can_be_selected stands ≡ true
+taken_open : (chosen : ℕ → Bool) (stands : Inclusion) → is_taken chosen stands ≡ true → can_be_selected stands ≡ true
 taken_open chosen Certain taken = refl
 taken_open chosen (Free unit) taken = refl
 taken_open chosen Never taken = absurd (true≢false (sym taken))
 
 module _ (parts : Parts) (states : List AnyState) where
-  open_at : (stage : Stage Selecting) (unit : ℕ) (state : Option AnyState) → read tree_of false (λ tree s. tree.selected s unit) (Some stage) state ≡ true → can_be_selected (standing stage.design.request unit) ≡ true
-  open_at stage unit (Some state) selected = taken_open ((method_of stage.design.design).tree.selected state) (standing stage.design.request unit) selected
+  open_at : (stage : Stage Selecting) (unit : ℕ) (state : Option AnyState) → read tree_of false (λ tree s. tree.selected s unit) (Some stage) state ≡ true → can_be_selected (inclusion stage.design.request unit) ≡ true
+  open_at stage unit (Some state) selected = taken_open ((method_of stage.design.design).tree.selected state) (inclusion stage.design.request unit) selected
   open_at stage unit None selected = absurd (true≢false (sym selected))
 
-  first_open : (n : ℕ) (s : Stratum) → slice_get parts.strata n ≡ Some s → (k : ℕ) → first_selected parts states n k ≡ true → can_be_selected (standing s.request k) ≡ true
+  first_open : (n : ℕ) (s : Stratum) → slice_get parts.strata n ≡ Some s → (k : ℕ) → first_selected parts states n k ≡ true → can_be_selected (inclusion s.request k) ≡ true
   first_open n s is k selected =
       let both = and_parts (is_drawn tree_of (stages_of parts) states (first_number parts n)) (unit_selected tree_of (stages_of parts) states (first_place parts n k)) selected in
       open_at (first_stage parts s) k (slice_get states (first_number parts n))
@@ -67,7 +67,7 @@ module _ (plan : Parts) (h : ℕ) (s : Stratum) (is : slice_get plan.strata h �
       let same : h ≡ one = eqb-true h one covered in
       alone_there plan one s (ap (slice_get plan.strata) (sym same) ∙ is)
 
-covered_open : (c : Coverage) (states : List AnyState) (h : ℕ) (s : Stratum) → slice_get c.plan.strata h ≡ Some s → covers c h ≡ true → (k : ℕ) → covered_first c states h k ≡ true → can_be_selected (standing s.request k) ≡ true
+covered_open : (c : Coverage) (states : List AnyState) (h : ℕ) (s : Stratum) → slice_get c.plan.strata h ≡ Some s → covers c h ≡ true → (k : ℕ) → covered_first c states h k ≡ true → can_be_selected (inclusion s.request k) ≡ true
 covered_open c states h s is covered k selected =
     first_open (covered_parts c) states (covered_number c h) s (there_by c.plan h s is c.only (and_parts _ _ covered).1) k selected
 
@@ -109,7 +109,7 @@ module _ (c : Coverage) (drawable : CanBeDrawn c.plan) (cube : c.plan.method ≡
     few = (let few = (is_planned c.plan drawable h s is).stratum.few in omega (arith, few, length-map s.units (λ u. u.values)));
     columns = refl;
     units =
-        All-weaker (λ k. covered_first c states h k ≡ true) (λ k. can_be_selected (standing s.request k) ≡ true) (λ k selected. covered_open c states h s is covered k selected)
+        All-weaker (λ k. covered_first c states h k ≡ true) (λ k. can_be_selected (inclusion s.request k) ≡ true) (λ k selected. covered_open c states h s is covered k selected)
         (drawn_stratum c states h s).units (filter_passes (covered_first c states h) (range_with_len 0 (length s.units)));
     within =
         All-from_get_or (λ k. k < length (map (λ u. u.values) s.units)) (drawn_stratum c states h s).units 0

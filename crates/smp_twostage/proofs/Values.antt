@@ -7,7 +7,7 @@ use Rattle.smp_stages.specs.Laws.Reads.{some_within}
 use Rattle.smp_fractions.specs.Fractions.{Fraction, Same, whole, times}
 use Rattle.smp_fractions.proofs.Fractions.{same_sym, same_trans, times_same, times-one}
 use Rattle.smp_prob.specs.declared.requests.Request.{Request}
-use Rattle.smp_prob.specs.Standings.{asked_fraction}
+use Rattle.smp_prob.specs.Inclusions.{asked_fraction}
 use Rattle.smp_design.specs.declared.method.Method.{Method}
 use Rattle.smp_rows.proofs.Asked.{value_is_asked}
 use Rattle.smp_methods.specs.declared.any.AnyState.{AnyState}

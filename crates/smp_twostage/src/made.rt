@@ -2,7 +2,7 @@
 
 ghost use Rattle.std.specs.Prelude.{◌≡◌, ◌<◌, ◌++◌, ◌∷◌, [], true, is_some, None, Some, All, IfOk, OnOk, length, map, slice_index_or};
 ghost use Rattle.smp_prob.specs.Requests.{IsRequest};
-ghost use Rattle.smp_prob.specs.Standings.{IsRising};
+ghost use Rattle.smp_prob.specs.Inclusions.{IsRising};
 ghost use Rattle.smp_methods.specs.Designs.{design_of};
 ghost use Rattle.smp_methods.specs.Procedures.{NeedsWhole, procedure_of, TakesValues};
 ghost use Rattle.smp_strata.specs.Bounds.{IsFirst};

@@ -5,7 +5,7 @@ use Rattle.smp_prob.specs.declared.orders.Order.{Order}
 use Rattle.smp_prob.specs.declared.orders.Order.TheVariants.{Frame, Random}
 use Rattle.smp_prob.specs.declared.requests.Request.{Request}
 use Rattle.smp_prob.specs.Shares.{Shares}
-use Rattle.smp_prob.specs.Standings.{free_fraction}
+use Rattle.smp_prob.specs.Inclusions.{free_fraction}
 use Rattle.smp_split.specs.Counts.{AddsUp}
 use Rattle.smp_split.specs.Orders.{Placing, Ordered, in_order, frame_order, undrawn_order}
 use Rattle.smp_split.specs.Trees.{Tree}

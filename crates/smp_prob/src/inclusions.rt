@@ -1,6 +1,6 @@
 /// Where a unit stands in a request.
 #[derive(Clone, Copy, Debug, PartialEq, Eq)]
-pub enum Standing {
+pub enum Inclusion {
     /// It is taken for sure.
     Certain,
     /// It is the free unit at this place.
