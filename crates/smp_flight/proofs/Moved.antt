@@ -1,23 +1,25 @@
 -- Both ends of a move.
-use Rattle.std.proofs.Common.{◌≡◌, ℕ, ◌<◌, ◌≤◌, ◌^◌, Bool, true, false, List, length}
+use Rattle.std.proofs.Common.{sym, subst, ◌≡◌, ℕ, ◌<◌, ◌≤◌, ◌^◌, Bool, true, false, List, length}
+use Rattle.smp_prob.specs.Shares.{Shares}
 use Rattle.smp_values.specs.Values.{fractional_count, is_fractional}
 use Rattle.smp_moves.specs.declared.lines.Ratio.{Ratio}
 use Rattle.smp_flight.specs.States.{Units, Flight, IsFlight}
-use Rattle.smp_moves.specs.Moves.{Line, Move, IsLine, IsMoved, turned}
-use Rattle.smp_moves.specs.Ends.{end_of, chosen_line, chosen_extent}
+use Rattle.smp_moves.specs.Moves.{Line, Move, IsLine, IsMoved, turned, chosen_line, chosen_extent}
+use Rattle.smp_moves.specs.Ends.{end_of}
 use Rattle.smp_moves.proofs.Entries.{turned_line}
 use Rattle.smp_flight.proofs.Nexts.{IsKnown, flight_over}
 use Rattle.smp_moves.proofs.Moved.{end_settles, end_values, end_multiple, keeps_fractional}
+use Rattle.smp_flight.specs.Steps.{chosen, end_at_is}
 
-pub record IsChosen (units : Units) (s : Flight) (line : Line) (r : Ratio) : Type 0 where
+pub record IsChosen (units : Units) (s : Flight) (line : Line) (r : Ratio) (t : Shares) : Type 0 where
   pub line_ok : IsLine s.shares line
-  pub moved : IsMoved units.requested.den s.shares line r (end_of units.requested.den s.shares line)
-  pub flight : IsFlight units (record { first = s.first; shares = end_of units.requested.den s.shares line; rows = s.rows })
-  pub settles : fractional_count (end_of units.requested.den s.shares line) < fractional_count s.shares
-  pub fewer : (k : ℕ) → is_fractional (end_of units.requested.den s.shares line) k ≡ true → is_fractional s.shares k ≡ true
+  pub moved : IsMoved units.requested.den s.shares line r t
+  pub flight : IsFlight units (record { first = s.first; shares = t; rows = s.rows })
+  pub settles : fractional_count t < fractional_count s.shares
+  pub fewer : (k : ℕ) → is_fractional t k ≡ true → is_fractional s.shares k ≡ true
 
 module _ (units : Units) (s : Flight) (is_flight : IsFlight units s) where
-  chosen_on : (line : Line) (r : Ratio) → IsLine s.shares line → IsMoved units.requested.den s.shares line r (end_of units.requested.den s.shares line) → (end_of units.requested.den s.shares line).den ≤ 2 ^ 80 → IsChosen units s line r
+  chosen_on : (line : Line) (r : Ratio) → IsLine s.shares line → IsMoved units.requested.den s.shares line r (end_of units.requested.den s.shares line) → (end_of units.requested.den s.shares line).den ≤ 2 ^ 80 → IsChosen units s line r (end_of units.requested.den s.shares line)
   chosen_on line r ok m narrow =
       let is_over = flight_over units s is_flight in
       record {
@@ -28,6 +30,11 @@ module _ (units : Units) (s : Flight) (is_flight : IsFlight units s) where
         fewer = keeps_fractional units.requested.den s.shares is_over line ok;
       }
 
-  pub chosen_is : (order : List ℕ) (m : Move) (plus : Bool) → IsKnown units s order m → IsChosen units s (chosen_line m plus) (chosen_extent m plus)
+  pub chosen_is : (order : List ℕ) (m : Move) (plus : Bool) → IsKnown units s order m → IsChosen units s (chosen_line m plus) (chosen_extent m plus) (end_of units.requested.den s.shares (chosen_line m plus))
   chosen_is order m true k = chosen_on m.direction m.up k.line k.is.plus_moved k.fits.plus_den
   chosen_is order m false k = chosen_on (turned m.direction) m.down (turned_line s.shares m.direction k.line) k.is.minus_moved k.fits.minus_den
+
+  -- and of the state itself
+  pub chosen_there : (order : List ℕ) (m : Move) (plus : Bool) → IsKnown units s order m → IsChosen units s (chosen_line m plus) (chosen_extent m plus) (chosen units s m plus).shares
+  chosen_there order m plus k =
+      subst (IsChosen units s (chosen_line m plus) (chosen_extent m plus)) (sym (end_at_is units.requested.den s.shares (chosen_line m plus))) (chosen_is order m plus k)

@@ -17,10 +17,11 @@ use Rattle.smp_kernel.proofs.Ring.{zero_of_product, positive_some}
 use Rattle.smp_kernel.proofs.FoundCircuits.{circuit_length, circuit_last, cut_circuit_short}
 use Rattle.smp_prob.specs.Shares.{Shares}
 use Rattle.smp_flight.specs.States.{Units, Flight, IsUnits, IsFlight, size, column, columns_of, started}
-use Rattle.smp_moves.specs.Moves.{Line, Move, IsOrder, IsLine, Fits, turned}
+use Rattle.smp_moves.specs.Moves.{independent, Line, Move, IsOrder, IsLine, Fits, turned, move, wide}
 use Rattle.smp_flight.specs.Moves.{IsDirection, IsMove, sized}
-use Rattle.smp_moves.specs.Ends.{move, independent, wide, reach, extent, weights, end_of, move_along, entries_fit}
-use Rattle.smp_flight.specs.Steps.{direction, fits, next_along, next_of, next_on}
+use Rattle.smp_moves.specs.Ends.{reach, extent, weights, end_of, move_along, entries_fit}
+use Rattle.smp_flight.specs.Steps.{next_on, next_on_is}
+use Rattle.smp_flight.specs.Kept.Steps.{direction, fits, next_along, next_of, next_by}
 use Rattle.smp_flight.specs.Statements.{Finds, IsWide, IsNext}
 use Rattle.smp_moves.specs.Kept.Ends.{IsOver}
 use Rattle.smp_moves.proofs.Entries.{order_within, order_front, turned_line}
@@ -163,8 +164,8 @@ module _ (units : Units) (s : Flight) (order : List ℕ) (is_flight : IsFlight u
         | inr n ↦ rw n (IsWide.move_wide w (move_along s.shares (direction units order w)) (end_of units.requested.den s.shares (direction units order w)) (end_of units.requested.den s.shares (turned (direction units order w))) f (line_move w f) (no_fit units.requested.den s.shares (direction units order w) n))
       ]
 
-  pub next_is : IsNext units s order (next_on units order s)
-  next_is = next_from (search s.rows (columns_of units order)) (search_is s.rows (columns_of units order))
+  pub next_by_is : IsNext units s order (next_by units order s)
+  next_by_is = next_from (search s.rows (columns_of units order)) (search_is s.rows (columns_of units order))
 
 -- ---- what a move of a step is
 
@@ -190,8 +191,8 @@ module _ (units : Units) (s : Flight) (order : List ℕ) (is_flight : IsFlight u
         | inr n ↦ absurd (let h : wide ≡ move m = rw n at e in cc)
       ]
 
-  pub known : (m : Move) → next_on units order s ≡ move m → IsKnown units s order m
-  known m e = known_from (search s.rows (columns_of units order)) (search_is s.rows (columns_of units order)) m e
+  pub known_by : (m : Move) → next_by units order s ≡ move m → IsKnown units s order m
+  known_by m e = known_from (search s.rows (columns_of units order)) (search_is s.rows (columns_of units order)) m e
 
 -- and where there is none, the search found none
 module _ (units : Units) (s : Flight) (order : List ℕ) where
@@ -204,11 +205,11 @@ module _ (units : Units) (s : Flight) (order : List ℕ) where
         | inr n ↦ absurd (let h : wide ≡ independent = rw n at e in cc)
       ]
 
-  finds_none : next_on units order s ≡ independent → Finds units s order none
+  finds_none : next_by units order s ≡ independent → Finds units s order none
   finds_none e = subst (Finds units s order) (none_from (search s.rows (columns_of units order)) e) (search_is s.rows (columns_of units order))
 
-  pub independent_columns : next_on units order s ≡ independent → AreIndependent s.rows (cut s.rows (columns_of units order))
-  independent_columns e =
+  pub independent_by : next_by units order s ≡ independent → AreIndependent s.rows (cut s.rows (columns_of units order))
+  independent_by e =
       let cs : List (List ℤ) = cut s.rows (columns_of units order) in
       subst (AreIndependent s.rows) (take_all (length cs) cs (omega arith)) (together s.rows cs (length cs) (finds_none e) (length cs) (omega arith))
 
@@ -233,6 +234,21 @@ module _ (units : Units) (s : Flight) (order : List ℕ) where
       let same : take (length w) (take (s.rows + 1) order) ≡ take (length w) order = take-take (length w) (s.rows + 1) order (circuit_few w f) in
       ap (λ (ks : List ℕ). next_along units.requested.den s.shares (record { units = ks; entries = primitive_part (sized units ks w) })) same
 
-  pub next_on_front : next_on units (take (s.rows + 1) order) s ≡ next_on units order s
-  next_on_front =
+  pub next_by_front : next_by units (take (s.rows + 1) order) s ≡ next_by units order s
+  next_by_front =
       ap (next_of units s.shares (take (s.rows + 1) order)) same_search ∙ same_next (search s.rows (columns_of units order)) (search_is s.rows (columns_of units order))
+
+-- ---- of the step itself
+
+module _ (units : Units) (s : Flight) (order : List ℕ) where
+  pub next_is : IsFlight units s → IsOrder s.shares order → IsNext units s order (next_on units order s)
+  next_is is_flight ok = subst (IsNext units s order) (sym (next_on_is units order s)) (next_by_is units s order is_flight ok)
+
+  pub known : IsFlight units s → IsOrder s.shares order → (m : Move) → next_on units order s ≡ move m → IsKnown units s order m
+  known is_flight ok m e = known_by units s order is_flight ok m (sym (next_on_is units order s) ∙ e)
+
+  pub independent_columns : next_on units order s ≡ independent → AreIndependent s.rows (cut s.rows (columns_of units order))
+  independent_columns e = independent_by units s order (sym (next_on_is units order s) ∙ e)
+
+  pub next_on_front : next_on units (take (s.rows + 1) order) s ≡ next_on units order s
+  next_on_front = next_on_is units (take (s.rows + 1) order) s ∙ next_by_front units s order ∙ sym (next_on_is units order s)

@@ -17,9 +17,9 @@ use Rattle.smp_kernel.proofs.SearchLaw.{one_answer}
 use Rattle.smp_prob.specs.Shares.{Shares}
 use Rattle.smp_moves.specs.declared.lines.Ratio.{Ratio}
 use Rattle.smp_flight.specs.States.{Units, Flight, IsFlight, columns_of}
-use Rattle.smp_moves.specs.Moves.{Line, Move, IsOrder, IsLine, IsGreatest, MakesWhole, IsMoved, Fits, fraction_of, turned}
+use Rattle.smp_moves.specs.Moves.{independent, Line, Move, IsOrder, IsLine, IsGreatest, MakesWhole, IsMoved, Fits, fraction_of, turned, Next, move, wide}
 use Rattle.smp_flight.specs.Moves.{IsDirection, IsMove, sized}
-use Rattle.smp_moves.specs.Ends.{Next, move, independent, wide, extent}
+use Rattle.smp_moves.specs.Ends.{extent}
 use Rattle.smp_flight.specs.Statements.{Finds, IsFlown, IsWide, IsNext, GoesBothWays}
 use Rattle.smp_moves.specs.Kept.Ends.{IsOver}
 use Rattle.smp_fractions.proofs.Differences.{over_cross}

@@ -4,14 +4,13 @@ use Rattle.std.proofs.lemmas.Bool.{cases_Bool, cases_lt}
 use Rattle.std.proofs.lemmas.List.{ext_get_or, length-map, get_or-map, get_or_past, take-take}
 use Rattle.smp_kernel.specs.Vectors.{entry, IsZero, Within}
 use Rattle.smp_kernel.specs.Elimination.{cut}
-use Rattle.smp_kernel.specs.Reduced.{IsReduced, IsTooLong}
+use Rattle.smp_kernel.specs.Reduced.{IsReduced, IsTooLong, primitive_part}
 use Rattle.smp_kernel.proofs.Ring.{positive_some, zero_of_product}
-use Rattle.smp_kernel.specs.Reduced.{primitive_part}
 use Rattle.smp_kernel.proofs.Reduce.{primitive_part_is, length-primitive_part, one_reduced, reduced_within}
 use Rattle.smp_flight.specs.States.{Units, size, column, columns_of}
 use Rattle.smp_flight.specs.Moves.{sized}
 use Rattle.smp_moves.specs.Ends.{entries_fit}
-use Rattle.smp_flight.specs.Steps.{direction}
+use Rattle.smp_flight.specs.Kept.Steps.{direction}
 use Rattle.smp_flight.proofs.Entries.{length-sized, entry-sized}
 use Rattle.smp_moves.proofs.Weights.{within_from}
 

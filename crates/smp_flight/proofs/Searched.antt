@@ -9,10 +9,11 @@ use Rattle.smp_flight.specs.Searches.{search, search_is}
 use Rattle.smp_values.specs.Values.{fractional_units}
 use Rattle.smp_values.proofs.Units.{fractional_units_length}
 use Rattle.smp_flight.specs.States.{AreFirst, Flight, IsFlight, Tracked, Units, columns_of}
-use Rattle.smp_moves.specs.Moves.{IsLine, IsOrder}
+use Rattle.smp_moves.specs.Moves.{IsLine, IsOrder, move, wide}
 use Rattle.smp_flight.specs.Moves.{sized}
-use Rattle.smp_moves.specs.Ends.{move, wide, entries_fit}
-use Rattle.smp_flight.specs.Steps.{direction, next_along, next_of, next_on, next}
+use Rattle.smp_moves.specs.Ends.{entries_fit}
+use Rattle.smp_flight.specs.Steps.{next_on, next}
+use Rattle.smp_flight.specs.Kept.Steps.{direction, next_along, next_of, next_by}
 use Rattle.smp_flight.specs.Statements.{Finds}
 use Rattle.smp_flight.specs.Answers.{Allows, AreSearched, IsFirstMove, IsMoveOf, answer_of, move_of}
 use Rattle.smp_flight.specs.Kept.Lines.{IsPaddedIn}
@@ -53,11 +54,11 @@ module _ (units : Units) (s : Flight) (is_flight : IsFlight units s) (us : List 
   pub found_line : IsLine s.shares (direction units (take number us) (take n w))
   found_line = direction_line units s.shares (take number us) ok (take n w) (direction units (take number us) (take n w)) (is_direction units s is_flight (take number us) ok (take n w) finds)
 
-  pub found_next : next_along units.requested.den s.shares (direction units (take number us) (take n w)) ≡ next_on units (take number us) s
+  pub found_next : next_along units.requested.den s.shares (direction units (take number us) (take n w)) ≡ next_by units (take number us) s
   found_next = ap (next_of units s.shares (take number us)) e
 
   -- where its direction doesn't fit
-  pub found_wide : entries_fit (direction units (take number us) (take n w)) ≡ false → wide ≡ next_on units (take number us) s
+  pub found_wide : entries_fit (direction units (take number us) (take n w)) ≡ false → wide ≡ next_by units (take number us) s
   found_wide h = (let f : wide ≡ next_along units.requested.den s.shares (direction units (take number us) (take n w)) = rw h refl in f) ∙ found_next
 
 -- what an answer of a search through some fractional units allows

@@ -3,16 +3,17 @@ use Rattle.std.proofs.Common.{◌≡◌, ℕ, ◌+◌, ◌*◌, ◌/◌, ◌<◌
 use Rattle.smp_kernel.specs.Vectors.{Within}
 use Rattle.smp_prob.specs.Shares.{Shares}
 use Rattle.smp_flight.specs.States.{Units, Flight, IsFlight}
-use Rattle.smp_moves.specs.Moves.{Line, Move, IsOrder, IsLine}
+use Rattle.smp_moves.specs.Moves.{Line, Move, IsOrder, IsLine, move}
 use Rattle.smp_moves.specs.declared.reaches.Reach.{Reach}
 use Rattle.smp_flight.specs.declared.ends.End.{End}
-use Rattle.smp_moves.specs.Ends.{reach, advanced_numbers, common_factor, move}
+use Rattle.smp_moves.specs.Ends.{reach, advanced_numbers, common_factor}
 use Rattle.smp_flight.specs.Steps.{next_on}
-use Rattle.smp_flight.specs.Statements.{IsFlown, GoesBothWays}
+use Rattle.smp_flight.specs.Statements.{EachEnds, IsFlown, GoesBothWays}
 use Rattle.smp_moves.specs.Kept.Ends.{IsOver}
 use Rattle.smp_flight.specs.Kept.Ends.{IsEndOf}
 use Rattle.smp_moves.proofs.LineEnds.{reached, full_positive, common_some}
 use Rattle.smp_flight.proofs.Nexts.{known, next_is, flight_over}
+use Rattle.smp_flight.proofs.Moved.{chosen_there}
 use Rattle.smp_flight.proofs.OneMove.{one_next, goes_both_ways}
 use Rattle.smp_moves.proofs.Sizes.{can_advance, reach_small, weights_small}
 
@@ -43,3 +44,8 @@ flown_both_ways units s order is_flight ok m f =
     let k = known units s order is_flight ok m (one_next units s order is_flight ok (next_on units order s) (move m) (next_is units s order is_flight ok) f) in
     goes_both_ways units s.shares (flight_over units s is_flight) order ok f.circuit m f.plus_end f.minus_end f.is
     (subst (λ (n : Move). n.plus_weight + n.minus_weight < 2 ^ 126) (sym k.same) (weights_small units.requested.den s.shares (flight_over units s is_flight) m.direction k.line k.fits.entries))
+
+pub flown_ends : EachEnds
+flown_ends units s order is_flight ok m f plus =
+    let k = known units s order is_flight ok m (one_next units s order is_flight ok (next_on units order s) (move m) (next_is units s order is_flight ok) f) in
+    (chosen_there units s is_flight order m plus k).moved

@@ -1,50 +1,37 @@
--- One step of the flight phase, as a function of the state: the move along the circuit that a search finds, nothing where the columns are
--- independent, or wide where a number would pass its gate. That it is the one with the properties of a search and of a move is a law of its own.
-use Rattle.std.specs.Prelude.{ℕ, ◌^◌, nat_le, ◌&&◌, Bool, if◌then◌else◌, List, ℤ, length, take}
-use Rattle.smp_kernel.specs.Searches.{Search, found, none, too_wide}
-use Rattle.smp_kernel.specs.Reduced.{primitive_part}
+-- One step of the flight phase, as a function of the state, and the end of a move. A law of its own says what they are: the step has the properties of
+-- a search and of a move, the end has the values there, and no other has. How they are found is no part of what is said.
+use Rattle.std.specs.Prelude.{◌≡◌, ℕ, Bool, List}
 use Rattle.smp_prob.specs.Shares.{Shares}
 use Rattle.smp_values.specs.Values.{fractional_units}
-use Rattle.smp_flight.specs.States.{Units, Flight, columns_of}
-use Rattle.smp_moves.specs.Moves.{Line, Move, turned}
-use Rattle.smp_moves.specs.Ends.{Next, move, independent, wide, entries_fit, end_of, move_along, chosen_line}
-use Rattle.smp_flight.specs.Searches.{search}
-use Rattle.smp_flight.specs.Moves.{sized}
-
--- the direction of the circuit w of the first of these units
-abbrev pub direction : Units → List ℕ → List ℤ → Line
-direction units order w = record {
-  units = take (length w) order;
-  entries = primitive_part (sized units (take (length w) order) w);
-}
-
--- ---- the step
-
-abbrev pub fits : ℕ → Shares → Line → Bool
-fits first s line =
-    entries_fit line && (nat_le (end_of first s line).den (2 ^ 80) && nat_le (end_of first s (turned line)).den (2 ^ 80))
-
-abbrev pub next_along : ℕ → Shares → Line → Next
-next_along first s line = if fits first s line then move (move_along s line) else wide
-
-abbrev pub next_of : Units → Shares → List ℕ → Search → Next
-next_of units s order (found w) = next_along units.requested.den s (direction units order w)
-next_of units s order none = independent
-next_of units s order too_wide = wide
+use Rattle.smp_moves.specs.Moves.{Line, Move, Next, chosen_line}
+use Rattle.smp_moves.specs.Ends.{end_of}
+use Rattle.smp_flight.specs.States.{Units, Flight}
+use Rattle.smp_flight.specs.Kept.Steps.{next_by}
 
 -- the step of a state whose search goes through the columns of these units
-abbrev pub next_on : Units → List ℕ → Flight → Next
-next_on units order s = next_of units s.shares order (search s.rows (columns_of units order))
+pub next_on : Units → List ℕ → Flight → Next
+next_on units order s = next_by units order s
+
+pub next_on_is : (units : Units) (order : List ℕ) (s : Flight) → next_on units order s ≡ next_by units order s
+unfolding next_on
+next_on_is units order s = λ i. next_by units order s
 
 -- the step of a state, whose search goes through the fractional units in the order of the frame
 abbrev pub next : Units → Flight → Next
 next units s = next_on units (fractional_units s.shares) s
 
--- ---- the end that is chosen
+-- the values at the end of a line, over a multiple of the first denominator
+pub end_at : ℕ → Shares → Line → Shares
+end_at first s line = end_of first s line
 
+pub end_at_is : (first : ℕ) (s : Shares) (line : Line) → end_at first s line ≡ end_of first s line
+unfolding end_at
+end_at_is first s line = λ i. end_of first s line
+
+-- the state at the end that is chosen
 abbrev pub chosen : Units → Flight → Move → Bool → Flight
 chosen units s m plus = record {
   first = s.first;
-  shares = end_of units.requested.den s.shares (chosen_line m plus);
+  shares = end_at units.requested.den s.shares (chosen_line m plus);
   rows = s.rows;
 }

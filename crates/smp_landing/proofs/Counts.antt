@@ -13,11 +13,10 @@ use Rattle.smp_values.proofs.Pivotal.{steps_count}
 use Rattle.smp_values.proofs.Sums.{lone_never}
 use Rattle.smp_values.proofs.Units.{fractional_at_is}
 use Rattle.smp_flight.specs.States.{Units, Flight, IsFlight}
-use Rattle.smp_moves.specs.Ends.{Next, move, independent, wide}
+use Rattle.smp_moves.specs.Moves.{independent, Next, move, wide}
 use Rattle.smp_flight.specs.Steps.{next}
 use Rattle.smp_landing.specs.Cube.{Balancing, flying, pairing, values_in, IsBalancing, cube_tree, cube_parts, flight_parts}
-use Rattle.smp_landing.specs.Laws.Splits.{cube_lawful, few_fractional, values_ok}
-use Rattle.smp_landing.specs.Laws.Splits.{both_totals}
+use Rattle.smp_landing.specs.Laws.Splits.{cube_lawful, few_fractional, values_ok, both_totals}
 
 -- the numerators add up where the values do
 adds_to : (units : Units) (n : ℕ) (s : Balancing) → IsBalancing units s → AddsUp (cube_tree units) n s → AddTo n (values_in s)

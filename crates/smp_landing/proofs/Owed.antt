@@ -10,7 +10,7 @@ use Rattle.smp_split.specs.declared.kind.Kind.TheVariants as kind
 use Rattle.smp_split.proofs.Parts.{each_moved}
 use Rattle.smp_values.specs.Steps.{kind_on, pivotal_parts}
 use Rattle.smp_values.specs.Values.{fractional_count, fractional_units, is_settled, value_at}
-use Rattle.smp_moves.specs.Ends.{Next, move, independent, wide}
+use Rattle.smp_moves.specs.Moves.{independent, Next, move, wide}
 use Rattle.smp_moves.specs.Balances.{Begins}
 use Rattle.smp_moves.specs.Owed.{HasStayed, IsStart, Owes}
 use Rattle.smp_moves.proofs.Entries.{frame_order}

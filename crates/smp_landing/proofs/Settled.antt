@@ -10,8 +10,7 @@ use Rattle.smp_split.proofs.Parts.{each_moved}
 use Rattle.smp_values.specs.Steps.{parts_on, pivotal_parts}
 use Rattle.smp_values.specs.Values.{fractional, fractional_units, is_fractional, value_at}
 use Rattle.smp_flight.specs.States.{Units, Flight, IsFlight}
-use Rattle.smp_moves.specs.Moves.{Move, fraction_of}
-use Rattle.smp_moves.specs.Ends.{Next, move, independent, wide, chosen_line, chosen_extent}
+use Rattle.smp_moves.specs.Moves.{Move, fraction_of, independent, Next, move, wide, chosen_line, chosen_extent}
 use Rattle.smp_flight.specs.Steps.{next, chosen}
 use Rattle.smp_moves.proofs.Entries.{frame_order, off_line, order_going, place_or}
 use Rattle.smp_landing.specs.Cube.{Balancing, flying, pairing, values_in, IsBalancing, cube_parts, flight_parts}

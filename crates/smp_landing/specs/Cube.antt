@@ -10,7 +10,7 @@ use Rattle.smp_split.specs.declared.kind.Kind.TheVariants as kind
 use Rattle.smp_values.specs.Values.{IsValues, fractional_count, is_settled, is_one, value_at}
 use Rattle.smp_values.specs.Steps.{pivotal_kind, pivotal_parts}
 use Rattle.smp_flight.specs.States.{Units, Flight, IsFlight}
-use Rattle.smp_moves.specs.Ends.{Next, move, independent, wide}
+use Rattle.smp_moves.specs.Moves.{independent, Next, move, wide}
 use Rattle.smp_flight.specs.Steps.{next, chosen}
 
 -- A state: one of the flight, or values on which pivotal steps go on. With it stands how many units were fractional where the landing began,

@@ -62,7 +62,7 @@ end_of first s line =
     let common = common_factor (full / first) numbers in
     record { numer = map (λ n. n / common) numbers; den = full / common }
 
--- ---- the step
+-- ---- the move
 
 -- the weights of both ends, as a fraction in lowest terms
 abbrev pub weights : Reach → Reach → Ratio
@@ -75,16 +75,3 @@ move_along s line =
 
 abbrev pub entries_fit : Line → Bool
 entries_fit line = list_all (λ e. nat_le (unsigned_abs e) (2 ^ 44)) line.entries
-
-pub data Next : Type 0 where
-  move : Move → Next
-  independent : Next
-  wide : Next
-
--- ---- the end that is chosen
-
-abbrev pub chosen_line : Move → Bool → Line
-chosen_line m plus = cond plus m.direction (turned m.direction)
-
-abbrev pub chosen_extent : Move → Bool → Ratio
-chosen_extent m plus = cond plus m.up m.down

@@ -1,6 +1,6 @@
 -- A move of values along a line, by its properties: how far the values can follow the line and its opposite before one of them would leave 0 or 1, the
 -- states at both ends, and the weights that keep each value in the mean (Deville and Tillé 2004).
-use Rattle.std.specs.Prelude.{◌≡◌, ◌≢◌, ℕ, ◌*◌, ◌≤◌, ◌^◌, true, cond, nat_eq, List, [], ◌∷◌, ℤ, pos, neg_ℤ, length, map, slice_index}
+use Rattle.std.specs.Prelude.{◌≡◌, ◌≢◌, ℕ, ◌*◌, ◌≤◌, ◌^◌, true, Bool, cond, nat_eq, List, [], ◌∷◌, ℤ, pos, neg_ℤ, length, map, slice_index}
 use Rattle.std.specs.List.{All, AllPairs}
 use Rattle.std.specs.Int.{IsGcd}
 use Prim.Native.Nat.{◌∣◌}
@@ -92,3 +92,16 @@ pub record IsLine (s : Shares) (line : Line) : Type 0 where
   pub lengths : length line.entries ≡ length line.units
   pub order : IsOrder s line.units
   pub some : IsZero line.entries → ⊥
+
+-- what a step is: a move, or none, where no direction is left, or none, where a number passes its gate
+pub data Next : Type 0 where
+  move : Move → Next
+  independent : Next
+  wide : Next
+
+-- the end that is chosen: its line, and how far it is followed
+abbrev pub chosen_line : Move → Bool → Line
+chosen_line m plus = cond plus m.direction (turned m.direction)
+
+abbrev pub chosen_extent : Move → Bool → Ratio
+chosen_extent m plus = cond plus m.up m.down

@@ -8,7 +8,7 @@ use Rattle.smp_prob.specs.Shares.{Shares}
 use Rattle.smp_values.specs.Values.{fractional_units, is_fractional}
 use Rattle.smp_values.proofs.Units.{units_from}
 use Rattle.smp_flight.specs.States.{Units}
-use Rattle.smp_flight.specs.Steps.{direction}
+use Rattle.smp_flight.specs.Kept.Steps.{direction}
 use Rattle.smp_moves.specs.Answers.{line_of, IsPadded}
 use Rattle.smp_moves.specs.declared.lines.Line.{Line as LineOfPlaces}
 use Rattle.smp_flight.specs.declared.fronts.Front.{Front}

@@ -14,14 +14,13 @@ use Rattle.smp_values.specs.Steps.{steps_tree}
 use Rattle.smp_values.proofs.Pivotal.{steps_lawful}
 use Rattle.smp_values.proofs.Units.{fractional_units_length}
 use Rattle.smp_flight.specs.States.{Units, Flight, IsFlight, columns_of, column}
-use Rattle.smp_moves.specs.Moves.{Move, fraction_of, entry_of}
-use Rattle.smp_moves.specs.Ends.{Next, move, independent, wide, chosen_line, chosen_extent}
+use Rattle.smp_moves.specs.Moves.{Move, fraction_of, entry_of, independent, Next, move, wide, chosen_line, chosen_extent}
 use Rattle.smp_flight.specs.Steps.{next, chosen}
 use Rattle.smp_kernel.specs.Searches.{none}
 use Rattle.smp_flight.specs.Statements.{Finds, GoesBothWays, IsNext}
 use Rattle.smp_moves.proofs.Entries.{frame_order}
 use Rattle.smp_flight.proofs.Nexts.{IsKnown, known, next_is}
-use Rattle.smp_flight.proofs.Moved.{IsChosen, chosen_is}
+use Rattle.smp_flight.proofs.Moved.{IsChosen, chosen_there}
 use Rattle.smp_flight.proofs.Sizes.{flown_both_ways}
 use Rattle.smp_flight.proofs.MoveTotals.{end_total}
 use Rattle.smp_moves.specs.Owed.{weighed_total}
@@ -36,8 +35,8 @@ module _ (units : Units) (f : Flight) (left : ℕ) (ok : IsFlight units f) (m : 
   knows = known units f (fractional_units f.shares) ok (frame_order f.shares) m is
 
   -- one of its ends
-  pub ends_at : (plus : Bool) → IsChosen units f (chosen_line m plus) (chosen_extent m plus)
-  ends_at plus = chosen_is units f ok (fractional_units f.shares) m plus knows
+  pub ends_at : (plus : Bool) → IsChosen units f (chosen_line m plus) (chosen_extent m plus) (chosen units f m plus).shares
+  ends_at plus = chosen_there units f ok (fractional_units f.shares) m plus knows
 
   pub both_ways : GoesBothWays m
   both_ways =
