@@ -28,6 +28,11 @@ module _ (raw : List ℕ) (large : List Bool) (offset : ℕ) where
   pub length_view : length view.numer ≡ length raw
   length_view = length-map-range_with_len (λ unit. cond (is_in large unit) (get_or raw unit 0 - offset) (get_or raw unit 0)) 0 (length raw)
 
+  -- a unit of the view is one of the code's
+  pub unit_in : (now : RankedUnits) → view ≡ now → (unit : ℕ) → unit < length now.numer → unit < length raw
+  unit_in now same unit within =
+      let here : unit < length view.numer = subst (λ (v : RankedUnits). unit < length v.numer) (sym same) within in omega (arith, here, length_view)
+
   pub at_view : (k : ℕ) → k < length raw → get_or view.numer k 0 ≡ cond (is_in large k) (get_or raw k 0 - offset) (get_or raw k 0)
   at_view k h = get_or-map-range_with_len (λ unit. cond (is_in large unit) (get_or raw unit 0 - offset) (get_or raw unit 0)) 0 (length raw) k k 0 h (omega arith)
 
@@ -132,46 +137,47 @@ module _ (raw : List ℕ) (large : List Bool) (offset k new : ℕ) (b : Bool) (h
       ])) in
       ap (λ (numer : List ℕ). record { numer = numer; large = set large k b; lowered = offset }) numer_is
 
+-- what the groups keep of the other units, and of this one
+module _ (raw : List ℕ) (large : List Bool) (offset k new : ℕ) (b : Bool) (h : k < length raw) (paired : length large ≡ length raw) where
+  moved_in : is_in (set large k b) k ≡ b
+  moved_in = placed_here large k b (omega (arith, h, paired))
+
+  moved_above : (b ≡ true → offset ≤ new) → ((unit : ℕ) → unit < length raw → is_in large unit ≡ true → offset ≤ get_or raw unit 0)
+      → (unit : ℕ) → unit < length (set raw k new) → is_in (set large k b) unit ≡ true → offset ≤ get_or (set raw k new) unit 0
+  moved_above enough above unit l is =
+      elim (cases_eq unit k) [
+        | inl same ↦ rw (same, get_or-set_same raw k new 0 h) (enough (sym moved_in ∙ ap (is_in (set large k b)) (sym same) ∙ is))
+        | inr ne ↦ rw (get_or-set_other raw k unit new 0 ne) (above unit (simp length-set at l) (sym (placed_other large k b unit ne) ∙ is))
+      ]
+
+  same_small : (unit : ℕ) → unit ≢ k → small_entry (set raw k new) unit ≡ small_entry raw unit
+  same_small unit ne = ap (λ (a : ℕ). (a, unit)) (get_or-set_other raw k unit new 0 ne)
+
+  same_large : (unit : ℕ) → unit ≢ k → large_entry (set raw k new) unit ≡ large_entry raw unit
+  same_large unit ne = ap (λ (a : ℕ). record { 0 = (a, unit) }) (get_or-set_other raw k unit new 0 ne)
+
 module _ (raw : List ℕ) (large : List Bool) (offset : ℕ) (smalls : List (ℕ × ℕ)) (larges : List (Reverse (ℕ × ℕ))) (small_capacity large_capacity small_after large_after : ℕ) (kept : IsKept raw large offset smalls larges small_capacity large_capacity) (small_room : small_capacity ≤ small_after) (large_room : large_capacity ≤ large_after) where
   -- the first small unit becomes large
   module _ (e : ℕ × ℕ) (some : 1 ≤ length smalls) (front : e ≡ get_or smalls 0 e) where
-    abbrev up_raw : List ℕ
-    up_raw = set raw e.1 (e.0 + offset)
-
-    abbrev up_large : List Bool
-    up_large = set large e.1 true
-
     up_known : e.1 < length raw
     up_known = small_known raw large offset smalls larges small_capacity large_capacity kept e some front
 
     up_in : is_in large e.1 ≡ false
     up_in = small_in raw large offset smalls larges small_capacity large_capacity kept e some front
 
-    up_flag : e.1 < length large
-    up_flag = omega (arith, up_known, kept.paired)
-
-    up_above : (j : ℕ) → j < length up_raw → is_in up_large j ≡ true → offset ≤ get_or up_raw j 0
-    up_above j l is =
-        elim (cases_eq j e.1) [
-          | inl same ↦ rw (same, get_or-set_same raw e.1 (e.0 + offset) 0 up_known) (omega arith)
-          | inr ne ↦ rw (get_or-set_other raw e.1 j (e.0 + offset) 0 ne) (kept.above j (simp length-set at l) (sym (placed_other large e.1 true j ne) ∙ is))
-        ]
-
     pub promoted : (rest : List (ℕ × ℕ)) (more : List (Reverse (ℕ × ℕ))) → IsPermutation smalls (e ∷ rest) → IsPermutation (record { 0 = (e.0 + offset, e.1) } ∷ larges) more → IsHeap by_numer rest → IsHeap by_numer_reversed more
-        → IsKept up_raw up_large offset rest more small_after large_after
+        → IsKept (set raw e.1 (e.0 + offset)) (set large e.1 true) offset rest more small_after large_after
     promoted rest more taken put small_order large_order =
         let less : suc (length rest) ≡ length smalls = length_permutation smalls (e ∷ rest) taken in
         let longer : length more ≡ suc (length larges) = length_permutation (record { 0 = (e.0 + offset, e.1) } ∷ larges) more put in
-        let n : length up_raw ≡ length raw = simp length-set refl in
-        let same_small : (j : ℕ) → j ≢ e.1 → small_entry up_raw j ≡ small_entry raw j = λ j ne. ap (λ (a : ℕ). (a, j)) (get_or-set_other raw e.1 j (e.0 + offset) 0 ne) in
-        let same_large : (j : ℕ) → j ≢ e.1 → large_entry up_raw j ≡ large_entry raw j = λ j ne. ap (λ (a : ℕ). record { 0 = (a, j) }) (get_or-set_other raw e.1 j (e.0 + offset) 0 ne) in
-        let item : large_entry up_raw e.1 ≡ record { 0 = (e.0 + offset, e.1) } = ap (λ (a : ℕ). record { 0 = (a, e.1) }) (get_or-set_same raw e.1 (e.0 + offset) 0 up_known) in
+        let n : length (set raw e.1 (e.0 + offset)) ≡ length raw = simp length-set refl in
+        let item : large_entry (set raw e.1 (e.0 + offset)) e.1 ≡ record { 0 = (e.0 + offset, e.1) } = ap (λ (a : ℕ). record { 0 = (a, e.1) }) (get_or-set_same raw e.1 (e.0 + offset) 0 up_known) in
         record {
           paired = simp length-set kept.paired;
           low = kept.low;
-          above = up_above;
-          small_queue = rw n (popped (λ x. x.1) (small_entry raw) (λ j. not (is_in large j)) (length raw) smalls kept.small_queue (small_entry up_raw) (λ j. not (is_in up_large j)) e.1 same_small (λ j ne. ap not (placed_other large e.1 true j ne)) e rest some front refl (ap not (placed_here large e.1 true up_flag)) taken);
-          large_queue = rw n (pushed (λ x. x.0.1) (large_entry raw) (is_in large) (length raw) larges kept.large_queue (large_entry up_raw) (is_in up_large) e.1 same_large (λ j ne. placed_other large e.1 true j ne) more up_known up_in (placed_here large e.1 true up_flag) refl (subst (λ (x : Reverse (ℕ × ℕ)). IsPermutation (x ∷ larges) more) (sym item) put));
+          above = moved_above raw large offset e.1 (e.0 + offset) true up_known kept.paired (λ _. let all : offset ≤ e.0 + offset = omega arith in all) kept.above;
+          small_queue = rw n (popped (λ x. x.1) (small_entry raw) (λ j. not (is_in large j)) (length raw) smalls kept.small_queue (small_entry (set raw e.1 (e.0 + offset))) (λ j. not (is_in (set large e.1 true) j)) e.1 (same_small raw large offset e.1 (e.0 + offset) true up_known kept.paired) (λ j ne. ap not (placed_other large e.1 true j ne)) e rest some front refl (ap not (moved_in raw large offset e.1 (e.0 + offset) true up_known kept.paired)) taken);
+          large_queue = rw n (pushed (λ x. x.0.1) (large_entry raw) (is_in large) (length raw) larges kept.large_queue (large_entry (set raw e.1 (e.0 + offset))) (is_in (set large e.1 true)) e.1 (same_large raw large offset e.1 (e.0 + offset) true up_known kept.paired) (λ j ne. placed_other large e.1 true j ne) more up_known up_in (moved_in raw large offset e.1 (e.0 + offset) true up_known kept.paired) refl (subst (λ (x : Reverse (ℕ × ℕ)). IsPermutation (x ∷ larges) more) (sym item) put));
           small_order = small_order;
           large_order = large_order;
           all = rw n (omega (arith, less, longer, kept.all));
@@ -179,7 +185,7 @@ module _ (raw : List ℕ) (large : List Bool) (offset : ℕ) (smalls : List (ℕ
           large_room = rw n (omega (arith, large_room, kept.large_room));
         }
 
-    pub up_view : ranked_of up_raw up_large offset ≡ placed (ranked_of raw large offset) e.1 true
+    pub up_view : ranked_of (set raw e.1 (e.0 + offset)) (set large e.1 true) offset ≡ placed (ranked_of raw large offset) e.1 true
     up_view =
         let back : e.0 + offset - offset ≡ e.0 = omega arith in
         placed_view raw large offset e.1 (e.0 + offset) true up_known kept.paired
@@ -187,47 +193,29 @@ module _ (raw : List ℕ) (large : List Bool) (offset : ℕ) (smalls : List (ℕ
 
   -- the least large unit becomes small
   module _ (e : Reverse (ℕ × ℕ)) (some : 1 ≤ length larges) (front : e ≡ get_or larges 0 e) where
-    abbrev down_raw : List ℕ
-    down_raw = set raw e.0.1 (e.0.0 - offset)
-
-    abbrev down_large : List Bool
-    down_large = set large e.0.1 false
-
     down_known : e.0.1 < length raw
     down_known = large_known raw large offset smalls larges small_capacity large_capacity kept e some front
 
     down_in : is_in large e.0.1 ≡ true
     down_in = large_in raw large offset smalls larges small_capacity large_capacity kept e some front
 
-    down_flag : e.0.1 < length large
-    down_flag = omega (arith, down_known, kept.paired)
-
     -- its own numerator isn't below the offset
     pub down_within : offset ≤ e.0.0
     down_within = omega (arith, kept.above e.0.1 down_known down_in, large_raw raw large offset smalls larges small_capacity large_capacity kept e some front)
 
-    down_above : (j : ℕ) → j < length down_raw → is_in down_large j ≡ true → offset ≤ get_or down_raw j 0
-    down_above j l is =
-        elim (cases_eq j e.0.1) [
-          | inl same ↦ (let gone : is_in down_large j ≡ false = ap (is_in down_large) same ∙ placed_here large e.0.1 false down_flag in absurd (cc))
-          | inr ne ↦ rw (get_or-set_other raw e.0.1 j (e.0.0 - offset) 0 ne) (kept.above j (simp length-set at l) (sym (placed_other large e.0.1 false j ne) ∙ is))
-        ]
-
     pub demoted : (rest : List (Reverse (ℕ × ℕ))) (more : List (ℕ × ℕ)) → IsPermutation larges (e ∷ rest) → IsPermutation ((e.0.0 - offset, e.0.1) ∷ smalls) more → IsHeap by_numer_reversed rest → IsHeap by_numer more
-        → IsKept down_raw down_large offset more rest small_after large_after
+        → IsKept (set raw e.0.1 (e.0.0 - offset)) (set large e.0.1 false) offset more rest small_after large_after
     demoted rest more taken put large_order small_order =
         let less : suc (length rest) ≡ length larges = length_permutation larges (e ∷ rest) taken in
         let longer : length more ≡ suc (length smalls) = length_permutation ((e.0.0 - offset, e.0.1) ∷ smalls) more put in
-        let n : length down_raw ≡ length raw = simp length-set refl in
-        let same_small : (j : ℕ) → j ≢ e.0.1 → small_entry down_raw j ≡ small_entry raw j = λ j ne. ap (λ (a : ℕ). (a, j)) (get_or-set_other raw e.0.1 j (e.0.0 - offset) 0 ne) in
-        let same_large : (j : ℕ) → j ≢ e.0.1 → large_entry down_raw j ≡ large_entry raw j = λ j ne. ap (λ (a : ℕ). record { 0 = (a, j) }) (get_or-set_other raw e.0.1 j (e.0.0 - offset) 0 ne) in
-        let item : small_entry down_raw e.0.1 ≡ (e.0.0 - offset, e.0.1) = ap (λ (a : ℕ). (a, e.0.1)) (get_or-set_same raw e.0.1 (e.0.0 - offset) 0 down_known) in
+        let n : length (set raw e.0.1 (e.0.0 - offset)) ≡ length raw = simp length-set refl in
+        let item : small_entry (set raw e.0.1 (e.0.0 - offset)) e.0.1 ≡ (e.0.0 - offset, e.0.1) = ap (λ (a : ℕ). (a, e.0.1)) (get_or-set_same raw e.0.1 (e.0.0 - offset) 0 down_known) in
         record {
           paired = simp length-set kept.paired;
           low = kept.low;
-          above = down_above;
-          small_queue = rw n (pushed (λ x. x.1) (small_entry raw) (λ j. not (is_in large j)) (length raw) smalls kept.small_queue (small_entry down_raw) (λ j. not (is_in down_large j)) e.0.1 same_small (λ j ne. ap not (placed_other large e.0.1 false j ne)) more down_known (ap not down_in) (ap not (placed_here large e.0.1 false down_flag)) refl (subst (λ (x : ℕ × ℕ). IsPermutation (x ∷ smalls) more) (sym item) put));
-          large_queue = rw n (popped (λ x. x.0.1) (large_entry raw) (is_in large) (length raw) larges kept.large_queue (large_entry down_raw) (is_in down_large) e.0.1 same_large (λ j ne. placed_other large e.0.1 false j ne) e rest some front refl (placed_here large e.0.1 false down_flag) taken);
+          above = moved_above raw large offset e.0.1 (e.0.0 - offset) false down_known kept.paired (λ is. absurd (let no : false ≡ true = is in cc)) kept.above;
+          small_queue = rw n (pushed (λ x. x.1) (small_entry raw) (λ j. not (is_in large j)) (length raw) smalls kept.small_queue (small_entry (set raw e.0.1 (e.0.0 - offset))) (λ j. not (is_in (set large e.0.1 false) j)) e.0.1 (same_small raw large offset e.0.1 (e.0.0 - offset) false down_known kept.paired) (λ j ne. ap not (placed_other large e.0.1 false j ne)) more down_known (ap not down_in) (ap not (moved_in raw large offset e.0.1 (e.0.0 - offset) false down_known kept.paired)) refl (subst (λ (x : ℕ × ℕ). IsPermutation (x ∷ smalls) more) (sym item) put));
+          large_queue = rw n (popped (λ x. x.0.1) (large_entry raw) (is_in large) (length raw) larges kept.large_queue (large_entry (set raw e.0.1 (e.0.0 - offset))) (is_in (set large e.0.1 false)) e.0.1 (same_large raw large offset e.0.1 (e.0.0 - offset) false down_known kept.paired) (λ j ne. placed_other large e.0.1 false j ne) e rest some front refl (moved_in raw large offset e.0.1 (e.0.0 - offset) false down_known kept.paired) taken);
           small_order = small_order;
           large_order = large_order;
           all = rw n (omega (arith, less, longer, kept.all));
@@ -235,7 +223,7 @@ module _ (raw : List ℕ) (large : List Bool) (offset : ℕ) (smalls : List (ℕ
           large_room = rw n (omega (arith, large_room, kept.large_room));
         }
 
-    pub down_view : ranked_of down_raw down_large offset ≡ placed (ranked_of raw large offset) e.0.1 false
+    pub down_view : ranked_of (set raw e.0.1 (e.0.0 - offset)) (set large e.0.1 false) offset ≡ placed (ranked_of raw large offset) e.0.1 false
     down_view =
         placed_view raw large offset e.0.1 (e.0.0 - offset) false down_known kept.paired
         (at_large raw large offset e.0.1 down_known down_in ∙ ap (λ a. a - offset) (sym (large_raw raw large offset smalls larges small_capacity large_capacity kept e some front)))
