@@ -64,8 +64,9 @@ impl<S: PlaceSteps> OrderedDesign<S> {
         })
     }
 
-    /// The state before the first step. Over all draws, each unit is selected with the probability that is its value. Whatever is drawn, as
-    /// many units are selected as the values add up to, or, where their sum isn't whole, one of the two whole numbers around it.
+    /// The state before the first step. Over all draws, each unit is selected with the probability that is its value. Whatever is
+    /// drawn, as many units are selected as the values add up to, or, where their sum isn't whole, one of the two whole numbers
+    /// around it.
     pub fn start(&self, alloc: Global) -> Result<OrderedState<S>, NoMemory>
         ensures state { IfOk result (λ state. state ≡ self.now) }
         ensures starts { IfOk result (Starts (placed_method S.rule S.law self.now)) }

@@ -9,7 +9,8 @@ ghost use Rattle.smp_values.specs.Values.{IsValues, exchanged_values, is_one, is
 use crate::Values;
 use smp_split::Kind;
 
-/// Values at places, and the steps of a method on them. What stands at a place is settled without regard to the order of the units.
+/// Values at places, and the steps of a method on them. What stands at a place is settled without regard to the order of the
+/// units.
 pub trait PlaceSteps {
     /// The values at the places.
     ghost shares: { Self → Shares };

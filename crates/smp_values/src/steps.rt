@@ -14,8 +14,8 @@ use std::mem;
 
 /// Values in a row, and the sequential pivotal steps on them.
 ///
-/// It keeps the first two fractional units, and looks for the next ones behind them. So the searches of a whole run go over the units once, and
-/// apart from them each step takes constant time.
+/// It keeps the first two fractional units, and looks for the next ones behind them. So the searches of a whole run go over the
+/// units once, and apart from them each step takes constant time.
 #[derive(Drop)]
 pub struct PivotalSteps {
     values: Values,

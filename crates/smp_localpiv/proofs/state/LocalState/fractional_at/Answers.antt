@@ -10,18 +10,13 @@ find-requires g c =
     let total : sum c.self.inside.weights ≡ fractional_count c.self.inside.values = ap sum c.self.invariant.weighed.weights_are ∙ weights_sum c.self.inside.values in
     omega arith
 
-pub returns-clause-unit : goal.returns-clause-unit
-returns-clause-unit g c =
-    rw (← c.self.view_is)
-    (found_is c.self.inside.values c.args.place c.find.result
-    (rw c.self.invariant.weighed.weights_are at c.find.ensures.place)
-    (rw c.self.invariant.weighed.weights_are at c.find.ensures.from)
-    (rw c.self.invariant.weighed.weights_are at c.find.ensures.passes))
-
-pub returns-clause-open_at : goal.returns-clause-open_at
-returns-clause-open_at g c =
-    rw (← c.self.view_is)
-    (found_open c.self.inside.values c.args.place c.find.result
-    (rw c.self.invariant.weighed.weights_are at c.find.ensures.place)
-    (rw c.self.invariant.weighed.weights_are at c.find.ensures.from)
-    (rw c.self.invariant.weighed.weights_are at c.find.ensures.passes))
+pub returns : goal.returns
+returns g c =
+    let weights_are = c.self.invariant.weighed.weights_are in
+    let place = rw weights_are at c.find.ensures.place in
+    let from = rw weights_are at c.find.ensures.from in
+    let passes = rw weights_are at c.find.ensures.passes in
+    rw (← c.self.view_is) (record {
+      unit = found_is c.self.inside.values c.args.place c.find.result place from passes;
+      open_at = found_open c.self.inside.values c.args.place c.find.result place from passes;
+    })

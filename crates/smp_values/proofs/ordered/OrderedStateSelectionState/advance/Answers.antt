@@ -20,21 +20,15 @@ exchange-place-requires-clause-within g c =
     let left : nat_eq c.self.inside.order.left 0 ≡ false = sym c.is_drawn.ensures ∙ c.if-is_drawn.false in
     order_within (places_tree g.S.PlaceSteps.rule (length s.state.numer)) exchanged_values s left c.args.draw (rw (← c.self.view_is) at c.requires.within)
 
-pub exchange-requires-clause-place : goal.exchange-requires-clause-place
-exchange-requires-clause-place g c =
+-- the two places are places of values
+pub exchange-requires : goal.exchange-requires
+exchange-requires g c =
     let s : Ordered Shares = in_order c.self.inside.order (g.S.PlaceSteps.shares c.self.inside.steps) in
     let left : nat_eq c.self.inside.order.left 0 ≡ false = sym c.is_drawn.ensures ∙ c.if-is_drawn.false in
     let ok : IsPlacedBy g.S.PlaceSteps.rule (length s.state.numer) s = rw (← c.self.view_is) at c.requires.state in
-    let both = told_within (places_tree g.S.PlaceSteps.rule (length s.state.numer)) exchanged_values s left c.args.draw (rw (← c.self.view_is) at c.requires.within) c.exchange-place.result c.exchange-place.ensures.places ok.order in
-    omega (arith, both.0)
-
-pub exchange-requires-clause-other : goal.exchange-requires-clause-other
-exchange-requires-clause-other g c =
-    let s : Ordered Shares = in_order c.self.inside.order (g.S.PlaceSteps.shares c.self.inside.steps) in
-    let left : nat_eq c.self.inside.order.left 0 ≡ false = sym c.is_drawn.ensures ∙ c.if-is_drawn.false in
-    let ok : IsPlacedBy g.S.PlaceSteps.rule (length s.state.numer) s = rw (← c.self.view_is) at c.requires.state in
-    let both = told_within (places_tree g.S.PlaceSteps.rule (length s.state.numer)) exchanged_values s left c.args.draw (rw (← c.self.view_is) at c.requires.within) c.exchange-place.result c.exchange-place.ensures.places ok.order in
-    omega (arith, both.1)
+    let within = rw (← c.self.view_is) at c.requires.within in
+    let both = told_within (places_tree g.S.PlaceSteps.rule (length s.state.numer)) exchanged_values s left c.args.draw within c.exchange-place.result c.exchange-place.ensures.places ok.order in
+    record { place = omega (arith, both.0); other = omega (arith, both.1) }
 
 pub returns-then-is_drawn : goal.returns-then-is_drawn
 returns-then-is_drawn g c =
