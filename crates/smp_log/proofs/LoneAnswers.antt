@@ -50,14 +50,14 @@ pub opening_nowhere : (number : ℕ) (lines : List (List ℕ)) → NoneOpens num
 opening_nowhere number [] none = refl
 opening_nowhere number (l ∷ lines) none = (let e : opens number l ≡ false = none.0 in rw e (ap (λ r. (suc r.0, r.1)) (opening_nowhere number lines none.1)))
 
-pub from_opened : (number : ℕ) (log text : List ℕ) (line : ℕ) (o : IsOpened number log text line) → from_opening number (whole_lines log) ≡ (length o.before, whole_lines text)
+pub from_opened : (number : ℕ) (log text : List ℕ) (line : ℕ) (o : IsOpened number log 1 text line) → from_opening number (whole_lines log) ≡ (length o.before, whole_lines text)
 from_opened number log text line o =
     let lines : whole_lines text ≡ o.first ∷ whole_lines o.rest = ap whole_lines o.text_is ∙ whole_lines-cons o.first o.rest o.first_lacks in
     ap (from_opening number) (ap whole_lines o.log_is ∙ whole_lines-text o.before text o.are ∙ ap (λ ls. o.before ++ ls) lines)
     ∙ opening_at number o.before o.first (whole_lines o.rest) o.none o.opening ∙ ap (λ ls. (length o.before, ls)) (sym lines)
 
 -- so many lines behind it, among the first lines of a log
-pub section_part : (number : ℕ) (log text : List ℕ) (line : ℕ) → IsOpened number log text line → (k : ℕ) → (from_opening number (take (line + k) (whole_lines log))).1 ≡ take (k + 1) (whole_lines text)
+pub section_part : (number : ℕ) (log text : List ℕ) (line : ℕ) → IsOpened number log 1 text line → (k : ℕ) → (from_opening number (take (line + k) (whole_lines log))).1 ≡ take (k + 1) (whole_lines text)
 section_part number log text line o k =
     let lines : whole_lines text ≡ o.first ∷ whole_lines o.rest = ap whole_lines o.text_is ∙ whole_lines-cons o.first o.rest o.first_lacks in
     let all : whole_lines log ≡ o.before ++ o.first ∷ whole_lines o.rest = ap whole_lines o.log_is ∙ whole_lines-text o.before text o.are ∙ ap (λ ls. o.before ++ ls) lines in
@@ -121,7 +121,7 @@ module _ {State : Type 0} (tree : Tree State) (belongs : State → Type 0) (lawf
       let count : length (whole_lines log) + 0 + 1 ≡ line = omega (arith, line_is) in
       behind_reading behind_head (length (whole_lines log), []) h is (opening_nowhere number (whole_lines log) none) ∙ ap Err count
 
-  module _ (behind_head : List ℕ) (h : IsHead head) (is : log ≡ sectioned_head head ++ behind_head) (text : List ℕ) (line : ℕ) (o : IsOpened number log text line) where
+  module _ (behind_head : List ℕ) (h : IsHead head) (is : log ≡ sectioned_head head ++ behind_head) (text : List ℕ) (line : ℕ) (o : IsOpened number log 1 text line) where
     -- where the script stops at a place that isn't over
     pub stopped_reading : (count : ℕ) (place : LonePlace State) → follows (lone_script tree number from) start (whole_lines text) ≡ (count, place) → is_over place ≡ false → reading ≡ Err (line + count)
     stopped_reading count place ended not_over =

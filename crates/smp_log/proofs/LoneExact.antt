@@ -145,7 +145,7 @@ module _ {State : Type 0} (tree : Tree State) (belongs : State → Type 0) (lawf
   abbrev Differs : Type 0
   Differs = (line : ℕ) × Differing tree belongs lawful from member head number log line
 
-  module _ (behind_head : List ℕ) (is : log ≡ sectioned_head head ++ behind_head) (text : List ℕ) (at : ℕ) (o : IsOpened number log text at) where
+  module _ (behind_head : List ℕ) (is : log ≡ sectioned_head head ++ behind_head) (text : List ℕ) (at : ℕ) (o : IsOpened number log 1 text at) where
     read : ℕ × LonePlace State
     read = follows script start (whole_lines text)
 

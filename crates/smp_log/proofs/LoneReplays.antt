@@ -13,7 +13,7 @@ use Rattle.smp_log.specs.Reading.{Script, LogPlace, stepping, closed, step_value
 use Rattle.smp_log.specs.SectionLogs.{sectioned_head}
 use Rattle.smp_log.specs.SectionReading.{stratum_line, done_line}
 use Rattle.smp_log.specs.Told.{path_along}
-use Rattle.smp_log.specs.LoneSections.{IsGenuineSection, opens, NoneOpens, IsOpened, HasSection, SectionLine, SkipsTo, place_of, opening_first, LonePlace, start, lone_script, is_over, section_reading, section_in_first_lines}
+use Rattle.smp_log.specs.LoneSections.{IsGenuineSection, opens, NoneOpens, IsOpened, HasSection, SectionLine, place_of, opening_first, LonePlace, start, lone_script, is_over, section_reading, section_in_first_lines}
 use Rattle.smp_log.proofs.Options.{goes_on, mapped}
 use Rattle.smp_log.proofs.Texts.{AreLines-append, lines_text-append, whole_lines-text, whole_lines-cons, cut_parts}
 use Rattle.smp_log.proofs.StepLines.{step_value-is}
@@ -47,7 +47,7 @@ pub record ReadsSection {State : Type 0} (tree : Tree State) (belongs : State �
   pub behind_head : List ℕ
   pub head_is : log ≡ sectioned_head head ++ behind_head
   pub text : List ℕ
-  pub opened : IsOpened number log text at
+  pub opened : IsOpened number log 1 text at
   pub reached : Reached (lone_script tree number from) start (LonePlace.at (stepping own s)) text rest (own + 1)
   pub member : belongs s
   pub room : at + own + length rest ≤ length log
@@ -90,24 +90,24 @@ module _ {State : Type 0} (tree : Tree State) (belongs : State → Type 0) (lawf
       let at : line ≡ 1 + length (whole_lines log) = omega (arith, line_is, all.1) in
       here line h (SectionLine.no_opening rest is all.0 at) (unopened_reading tree belongs lawful from member head number log rest line h is all.0 at)
 
-  pub opened : (rest found : List ℕ) (there : ℕ) → IsHead head → log ≡ sectioned_head head ++ rest → SkipsTo number rest 4 found there → IsOpened number log found there
+  pub opened : (rest found : List ℕ) (there : ℕ) → IsHead head → log ≡ sectioned_head head ++ rest → IsOpened number rest 4 found there → IsOpened number log 1 found there
   opened rest found there h is s =
-      let count = length-append (sectioned_head_lines h) s.lines in
+      let count = length-append (sectioned_head_lines h) s.before in
       record {
-        before = sectioned_head_lines h ++ s.lines;
-        log_is = is ∙ (λ i. (sectioned_head-text head h) i ++ (s.text_is) i) ∙ sym (append_assoc (lines_text (sectioned_head_lines h)) (lines_text s.lines) found) ∙ ap (λ t. t ++ found) (sym (lines_text-append (sectioned_head_lines h) s.lines));
-        are = AreLines-append (sectioned_head_lines h) s.lines (sectioned_head_lines_are h) s.are;
-        none = NoneOpens-append number (sectioned_head_lines h) s.lines (head_opens_none number head h) s.none;
+        before = sectioned_head_lines h ++ s.before;
+        log_is = is ∙ (λ i. (sectioned_head-text head h) i ++ (s.log_is) i) ∙ sym (append_assoc (lines_text (sectioned_head_lines h)) (lines_text s.before) found) ∙ ap (λ t. t ++ found) (sym (lines_text-append (sectioned_head_lines h) s.before));
+        are = AreLines-append (sectioned_head_lines h) s.before (sectioned_head_lines_are h) s.are;
+        none = NoneOpens-append number (sectioned_head_lines h) s.before (head_opens_none number head h) s.none;
         first = s.first;
         rest = s.rest;
-        text_is = s.found_is;
+        text_is = s.text_is;
         first_lacks = s.first_lacks;
         opening = s.opening;
         counted = omega (arith, s.counted, count);
       }
 
   -- where the script stops behind so many lines of the text
-  stopped : (h : IsHead head) (behind_head : List ℕ) → log ≡ sectioned_head head ++ behind_head → (text rest : List ℕ) (at count : ℕ) (place : LonePlace State) → IsOpened number log text at → is_over place ≡ false → Reached script start place text rest count
+  stopped : (h : IsHead head) (behind_head : List ℕ) → log ≡ sectioned_head head ++ behind_head → (text rest : List ℕ) (at count : ℕ) (place : LonePlace State) → IsOpened number log 1 text at → is_over place ≡ false → Reached script start place text rest count
       → (cut_at 10 rest ≡ None) ⊎ ((p : List ℕ × List ℕ) × (cut_at 10 rest ≡ Some p) × (script.follow place p.0 ≡ None)) → DiffersHere (at + count)
   stopped h behind_head head_is text rest at count place op not_over r ends =
       let d = differs script start (over_at tree belongs lawful from member number) Genuine one_section text rest count place not_over r ends in
@@ -115,7 +115,7 @@ module _ {State : Type 0} (tree : Tree State) (belongs : State → Type 0) (lawf
       here (at + count) h (SectionLine.in_section behind_head head_is text at d.kept op d.is_kept line)
       (stopped_reading tree belongs lawful from member head number log behind_head h head_is text at op count place (stuck script start place text rest count r ends) not_over)
 
-  pub not_opened : (h : IsHead head) (behind_head : List ℕ) → log ≡ sectioned_head head ++ behind_head → (text : List ℕ) (at : ℕ) → IsOpened number log text at → opening_first number text ≡ None → DiffersHere at
+  pub not_opened : (h : IsHead head) (behind_head : List ℕ) → log ≡ sectioned_head head ++ behind_head → (text : List ℕ) (at : ℕ) → IsOpened number log 1 text at → opening_first number text ≡ None → DiffersHere at
   not_opened h behind_head head_is text at op none =
       let none_yet : at + 0 ≡ at = omega arith in
       subst DiffersHere none_yet (stopped h behind_head head_is text text at 0 start op refl (none_reached script start text) (by_cut (cut_at 10 text) refl))
@@ -134,7 +134,7 @@ module _ {State : Type 0} (tree : Tree State) (belongs : State → Type 0) (lawf
     pub reads : ReadsSection tree belongs from head number log at 0 from after
     pub tells : section_in_first_lines tree from number (at + 0) log ≡ []
 
-  pub enters : IsHead head → (behind_head : List ℕ) → log ≡ sectioned_head head ++ behind_head → (text : List ℕ) (at : ℕ) → IsOpened number log text at → (after : List ℕ) → opening_first number text ≡ Some after → Entered at after
+  pub enters : IsHead head → (behind_head : List ℕ) → log ≡ sectioned_head head ++ behind_head → (text : List ℕ) (at : ℕ) → IsOpened number log 1 text at → (after : List ℕ) → opening_first number text ≡ Some after → Entered at after
   enters h behind_head head_is text at op after some =
       let cut = goes_on (λ (q : List ℕ × List ℕ). option_map (λ (place : ℕ). q.1) (place_of number q.0)) (cut_at 10 text) after some in
       let place = mapped (λ (place : ℕ). cut.value.1) (place_of number cut.value.0) after cut.gives in

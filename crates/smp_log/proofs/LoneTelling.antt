@@ -39,7 +39,7 @@ module _ (number : ℕ) (log : List ℕ) where
   pub none_in_all : NoneOpens number (whole_lines log) → NoneOpens number (take (length (whole_lines log)) (whole_lines log))
   none_in_all none = subst (NoneOpens number) (sym (take-length (whole_lines log))) none
 
-  pub none_before : (text : List ℕ) (line : ℕ) (o : IsOpened number log text line) → NoneOpens number (take (length o.before) (whole_lines log))
+  pub none_before : (text : List ℕ) (line : ℕ) (o : IsOpened number log 1 text line) → NoneOpens number (take (length o.before) (whole_lines log))
   none_before text line o =
       let part : take (length o.before) (whole_lines log) ≡ o.before =
       ap (take (length o.before)) (ap whole_lines o.log_is ∙ whole_lines-text o.before text o.are) ∙ take_at o.before (whole_lines text) (length o.before) refl in

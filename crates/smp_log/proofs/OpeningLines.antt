@@ -7,7 +7,7 @@ use Rattle.std.proofs.lemmas.Option.{some_pair_parts}
 use Rattle.smp_lines.specs.Cuts.{cut_at}
 use Rattle.smp_log.specs.Lines.{whole_lines, lines_text, AreLines}
 use Rattle.smp_log.specs.Reading.{behind, written}
-use Rattle.smp_log.specs.LoneSections.{opening_words, opens, NoneOpens, SkipsTo}
+use Rattle.smp_log.specs.LoneSections.{opening_words, opens, NoneOpens, IsOpened}
 use Rattle.smp_log.proofs.Texts.{cut_behind, cut_parts, behind-append, behind-is, AreLines-append, lines_text-append, whole_lines-text, whole_lines-none}
 use Rattle.smp_log.proofs.Numbers.{decimal_lacks, written-decimal, written-is}
 use Rattle.smp_log.proofs.NumberedLines.{same_option}
@@ -96,10 +96,10 @@ module _ (number : ℕ) (text rest : List ℕ) (at there : ℕ) (s : Skipped num
         room = omega (arith, s.room, count, size);
       }
 
-  pub skips_to : (line after : List ℕ) → cut_at 10 rest ≡ Some (line, after) → opens number line ≡ true → SkipsTo number text at rest there
+  pub skips_to : (line after : List ℕ) → cut_at 10 rest ≡ Some (line, after) → opens number line ≡ true → IsOpened number text at rest there
   skips_to line after cut it =
       let parts = cut_parts 10 rest (line, after) cut in
-      record { lines = s.lines; text_is = s.text_is; are = s.are; none = s.none; first = line; rest = after; found_is = parts.0; first_lacks = parts.1; opening = it; counted = s.counted }
+      record { before = s.lines; log_is = s.text_is; are = s.are; none = s.none; first = line; rest = after; text_is = parts.0; first_lacks = parts.1; opening = it; counted = s.counted }
 
   pub skips_all : cut_at 10 rest ≡ None → NoneOpens number (whole_lines text) × (there ≡ at + length (whole_lines text))
   skips_all none =

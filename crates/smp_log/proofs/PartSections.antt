@@ -19,7 +19,7 @@ use Rattle.smp_log.specs.Genuine.{IsFullPath}
 use Rattle.smp_log.specs.Reading.{behind, written, step_line}
 use Rattle.smp_log.specs.SectionLogs.{placed, steps_in, steps_before, tape_place, section_text, sections_text, IsSectionedGenuine}
 use Rattle.smp_log.specs.SectionReading.{stratum_line, done_line}
-use Rattle.smp_log.specs.LoneSections.{opening_words, opens, NoneOpens, HasSection, IsReplayedAlone, SkipsTo}
+use Rattle.smp_log.specs.LoneSections.{opening_words, opens, NoneOpens, HasSection, IsReplayedAlone, IsOpened}
 use Rattle.smp_log.proofs.Texts.{cut_behind, behind-append, AreLines-append, lines_text-append}
 use Rattle.smp_log.proofs.Numbers.{decimal_lacks, written-decimal}
 use Rattle.smp_log.proofs.LineTexts.{step_lines_are}
@@ -165,14 +165,14 @@ module _ {State Inner : Type 0} (tree : Tree State) (belongs : State → Type 0)
       let own_lines : List (List ℕ) = map step_line (steps_in h steps) ++ done_line (h + 1) (length (steps_in h steps)) ∷ [] in
       let lines : text ≡ stratum_line (h + 1) place ++ 10 ∷ (lines_text own_lines ++ after) =
       ap (λ t. t ++ after) (section_text_lines steps h) ∙ append_assoc (stratum_line (h + 1) place) (10 ∷ lines_text own_lines) after in
-      let skips : SkipsTo (h + 1) behind_head 4 text (4 + length (earlier 0 h steps)) = record {
-        lines = earlier 0 h steps;
-        text_is = split;
+      let skips : IsOpened (h + 1) behind_head 4 text (4 + length (earlier 0 h steps)) = record {
+        before = earlier 0 h steps;
+        log_is = split;
         are = earlier_are h 0 steps;
         none = earlier_open h 0 (h + 1) steps (omega arith) (omega arith);
         first = stratum_line (h + 1) place;
         rest = lines_text own_lines ++ after;
-        found_is = lines;
+        text_is = lines;
         first_lacks = numbered_lacks (codes "stratum ") (h + 1) place refl;
         opening = it_opens (h + 1) place;
         counted = refl;

@@ -4,8 +4,6 @@ use Rattle.std.specs.Str.{bytes_eq}
 use Rattle.smp_split.specs.Trees.{Tree}
 use Rattle.smp_log.specs.declared.fault.LogFault.{LogFault}
 use Rattle.smp_log.specs.declared.fault.LogFault.TheVariants.{Differs}
-use Rattle.smp_log.specs.declared.fault.MigrateFault.{MigrateFault}
-use Rattle.smp_log.specs.declared.fault.MigrateFault.TheVariants as migrating
 use Rattle.smp_log.specs.declared.fault.ReplayFault.{ReplayFault}
 use Rattle.smp_log.specs.declared.fault.ReplayFault.TheVariants as faults
 use Rattle.smp_log.specs.Genuine.{DiffersAt, IsGenuine}
@@ -23,19 +21,12 @@ abbrev pub answer_at : {State : Type 0} → Result (Unit {0}) LogFault → State
 answer_at (Ok done) state = Ok state
 answer_at (Err (Differs line)) state = Err line
 
--- the same where the steps are told, unless memory ran out
-abbrev pub AnswersAs : {State : Type 0} → Result (Unit {0}) ReplayFault → State → Result State ℕ
+-- the same where the steps are told or a log is written, unless memory ran out
+abbrev pub AnswersAs : {State Read : Type 0} → Result Read ReplayFault → State → Result State ℕ
     → Type 0
-AnswersAs (Ok done) state reading = reading ≡ Ok state
+AnswersAs (Ok read) state reading = reading ≡ Ok state
 AnswersAs (Err (faults.Differs line)) state reading = reading ≡ Err line
 AnswersAs (Err faults.NoMemory) state reading = Unit {0}
-
--- the same of a migration, whose first state came to this one
-abbrev pub MigratesAs : {State Text : Type 0} → Result Text MigrateFault → State → Result State ℕ
-    → Type 0
-MigratesAs (Ok text) state reading = reading ≡ Ok state
-MigratesAs (Err (migrating.Differs line)) state reading = reading ≡ Err line
-MigratesAs (Err migrating.NoMemory) state reading = Unit {0}
 
 -- ---- the answer, computed
 

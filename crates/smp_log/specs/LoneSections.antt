@@ -37,8 +37,9 @@ abbrev pub NoneOpens : ℕ → List (List ℕ) → Type 0
 NoneOpens number [] = Unit {0}
 NoneOpens number (line ∷ lines) = (opens number line ≡ false) × NoneOpens number lines
 
--- The opening line is the first whole line that begins so. The text is what stands from it on, and `line` is its number.
-pub record IsOpened (number : ℕ) (log text : List ℕ) (line : ℕ) : Type 0 where
+-- From the line of number `at` on, the opening line is the first whole line that begins so. The text is what stands from it on, and
+-- `line` is its number.
+pub record IsOpened (number : ℕ) (log : List ℕ) (at : ℕ) (text : List ℕ) (line : ℕ) : Type 0 where
   pub before : List (List ℕ)
   pub log_is : log ≡ lines_text before ++ text
   pub are : AreLines before
@@ -48,7 +49,7 @@ pub record IsOpened (number : ℕ) (log text : List ℕ) (line : ℕ) : Type 0 w
   pub text_is : text ≡ first ++ 10 ∷ rest
   pub first_lacks : Lacks 10 first
   pub opening : opens number first ≡ true
-  pub counted : line ≡ length before + 1
+  pub counted : line ≡ at + length before
 
 -- ---- the answer
 
@@ -59,7 +60,7 @@ pub record HasSection {State : Type 0} (tree : Tree State) (from : State) (head 
   pub head_is : log ≡ sectioned_head head ++ behind_head
   pub text : List ℕ
   pub line : ℕ
-  pub opened : IsOpened number log text line
+  pub opened : IsOpened number log 1 text line
   pub section : List ℕ
   pub after : List ℕ
   pub text_is : text ≡ section ++ after
@@ -82,7 +83,7 @@ pub data SectionLine {State : Type 0} (tree : Tree State) (from : State) (head :
       → SectionLine tree from head number log line
   -- the first line from the opening line on that isn't kept
   in_section : (behind_head : List ℕ) → log ≡ sectioned_head head ++ behind_head
-      → (text : List ℕ) (at kept : ℕ) → IsOpened number log text at
+      → (text : List ℕ) (at kept : ℕ) → IsOpened number log 1 text at
       → IsKept (IsGenuineSection tree from number) text kept → line ≡ at + kept
       → SectionLine tree from head number log line
 
@@ -143,20 +144,6 @@ is_over (at place) = is_closed place
 
 abbrev pub lone_script : {State : Type 0} → Tree State → ℕ → State → Script (LonePlace State)
 lone_script tree number from = record { follow = next_lone tree number from; over = is_over }
-
--- from the line of this number on: what stands from the first line on that opens the section, and its number
-pub record SkipsTo (number : ℕ) (text : List ℕ) (at : ℕ) (found : List ℕ) (there : ℕ)
-    : Type 0 where
-  pub lines : List (List ℕ)
-  pub text_is : text ≡ lines_text lines ++ found
-  pub are : AreLines lines
-  pub none : NoneOpens number lines
-  pub first : List ℕ
-  pub rest : List ℕ
-  pub found_is : found ≡ first ++ 10 ∷ rest
-  pub first_lacks : Lacks 10 first
-  pub opening : opens number first ≡ true
-  pub counted : there ≡ at + length lines
 
 -- ---- the answer, computed
 

@@ -11,12 +11,12 @@ pub enum LogFault {
     Differs { line: u64 },
 }
 
-/// Why a log isn't replayed with its steps told.
+/// Why a log isn't replayed with its steps told, or isn't migrated.
 #[derive(Clone, Copy, Debug, PartialEq, Eq)]
 pub enum ReplayFault {
     /// The log isn't genuine, and this is the first line that isn't kept, as in [`LogFault::Differs`].
     Differs { line: u64 },
-    /// There was no memory for the line of a step.
+    /// There was no memory: for the line of a step, or for a log.
     NoMemory,
 }
 
@@ -26,13 +26,4 @@ impl From<NoMemory> for ReplayFault {
     fn from(_: NoMemory) -> ReplayFault {
         ReplayFault::NoMemory
     }
-}
-
-/// Why no log was migrated.
-#[derive(Clone, Copy, Debug, PartialEq, Eq)]
-pub enum MigrateFault {
-    /// The log isn't genuine of version 1, and this is the first line that isn't kept, as in [`LogFault::Differs`].
-    Differs { line: u64 },
-    /// There was no memory.
-    NoMemory,
 }

@@ -20,7 +20,7 @@ mod section_writing;
 mod versions;
 mod writing;
 
-pub use fault::{LogFault, MigrateFault, ReplayFault};
+pub use fault::{LogFault, ReplayFault};
 pub use head::{Head, log_head};
 pub use laws::{old_logs_are_unambiguous, old_runs_are_genuine};
 pub use lone_section::{replay_section, replay_section_into};

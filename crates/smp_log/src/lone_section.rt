@@ -5,7 +5,7 @@ ghost use Rattle.smp_log.specs.Answers.{AnswersAs, answer_at};
 ghost use Rattle.smp_log.specs.Lines.{whole_lines};
 ghost use Rattle.smp_log.specs.LoneSections as LoneSections;
 ghost use Rattle.smp_log.specs.LoneSections.{HasSection, HasToldSection, NoneOpens};
-ghost use Rattle.smp_log.specs.LoneSections.{SectionDiffers, SkipsTo};
+ghost use Rattle.smp_log.specs.LoneSections.{IsOpened, SectionDiffers};
 ghost use Rattle.smp_log.specs.LoneSections.{opening_words, section_in_first_lines};
 ghost use Rattle.smp_log.specs.LoneSections.{section_reading, section_told};
 ghost use Rattle.smp_log.specs.Told.{IsToldAlong, IsToldPart};
@@ -124,7 +124,7 @@ pub fn replay_section_into<S: Sections, T: Trace>(
 // number of the line behind the last whole one.
 fn opening(text: &[u8], number: usize, at: u64) -> Result<(&[u8], u64), u64>
     requires { at + length text.now < 2 ^ 64 }
-    ensures found { IfOk result (λ p. SkipsTo number text.now at p.0.now p.1) }
+    ensures found { IfOk result (λ p. IsOpened number text.now at p.0.now p.1) }
     ensures none { IfErr result (λ line. NoneOpens number (whole_lines text.now)
         × (line ≡ at + length (whole_lines text.now))) }
 {

@@ -1,12 +1,12 @@
 ghost use Rattle.std.specs.Prelude.{◌≡◌, ℕ, true, Err, IfOk, OnOk};
-ghost use Rattle.smp_log.specs.Answers.{MigratesAs, log_reading};
+ghost use Rattle.smp_log.specs.Answers.{AnswersAs, log_reading};
 ghost use Rattle.smp_log.specs.Genuine.{DiffersAt, IsGenuine, IsToldGenuine};
 ghost use Rattle.smp_log.specs.SectionLogs.{sectioned_log_text};
 ghost use Rattle.smp_log.specs.Told.{path_told};
-ghost use Rattle.smp_log.specs.declared.fault.MigrateFault.TheVariants as MigrateFault;
+ghost use Rattle.smp_log.specs.declared.fault.ReplayFault.TheVariants as ReplayFault;
 
 use crate::section_writing::log_bytes;
-use crate::{Head, MigrateFault, ReplayFault, old_replay_into};
+use crate::{Head, ReplayFault, old_replay_into};
 use smp_frac::Bytes;
 use smp_split::{Lines, Sections};
 use std::alloc::Global;
@@ -14,7 +14,7 @@ use std::alloc::Global;
 /// The log of version 2 for a genuine log of version 1: that of the same path. Both states are the one in which the log
 /// began.
 ///
-/// [`MigrateFault::Differs`] comes exactly where the log isn't genuine of version 1. After `Ok` both states are the leaf.
+/// [`ReplayFault::Differs`] comes exactly where the log isn't genuine of version 1. After `Ok` both states are the leaf.
 /// After an error nothing is said of them but that they belong to the design.
 pub fn migrate<S: Sections>(
     alloc: Global,
@@ -23,7 +23,7 @@ pub fn migrate<S: Sections>(
     second: &mut S::State,
     head: &Head,
     log: &[u8],
-) -> Result<Bytes, MigrateFault>
+) -> Result<Bytes, ReplayFault>
     requires first { S.belongs run.now first.old }
     requires second { second.old ≡ first.old }
     ensures genuine { OnOk result
@@ -35,21 +35,20 @@ pub fn migrate<S: Sections>(
     ensures done { OnOk result (((S.tree run.now).done first.new ≡ true)
         × ((S.tree run.now).done second.new ≡ true)) }
     ensures belongs { S.belongs run.now first.new × S.belongs run.now second.new }
-    ensures differs { (line : ℕ) → result ≡ Err (MigrateFault.Differs line)
+    ensures differs { (line : ℕ) → result ≡ Err (ReplayFault.Differs line)
         → DiffersAt (IsGenuine (S.tree run.now) first.old head.now) log.now line }
 
     // The same as a function of the bytes.
-    ensures reading { MigratesAs result first.new
+    ensures reading { AnswersAs result first.new
         (log_reading (S.tree run.now) first.old head.now log.now) }
 {
     let mut lines = Lines::new(alloc);
     match old_replay_into(run, first, head, log, &mut lines) {
         Ok(()) => {}
-        Err(ReplayFault::Differs { line }) => return Err(MigrateFault::Differs { line }),
-        Err(ReplayFault::NoMemory) => return Err(MigrateFault::NoMemory),
+        Err(fault) => return Err(fault),
     }
     match log_bytes(alloc, run, second, head, &lines) {
         Ok(text) => Ok(text),
-        Err(_) => Err(MigrateFault::NoMemory),
+        Err(_) => Err(ReplayFault::NoMemory),
     }
 }

@@ -85,7 +85,7 @@ returns-in_default g c =
     let told = unopened_told tree c.args.state.now (g.T.Trace.lines c.args.trace.now) c.args.number c.args.log.now (length op.before) (none_before c.args.number c.args.log.now c.in-Ok-opening.found.0.now c.in-Ok-opening.found.1 op) in
     record {
       stopped = none_begins tree c.args.state.now (g.T.Trace.lines c.args.trace.now) (section_told tree c.args.state.now c.args.number c.args.log.now);
-      kept = λ line is. section_kept c.args.number c.args.log.now (length op.before) (c.in-Ok-opening.found.1) line told (sym op.counted) is;
+      kept = λ line is. section_kept c.args.number c.args.log.now (length op.before) (c.in-Ok-opening.found.1) line told (omega (arith, op.counted)) is;
       section = search rules;
       told = search rules;
       done = search rules;

@@ -1,15 +1,9 @@
-use Rattle.std.proofs.Common.{◌≡◌, List, ◌++◌, Option, Some, Err, ap, ◌∙◌, subst}
+use Rattle.std.proofs.Common.{◌≡◌, List, ◌++◌, Option, Some, ap, ◌∙◌, subst}
 use Rattle.smp_split.specs.Paths.{Entry}
-use Rattle.smp_log.specs.Genuine.{DiffersAt, IsFullPath, IsGenuine}
+use Rattle.smp_log.specs.Genuine.{IsFullPath}
 use Rattle.smp_log.specs.Told.{path_told}
 use Rattle.smp_log.proofs.Paths.{one_end}
 use Rattle.smp_log.proofs.migrating.migrate.Goals as goal
-
-pub returns-in-Err-Differs-clause-differs : goal.returns-in-Err-Differs-clause-differs
-returns-in-Err-Differs-clause-differs g c line is =
-    let same : c.in-Err-Differs.line ≡ line = cc in
-    subst (DiffersAt (IsGenuine (g.S.Splitting.tree c.args.run.now) c.args.first.now c.args.head.now) c.args.log.now) same
-    (c.in-Err-Differs.ensures.differs c.in-Err-Differs.line (ap Err c.in-Err-Differs.field-0-is))
 
 same_lines : (p q : List Entry) → ◌≡◌ {A = Option (List Entry)} (Some p) (Some q) → p ≡ q
 same_lines p q h = cc
