@@ -21,7 +21,7 @@ impl Model for Given {
 }
 
 impl Words for Given {
-    ghost use Rattle.smp_sieve.specs.Laws.Given.{given_stream};
+    ghost use Rattle.base_tests.specs.Given.{given_stream};
 
     ghost stream = { given_stream };
 

@@ -3,5 +3,4 @@ pub mod Sieves
 pub mod Fair
 pub mod Keys
 pub mod SieveSources
-pub mod Given
 pub mod Laws
