@@ -4,6 +4,7 @@ pub mod Scripts
 pub mod Numbers
 pub mod StepLines
 pub mod Paths
+pub mod HeadLines
 pub mod Logs
 pub mod Reached
 pub mod Described

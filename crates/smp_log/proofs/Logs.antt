@@ -10,6 +10,7 @@ use Rattle.std.specs.Str.{bytes_eq}
 use Rattle.std.proofs.lemmas.Slice.Eq.{bytes_eq-Decides}
 use Rattle.smp_log.proofs.Options.{mapped, some_cond}
 use Rattle.smp_log.proofs.StepLines.{step_value-is, step_value-line}
+use Rattle.smp_log.proofs.HeadLines.{AreHeads, HasHead, behind_head, has_head}
 use Rattle.smp_log.proofs.Scripts.{Accepts, Ends}
 
 -- the lines of a log behind its head, where so many steps stand before them
@@ -111,23 +112,14 @@ module _ {State : Type 0} (tree : Tree State) (belongs : State → Type 0) (lawf
 
   -- ---- the lines of a head
 
+  are_heads : AreHeads script (before from)
+  are_heads = record { takes = λ x hs line. refl; goes_on = λ x hs. refl }
+
   pub head_accepted : (hs lines : List (List ℕ)) (to : LogPlace State) → Accepts script (stepping 0 from) lines to → Accepts script (before from hs) (hs ++ lines) to
-  head_accepted [] lines to h = h
-  head_accepted (line ∷ hs) lines to h = (before from hs, ap (λ (b : Bool). cond b (Some (before from hs)) None) ((bytes_eq-Decides line line).1 refl), head_accepted hs lines to h)
+  head_accepted = behind_head script (before from) are_heads
 
-  -- lines behind those of a head
-  pub record HasHead (hs lines : List (List ℕ)) (to : LogPlace State) : Type 0 where
-    pub rest : List (List ℕ)
-    pub lines_are : lines ≡ hs ++ rest
-    pub accepted : Accepts script (stepping 0 from) rest to
-
-  pub accepted_head : (hs lines : List (List ℕ)) (to : LogPlace State) → Accepts script (before from hs) lines to → HasHead hs lines to
-  accepted_head [] lines to h = record { rest = lines; lines_are = refl; accepted = h }
-  accepted_head (x ∷ hs) [] to h = absurd (let no : ◌≡◌ {A = Bool} false true = h.1 in cc)
-  accepted_head (x ∷ hs) (line ∷ lines) to h =
-      let test = some_cond (bytes_eq line x) (before from hs) h.0 h.1 in
-      let on = accepted_head hs lines to (subst (λ p. Accepts script p lines to) (sym test.1) h.2) in
-      record { rest = on.rest; lines_are = ap (λ l. l ∷ lines) ((bytes_eq-Decides line x).0 test.0) ∙ ap (λ ls. x ∷ ls) on.lines_are; accepted = on.accepted }
+  pub accepted_head : (hs lines : List (List ℕ)) (to : LogPlace State) → Accepts script (before from hs) lines to → HasHead script (stepping 0 from) hs lines to
+  accepted_head = has_head script (before from) are_heads
 
   -- ---- from each place some lines lead to an end
 

@@ -195,7 +195,7 @@ module _ {State : Type 0} (tree : Tree State) (belongs : State → Type 0) (lawf
         parts.1 ∙ ap (λ ls. lines_text ls ++ parts.0) f.is ∙ ap (λ t. t ++ parts.0) (lines_text-append f.before (f.first ∷ f.after)) ∙ append_assoc (lines_text f.before) (f.first ++ 10 ∷ lines_text f.after) parts.0
         ∙ ap (λ t. lines_text f.before ++ t) (append_assoc f.first (10 ∷ lines_text f.after) parts.0) in
         let o = opened tree belongs lawful from member head number log rest found (4 + length f.before) h is
-        (record { lines = f.before; text_is = split; are = are.0; none = f.none; first = f.first; rest = lines_text f.after ++ parts.0; found_is = refl; first_lacks = are.1.0; opening = f.opening; counted = refl }) in
+        (record { before = f.before; log_is = split; are = are.0; none = f.none; first = f.first; rest = lines_text f.after ++ parts.0; text_is = refl; first_lacks = are.1.0; opening = f.opening; counted = refl }) in
         decided_here rest is found (4 + length f.before) o)
   ]
 

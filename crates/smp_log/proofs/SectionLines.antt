@@ -12,6 +12,7 @@ use Rattle.smp_split.specs.Sectioning.{Sectioning, IsSectioned}
 use Rattle.smp_log.specs.SectionLogs.{placed, steps_in, steps_before, tape_place}
 use Rattle.smp_log.specs.SectionReading.{stratum_line, done_line, SectionPlace, heading, opening, inside, closed, before, section_script, taken_at}
 use Rattle.smp_log.proofs.StepLines.{step_value-is, step_value-line}
+use Rattle.smp_log.proofs.HeadLines.{AreHeads, HasHead, behind_head, has_head}
 use Rattle.smp_log.proofs.Scripts.{Accepts, Ends}
 use Rattle.smp_log.proofs.Options.{mapped, some_cond}
 
@@ -355,22 +356,14 @@ module _ {State : Type 0} (tree : Tree State) (belongs : State → Type 0) (lawf
 
   -- ---- the lines of a head
 
+  are_heads : AreHeads script (before from)
+  are_heads = record { takes = λ x hs line. refl; goes_on = λ x hs. refl }
+
   pub head_accepted : (hs lines : List (List ℕ)) (to : SectionPlace State) → Accepts script (opening 0 0 0 from) lines to → Accepts script (before from hs) (hs ++ lines) to
-  head_accepted [] lines to h = h
-  head_accepted (line ∷ hs) lines to h = (before from hs, same_line line (before from hs), head_accepted hs lines to h)
+  head_accepted = behind_head script (before from) are_heads
 
-  pub record HasHead (hs lines : List (List ℕ)) (to : SectionPlace State) : Type 0 where
-    pub rest : List (List ℕ)
-    pub lines_are : lines ≡ hs ++ rest
-    pub accepted : Accepts script (opening 0 0 0 from) rest to
-
-  pub accepted_head : (hs lines : List (List ℕ)) (to : SectionPlace State) → Accepts script (before from hs) lines to → HasHead hs lines to
-  accepted_head [] lines to h = record { rest = lines; lines_are = refl; accepted = h }
-  accepted_head (x ∷ hs) [] to h = absurd (let no : ◌≡◌ {A = Bool} false true = h.1 in cc)
-  accepted_head (x ∷ hs) (line ∷ lines) to h =
-      let test = some_cond (bytes_eq line x) (before from hs) h.0 h.1 in
-      let on = accepted_head hs lines to (subst (λ p. Accepts script p lines to) (sym test.1) h.2) in
-      record { rest = on.rest; lines_are = ap (λ l. l ∷ lines) ((bytes_eq-Decides line x).0 test.0) ∙ ap (λ ls. x ∷ ls) on.lines_are; accepted = on.accepted }
+  pub accepted_head : (hs lines : List (List ℕ)) (to : SectionPlace State) → Accepts script (before from hs) lines to → HasHead script (opening 0 0 0 from) hs lines to
+  accepted_head = has_head script (before from) are_heads
 
   opening_ends : (h taken n : ℕ) (s : State) → belongs s → h ≤ sections.count → h ≤ sections.of s → Ends script (opening h taken n s)
   opening_ends h taken n s b high le =

@@ -1,9 +1,15 @@
-use Rattle.std.proofs.Common.{◌≡◌, List, ◌++◌, Option, Some, ap, ◌∙◌, subst}
+use Rattle.std.proofs.Common.{◌≡◌, List, ◌++◌, Option, Some, Err, ap, ◌∙◌, subst}
 use Rattle.smp_split.specs.Paths.{Entry}
 use Rattle.smp_log.specs.Genuine.{IsFullPath}
 use Rattle.smp_log.specs.Told.{path_told}
+use Rattle.smp_log.specs.declared.fault.ReplayFault.TheVariants as ReplayFault
 use Rattle.smp_log.proofs.Paths.{one_end}
 use Rattle.smp_log.proofs.migrating.migrate.Goals as goal
+
+pub returns-in-Err-clause-differs : goal.returns-in-Err-clause-differs
+returns-in-Err-clause-differs g c line is =
+    let same : c.in-Err.fault ≡ ReplayFault.Differs line = cc in
+    c.in-Err.ensures.differs line (ap Err same)
 
 same_lines : (p q : List Entry) → ◌≡◌ {A = Option (List Entry)} (Some p) (Some q) → p ≡ q
 same_lines p q h = cc
