@@ -3,11 +3,12 @@ use Rattle.std.proofs.Common.{◌≡◌, ℕ, ℤ, pos, negsuc, ◌≤◌, true,
 use Rattle.std.specs.Prelude.{All, option_and_then, is_some}
 use Rattle.std.proofs.lemmas.Bool.{and_parts, leb-true}
 use Rattle.std.proofs.lemmas.List.Elements.{All-nil, All-cons}
+use Rattle.smp_fractions.specs.Limits.{most_rows}
 use Rattle.toml.specs.Data.{Data, Members, no_members, member, as_integer, as_array, as_table}
 use Rattle.smp_design.specs.declared.design.Quota as quota
 use Rattle.smp_design.specs.declared.method.Method.{Method}
 use Rattle.smp_design.specs.Bounds.{From1To, InRange}
-use Rattle.smp_design.specs.Values.{last_version, most_units, from_1_to, integer_to, version, number, method, if_second, second_method, few, names, strings, quotas_of, quotas, optional}
+use Rattle.smp_design.specs.Values.{last_version, from_1_to, integer_to, version, number, method, if_second, second_method, few, names, strings, quotas_of, quotas, optional}
 use Rattle.smp_design.specs.Words.{row}
 use Rattle.smp_design.proofs.Went.{goes_on, mapped, passes}
 
@@ -28,7 +29,7 @@ pub version-range : (value : Data) (n : ℕ) → version value ≡ Some n → Fr
 version-range value n h = integer-range last_version value n h
 
 pub number-range : (value : Data) (n : ℕ) → number value ≡ Some n → InRange n
-number-range value n h = integer-range most_units value n h
+number-range value n h = integer-range most_rows value n h
 
 quotas_of-range : (t : Members) (qs : List quota.Quota) → quotas_of t ≡ Some qs → All (λ q. InRange q.n) qs
 quotas_of-range no_members qs h =

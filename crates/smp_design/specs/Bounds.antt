@@ -3,12 +3,13 @@ use Rattle.std.specs.Prelude.{◌≡◌, ℕ, ◌≤◌, List, [], length, map, 
 use Rattle.std.specs.Ordering.{nat_cmp}
 use Rattle.std.specs.Cmp.Lexicographic.{slice_cmp}
 use Rattle.std.specs.List.Sorted.{IsStrictlySortedBy}
+use Rattle.smp_fractions.specs.Limits.{most_rows}
 use Rattle.smp_prob.specs.declared.orders.Order.TheVariants as the_order
 use Rattle.smp_design.specs.declared.method.Needs.{Needs}
 use Rattle.smp_design.specs.declared.method.Needs.TheVariants.{Nothing, Balance, Near}
 use Rattle.smp_design.specs.declared.design.Design.{Design}
 use Rattle.smp_design.specs.declared.design.Quota as quota
-use Rattle.smp_design.specs.Values.{last_version, most_units}
+use Rattle.smp_design.specs.Values.{last_version}
 use Rattle.smp_design.specs.Words.{row, is_near}
 
 -- a whole number from 1 to `most`
@@ -17,7 +18,7 @@ From1To most n = (1 ≤ n) × (n ≤ most)
 
 -- a number of units
 abbrev pub InRange : ℕ → Type 0
-InRange n = From1To most_units n
+InRange n = From1To most_rows n
 
 -- the least number of columns of values, by what a method needs
 abbrev pub least_values : Needs → ℕ

@@ -1,5 +1,6 @@
 -- What the values of a design's keys mean.
 use Rattle.std.specs.Prelude.{ℕ, ℤ, pos, negsuc, List, [], ◌∷◌, ◌&&◌, nat_le, length, Option, Some, None, option_map, option_and_then, if◌then◌else◌}
+use Rattle.smp_fractions.specs.Limits.{most_rows}
 use Rattle.toml.specs.Data.{Data, Items, no_items, item, Members, no_members, member, as_integer, as_str, as_array, as_table}
 use Rattle.smp_prob.specs.declared.orders.Order.{Order}
 use Rattle.smp_design.specs.declared.method.Method.{Method}
@@ -9,10 +10,6 @@ use Rattle.smp_design.specs.Words.{row, method_of, order_of}
 -- the versions of a design go from 1 to this one
 abbrev pub last_version : ℕ
 last_version = 2
-
--- the most units that a design draws from all strata, from one of them, or from a first stage unit
-abbrev pub most_units : ℕ
-most_units = 200000
 
 -- a whole number from 1 to `most`
 abbrev pub from_1_to : ℕ → ℤ → Option ℕ
@@ -29,7 +26,7 @@ version value = integer_to last_version value
 
 -- a number of units
 abbrev pub number : Data → Option ℕ
-number value = integer_to most_units value
+number value = integer_to most_rows value
 
 -- the word of a method
 abbrev pub method : Data → Option Method

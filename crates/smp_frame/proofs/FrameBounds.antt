@@ -7,8 +7,8 @@ use Rattle.std.proofs.lemmas.Bool.{ltb-true, leb-true, and_parts}
 use Rattle.std.proofs.lemmas.List.{get_or-map}
 use Rattle.std.proofs.lemmas.List.Elements.{All-cons, All-map}
 use Rattle.smp_lines.specs.Decimals.{is_decimal}
-use Rattle.smp_frame.specs.Limits.{max_rows, number_limit}
 use Rattle.smp_fractions.specs.Fractions.{over, whole}
+use Rattle.smp_fractions.specs.Limits.{most_rows, number_limit}
 use Rattle.smp_frac.specs.LowestTerms.{lowest_terms}
 use Rattle.smp_faults.specs.Steps.{◌>>=◌, guard}
 use Rattle.smp_frame.specs.Records.{field, records_of}
@@ -160,14 +160,14 @@ unit_is_small layout number ids row u h =
 
 -- units behind a row with this number
 record AreUnits (count number : ℕ) (units : List unit.Unit) : Type 0 where
-  few : length units + number ≤ max_rows + 1
+  few : length units + number ≤ most_rows + 1
   small : All (IsSmall count) units
 
-units_are_small : (layout : Layout) (number : ℕ) (ids : List (List ℕ)) (rows : List (List (List ℕ))) (units : List unit.Unit) → number ≤ max_rows + 1 → units_from layout number ids rows ≡ Ok units → AreUnits (length layout.values) number units
+units_are_small : (layout : Layout) (number : ℕ) (ids : List (List ℕ)) (rows : List (List (List ℕ))) (units : List unit.Unit) → number ≤ most_rows + 1 → units_from layout number ids rows ≡ Ok units → AreUnits (length layout.values) number units
 units_are_small layout number ids [] units within h = subst (AreUnits (length layout.values) number) (ok_is _ _ h) (record { few = omega (arith, within); small = λ k d beyond. absurd (omega arith) })
 units_are_small layout number ids (row ∷ rows) units within h =
-    let limit = passes (nat_le number max_rows) _ _ units h in
-    let here : number ≤ max_rows = leb-true number max_rows limit.holds in
+    let limit = passes (nat_le number most_rows) _ _ units h in
+    let here : number ≤ most_rows = leb-true number most_rows limit.holds in
     let first = goes_on _ (unit_of layout number ids row) units limit.gives in
     let more = goes_on _ (units_from layout (number + 1) _ rows) units first.gives in
     let rest = units_are_small layout (number + 1) _ rows more.value (omega (arith, here)) more.is in

@@ -1,6 +1,6 @@
 -- A unit more in front of the others.
 use Rattle.std.proofs.Common.{◌≡◌, ℕ, ◌+◌, Bool, true, false, List, [], ◌∷◌, ◌++◌, Result, Ok, Err, nat_le, refl, sym, ap, ◌∙◌, append_assoc}
-use Rattle.smp_frame.specs.Limits.{max_rows}
+use Rattle.smp_fractions.specs.Limits.{most_rows}
 use Rattle.smp_faults.specs.Steps.{◌>>=◌, guard}
 use Rattle.smp_frame.specs.Frames.{unit_of, units_from}
 use Rattle.smp_frame.specs.Kept.Readers.{Takes}
@@ -16,7 +16,7 @@ longer front first (Err fault) = refl
 
 -- the next row is within the limit and has a unit
 pub next_unit : (layout : Layout) (front : List unit.Unit) (number : ℕ) (ids row : List (List ℕ)) (old new : List (List (List ℕ))) (found : Bool) (first : unit.Unit)
-    → nat_le number max_rows ≡ true → found ≡ true → Takes found row old new → unit_of layout number ids row ≡ Ok first
+    → nat_le number most_rows ≡ true → found ≡ true → Takes found row old new → unit_of layout number ids row ≡ Ok first
     → with_front (front ++ first ∷ []) (units_from layout (number + 1) (ids ++ first.id ∷ []) new) ≡ with_front front (units_from layout number ids old)
 next_unit layout front number ids row old new false first within is taken reads = absurd (cc is)
 next_unit layout front number ids row old new true first within is taken reads =

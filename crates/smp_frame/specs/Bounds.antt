@@ -1,7 +1,7 @@
 -- What is true of every frame that was read.
 use Rattle.std.specs.Prelude.{◌≡◌, ℕ, ◌≤◌, ◌<◌, ℤ, nat_abs, List, length, map, slice_index, All}
+use Rattle.smp_fractions.specs.Limits.{most_rows, number_limit}
 use Rattle.smp_frac.specs.declared.fractions.Frac.{Frac}
-use Rattle.smp_frame.specs.Limits.{max_rows, number_limit}
 use Rattle.smp_frame.specs.declared.frame.Unit as unit
 
 abbrev pub sizes_of : List unit.Unit → List ℕ
@@ -28,7 +28,7 @@ AreNear values = All (λ value. nat_abs value < number_limit) values
 -- 1 to 200,000 units, with sizes and values within 2,147,483,647 of 0, and probabilities
 pub record IsFrame (units : List unit.Unit) : Type 0 where
   pub some : 1 ≤ length units
-  pub few : length units ≤ max_rows
+  pub few : length units ≤ most_rows
   pub small : (i : ℕ) → i < length units → slice_index (sizes_of units) i < number_limit
   pub second_small : (i : ℕ) → i < length units → slice_index (second_sizes_of units) i < number_limit
   pub probabilities : AreProbabilities (probs_of units)

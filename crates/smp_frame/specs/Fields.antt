@@ -4,8 +4,8 @@ use Rattle.std.specs.Str.Parse.{digits_value}
 use Rattle.smp_lines.specs.Cuts.{cut_at}
 use Rattle.smp_lines.specs.Decimals.{is_decimal}
 use Rattle.smp_frac.specs.declared.fractions.Frac.{Frac}
-use Rattle.smp_frame.specs.Limits.{number_limit}
 use Rattle.smp_fractions.specs.Fractions.{over}
+use Rattle.smp_fractions.specs.Limits.{number_limit}
 use Rattle.smp_frac.specs.LowestTerms.{lowest_terms}
 use Rattle.smp_faults.specs.Steps.{◌>>=◌, guard}
 use Rattle.smp_frame.specs.Records.{field}

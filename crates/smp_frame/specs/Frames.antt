@@ -2,7 +2,7 @@
 use Rattle.std.specs.Prelude.{ℕ, ◌+◌, List, [], ◌∷◌, ◌++◌, ◌==◌, not, nat_lt, nat_le, length, Result, Ok, Err}
 use Rattle.std.specs.List.{list_all, list_any}
 use Rattle.std.specs.Str.{bytes_eq, is_utf8}
-use Rattle.smp_frame.specs.Limits.{max_rows}
+use Rattle.smp_fractions.specs.Limits.{most_rows}
 use Rattle.smp_faults.specs.Steps.{◌>>=◌, guard}
 use Rattle.smp_frame.specs.Records.{records_of, field}
 use Rattle.smp_frame.specs.Layouts.{layout_of}
@@ -29,7 +29,7 @@ unit_of layout number ids row = do
 abbrev pub units_from : Layout → ℕ → List (List ℕ) → List (List (List ℕ)) → Result (List unit.Unit) FrameFault
 units_from layout number ids [] = Ok []
 units_from layout number ids (row ∷ rows) = do
-  _ ← guard (nat_le number max_rows) TooManyRows
+  _ ← guard (nat_le number most_rows) TooManyRows
   first ← unit_of layout number ids row
   units ← units_from layout (number + 1) (ids ++ first.id ∷ []) rows
   Ok (first ∷ units)

@@ -2,7 +2,6 @@ pub mod Bounds
 pub mod Fields
 pub mod Frames
 pub mod Layouts
-pub mod Limits
 pub mod Faults
 pub mod Records
 pub mod Kept

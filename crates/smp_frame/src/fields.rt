@@ -3,10 +3,10 @@
 ghost use Rattle.std.specs.Prelude.{◌≡◌, ◌<◌, IfOk, true};
 ghost use Rattle.std.specs.List.{list_all};
 ghost use Rattle.std.specs.Str.{is_utf8};
+ghost use Rattle.smp_fractions.specs.Limits.{number_limit};
 ghost use Rattle.csv.specs.Records.{fields_of};
 ghost use Rattle.smp_lines.specs.Decimals.{number_below};
 ghost use Rattle.smp_frame.specs.Fields;
-ghost use Rattle.smp_frame.specs.Limits.{number_limit};
 ghost use Rattle.smp_faults.specs.Memory.{Reads};
 ghost use Rattle.smp_frame.specs.Faults.{is_memory};
 

@@ -5,7 +5,7 @@ use Rattle.std.proofs.lemmas.Bool.{le-leb}
 use Rattle.smp_prob.specs.declared.orders.Order.{Order}
 use Rattle.smp_frame.specs.declared.frame.Unit as unit
 use Rattle.std.specs.List.Sorted.{IsStrictlySortedBy}
-use Rattle.smp_design.specs.Values.{most_units}
+use Rattle.smp_fractions.specs.Limits.{most_rows}
 use Rattle.smp_design.specs.Bounds.{Ascend, IsDesign, least_values, most_values}
 use Rattle.smp_design.specs.Words.{row}
 use Rattle.smp_design.specs.declared.design.Design.{Design}
@@ -65,7 +65,7 @@ none_ascend : Ascend []
 unfolding IsStrictlySortedBy
 none_ascend = tt
 
-pub quick_is_design : (n : ℕ) → 1 ≤ n → n ≤ most_units → IsDesign (quick_design n)
+pub quick_is_design : (n : ℕ) → 1 ≤ n → n ≤ most_rows → IsDesign (quick_design n)
 unfolding row
 quick_is_design n some few = record {
   version = (omega arith, omega arith);

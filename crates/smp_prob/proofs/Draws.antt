@@ -7,8 +7,9 @@ use Rattle.std.proofs.lemmas.List.Sums.{get_or-le-sum_by, sum_by-le}
 use Rattle.std.proofs.lemmas.Nat.Gcd.{dvd_of_mod-eq-zero, mod-eq-zero_of_dvd, le_of_dvd, dvd-zero}
 use Rattle.std.proofs.Math.Nat.{div-mul_cancel, div-le_of_le-mul, div-le_self, mul-lt-mul_of_pos_left, dvd-mul_left}
 use Prim.Native.Nat.{◌∣◌}
+use Rattle.smp_fractions.specs.Limits.{most_rows}
 use Rattle.smp_prob.specs.Shapes.{size_divisor, shape_of}
-use Rattle.smp_prob.specs.Given.{has_whole_sum, draws, out_of, largest_multiple, most_units}
+use Rattle.smp_prob.specs.Given.{has_whole_sum, draws, out_of, largest_multiple}
 use Rattle.smp_prob.proofs.ShapeLemmas.{divides_each, divisor_positive, length-shape_of, shape-divisor, total-divisor, shape_below, shape_small, sum_narrow}
 
 module _ (den : ℕ) (numerators : List ℕ) where
@@ -77,7 +78,7 @@ module _ (den : ℕ) (numerators : List ℕ) where
         ]
 
     -- the draws are few, and so are what the shapes are out of
-    module _ (within : EachIndex numerators (λ i. slice_index numerators i ≤ den)) (few : length numerators ≤ most_units) (small : den ≤ largest_multiple) where
+    module _ (within : EachIndex numerators (λ i. slice_index numerators i ≤ den)) (few : length numerators ≤ most_rows) (small : den ≤ largest_multiple) where
       pub narrow : EachIndex numerators (λ i. slice_index numerators i < 2 ^ 31)
       narrow i here = omega (arith, within i here, small)
 

@@ -11,10 +11,11 @@ use Prim.Native.Nat.{◌∣◌}
 use Rattle.smp_fractions.specs.Fractions.{Same, whole, over}
 use Rattle.smp_fractions.proofs.Fractions.{cancel, same_sym, same_trans}
 use Rattle.smp_fractions.proofs.Over.{over_one, over_zero, over_same}
+use Rattle.smp_fractions.specs.Limits.{most_rows}
 use Rattle.smp_frac.specs.declared.fractions.Frac.{Frac}
 use Rattle.smp_frac.specs.Laws.Coprime.{dvd_second}
 use Rattle.smp_prob.specs.declared.requests.Request.{Request}
-use Rattle.smp_prob.specs.Given.{AreGiven, IsWholeNumber, common_multiple, draws, expected_size, free_numerators, given_fraction, given_of, has_whole_sum, is_certain, is_free, largest_multiple, most_units, numerator_over}
+use Rattle.smp_prob.specs.Given.{AreGiven, IsWholeNumber, common_multiple, draws, expected_size, free_numerators, given_fraction, given_of, has_whole_sum, is_certain, is_free, largest_multiple, numerator_over}
 use Rattle.smp_prob.specs.Kept.Numerators.{full, between, over_of}
 use Rattle.smp_prob.specs.Requested.{places}
 use Rattle.smp_prob.specs.Requests.{IsRequest}
@@ -77,10 +78,10 @@ module _ (den : ℕ) (zs : List ℕ) (some : 1 ≤ den) where
   pub within : EachIndex (filter (between den) zs) (λ i. slice_index (filter (between den) zs) i ≤ den)
   within i here = omega (arith, below i here)
 
-  pub few_numerators : length zs ≤ most_units → length (filter (between den) zs) ≤ most_units
+  pub few_numerators : length zs ≤ most_rows → length (filter (between den) zs) ≤ most_rows
   few_numerators few = omega (arith, few, length-filter (between den) zs, count_by-le-length (between den) zs)
 
-  IsRequest-over : length zs ≤ most_units → den ≤ largest_multiple → IsRequest (over_of den zs)
+  IsRequest-over : length zs ≤ most_rows → den ≤ largest_multiple → IsRequest (over_of den zs)
   IsRequest-over few small = record {
     few = omega (arith, few_numerators few, length-numerators);
     paired = length-shape_of (filter (between den) zs) ∙ sym length-numerators;

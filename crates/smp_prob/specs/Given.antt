@@ -2,6 +2,7 @@
 use Rattle.std.specs.Prelude.{ℕ, ◌*◌, ◌/◌, ◌%◌, ◌≤◌, Bool, nat_eq, nat_lt, ◌&&◌, if◌then◌else◌, List, length, map, filter, fold, sum, slice_index_or, All}
 use Prim.Native.Nat.{◌∣◌}
 use Rattle.smp_fractions.specs.Fractions.{Fraction, Same, whole, sum_below}
+use Rattle.smp_fractions.specs.Limits.{most_rows}
 use Rattle.smp_frac.specs.Divisors.{greatest_common_divisor}
 use Rattle.smp_frac.specs.Fractions.{fraction}
 use Rattle.smp_frac.specs.declared.fractions.Frac.{Frac}
@@ -9,17 +10,13 @@ use Rattle.smp_prob.specs.declared.requests.Request.{Request}
 use Rattle.smp_prob.specs.Requested.{places}
 use Rattle.smp_prob.specs.Shapes.{size_divisor, shape_of}
 
--- the most units
-abbrev pub most_units : ℕ
-most_units = 200000
-
 -- the largest common multiple of their denominators
 abbrev pub largest_multiple : ℕ
 largest_multiple = 2147483647
 
 -- what can be given: not too many fractions, none of which passes 1
 pub record AreGiven (probs : List Frac) : Type 0 where
-  pub few : length probs ≤ most_units
+  pub few : length probs ≤ most_rows
   pub at_most_one : All (λ p. p.num ≤ p.den) probs
 
 -- a unit is certain where its fraction is 1, and free where that is strictly between 0 and 1

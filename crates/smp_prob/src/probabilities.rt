@@ -1,10 +1,11 @@
 ghost use Rattle.std.specs.Prelude.{◌≡◌, ◌↔◌, ◌+◌, ◌≤◌, ◌<◌, ◌^◌, ℕ, Bool, Err, IsSome, IfSome, SomeIff, IfOk, IsOkUnless, All, EachIndex, length, map, sum, slice_index, count_by};
 ghost use Rattle.std.specs.List.{range_with_len};
 ghost use Rattle.smp_fractions.specs.Fractions.{Same, whole};
+ghost use Rattle.smp_fractions.specs.Limits.{most_rows};
 ghost use Rattle.smp_frac.specs.Fractions.{fraction};
 ghost use Rattle.smp_prob.specs.declared.faults.GivenFault.{GivenFault};
 ghost use Rattle.smp_prob.specs.Given as Given;
-ghost use Rattle.smp_prob.specs.Given.{AreGiven, IsLeastMultipleOf, IsWholeNumber, draws, given_fraction, given_of, largest_multiple, most_units, out_of};
+ghost use Rattle.smp_prob.specs.Given.{AreGiven, IsLeastMultipleOf, IsWholeNumber, draws, given_fraction, given_of, largest_multiple, out_of};
 ghost use Rattle.smp_prob.specs.Kept.Numerators.{over_of};
 ghost use Rattle.smp_prob.specs.Requests.{IsRequest};
 ghost use Rattle.smp_prob.specs.Shapes.{shape_of};
@@ -56,7 +57,7 @@ fn numerators(alloc: Global, multiple: u32, probs: &[Frac]) -> Result<Vec<u32>, 
 // How many draws the free units share, and what their shapes are out of.
 fn draws_over(den: u32, numerators: &[u32], shape: &[u32]) -> (u32, u64)
     requires some { 1 ≤ den }
-    requires few { length numerators.now ≤ most_units }
+    requires few { length numerators.now ≤ most_rows }
     requires positive { EachIndex numerators.now (λ i. 1 ≤ slice_index numerators.now i) }
     requires within { EachIndex numerators.now (λ i.
         slice_index numerators.now i ≤ den) }
@@ -77,7 +78,7 @@ fn draws_over(den: u32, numerators: &[u32], shape: &[u32]) -> (u32, u64)
 // The request for the numerators of all units over a denominator.
 fn request_over(alloc: Global, den: u32, numerators: &[u32]) -> Result<Request, NoMemory>
     requires some { 1 ≤ den }
-    requires few { length numerators.now ≤ most_units }
+    requires few { length numerators.now ≤ most_rows }
     requires small { den ≤ largest_multiple }
     ensures { IfOk result (λ request. request ≡ over_of den numerators.now) }
 {

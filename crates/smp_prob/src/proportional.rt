@@ -9,6 +9,7 @@ ghost use Rattle.smp_prob.specs.Requested.{is_certain, is_free, positive_units, 
 ghost use Rattle.smp_prob.specs.Requests.{IsRequest};
 ghost use Rattle.smp_prob.specs.Inclusions.{AreApart, AreBelow, IsRising, count_taken, asked_fraction};
 ghost use Rattle.smp_fractions.specs.Fractions.{Same};
+ghost use Rattle.smp_fractions.specs.Limits.{most_rows, number_limit};
 
 use crate::picked::{Picked, pick};
 use crate::shapes::{shape_of, sum_of};
@@ -18,7 +19,7 @@ use std::alloc::Global;
 
 // How many sizes are above 0.
 fn count_positive(sizes: &[u32]) -> u32
-    requires { length sizes.now ≤ 200000 }
+    requires { length sizes.now ≤ most_rows }
     ensures { result ≡ positive_units sizes.now }
 {
     sizes.iter().filter(|&&size| size > 0).count() as u32
@@ -37,8 +38,8 @@ fn falling(alloc: Global, sizes: &[u32]) -> Result<Vec<u32>, NoMemory>
 
 // How many units are certain, of sizes in falling order.
 fn least_cut(falling: &[u32], n: u32) -> usize
-    requires few { length falling.now ≤ 200000 }
-    requires small { EachIndex falling.now (λ i. slice_index falling.now i < 2 ^ 31) }
+    requires few { length falling.now ≤ most_rows }
+    requires small { EachIndex falling.now (λ i. slice_index falling.now i < number_limit) }
     requires enough { n ≤ length falling.now }
     ensures least { IsLeastCut n falling.now result }
     ensures within { result ≤ n }
@@ -58,7 +59,7 @@ fn least_cut(falling: &[u32], n: u32) -> usize
 fn border_of(falling: &[u32], cut: usize) -> u32
     requires some { 1 ≤ length falling.now }
     requires cut { cut ≤ length falling.now }
-    requires small { EachIndex falling.now (λ i. slice_index falling.now i < 2 ^ 31) }
+    requires small { EachIndex falling.now (λ i. slice_index falling.now i < number_limit) }
     ensures { result ≡ border cut falling.now }
 {
     if cut > 0 {
@@ -70,8 +71,8 @@ fn border_of(falling: &[u32], cut: usize) -> u32
 
 // The units that are certain, and those that are free.
 fn picked_units(alloc: Global, sizes: &[u32], n: u32) -> Result<Picked, NoMemory>
-    requires few { length sizes.now ≤ 200000 }
-    requires small { EachIndex sizes.now (λ i. slice_index sizes.now i < 2 ^ 31) }
+    requires few { length sizes.now ≤ most_rows }
+    requires small { EachIndex sizes.now (λ i. slice_index sizes.now i < number_limit) }
     requires some { 1 ≤ n }
     requires enough { n ≤ positive_units sizes.now }
     ensures certain { IfOk result (λ picked.
@@ -89,9 +90,9 @@ fn picked_units(alloc: Global, sizes: &[u32], n: u32) -> Result<Picked, NoMemory
 }
 
 fn request_of(alloc: Global, picked: Picked, n: u32) -> Result<Request, NoMemory>
-    requires few { length picked.free_sizes.items ≤ 200000 }
+    requires few { length picked.free_sizes.items ≤ most_rows }
     requires small { EachIndex picked.free_sizes.items (λ i.
-        slice_index picked.free_sizes.items i < 2 ^ 31) }
+        slice_index picked.free_sizes.items i < number_limit) }
     requires positive { EachIndex picked.free_sizes.items (λ i.
         1 ≤ slice_index picked.free_sizes.items i) }
     requires within { length picked.certain.items ≤ n }
@@ -124,8 +125,8 @@ fn request_of(alloc: Global, picked: Picked, n: u32) -> Result<Request, NoMemory
 /// `TooMany` comes exactly where `n` passes the number of sizes above 0. The time is that of
 /// sorting the sizes.
 pub fn requested(alloc: Global, sizes: &[u32], n: u32) -> Result<Request, ProbFault>
-    requires few { length sizes.now ≤ 200000 }
-    requires small { EachIndex sizes.now (λ i. slice_index sizes.now i < 2 ^ 31) }
+    requires few { length sizes.now ≤ most_rows }
+    requires small { EachIndex sizes.now (λ i. slice_index sizes.now i < number_limit) }
     requires some { 1 ≤ n }
     ensures value { IfOk result (λ request. request ≡ requested_of sizes.now n) }
     ensures request { IfOk result IsRequest }

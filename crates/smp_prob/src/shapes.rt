@@ -1,12 +1,13 @@
 ghost use Rattle.std.specs.Prelude.{◌≡◌, ◌^◌, ◌<◌, ◌≤◌, length, slice_index, sum, EachIndex, IfOk};
+ghost use Rattle.smp_fractions.specs.Limits.{most_rows, number_limit};
 ghost use Rattle.smp_prob.specs.Shapes as Shapes;
 
 use smp_frac::{NoMemory, gcd};
 use std::alloc::Global;
 
 pub(crate) fn sum_of(sizes: &[u32]) -> u64
-    requires few { length sizes.now ≤ 200000 }
-    requires small { EachIndex sizes.now (λ i. slice_index sizes.now i < 2 ^ 31) }
+    requires few { length sizes.now ≤ most_rows }
+    requires small { EachIndex sizes.now (λ i. slice_index sizes.now i < number_limit) }
     ensures { result ≡ sum sizes.now }
 {
     sizes.iter().map(|&size| size as u64).sum()

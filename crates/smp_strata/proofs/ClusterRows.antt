@@ -9,7 +9,7 @@ use Rattle.std.proofs.lemmas.List.Elements.{All-map, All-filter, All-from_get_or
 use Rattle.std.proofs.lemmas.List.Folds.{list_any_at}
 use Rattle.std.proofs.lemmas.List.FromFn.{length-range_with_len, get_or-range_with_len, get_or-map-range_with_len, length-map-range_with_len}
 use Rattle.std.proofs.lemmas.List.Sums.{length-filter, count_by-le-length}
-use Rattle.smp_frame.specs.Limits.{max_rows}
+use Rattle.smp_fractions.specs.Limits.{most_rows}
 use Rattle.smp_design.specs.declared.design.Second as second
 use Rattle.smp_frame.specs.declared.frame.Unit as unit
 use Rattle.smp_strata.specs.Clusters.{clusters, in_psu, psu_names, stratum_names, stratum_number, first_row}
@@ -35,7 +35,7 @@ not_empty p (x ∷ xs) e =
     ]
 
 -- rows that pass a test
-passing : (n : ℕ) (p : ℕ → Bool) → n ≤ max_rows → list_any p (range_with_len 0 n) ≡ true → AreRows n (filter p (range_with_len 0 n))
+passing : (n : ℕ) (p : ℕ → Bool) → n ≤ most_rows → list_any p (range_with_len 0 n) ≡ true → AreRows n (filter p (range_with_len 0 n))
 passing n p few some = record {
   some = not_empty p (range_with_len 0 n) some;
   few = omega (arith, few, length-filter p (range_with_len 0 n), count_by-le-length p (range_with_len 0 n), length-range_with_len 0 n);
@@ -102,7 +102,7 @@ module _ (units : List unit.Unit) where
       (there psus) k (omega (arith, u))))
       ∙ sym (map_by_places (in_psu units) (psu_names units) [] (length (psu_names units)) refl)
 
-  pub are_rows : (second : Option second.Second) → length units ≤ max_rows → All (AreRows (length units)) (clusters second units)
+  pub are_rows : (second : Option second.Second) → length units ≤ most_rows → All (AreRows (length units)) (clusters second units)
   are_rows None few = All-map (AreRows (length units)) (λ row. row ∷ []) (rows_of units) (λ k d l. record {
     some = omega arith;
     few = omega (arith, few, l, length-range_with_len 0 (length units));

@@ -6,7 +6,7 @@ use Rattle.std.proofs.lemmas.Int.{ints, to_z-of_z}
 use Rattle.std.proofs.lemmas.List.{get_or-map}
 use Rattle.std.proofs.lemmas.List.Folds.{list_any_at, list_any-append}
 use Rattle.std.proofs.lemmas.List.FromFn.{get_or-map-range_with_len, length-map-range_with_len, map-range_with_len_more}
-use Rattle.smp_frame.specs.Limits.{max_rows}
+use Rattle.smp_fractions.specs.Limits.{most_rows}
 use Rattle.smp_frame.specs.Bounds.{IsFrame, HaveValues}
 use Rattle.smp_frame.specs.declared.frame.Unit as unit
 use Rattle.smp_strata.specs.Rows.{value_at, value_of, values_of, size_of, is_large}
@@ -20,7 +20,7 @@ module _ (units : List unit.Unit) (row column : ℕ) (values : List ℤ) (u : un
   value_near columns frame have within = rw is (frame.near row u here column (pos 0) (omega (arith, within, have row u here)))
 
 -- one more value is added in the code's numbers
-pub added : (s v : ℤ) (i : ℕ) → i < max_rows → nat_abs v < 2 ^ 31 → neg_ℤ (pos (i * 2 ^ 31)) ≤ℤ s → s ≤ℤ pos (i * 2 ^ 31)
+pub added : (s v : ℤ) (i : ℕ) → i < most_rows → nat_abs v < 2 ^ 31 → neg_ℤ (pos (i * 2 ^ 31)) ≤ℤ s → s ≤ℤ pos (i * 2 ^ 31)
     → to_z w64 (of_z w64 (s +ℤ to_z w64 (of_z w64 (to_z w32 (of_z w32 v))))) ≡ s +ℤ v
 added s v i few near low high =
     let short : SFits w32 v = omega (arith, ints, near) in
@@ -31,10 +31,10 @@ added s v i few near low high =
 abbrev sum_bits : ℤ → ℤ → ℤ
 sum_bits s v = to_z w64 (of_z w64 (s +ℤ to_z w64 (of_z w64 (to_z w32 (of_z w32 v)))))
 
-pub added_low : (s v : ℤ) (i : ℕ) → i < max_rows → nat_abs v < 2 ^ 31 → neg_ℤ (pos (i * 2 ^ 31)) ≤ℤ s → s ≤ℤ pos (i * 2 ^ 31) → neg_ℤ (pos ((i + 1) * 2 ^ 31)) ≤ℤ sum_bits s v
+pub added_low : (s v : ℤ) (i : ℕ) → i < most_rows → nat_abs v < 2 ^ 31 → neg_ℤ (pos (i * 2 ^ 31)) ≤ℤ s → s ≤ℤ pos (i * 2 ^ 31) → neg_ℤ (pos ((i + 1) * 2 ^ 31)) ≤ℤ sum_bits s v
 added_low s v i few near low high = rw (added s v i few near low high) (omega (arith, ints, near, low))
 
-pub added_high : (s v : ℤ) (i : ℕ) → i < max_rows → nat_abs v < 2 ^ 31 → neg_ℤ (pos (i * 2 ^ 31)) ≤ℤ s → s ≤ℤ pos (i * 2 ^ 31) → sum_bits s v ≤ℤ pos ((i + 1) * 2 ^ 31)
+pub added_high : (s v : ℤ) (i : ℕ) → i < most_rows → nat_abs v < 2 ^ 31 → neg_ℤ (pos (i * 2 ^ 31)) ≤ℤ s → s ≤ℤ pos (i * 2 ^ 31) → sum_bits s v ≤ℤ pos ((i + 1) * 2 ^ 31)
 added_high s v i few near low high = rw (added s v i few near low high) (omega (arith, ints, near, high))
 
 abbrev is_above : ℤ → Bool

@@ -11,11 +11,11 @@ use Rattle.std.proofs.lemmas.List.Sums.{count_by-le-length, length-filter}
 use Rattle.smp_fractions.specs.Bounds.{absolute}
 use Rattle.smp_fractions.specs.Fractions.{Fraction, Same, sum_below, whole}
 use Rattle.smp_fractions.proofs.Fractions.{same_sym, same_trans}
+use Rattle.smp_fractions.specs.Limits.{most_rows}
 use Rattle.smp_frac.specs.declared.fractions.Frac.{Frac}
 use Rattle.smp_frac.specs.Fractions.{fraction}
 use Rattle.smp_frac.proofs.Unique.{same_frac}
 use Rattle.smp_frame.specs.Bounds.{IsFrame}
-use Rattle.smp_frame.specs.Limits.{max_rows}
 use Rattle.smp_frac.specs.LowestTerms.{lowest_terms}
 use Rattle.smp_frac.proofs.LowestTerms.{lowest_terms-value}
 use Rattle.smp_prob.specs.Given.{AreGiven, IsWholeNumber, common_multiple, expected_size, given_fraction, largest_multiple}
@@ -173,7 +173,7 @@ module _ (design : Design) (units : List unit.Unit) where
   given_probs frame rows k =
       let p : List ℕ → Bool = λ g. bytes_eq (stratum_at units (first_row g)) (stratum_name units k) in
       let cs : List (List ℕ) = clusters_in design units k in
-      let few : length cs ≤ max_rows = omega (arith, frame.few, length-filter p (clusters design.second units), count_by-le-length p (clusters design.second units), count_all design.second units) in
+      let few : length cs ≤ most_rows = omega (arith, frame.few, length-filter p (clusters design.second units), count_by-le-length p (clusters design.second units), count_all design.second units) in
       let own : All (AreRows (length units)) cs = All-filter p (AreRows (length units)) (clusters design.second units) rows in
       record {
         few = omega (arith, few, length-map cs (λ g. prob_at units (first_row g)));

@@ -7,10 +7,10 @@ use Rattle.std.proofs.lemmas.List.{get_or-map, length-map}
 use Rattle.std.proofs.lemmas.List.Elements.{All-filter, All-map}
 use Rattle.std.proofs.lemmas.List.Sums.{get_or-le-sum_by, sum-map}
 use Rattle.std.proofs.lemmas.List.FromFn.{get_or-map-range_with_len, length-map-range_with_len}
-use Rattle.smp_frame.specs.Limits.{max_rows}
 use Rattle.smp_frac.specs.declared.fractions.Frac.{Frac}
 use Rattle.smp_frame.specs.Bounds.{IsFrame}
 use Rattle.smp_fractions.specs.Fractions.{whole}
+use Rattle.smp_fractions.specs.Limits.{most_rows}
 use Rattle.smp_frac.specs.LowestTerms.{lowest_terms}
 use Rattle.smp_prob.specs.Given.{AreGiven, common_multiple, largest_multiple}
 use Rattle.smp_design.specs.declared.design.Second as second
@@ -129,7 +129,7 @@ module _ (design : Design) (units : List unit.Unit) (rows : All (AreRows (length
   pub total_is : (groups : List (List ℕ)) (among : List ℕ) → AreGroups homes (length (stratum_names units)) groups among → sum (map length groups) ≡ length all
   total_is groups among are = total homes (length (stratum_names units)) groups among are ∙ length-map all (λ g. stratum_number units (first_row g))
 
-  pub few_members : (groups : List (List ℕ)) (among : List ℕ) → AreGroups homes (length (stratum_names units)) groups among → length units ≤ max_rows → All (λ group. length group ≤ max_rows) groups
+  pub few_members : (groups : List (List ℕ)) (among : List ℕ) → AreGroups homes (length (stratum_names units)) groups among → length units ≤ most_rows → All (λ group. length group ≤ most_rows) groups
   few_members groups among are few k d here =
       omega (arith, get_or-le-sum_by length groups k d here, sum-map length groups, total_is groups among are, count_all design.second units, few)
 
@@ -158,7 +158,7 @@ pub sizes_small : (design : Design) (units : List unit.Unit) → psu_too_large d
 sizes_small design units e k d l = small_size units (length design.columns.values) (get_or (clusters design.second units) k d) (none_large design units e k d l)
 
 -- the probabilities of first stage units of one row each
-pub are_given : (units : List unit.Unit) (clustered : List (List ℕ)) (group : List ℕ) → IsFrame units → All (AreRows (length units)) clustered → length group ≤ max_rows → All (λ i. i < length clustered) group
+pub are_given : (units : List unit.Unit) (clustered : List (List ℕ)) (group : List ℕ) → IsFrame units → All (AreRows (length units)) clustered → length group ≤ most_rows → All (λ i. i < length clustered) group
     → AreGiven (map (prob_of units clustered) group)
 are_given units clustered group frame rows few within = record {
   few = omega (arith, few, length-map group (prob_of units clustered));

@@ -6,12 +6,12 @@ use Rattle.std.proofs.lemmas.Bool.{eqb-false, ltb-false}
 use Rattle.std.proofs.lemmas.List.{get_or-map, length-map, same_lists}
 use Rattle.std.proofs.lemmas.List.Elements.{All-filter, All-map}
 use Rattle.std.proofs.lemmas.List.Sums.{length-filter, count_by-le-length}
+use Rattle.smp_fractions.specs.Limits.{most_rows}
 use Rattle.smp_design.specs.Bounds.{IsDesign}
 use Rattle.smp_design.specs.declared.design.Design.{Design}
 use Rattle.smp_design.specs.declared.design.Second as second
 use Rattle.smp_frame.specs.declared.frame.Unit as unit
 use Rattle.smp_frame.specs.Bounds.{IsFrame}
-use Rattle.smp_frame.specs.Limits.{max_rows}
 use Rattle.smp_prob.specs.Requested.{positive_units}
 use Rattle.smp_prob.specs.declared.requests.Request.{Request}
 use Rattle.smp_strata.specs.Clusters.{clusters, clusters_in, stratum_names, stratum_name, first_row}
@@ -69,7 +69,7 @@ module _ (design : Design) (units : List unit.Unit) (rows : All (AreRows (length
       All-map (λ z. z < 2 ^ 31) (size_of units) (clusters_in design units k)
       (All-filter _ (λ g. size_of units g < 2 ^ 31) (clusters design.second units) (sizes_small design units served.small)) i 0 l
 
-  pub few_in : (k : ℕ) → length (clusters design.second units) ≤ max_rows → length (first_sizes design units k) ≤ max_rows
+  pub few_in : (k : ℕ) → length (clusters design.second units) ≤ most_rows → length (first_sizes design units k) ≤ most_rows
   few_in k few =
       let p : List ℕ → Bool = λ g. bytes_eq (stratum_at units (first_row g)) (stratum_name units k) in
       omega (arith, few, length-map (clusters_in design units k) (size_of units), length-filter p (clusters design.second units), count_by-le-length p (clusters design.second units))
@@ -100,7 +100,7 @@ module _ (design : Design) (units : List unit.Unit) (rows : All (AreRows (length
         (λ j d l. (let l2 : j < length members = omega (arith, l, long) in
         (each j d l2).value ∙ sym (get_or-map (first_of design units) (clusters_in design units k) j [] d (omega (arith, l2, long_in)) ∙ ap (first_of design units) (cluster_at j [] l2))))
 
-    pub built : length units ≤ max_rows → (request : Request) → IsFirstRequest design units k request
+    pub built : length units ≤ most_rows → (request : Request) → IsFirstRequest design units k request
         → (s : stratum.Stratum) → s ≡ record { name = stratum_name units k; units = fs; request = request } → s ≡ stratum_of design units k → IsBuilt design units k s
     built few request asked s is value =
         let long_units : length (clusters_in design units k) ≡ length fs = long_in ∙ sym long in

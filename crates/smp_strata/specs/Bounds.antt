@@ -1,7 +1,7 @@
 -- What is true of every plan.
 use Rattle.std.specs.Prelude.{◌≡◌, ℕ, ◌<◌, ◌≤◌, List, length, is_some, Option, IfSome, IsTrue, All}
+use Rattle.smp_fractions.specs.Limits.{most_rows}
 use Rattle.smp_frame.specs.Bounds.{AreNear}
-use Rattle.smp_frame.specs.Limits.{max_rows}
 use Rattle.smp_prob.specs.declared.requests.Request.{Request}
 use Rattle.smp_prob.specs.Requests.{IsRequest}
 use Rattle.smp_prob.specs.Inclusions.{AreApart, IsRising}
@@ -37,7 +37,7 @@ pub record IsFirst (method : Option Method) (f : first.FirstUnit) : Type 0 where
 -- a stratum has first stage units, as many as a frame has rows at most, and a request over them
 pub record IsStratum (method : Option Method) (s : stratum.Stratum) : Type 0 where
   pub some : 1 ≤ length s.units
-  pub few : length s.units ≤ max_rows
+  pub few : length s.units ≤ most_rows
   pub over : IsOver (length s.units) s.request
   pub firsts : All (IsFirst method) s.units
 

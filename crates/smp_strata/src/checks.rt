@@ -3,8 +3,8 @@
 ghost use Rattle.std.specs.Prelude.{◌≡◌, ◌<◌, ◌≤◌, None, Some, All, IfOk, length, map, nat_eq, nat_lt, slice_index, slice_index_or, [], ℕ};
 ghost use Rattle.std.specs.List.{range_with_len};
 ghost use Rattle.std.specs.Str.{bytes_eq};
+ghost use Rattle.smp_fractions.specs.Limits.{most_rows};
 ghost use Rattle.smp_frame.specs.Bounds.{HaveValues, IsFrame};
-ghost use Rattle.smp_frame.specs.Limits.{max_rows};
 ghost use Rattle.smp_prob.specs.Given.{AreGiven, common_multiple, largest_multiple};
 ghost use Rattle.smp_strata.specs.Rows as Rows;
 ghost use Rattle.smp_strata.specs.Rows.{psu_at, stratum_at};
@@ -133,7 +133,7 @@ fn all_have_sizes(alloc: Global, names: &[Text], sizes: &[u32]) -> Result<(), Mi
 
 // A stratum has as many positive sizes as its number of units.
 fn stratum_fits(alloc: Global, name: &Text, sizes: &[u32], n: u32) -> Result<(), Misfit>
-    requires { length sizes.now ≤ max_rows }
+    requires { length sizes.now ≤ most_rows }
     ensures { Reports result (short name.now sizes.now n) }
 {
     let positive = positive_units(sizes);
@@ -155,7 +155,7 @@ fn strata_fit(
 ) -> Result<(), Misfit>
     requires sizes { length sizes.now ≡ length strata.now.names.items }
     requires members { length strata.now.members.items ≡ length strata.now.names.items }
-    requires few { All (λ group. length group ≤ max_rows) strata.now.members.items }
+    requires few { All (λ group. length group ≤ most_rows) strata.now.members.items }
     requires within { All (All (λ member. member < length cluster_sizes.now))
         strata.now.members.items }
     ensures { Reports result (first_found (short_at cluster_sizes.now sizes.now
@@ -240,7 +240,7 @@ fn strata_have_denominators(
     requires frame { IsFrame units.now }
     requires rows { All (AreRows (length units.now)) clusters.now }
     requires members { length strata.now.members.items ≡ length strata.now.names.items }
-    requires few { All (λ group. length group ≤ max_rows) strata.now.members.items }
+    requires few { All (λ group. length group ≤ most_rows) strata.now.members.items }
     requires within { All (All (λ member. member < length clusters.now))
         strata.now.members.items }
     ensures { Reports result (first_found (denominator_at units.now clusters.now
@@ -278,7 +278,7 @@ fn strata_are_whole(
     requires frame { IsFrame units.now }
     requires rows { All (AreRows (length units.now)) clusters.now }
     requires members { length strata.now.members.items ≡ length strata.now.names.items }
-    requires few { All (λ group. length group ≤ max_rows) strata.now.members.items }
+    requires few { All (λ group. length group ≤ most_rows) strata.now.members.items }
     requires within { All (All (λ member. member < length clusters.now))
         strata.now.members.items }
     requires denominators { (stratum : ℕ) → stratum < length strata.now.names.items

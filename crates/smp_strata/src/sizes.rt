@@ -3,8 +3,8 @@
 ghost use Rattle.std.specs.Prelude.{◌≡◌, ◌^◌, ◌<◌, ◌≤◌, All, IfOk, IfSome, length, map, slice_index, sum};
 ghost use Rattle.std.specs.Ordering.{nat_cmp};
 ghost use Rattle.std.specs.Cmp.Lexicographic.{slice_cmp};
+ghost use Rattle.smp_fractions.specs.Limits.{most_rows};
 ghost use Rattle.smp_frame.specs.Bounds.{IsFrame};
-ghost use Rattle.smp_frame.specs.Limits.{max_rows};
 ghost use Rattle.smp_design.specs.Bounds.{Ascend, IsDesign};
 ghost use Rattle.smp_prob.specs.Requested as Requested;
 ghost use Rattle.smp_strata.specs.Allocations.{IsAllocation};
@@ -88,14 +88,14 @@ pub(crate) fn second_sizes(
 
 /// How many sizes are above 0.
 pub(crate) fn positive_units(sizes: &[u32]) -> u32
-    requires { length sizes.now ≤ max_rows }
+    requires { length sizes.now ≤ most_rows }
     ensures { result ≡ Requested.positive_units sizes.now }
 {
     sizes.iter().filter(|&&size| size > 0).count() as u32
 }
 
 fn lengths(alloc: Global, groups: &[Group]) -> Result<Vec<u32>, NoMemory>
-    requires { All (λ group. length group ≤ max_rows) groups.now }
+    requires { All (λ group. length group ≤ most_rows) groups.now }
     ensures { IfOk result (λ list. list.items ≡ map length groups.now) }
 {
     let mut list = Vec::new(alloc);
@@ -142,9 +142,9 @@ pub(crate) fn sample_sizes(
     members: &[Group],
 ) -> Result<Vec<u32>, NoMemory>
     requires design { IsDesign design.now }
-    requires few { length members.now ≤ max_rows }
+    requires few { length members.now ≤ most_rows }
     requires some { 1 ≤ sum (map length members.now) }
-    requires total { sum (map length members.now) ≤ max_rows }
+    requires total { sum (map length members.now) ≤ most_rows }
     ensures value { IfOk result (λ sizes. sizes.items
         ≡ sizes_by design.now.n design.now.sizes names.now (map length members.now)) }
     ensures rule { IfOk result (λ sizes. IfSome design.now.n

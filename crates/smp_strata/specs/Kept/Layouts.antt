@@ -2,8 +2,8 @@
 use Rattle.std.specs.Prelude.{ℕ, ◌<◌, ◌≤◌, ◌≡◌, nat_lt, List, [], Option, Some, None, length, map, slice_index, slice_index_or, All}
 use Rattle.std.specs.List.{position_or_len, range_with_len}
 use Rattle.std.specs.Str.{bytes_eq}
+use Rattle.smp_fractions.specs.Limits.{most_rows}
 use Rattle.smp_frame.specs.Bounds.{HaveValues, IsFrame}
-use Rattle.smp_frame.specs.Limits.{max_rows}
 use Rattle.smp_design.specs.Bounds.{IsDesign}
 use Rattle.smp_design.specs.declared.design.Design.{Design}
 use Rattle.smp_design.specs.declared.design.Second as second
@@ -38,7 +38,7 @@ strata_homes units clusters = map (λ rows. stratum_number units (first_row rows
 -- rows of a frame of so many units, one at least
 pub record AreRows (count : ℕ) (rows : List ℕ) : Type 0 where
   pub some : 1 ≤ length rows
-  pub few : length rows ≤ max_rows
+  pub few : length rows ≤ most_rows
   pub within : All (λ row. row < count) rows
 
 -- so many groups of places by the numbers that stand there, with the place of each place in its group

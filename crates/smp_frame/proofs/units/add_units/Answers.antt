@@ -1,11 +1,11 @@
 use Rattle.std.proofs.Common.{◌≡◌, true, nat_le, ◌∙◌, rules, map, string_bytes}
-use Rattle.smp_frame.specs.Limits.{max_rows}
+use Rattle.smp_fractions.specs.Limits.{most_rows}
 use Rattle.smp_frame.proofs.NextUnit.{next_unit}
 use Rattle.smp_frame.proofs.units.add_units.Goals as goal
 
 pub loop-number-preserved : goal.loop-number-preserved
 loop-number-preserved c =
-    let within : nat_le c.loop-number.number max_rows ≡ true = search rules in
+    let within : nat_le c.loop-number.number most_rows ≡ true = search rules in
     record {
       reading = c.in_ok-next_record.ensures.reading c.if-not-branch.false;
       units = rw (c.in_ok-push.ensures.items, c.in_ok-unit.ensures.seen)

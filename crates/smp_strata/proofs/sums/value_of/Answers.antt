@@ -1,6 +1,6 @@
 use Rattle.std.proofs.Common.{to_z, w64, ◌+ℤ◌, ◌<◌, ◌^◌, nat_abs, arith, pos, get_or, ◌∙◌, sym, ap, ℤ, ℕ, take}
 use Rattle.std.proofs.lemmas.List.Sums.{fold_more}
-use Rattle.smp_frame.specs.Limits.{max_rows}
+use Rattle.smp_fractions.specs.Limits.{most_rows}
 use Rattle.smp_strata.specs.Rows.{value_at, value_of}
 use Rattle.smp_strata.proofs.Columns.{value_read, value_near, added, added_low, added_high}
 use Rattle.smp_strata.proofs.sums.value_of.Goals as goal
@@ -13,7 +13,7 @@ loop-row-preserved c =
     let v : ℤ = get_or c.as_slice.result.now c.args.column (pos 0) in
     let here = c.requires.rows.within i 0 c.loop-row-test.true in
     let near : nat_abs v < 2 ^ 31 = value_near c.args.units.now row c.args.column c.as_slice.result.now c.index-units-row.result here c.as_slice.ensures c.args.columns c.requires.frame c.requires.values c.requires.column in
-    let few : i < max_rows = omega (arith, c.requires.rows.few, c.loop-row-test.true) in
+    let few : i < most_rows = omega (arith, c.requires.rows.few, c.loop-row-test.true) in
     record {
       sum =
           added s v i few near c.loop-row.invariant.low c.loop-row.invariant.high
