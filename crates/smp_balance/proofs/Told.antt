@@ -5,7 +5,7 @@ use Rattle.std.specs.List.{flat_map}
 use Rattle.std.proofs.lemmas.Int.{fits_signed_from_abs}
 use Rattle.std.proofs.lemmas.List.{append-nil, append_assoc, drop_all}
 use Rattle.std.specs.Int.RustNames.{unsigned_abs}
-use Rattle.smp_fractions.specs.Fractions.{Fraction, Same, whole}
+use Rattle.smp_fractions.specs.Fractions.{Same, whole}
 use Rattle.smp_fractions.proofs.Fractions.{same_refl}
 use Rattle.smp_frac.specs.declared.fractions.Frac.{Frac}
 use Rattle.smp_frac.specs.Fractions.{fraction}

@@ -1,5 +1,5 @@
 -- The request over the first stage units of a stratum.
-use Rattle.std.proofs.Common.{◌≡◌, ℕ, zero, suc, ◌+◌, ◌*◌, ◌<◌, ◌≤◌, ◌==◌, max, pos, true, false, not, Bool, List, [], ◌∷◌, length, map, filter, get_or, true≢false, nat_lt, Option, Some, None, inl, inr, arith, refl, sym, ap, subst, ◌∙◌}
+use Rattle.std.proofs.Common.{◌≡◌, ℕ, zero, suc, ◌+◌, ◌*◌, ◌<◌, ◌≤◌, ◌==◌, pos, true, false, not, Bool, List, [], ◌∷◌, length, map, filter, get_or, true≢false, nat_lt, Option, Some, None, inl, inr, arith, refl, sym, ap, ◌∙◌}
 use Rattle.std.specs.Prelude.{All, IsSome, IsTrue, OnSome}
 use Rattle.std.specs.List.{list_any}
 use Rattle.std.specs.Str.{bytes_eq}
