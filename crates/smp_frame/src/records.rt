@@ -41,7 +41,8 @@ pub(crate) fn next_record(
 ) -> Result<bool, NoMemory>
     requires { IsReading reader.old }
     ensures reading { IfOk result (λ found. found ≡ true → IsReading reader.new) }
-    ensures takes { IfOk result (λ found. Takes found (fields_of row.new) (rows_left reader.old) (rows_left reader.new)) }
+    ensures takes { IfOk result (λ found.
+        Takes found (fields_of row.new) (rows_left reader.old) (rows_left reader.new)) }
 {
     let error = match reader.read_byte_record(row) {
         Ok(found) => return Ok(found),

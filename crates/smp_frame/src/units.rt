@@ -28,7 +28,8 @@ pub(crate) fn units_left(
     reader: &mut Reader<&[u8]>,
 ) -> Result<Vec<Unit>, FrameFault>
     requires { IsReading reader.old }
-    ensures { Gives is_memory (λ units. units.items) result (units_from layout.now 1 [] (rows_left reader.old)) }
+    ensures { Gives is_memory (λ units. units.items) result
+        (units_from layout.now 1 [] (rows_left reader.old)) }
 {
     let mut row = ByteRecord::new(alloc);
     let mut seen = IndexSet::new(alloc);
@@ -49,7 +50,8 @@ fn add_units(
     requires reading { IsReading reader.old }
     requires unseen { seen.old.keys ≡ [] }
     requires none { units.old.items ≡ [] }
-    ensures { Gives is_memory (λ _. units.new.items) result (units_from layout.now 1 [] (rows_left reader.old)) }
+    ensures { Gives is_memory (λ _. units.new.items) result
+        (units_from layout.now 1 [] (rows_left reader.old)) }
 {
     for number in 1..=MAX_ROWS {
         if !next_record(reader, row)? {
@@ -73,8 +75,10 @@ fn unit_of(
     seen: &mut IndexSet<String>,
     row: &ByteRecord,
 ) -> Result<Unit, FrameFault>
-    ensures reads { Reads is_memory result (Frames.unit_of layout.now number (map string_bytes seen.old.keys) (fields_of row.now)) }
-    ensures seen { IfOk result (λ unit. map string_bytes seen.new.keys ≡ map string_bytes seen.old.keys ++ unit.id ∷ []) }
+    ensures reads { Reads is_memory result
+        (Frames.unit_of layout.now number (map string_bytes seen.old.keys) (fields_of row.now)) }
+    ensures seen { IfOk result (λ unit.
+        map string_bytes seen.new.keys ≡ map string_bytes seen.old.keys ++ unit.id ∷ []) }
 {
     if row.len() != layout.width {
         return Err(FrameFault::RowLength { row: number });
@@ -103,8 +107,10 @@ fn unit_of(
 
 // Adds an id, and says whether it is new.
 fn is_new(alloc: Global, seen: &mut IndexSet<String>, id: &str) -> Result<bool, NoMemory>
-    ensures new { IfOk result (λ new. new ≡ not (list_any (bytes_eq id.now) (map string_bytes seen.old.keys))) }
-    ensures added { IfOk result (λ new. new ≡ true → map string_bytes seen.new.keys ≡ map string_bytes seen.old.keys ++ id.now ∷ []) }
+    ensures new { IfOk result (λ new.
+        new ≡ not (list_any (bytes_eq id.now) (map string_bytes seen.old.keys))) }
+    ensures added { IfOk result (λ new. new ≡ true
+        → map string_bytes seen.new.keys ≡ map string_bytes seen.old.keys ++ id.now ∷ []) }
 {
     let id = String::from_str(alloc, id)?;
     Ok(seen.insert(id)?)

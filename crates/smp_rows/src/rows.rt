@@ -28,7 +28,8 @@ impl<'a, D: Splitting> Rows<'a, D> {
     pub fn select_as_asked(&self, state: &D::State)
         requires belongs { BelongsToRows self.now.request.now (D.tree self.now.design)
             (D.belongs self.now.design) state.now }
-        requires serves { SelectsAsRequested self.now.request.now (D.tree self.now.design) state.now }
+        requires serves { SelectsAsRequested self.now.request.now
+            (D.tree self.now.design) state.now }
         ensures probability { (row : ℕ) → row < self.now.rows → Same
             (inclusion_probability (rows_tree self.now.rows self.now.request.now (D.tree self.now.design)) state.now row)
             (asked_fraction self.now.request.now row) }
