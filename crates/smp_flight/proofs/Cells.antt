@@ -19,11 +19,11 @@ module _ (v : Windowed) (rows : ℕ) (numbers : List ℕ) (s : Tracked) (kept : 
       subst (λ (t : Tracked). Contains t.window k → get_or numbers k 0 ≡ get_or t.flight.shares.numer k 0) is
       (λ h. read_in v.numer v.times v.window k (get_or numbers k 0) (contains_in v.window k h) (ap (λ xs. get_or xs k 0) kept))
 
-  -- and all others over the first denominator
-  pub cells_others : (k : ℕ) → ¬ (Contains s.window k) → get_or numbers k 0 * s.flight.shares.den ≡ get_or s.flight.shares.numer k 0 * s.flight.first
+  -- and all others over the requested denominator
+  pub cells_others : (k : ℕ) → ¬ (Contains s.window k) → get_or numbers k 0 * s.flight.shares.den ≡ get_or s.flight.shares.numer k 0 * s.flight.requested_den
   cells_others k =
-      subst (λ (t : Tracked). ¬ (Contains t.window k) → get_or numbers k 0 * t.flight.shares.den ≡ get_or t.flight.shares.numer k 0 * t.flight.first) is
+      subst (λ (t : Tracked). ¬ (Contains t.window k) → get_or numbers k 0 * t.flight.shares.den ≡ get_or t.flight.shares.numer k 0 * t.flight.requested_den) is
       (λ h.
-      ap (λ d. get_or numbers k 0 * d) (mul_comm v.first v.times) ∙ sym (mul_assoc (get_or numbers k 0) v.times v.first)
-      ∙ ap (λ a. a * v.first)
+      ap (λ d. get_or numbers k 0 * d) (mul_comm v.requested_den v.times) ∙ sym (mul_assoc (get_or numbers k 0) v.times v.requested_den)
+      ∙ ap (λ a. a * v.requested_den)
       (read_out v.numer v.times v.window k (get_or numbers k 0) (false_from_ne_true (is_in v.window k) (λ t. h (in_contains v.window k t))) (ap (λ xs. get_or xs k 0) kept)))

@@ -14,7 +14,7 @@ use Rattle.smp_flight.specs.Steps.{chosen, end_at_is}
 pub record IsChosen (units : Units) (s : Flight) (line : Line) (r : Ratio) (t : Shares) : Type 0 where
   pub line_ok : IsLine s.shares line
   pub moved : IsMoved units.requested.den s.shares line r t
-  pub flight : IsFlight units (record { first = s.first; shares = t; rows = s.rows })
+  pub flight : IsFlight units (record { requested_den = s.requested_den; shares = t; rows = s.rows })
   pub settles : fractional_count t < fractional_count s.shares
   pub fewer : (k : ℕ) → is_fractional t k ≡ true → is_fractional s.shares k ≡ true
 
@@ -25,7 +25,7 @@ module _ (units : Units) (s : Flight) (is_flight : IsFlight units s) where
       record {
         line_ok = ok;
         moved = m;
-        flight = record { are = is_flight.are; values = end_values units.requested.den s.shares is_over line ok (length units.sizes) is_flight.values.count narrow; first_is = is_flight.first_is; multiple = end_multiple units.requested.den s.shares is_over line ok; rows_in = is_flight.rows_in };
+        flight = record { are = is_flight.are; values = end_values units.requested.den s.shares is_over line ok (length units.sizes) is_flight.values.count narrow; requested_den_is = is_flight.requested_den_is; multiple = end_multiple units.requested.den s.shares is_over line ok; rows_in = is_flight.rows_in };
         settles = end_settles units.requested.den s.shares is_over line ok;
         fewer = keeps_fractional units.requested.den s.shares is_over line ok;
       }

@@ -137,7 +137,7 @@ flight_over units s is_flight = record {
 
 -- the state before the first step
 pub started_flight : (units : Units) → IsUnits units → IsFlight units (started units)
-started_flight units are = record { are = are; values = are.requested; first_is = refl; multiple = dvd_refl units.requested.den; rows_in = omega arith }
+started_flight units are = record { are = are; values = are.requested; requested_den_is = refl; multiple = dvd_refl units.requested.den; rows_in = omega arith }
 
 -- ---- the step
 

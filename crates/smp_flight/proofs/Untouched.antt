@@ -1,5 +1,5 @@
 -- What the numbers at the end of a line have in common: the units that are neither in the window nor on the line have no part in it, since their
--- numerators there are multiples of the common denominator over the first one.
+-- numerators there are multiples of the common denominator over the requested one.
 use Rattle.std.proofs.Common.{◌≡◌, ℕ, ◌+◌, ◌*◌, ◌/◌, ◌<◌, ◌≤◌, false, List, pos, length, get_or, arith, sym, ap, ap₂, ◌∙◌, subst, inl, inr}
 use Rattle.std.proofs.lemmas.Bool.{cases_Bool, cases_eq}
 use Rattle.std.proofs.lemmas.Nat.Gcd.{dvd_refl, dvd_trans, dvd_antisymm}
@@ -96,14 +96,14 @@ module _ (v : Windowed) (line : Line) (r : Reach) (line_ok : IsLine (shares_in v
       ])
 
 -- what the numbers at the end of a line have in common
-pub divides_times : (v : Windowed) (line : Line) (end : End) → 1 ≤ v.first → IsEndOf v.first (shares_in v) line end → end.common ∣ v.times * end.reach.size
+pub divides_times : (v : Windowed) (line : Line) (end : End) → 1 ≤ v.requested_den → IsEndOf v.requested_den (shares_in v) line end → end.common ∣ v.times * end.reach.size
 divides_times v line end some e =
     let size : end.reach.size ≡ (reach (shares_in v) line).size = ap (λ (r : Reach). r.size) e.reach_is in
-    let whole : v.first * v.times * (reach (shares_in v) line).size ≡ v.first * (v.times * (reach (shares_in v) line).size) = omega arith in
-    let times : v.first * v.times * (reach (shares_in v) line).size / v.first ≡ v.times * (reach (shares_in v) line).size = ap (λ x. x / v.first) whole ∙ mul-div_cancel_left (v.times * (reach (shares_in v) line).size) some in
+    let whole : v.requested_den * v.times * (reach (shares_in v) line).size ≡ v.requested_den * (v.times * (reach (shares_in v) line).size) = omega arith in
+    let times : v.requested_den * v.times * (reach (shares_in v) line).size / v.requested_den ≡ v.times * (reach (shares_in v) line).size = ap (λ x. x / v.requested_den) whole ∙ mul-div_cancel_left (v.times * (reach (shares_in v) line).size) some in
     rw (e.common_is, size)
-    (let P : ℕ → Type 0 = λ x. common_factor (v.first * v.times * (reach (shares_in v) line).size / v.first) (advanced_numbers (shares_in v).numer line (reach (shares_in v) line)) ∣ x in
-    subst P times (divides_first (v.first * v.times * (reach (shares_in v) line).size / v.first) (advanced_numbers (shares_in v).numer line (reach (shares_in v) line))))
+    (let P : ℕ → Type 0 = λ x. common_factor (v.requested_den * v.times * (reach (shares_in v) line).size / v.requested_den) (advanced_numbers (shares_in v).numer line (reach (shares_in v) line)) ∣ x in
+    subst P times (divides_first (v.requested_den * v.times * (reach (shares_in v) line).size / v.requested_den) (advanced_numbers (shares_in v).numer line (reach (shares_in v) line))))
 
-pub full_is : (v : Windowed) (line : Line) (end : End) → IsEndOf v.first (shares_in v) line end → end.full ≡ v.first * v.times * end.reach.size
-full_is v line end e = e.full_is ∙ sym (ap (λ (r : Reach). v.first * v.times * r.size) e.reach_is)
+pub full_is : (v : Windowed) (line : Line) (end : End) → IsEndOf v.requested_den (shares_in v) line end → end.full ≡ v.requested_den * v.times * end.reach.size
+full_is v line end e = e.full_is ∙ sym (ap (λ (r : Reach). v.requested_den * v.times * r.size) e.reach_is)

@@ -39,18 +39,18 @@ next_on_is units order s = same_step units s.shares order (search s.rows (column
 abbrev pub next : Units → Flight → Next
 next units s = next_on units (fractional_units s.shares) s
 
--- the values at the end of a line, over a multiple of the first denominator
+-- the values at the end of a line, over a multiple of the requested denominator
 pub end_at : ℕ → Shares → Line → Shares
-end_at first s line = found_end first s line
+end_at requested_den s line = found_end requested_den s line
 
-pub end_at_is : (first : ℕ) (s : Shares) (line : Line) → end_at first s line ≡ end_of first s line
+pub end_at_is : (requested_den : ℕ) (s : Shares) (line : Line) → end_at requested_den s line ≡ end_of requested_den s line
 unfolding end_at
-end_at_is first s line = λ i. end_of first s line
+end_at_is requested_den s line = λ i. end_of requested_den s line
 
 -- the state at the end that is chosen
 abbrev pub chosen : Units → Flight → Move → Bool → Flight
 chosen units s m plus = record {
-  first = s.first;
+  requested_den = s.requested_den;
   shares = end_at units.requested.den s.shares (chosen_line m plus);
   rows = s.rows;
 }

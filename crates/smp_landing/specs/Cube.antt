@@ -40,7 +40,7 @@ landed f left = if nat_eq left 0 then fractional_count f.shares else left
 
 -- the last row in force is dropped
 abbrev pub dropped : Flight → Flight
-dropped f = record { first = f.first; shares = f.shares; rows = f.rows - 1 }
+dropped f = record { requested_den = f.requested_den; shares = f.shares; rows = f.rows - 1 }
 
 -- the parts of a state in flight, by its next step
 abbrev pub flight_parts : Units → Flight → ℕ → Next → List (Part Balancing)

@@ -6,14 +6,14 @@ use Rattle.smp_moves.specs.Moves.{Line, Next, move, independent, wide, turned}
 use Rattle.smp_moves.specs.Ends.{entries_fit, end_of, move_along}
 
 abbrev pub found_end : ℕ → Shares → Line → Shares
-found_end first s line = end_of first s line
+found_end requested_den s line = end_of requested_den s line
 
 abbrev fits : ℕ → Shares → Line → Bool
-fits first s line =
-    entries_fit line && (nat_le (end_of first s line).den (2 ^ 80) && nat_le (end_of first s (turned line)).den (2 ^ 80))
+fits requested_den s line =
+    entries_fit line && (nat_le (end_of requested_den s line).den (2 ^ 80) && nat_le (end_of requested_den s (turned line)).den (2 ^ 80))
 
 -- the step after what a search answers, where the line of a circuit is this
 abbrev pub found_next : ℕ → Shares → (List ℤ → Line) → Search → Next
-found_next first s line (found w) = if fits first s (line w) then move (move_along s (line w)) else wide
-found_next first s line none = independent
-found_next first s line too_wide = wide
+found_next requested_den s line (found w) = if fits requested_den s (line w) then move (move_along s (line w)) else wide
+found_next requested_den s line none = independent
+found_next requested_den s line too_wide = wide

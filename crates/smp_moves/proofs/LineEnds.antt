@@ -231,7 +231,7 @@ module _ (first : ℕ) (s : Shares) (is_over : IsOver first s) (line : Line) (ok
       let f : g * get_or last.numer k 0 * (full / g) ≡ advanced (a_at k) (reach s line) (entry_of line k) * (full / g) = ap (λ x. x * (full / g)) (last_whole k) in
       omega (arith, e, f))
 
-  -- ---- no smaller multiple of the first denominator makes the values whole
+  -- ---- no smaller multiple of the requested denominator makes the values whole
 
   whole_divides : (m : ℕ) → MakesWhole (first * m) last → (k : ℕ) → times ∣ m * get_or last.numer k 0
   whole_divides m h k =

@@ -49,17 +49,17 @@ advanced a r (negsuc n) = a * r.size - r.left * suc n
 abbrev pub advanced_numbers : List ℕ → Line → Reach → List ℕ
 advanced_numbers numer line r = map (λ k. advanced (slice_index numer k) r (entry_of line k)) (range_with_len 0 (length numer))
 
--- what all these numerators have in common with a multiple of the first denominator
+-- what all these numerators have in common with a multiple of the requested denominator
 abbrev pub common_factor : ℕ → List ℕ → ℕ
 common_factor times numbers = fold greatest_common_divisor times numbers
 
--- the values at the end of a line, where the first denominator is this
+-- the values at the end of a line, where the requested denominator is this
 abbrev pub end_of : ℕ → Shares → Line → Shares
-end_of first s line =
+end_of requested_den s line =
     let r = reach s line in
     let full = s.den * r.size in
     let numbers = advanced_numbers s.numer line r in
-    let common = common_factor (full / first) numbers in
+    let common = common_factor (full / requested_den) numbers in
     record { numer = map (λ n. n / common) numbers; den = full / common }
 
 -- ---- the move

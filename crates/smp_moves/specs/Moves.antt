@@ -55,14 +55,14 @@ pub record IsGreatest (s : Shares) (line : Line) (r : Ratio) : Type 0 where
 abbrev pub MakesWhole : ℕ → Shares → Type 0
 MakesWhole d t = (k : ℕ) → t.den ∣ slice_index t.numer k * d
 
--- the values r along the line, over the first denominator times the least number that makes all of them whole
-pub record IsMoved (first : ℕ) (s : Shares) (line : Line) (r : Ratio) (t : Shares) : Type 0 where
+-- the values r along the line, over the requested denominator times the least number that makes all of them whole
+pub record IsMoved (requested_den : ℕ) (s : Shares) (line : Line) (r : Ratio) (t : Shares) : Type 0 where
   pub same_length : length t.numer ≡ length s.numer
   pub values : (k : ℕ) → Same (value_at t k) (along s line (fraction_of r) k)
   pub positive : 1 ≤ t.den
   pub times : ℕ
-  pub multiple : t.den ≡ first * times
-  pub least : (m : ℕ) → 1 ≤ m → MakesWhole (first * m) t → times ≤ m
+  pub multiple : t.den ≡ requested_den * times
+  pub least : (m : ℕ) → 1 ≤ m → MakesWhole (requested_den * m) t → times ≤ m
 
 -- ---- the move
 

@@ -17,11 +17,11 @@ direction units order w = record {
 }
 
 abbrev pub fits : ℕ → Shares → Line → Bool
-fits first s line =
-    entries_fit line && (nat_le (end_of first s line).den (2 ^ 80) && nat_le (end_of first s (turned line)).den (2 ^ 80))
+fits requested_den s line =
+    entries_fit line && (nat_le (end_of requested_den s line).den (2 ^ 80) && nat_le (end_of requested_den s (turned line)).den (2 ^ 80))
 
 abbrev pub next_along : ℕ → Shares → Line → Next
-next_along first s line = if fits first s line then move (move_along s line) else wide
+next_along requested_den s line = if fits requested_den s line then move (move_along s line) else wide
 
 abbrev pub next_of : Units → Shares → List ℕ → Search → Next
 next_of units s order (found w) = next_along units.requested.den s (direction units order w)

@@ -95,7 +95,7 @@ module _ (units : Units) (f : Flight) (left : ℕ) (ok : IsFlight units f) where
       omega (arith, few_fractional is, some)
 
   dropped_flight : IsFlight units (dropped f)
-  dropped_flight = record { are = ok.are; values = ok.values; first_is = ok.first_is; multiple = ok.multiple; rows_in = omega (arith, ok.rows_in) }
+  dropped_flight = record { are = ok.are; values = ok.values; requested_den_is = ok.requested_den_is; multiple = ok.multiple; rows_in = omega (arith, ok.rows_in) }
 
   pub split_by : is_settled f.shares ≡ false → (a : Next) → next units f ≡ a → LawfulParts (cube_tree units) (IsBalancing units) (flying f left) (flight_parts units f left a)
   split_by going (move m) is = move_split units f left ok m is

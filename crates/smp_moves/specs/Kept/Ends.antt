@@ -9,7 +9,7 @@ use Rattle.smp_moves.specs.declared.reaches.Reach.{Reach}
 use Rattle.smp_kernel.specs.Vectors.{entry}
 use Rattle.smp_moves.specs.declared.lines.Line.{Line as LineOfPlaces}
 
--- values over a multiple of the first denominator
+-- values over a multiple of the requested denominator
 pub record IsOver (first : ℕ) (s : Shares) : Type 0 where
   pub some : 1 ≤ first
   pub multiple : first ∣ s.den
