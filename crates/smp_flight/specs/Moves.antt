@@ -19,8 +19,8 @@ pub record IsDirection (units : Units) (order : List ℕ) (w : List ℤ) (line :
   pub lengths : length line.entries ≡ length line.units
   pub entries : IsReduced (sized units line.units w) line.entries
 
--- The move along the circuit w of the first of these units, with the values at both ends. The weights are as `down` to `up`, in whole numbers
--- without common divisor.
+-- The move along the circuit w of the first of these units, with the values at both ends. The weights are as `down` to `up`, in
+-- whole numbers without common divisor.
 pub record IsMove (units : Units) (s : Shares) (order : List ℕ) (w : List ℤ) (m : Move) (plus_end minus_end : Shares) : Type 0 where
   pub direction : IsDirection units order w m.direction
   pub up : IsGreatest s m.direction m.up

@@ -1,5 +1,6 @@
--- One step of the flight phase, as a function of the state, and the end of a move. A law of its own says what they are: the step has the properties of
--- a search and of a move, the end has the values there, and no other has. How they are found is no part of what is said.
+-- One step of the flight phase, as a function of the state, and the end of a move. A law of its own says what they are: the step has
+-- the properties of a search and of a move, the end has the values there, and no other has. How they are found is no part of what is
+-- said.
 use Rattle.std.specs.Prelude.{◌≡◌, ℕ, Bool, List, ℤ, length, take}
 use Rattle.smp_prob.specs.Shares.{Shares}
 use Rattle.smp_values.specs.Values.{fractional_units}

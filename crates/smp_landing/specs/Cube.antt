@@ -1,6 +1,6 @@
--- The cube method (Deville and Tillé 2004). In its flight, moves keep the balancing totals as long as there is a direction for them. Then the
--- landing begins. Where no direction is left, the last row in force is dropped, and the flight goes on without it. Where a number would pass
--- its gate, sequential pivotal steps finish the selection.
+-- The cube method (Deville and Tillé 2004). In its flight, moves keep the balancing totals as long as there is a direction for them.
+-- Then the landing begins. Where no direction is left, the last row in force is dropped, and the flight goes on without it. Where a
+-- number would pass its gate, sequential pivotal steps finish the selection.
 use Rattle.std.specs.Prelude.{ℕ, ◌+◌, ◌-◌, ◌^◌, true, false, nat_eq, if◌then◌else◌, List, [], ◌∷◌, length}
 use Rattle.smp_prob.specs.Shares.{Shares}
 use Rattle.smp_split.specs.Trees.{Part, Tree}
@@ -13,8 +13,8 @@ use Rattle.smp_flight.specs.States.{Units, Flight, IsFlight}
 use Rattle.smp_moves.specs.Moves.{independent, Next, move, wide}
 use Rattle.smp_flight.specs.Steps.{next, chosen}
 
--- A state: one of the flight, or values on which pivotal steps go on. With it stands how many units were fractional where the landing began,
--- and 0 as long as it hasn't begun.
+-- A state: one of the flight, or values on which pivotal steps go on. With it stands how many units were fractional where the
+-- landing began, and 0 as long as it hasn't begun.
 pub data Balancing : Type 0 where
   flying : Flight → ℕ → Balancing
   pairing : Shares → ℕ → Balancing

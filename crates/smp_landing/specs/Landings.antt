@@ -1,4 +1,5 @@
--- What is balanced by a cube over its units: their totals (Horvitz and Thompson 1952), and where its landing may begin (Deville and Tillé 2004).
+-- What is balanced by a cube over its units: their totals (Horvitz and Thompson 1952), and where its landing may begin (Deville and
+-- Tillé 2004).
 use Rattle.std.specs.Prelude.{◌⊎◌, slice_index}
 use Rattle.smp_kernel.specs.Elimination.{cut, AreIndependent}
 use Rattle.smp_kernel.specs.Searches.{none}

@@ -1,5 +1,5 @@
--- What a selection keeps that flies and then lands, and what its landing gives up (Deville and Tillé 2004), whatever its method. All of it is
--- said of every path from a state.
+-- What a selection keeps that flies and then lands, and what its landing gives up (Deville and Tillé 2004), whatever its method. All
+-- of it is said of every path from a state.
 use Rattle.std.specs.Prelude.{◌≡◌, ◌≢◌, ◌⊎◌, ℕ, ◌<◌, ◌≤◌, true, false, List, [], ◌∷◌, ◌++◌}
 use Rattle.smp_fractions.specs.Fractions.{Fraction, Same}
 use Rattle.smp_fractions.specs.Bounds.{DifferByAtMost}
@@ -8,10 +8,11 @@ use Rattle.smp_split.specs.Paths.{Entry, IsStep, Leads}
 use Rattle.smp_split.specs.declared.kind.Kind.{Kind}
 use Rattle.smp_split.specs.declared.kind.Kind.TheVariants as kind
 
--- What is balanced: the tree; of each state the rows in force, how many units were fractional where the landing began (0 as long as it hasn't
--- begun), and how many are fractional; how many rows there are; the total of a row at a state, what it should be, what is estimated of it at
--- a leaf, and what bounds the error where the landing begins at a state. Of the search at a state: the columns of the fractional units are
--- independent in the rows in force; and it finds no direction, or a number of it or of its move passes its gate.
+-- What is balanced: the tree; of each state the rows in force, how many units were fractional where the landing began (0 as long as
+-- it hasn't begun), and how many are fractional; how many rows there are; the total of a row at a state, what it should be, what is
+-- estimated of it at a leaf, and what bounds the error where the landing begins at a state. Of the search at a state: the columns of
+-- the fractional units are independent in the rows in force; and it finds no direction, or a number of it or of its move passes its
+-- gate.
 pub record Balance (State : Type 0) : Type 1 where
   pub tree : Tree State
   pub rows : State → ℕ

@@ -1,6 +1,7 @@
--- A move of values along a line, by its properties: how far the values can follow the line and its opposite before one of them would leave 0 or 1, the
--- states at both ends, and the weights that keep each value in the mean (Deville and Tillé 2004).
-use Rattle.std.specs.Prelude.{◌≡◌, ◌≢◌, ℕ, ◌*◌, ◌≤◌, ◌^◌, true, Bool, cond, nat_eq, List, [], ◌∷◌, ℤ, pos, neg_ℤ, length, map, slice_index}
+-- A move of values along a line, by its properties: how far the values can follow the line and its opposite before one of them would
+-- leave 0 or 1, the states at both ends, and the weights that keep each value in the mean (Deville and Tillé 2004).
+use Rattle.std.specs.Prelude.{◌≡◌, ◌≢◌, ℕ, ◌*◌, ◌≤◌, ◌^◌, true, Bool, cond, nat_eq, List, [], ◌∷◌, ℤ}
+use Rattle.std.specs.Prelude.{pos, neg_ℤ, length, map, slice_index}
 use Rattle.std.specs.List.{All, AllPairs}
 use Rattle.std.specs.Int.{IsGcd}
 use Prim.Native.Nat.{◌∣◌}

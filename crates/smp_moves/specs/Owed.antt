@@ -8,8 +8,8 @@ use Rattle.smp_split.specs.declared.kind.Kind.TheVariants as kind
 use Rattle.smp_values.specs.Values.{fractional}
 use Rattle.smp_moves.specs.Balances.{Balance, Begins}
 
--- A selection whose totals are sums over the units of its tree: each unit's value, as a numerator over a denominator, times what the unit counts
--- for in the total of a row. The rest is as in a balance.
+-- A selection whose totals are sums over the units of its tree: each unit's value, as a numerator over a denominator, times what the
+-- unit counts for in the total of a row. The rest is as in a balance.
 pub record Weighed (State : Type 0) : Type 1 where
   pub tree : Tree State
   pub rows : State → ℕ

@@ -1,5 +1,6 @@
 -- The splits of the cube are lawful.
-use Rattle.std.proofs.Common.{◌≡◌, ◌≢◌, ℕ, ◌+◌, ◌<◌, ◌≤◌, ◌^◌, ℤ, Bool, true, false, List, [], ◌∷◌, length, arith, refl, subst}
+use Rattle.std.proofs.Common.{◌≡◌, ◌≢◌, ℕ, ◌+◌, ◌<◌, ◌≤◌, ◌^◌, ℤ, Bool, true, false, List, [], ◌∷◌}
+use Rattle.std.proofs.Common.{length, arith, refl, subst}
 use Rattle.std.proofs.lemmas.Bool.{eqb-false}
 use Rattle.std.proofs.lemmas.List.{length-map}
 use Rattle.smp_fractions.specs.Fractions.{Same, whole, integer, plus, times}
@@ -43,11 +44,16 @@ module _ (units : Units) (f : Flight) (left : ℕ) (ok : IsFlight units f) (m : 
       flown_both_ways units f (fractional_units f.shares) ok (frame_order f.shares) m
       (record { circuit = knows.circuit; finds = knows.finds; plus_end = _; minus_end = _; is = knows.is; fits = knows.fits })
 
-  flown_even : (k : ℕ) → Same (plus (times (whole m.plus_weight) (value_at (chosen units f m true).shares k)) (plus (times (whole m.minus_weight) (value_at (chosen units f m false).shares k)) (whole 0)))
+  flown_even : (k : ℕ) → Same (plus (times (whole m.plus_weight) (value_at (chosen units f m true).shares k))
+      (plus (times (whole m.minus_weight) (value_at (chosen units f m false).shares k)) (whole 0)))
       (times (whole (m.plus_weight + (m.minus_weight + 0))) (value_at f.shares k))
   flown_even k =
-      let down = subst (λ (z : ℤ). Same (value_at (chosen units f m false).shares k) (plus (value_at f.shares k) (times (fraction_of m.down) (integer z)))) (entry_of_turned m.direction k) ((ends_at false).moved.values k) in
-      even_ends m.plus_weight m.minus_weight (value_at f.shares k) (value_at (chosen units f m true).shares k) (value_at (chosen units f m false).shares k) (fraction_of m.up) (fraction_of m.down) (entry_of m.direction k)
+      let down = subst (λ (z : ℤ). Same (value_at (chosen units f m false).shares k)
+      (plus (value_at f.shares k) (times (fraction_of m.down) (integer z)))) (entry_of_turned m.direction k)
+      ((ends_at false).moved.values k) in
+      even_ends m.plus_weight m.minus_weight (value_at f.shares k) (value_at (chosen units f m true).shares k)
+      (value_at (chosen units f m false).shares k) (fraction_of m.up) (fraction_of m.down)
+      (entry_of m.direction k)
       ((ends_at true).moved.values k) down knows.is.weights
 
   pub move_split : LawfulParts (cube_tree units) (IsBalancing units) (flying f left) (flight_parts units f left (move m))
@@ -62,14 +68,17 @@ module _ (units : Units) (f : Flight) (left : ℕ) (ok : IsFlight units f) (m : 
   }
 
   -- it keeps the total of each row in force, at both ends
-  pub both_totals : (row : ℕ) → row < f.rows → EachPart (λ p. Same (weighed_total (weighed_of units) p.state row) (weighed_total (weighed_of units) (flying f left) row)) (flight_parts units f left (move m))
+  pub both_totals : (row : ℕ) → row < f.rows
+      → EachPart (λ p. Same (weighed_total (weighed_of units) p.state row)
+      (weighed_total (weighed_of units) (flying f left) row)) (flight_parts units f left (move m))
   both_totals row l =
       let order : List ℕ = fractional_units f.shares in
       (end_total units f order ok m knows true row l, (end_total units f order ok m knows false row l, tt))
 
 -- ---- one part with the same values
 
-lone_split : (units : Units) (s t : Balancing) → values_in t ≡ values_in s → (cube_tree units).rank t < (cube_tree units).rank s → IsBalancing units t →
+lone_split : (units : Units) (s t : Balancing) → values_in t ≡ values_in s
+    → (cube_tree units).rank t < (cube_tree units).rank s → IsBalancing units t →
     LawfulParts (cube_tree units) (IsBalancing units) s (record { weight = 1; state = t } ∷ [])
 lone_split units s t same falls member = record {
   some = omega arith;
@@ -81,11 +90,13 @@ lone_split units s t same falls member = record {
 module _ (units : Units) (f : Flight) (left : ℕ) (ok : IsFlight units f) where
   -- where no direction is left, the search found none
   pub finds_none : next units f ≡ independent → Finds units f (fractional_units f.shares) none
-  finds_none is = subst (IsNext units f (fractional_units f.shares)) is (next_is units f (fractional_units f.shares) ok (frame_order f.shares))
+  finds_none is = subst (IsNext units f (fractional_units f.shares)) is
+      (next_is units f (fractional_units f.shares) ok (frame_order f.shares))
 
   pub few_fractional : next units f ≡ independent → fractional_count f.shares ≤ f.rows
   few_fractional is =
-      let few : length (columns_of units (fractional_units f.shares)) ≤ f.rows = none_is_few f.rows (columns_of units (fractional_units f.shares)) (finds_none is) in
+      let few : length (columns_of units (fractional_units f.shares)) ≤ f.rows =
+      none_is_few f.rows (columns_of units (fractional_units f.shares)) (finds_none is) in
       omega (arith, few, length-map (fractional_units f.shares) (column units), fractional_units_length f.shares)
 
   -- so where units are fractional, some row is in force
@@ -95,9 +106,16 @@ module _ (units : Units) (f : Flight) (left : ℕ) (ok : IsFlight units f) where
       omega (arith, few_fractional is, some)
 
   dropped_flight : IsFlight units (dropped f)
-  dropped_flight = record { are = ok.are; values = ok.values; requested_den_is = ok.requested_den_is; multiple = ok.multiple; rows_in = omega (arith, ok.rows_in) }
+  dropped_flight = record {
+    are = ok.are;
+    values = ok.values;
+    requested_den_is = ok.requested_den_is;
+    multiple = ok.multiple;
+    rows_in = omega (arith, ok.rows_in);
+  }
 
-  pub split_by : is_settled f.shares ≡ false → (a : Next) → next units f ≡ a → LawfulParts (cube_tree units) (IsBalancing units) (flying f left) (flight_parts units f left a)
+  pub split_by : is_settled f.shares ≡ false → (a : Next) → next units f ≡ a
+      → LawfulParts (cube_tree units) (IsBalancing units) (flying f left) (flight_parts units f left a)
   split_by going (move m) is = move_split units f left ok m is
   split_by going independent is =
       let some = some_row is going in
@@ -107,7 +125,8 @@ module _ (units : Units) (f : Flight) (left : ℕ) (ok : IsFlight units f) where
 -- ---- the pivotal steps
 
 module _ (units : Units) (left : ℕ) where
-  pub pairing_lens : Lens (steps_tree (length units.sizes)) (IsValues (length units.sizes) (2 ^ 80)) (cube_tree units) (λ t. pairing t left) as_unit
+  pub pairing_lens : Lens (steps_tree (length units.sizes)) (IsValues (length units.sizes) (2 ^ 80))
+      (cube_tree units) (λ t. pairing t left) as_unit
   pairing_lens = record {
     within = λ k h. h;
     going = λ i e. e;
@@ -117,14 +136,17 @@ module _ (units : Units) (left : ℕ) where
     value = λ i here k h. same_refl (value_at i k);
   }
 
-  steps_through : (s : Shares) → IsValues (length units.sizes) (2 ^ 80) s → is_settled s ≡ false → LawfulSplit (cube_tree units) (IsBalancing units) (pairing s left)
+  steps_through : (s : Shares) → IsValues (length units.sizes) (2 ^ 80) s → is_settled s ≡ false
+      → LawfulSplit (cube_tree units) (IsBalancing units) (pairing s left)
   steps_through s ok going =
-      split_through (steps_tree (length units.sizes)) (IsValues (length units.sizes) (2 ^ 80)) (cube_tree units) (λ t. pairing t left) as_unit pairing_lens (IsBalancing units) (λ i m. m) s ok going
+      split_through (steps_tree (length units.sizes)) (IsValues (length units.sizes) (2 ^ 80)) (cube_tree units)
+      (λ t. pairing t left) as_unit pairing_lens (IsBalancing units) (λ i m. m) s ok going
       ((steps_lawful (length units.sizes)).split s ok going)
 
 -- ---- all states
 
-cube_split : (units : Units) (s : Balancing) → IsBalancing units s → is_settled (values_in s) ≡ false → LawfulSplit (cube_tree units) (IsBalancing units) s
+cube_split : (units : Units) (s : Balancing) → IsBalancing units s → is_settled (values_in s) ≡ false
+    → LawfulSplit (cube_tree units) (IsBalancing units) s
 cube_split units (flying f left) ok going = split_by units f left ok going (next units f) refl
 cube_split units (pairing s left) ok going = steps_through units left s ok going
 
