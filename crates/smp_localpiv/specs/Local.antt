@@ -1,7 +1,8 @@
 -- Local pivotal selection, by the local pivotal method 2 of Grafström, Lundström and Schelin (2012). Each unit lies at a point.
 -- As long as two or more units are fractional, each of them may be chosen, with equal weights, and the chosen one meets the
 -- nearest of the others in a pivotal step (Deville and Tillé 1998). A unit that is left alone is settled by itself.
-use Rattle.std.specs.Prelude.{◌≡◌, ℕ, ◌+◌, ◌*◌, ◌^◌, ◌<◌, true, nat_lt, if◌then◌else◌, ℤ, List, length, map, Option, Some, None, is_some, unwrap_or}
+use Rattle.std.specs.Prelude.{◌≡◌, ℕ, ◌+◌, ◌*◌, ◌^◌, ◌<◌, true, nat_lt, if◌then◌else◌, ℤ, List, length, map}
+use Rattle.std.specs.Prelude.{Option, Some, None, is_some, unwrap_or}
 use Rattle.smp_near.specs.Nearest.{LivingPoints, nearest}
 use Rattle.smp_prob.specs.Shares.{Shares}
 use Rattle.smp_split.specs.Parts.{equal_parts, moved}

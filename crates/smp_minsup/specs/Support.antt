@@ -1,7 +1,8 @@
 -- The minimum support design (Deville and Tillé 1998). The values of the units are numerators over one denominator, and they
 -- add up to a whole number r. In a step the r largest units are selected and the design ends, or it goes on without what
 -- this took of their values.
-use Rattle.std.specs.Prelude.{ℕ, ◌-◌, ◌/◌, ◌^◌, min, Bool, nat_lt, nat_eq, ◌&&◌, ◌||◌, if◌then◌else◌, List, [], ◌∷◌, length, map, slice_index}
+use Rattle.std.specs.Prelude.{ℕ, ◌-◌, ◌/◌, ◌^◌, min, Bool, nat_lt, nat_eq, ◌&&◌, ◌||◌, if◌then◌else◌, List, []}
+use Rattle.std.specs.Prelude.{◌∷◌, length, map, slice_index}
 use Rattle.std.specs.List.{sum, count_by, range_with_len}
 use Rattle.smp_prob.specs.Shares.{Shares}
 use Rattle.smp_split.specs.Trees.{Part, Tree}

@@ -1,7 +1,8 @@
 -- Systematic selection with unequal probabilities (Madow 1949). The probabilities are numerators over one denominator, and
 -- they are laid end to end in the order of the units. One draw below the denominator picks a point and all points that are
 -- whole multiples of the denominator further on; the units whose lengths hold such a point are selected.
-use Rattle.std.specs.Prelude.{ℕ, ◌+◌, ◌-◌, ◌*◌, ◌^◌, ◌≤◌, ◌<◌, Bool, nat_lt, nat_le, nat_eq, ◌&&◌, if◌then◌else◌, List, length, map, take, sum, slice_index}
+use Rattle.std.specs.Prelude.{ℕ, ◌+◌, ◌-◌, ◌*◌, ◌^◌, ◌≤◌, ◌<◌, Bool, nat_lt, nat_le, nat_eq, ◌&&◌}
+use Rattle.std.specs.Prelude.{if◌then◌else◌, List, length, map, take, sum, slice_index}
 use Rattle.std.specs.List.{list_any, range_with_len}
 use Rattle.smp_prob.specs.Shares.{Shares}
 use Rattle.smp_split.specs.Trees.{Tree}

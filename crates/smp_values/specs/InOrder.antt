@@ -11,7 +11,8 @@ use Rattle.smp_split.specs.declared.kind.Kind.{Kind}
 use Rattle.smp_values.specs.Starts.{ordered_values}
 use Rattle.smp_values.specs.Values.{IsValues, exchanged_values, values_tree}
 
--- Steps on values: the largest denominator that they take, the kind of the next step, its parts, and the rank by the number of fractional values.
+-- Steps on values: the largest denominator that they take, the kind of the next step, its parts, and the rank by the number of
+-- fractional values.
 pub record StepRule : Type 0 where
   pub most : ℕ
   pub kind : Shares → Kind
@@ -30,8 +31,8 @@ placed_tree rule units = ordered_tree (places_tree rule units) exchanged_values
 abbrev pub IsPlacedBy : StepRule → ℕ → Ordered Shares → Type 0
 IsPlacedBy rule units s = IsInOrder units (IsValues units rule.most) s
 
--- What such steps owe: they take every request, each split is lawful, and each leaf selects one of the whole numbers of units around the sum
--- of the values.
+-- What such steps owe: they take every request, each split is lawful, and each leaf selects one of the whole numbers of units around
+-- the sum of the values.
 pub record LawfulRule (rule : StepRule) : Type 0 where
   pub wide : 2 ^ 80 ≤ rule.most
   pub lawful : (units : ℕ) → Lawful (placed_tree rule units) (IsPlacedBy rule units)

@@ -19,8 +19,8 @@ first_order Random units = undrawn_order units
 abbrev pub ordered_values : Order → Shares → Ordered Shares
 ordered_values order s = in_order (first_order order (length s.numer)) s
 
--- The units of the state are the request's free units, and each has the value that is requested of it. Where the shapes add up to the total,
--- the values add up to the number of draws.
+-- The units of the state are the request's free units, and each has the value that is requested of it. Where the shapes add up to
+-- the total, the values add up to the number of draws.
 pub record IsRequested {State : Type 0} (tree : Tree State) (request : Request)
     (state : State) : Type 0 where
   pub units : tree.units ≡ length request.free

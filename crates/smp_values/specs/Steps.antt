@@ -1,5 +1,5 @@
--- Sequential pivotal steps (Deville and Tillé 1998) on values that stand in a row. As long as two units are fractional, the first two of them
--- meet in a step; one that is left alone is settled by itself.
+-- Sequential pivotal steps (Deville and Tillé 1998) on values that stand in a row. As long as two units are fractional, the first
+-- two of them meet in a step; one that is left alone is settled by itself.
 use Rattle.std.specs.Prelude.{ℕ, ◌-◌, List, [], ◌∷◌, slice_index}
 use Rattle.smp_prob.specs.Shares.{Shares}
 use Rattle.smp_split.specs.Trees.{Part, Tree}

@@ -1,6 +1,8 @@
--- Values of units, from 0 to 1, as numerators over one denominator: at first the probabilities that are requested of them, and at the end 1 for
--- the units that are selected and 0 for the others (Deville and Tillé 1998). A unit whose value is strictly in between is fractional.
-use Rattle.std.specs.Prelude.{◌≡◌, ℕ, ◌*◌, ◌≤◌, ◌<◌, Bool, true, nat_lt, nat_eq, ◌&&◌, List, length, sum, slice_index, slice_set}
+-- Values of units, from 0 to 1, as numerators over one denominator: at first the probabilities that are requested of them, and at
+-- the end 1 for the units that are selected and 0 for the others (Deville and Tillé 1998). A unit whose value is strictly in between
+-- is fractional.
+use Rattle.std.specs.Prelude.{◌≡◌, ℕ, ◌*◌, ◌≤◌, ◌<◌, Bool, true, nat_lt, nat_eq, ◌&&◌, List, length, sum}
+use Rattle.std.specs.Prelude.{slice_index, slice_set}
 use Rattle.std.specs.List.{count_by, filter, range_with_len, swap}
 use Rattle.smp_prob.specs.Shares.{Shares}
 use Rattle.smp_fractions.specs.Fractions.{Fraction, over}
@@ -60,8 +62,8 @@ pub record IsValues (units most : ℕ) (s : Shares) : Type 0 where
 abbrev pub AllFractional : Shares → Type 0
 AllFractional s = (unit : ℕ) → unit < length s.numer → is_fractional s unit ≡ true
 
--- A design whose states are values, with steps of these kinds and these parts: it is done where no unit is fractional, and selects the units
--- of value 1. Its rank follows from the number of fractional units.
+-- A design whose states are values, with steps of these kinds and these parts: it is done where no unit is fractional, and selects
+-- the units of value 1. Its rank follows from the number of fractional units.
 abbrev pub values_tree : ℕ → (Shares → Kind) → (Shares → List (Part Shares)) → (ℕ → ℕ) → Tree Shares
 values_tree units kind parts rank = record {
   units = units;

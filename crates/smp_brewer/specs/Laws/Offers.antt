@@ -1,5 +1,6 @@
 -- The offers of the open units, one after the other.
-use Rattle.std.proofs.Common.{◌≡◌, ◌≢◌, ℕ, suc, ◌+◌, ◌<◌, ◌≤◌, cond, not, nat_eq, List, [], ◌∷◌, length, map, get_or, arith, refl, ap, ◌∙◌, inl, inr}
+use Rattle.std.proofs.Common.{◌≡◌, ◌≢◌, ℕ, suc, ◌+◌, ◌<◌, ◌≤◌, cond, not, nat_eq, List, [], ◌∷◌, length}
+use Rattle.std.proofs.Common.{map, get_or, arith, refl, ap, ◌∙◌, inl, inr}
 use Rattle.std.specs.List.{sum, filter, range_with_len}
 use Rattle.std.proofs.lemmas.Bool.{cases_Bool, eqb-true, eqb-false}
 use Rattle.smp_split.specs.Trees.{Part, EachPart, weight_sum}
@@ -11,7 +12,8 @@ module _ (o : Offers) where
   -- the offers from a unit on, of sizes
   abbrev pub offers_from : ℕ → List ℕ → List (Part Brewing)
   offers_from unit [] = []
-  offers_from unit (z ∷ zs) = cond (nat_eq z 0) (offers_from (unit + 1) zs) (record { weight = z; state = offered o unit } ∷ offers_from (unit + 1) zs)
+  offers_from unit (z ∷ zs) = cond (nat_eq z 0) (offers_from (unit + 1) zs)
+      (record { weight = z; state = offered o unit } ∷ offers_from (unit + 1) zs)
 
   -- these are the sizes of the units from one on
   abbrev pub SizesFrom : ℕ → List ℕ → Type 0
@@ -26,13 +28,16 @@ module _ (o : Offers) where
   pub all_sizes : SizesFrom 0 o.sizes
   all_sizes n = let sum : n ≡ 0 + n = omega arith in ap (size_of o) sum
 
-  from_are : (unit : ℕ) (zs : List ℕ) → SizesFrom unit zs → map (λ k. record { weight = size_of o k; state = offered o k }) (filter (λ k. not (is_taken o k)) (range_with_len unit (length zs))) ≡ offers_from unit zs
+  from_are : (unit : ℕ) (zs : List ℕ) → SizesFrom unit zs
+      → map (λ k. record { weight = size_of o k; state = offered o k })
+      (filter (λ k. not (is_taken o k)) (range_with_len unit (length zs))) ≡ offers_from unit zs
   from_are unit [] same = refl
   from_are unit (z ∷ zs) same =
       let rest = from_are (unit + 1) zs (other_sizes unit z zs same) in
       elim (cases_Bool (nat_eq z 0)) [
         | inl e ↦ rw (← first_size unit z zs same, e) rest
-        | inr e ↦ rw (← first_size unit z zs same, e, ← first_size unit z zs same) (ap (λ ps. record { weight = z; state = offered o unit } ∷ ps) rest)
+        | inr e ↦ rw (← first_size unit z zs same, e, ← first_size unit z zs same)
+            (ap (λ ps. record { weight = z; state = offered o unit } ∷ ps) rest)
       ]
 
   pub offers_are : offer_parts o ≡ offers_from 0 o.sizes
@@ -50,8 +55,10 @@ module _ (o : Offers) where
   weight_sum-offers = rw offers_are (from_sum 0 o.sizes)
 
   -- what holds of each open unit's offer
-  module _ (P : Part Brewing → Type 0) (holds : (unit : ℕ) → unit < length o.sizes → 1 ≤ size_of o unit → P (record { weight = size_of o unit; state = offered o unit })) where
-    each_from : (unit : ℕ) (zs : List ℕ) → SizesFrom unit zs → unit + length zs ≡ length o.sizes → EachPart P (offers_from unit zs)
+  module _ (P : Part Brewing → Type 0) (holds : (unit : ℕ) → unit < length o.sizes → 1 ≤ size_of o unit
+      → P (record { weight = size_of o unit; state = offered o unit })) where
+    each_from : (unit : ℕ) (zs : List ℕ) → SizesFrom unit zs → unit + length zs ≡ length o.sizes
+        → EachPart P (offers_from unit zs)
     each_from unit [] same end = tt
     each_from unit (z ∷ zs) same end =
         let rest = each_from (unit + 1) zs (other_sizes unit z zs same) (omega (arith, end)) in

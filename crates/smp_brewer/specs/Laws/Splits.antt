@@ -1,5 +1,6 @@
 -- The splits of Brewer's method by offers are lawful.
-use Rattle.std.proofs.Common.{◌≡◌, ◌≢◌, ℕ, zero, suc, ◌+◌, ◌-◌, ◌*◌, ◌^◌, ◌<◌, ◌≤◌, true, false, nat_eq, List, [], ◌∷◌, length, get_or, arith, rules, refl, ◌∙◌, inl, inr}
+use Rattle.std.proofs.Common.{◌≡◌, ◌≢◌, ℕ, zero, suc, ◌+◌, ◌-◌, ◌*◌, ◌^◌, ◌<◌, ◌≤◌, true, false}
+use Rattle.std.proofs.Common.{nat_eq, List, [], ◌∷◌, length, get_or, arith, rules, refl, ◌∙◌, inl, inr}
 use Rattle.std.specs.List.{sum, count_by}
 use Rattle.std.proofs.lemmas.Bool.{cases_Bool, cases_lt, cases_eq, eqb-true, eqb-false, eq-eqb, ne_eqb}
 use Rattle.std.proofs.lemmas.List.{get_or_past, get_or-map, length-map}
@@ -18,7 +19,8 @@ use Rattle.smp_values.specs.Steps.{steps_tree}
 use Rattle.smp_values.specs.Values.{IsValues, fractional}
 use Rattle.smp_values.proofs.Pivotal.{steps_lawful}
 use Rattle.smp_brewer.specs.declared.offers.Offers.{Offers}
-use Rattle.smp_brewer.specs.Brewer.{Brewing, offering, offered, spent, total, largest, size_of, is_taken, allowed, offer_parts, share_of, shares_left, brewing_value, brewing_ended, brewing_tree, IsOffers, IsBrewing}
+use Rattle.smp_brewer.specs.Brewer.{Brewing, offering, offered, spent, total, largest, size_of, is_taken, allowed, offer_parts, share_of}
+use Rattle.smp_brewer.specs.Brewer.{shares_left, brewing_value, brewing_ended, brewing_tree, IsOffers, IsBrewing}
 use Rattle.smp_brewer.specs.Laws.Sums.{sum-cons}
 use Rattle.smp_brewer.specs.Laws.Identities.{in_parts, offers_keep}
 use Rattle.smp_brewer.specs.Laws.Offers.{offers_from, offers_are, weight_sum-offers, each_offer}
@@ -40,12 +42,16 @@ value_is units (spent s) ok k = same_refl (brewing_value units (spent s) k)
 
 module _ (units : ℕ) (o : Offers) where
   -- a unit that is taken keeps its value
-  offers_even_taken : (k unit : ℕ) (zs : List ℕ) → is_taken o k ≡ true → Same (weighted (λ s. value_over units s k) (offers_from o unit zs)) (whole (sum zs))
+  offers_even_taken : (k unit : ℕ) (zs : List ℕ) → is_taken o k ≡ true
+      → Same (weighted (λ s. value_over units s k) (offers_from o unit zs)) (whole (sum zs))
   offers_even_taken k unit [] taken = same_refl (whole 0)
   offers_even_taken k unit (z ∷ zs) taken =
       elim (cases_Bool (nat_eq z 0)) [
-        | inl e ↦ (let all : sum (z ∷ zs) ≡ sum zs = omega (arith, eqb-true z 0 e, sum-cons z zs) in rw (e, all) (offers_even_taken k (unit + 1) zs taken))
-        | inr e ↦ rw (e, taken, sum-cons z zs) (same_trans (plus_same (times-one (whole z)) (offers_even_taken k (unit + 1) zs taken)) (plus-whole z (sum zs)))
+        | inl e ↦ (let all : sum (z ∷ zs) ≡ sum zs = omega (arith, eqb-true z 0 e, sum-cons z zs) in
+            rw (e, all) (offers_even_taken k (unit + 1) zs taken))
+        | inr e ↦ rw (e, taken, sum-cons z zs)
+            (same_trans (plus_same (times-one (whole z)) (offers_even_taken k (unit + 1) zs taken))
+            (plus-whole z (sum zs)))
       ]
 
   -- of an open one: the sum of its numerators
@@ -60,7 +66,8 @@ module _ (units : ℕ) (o : Offers) where
       let ne : k ≢ unit = omega arith in
       rw (ne_eqb k unit ne, sum-cons z zs) (omega (arith, numbers-past k (unit + 1) zs (omega arith)))
 
-  numbers-at : (k unit n : ℕ) (zs : List ℕ) → k ≡ unit + n → numbers k unit zs ≡ sum zs * (size_of o k * (o.draws - 1)) + get_or zs n 0 * (total o - o.draws * largest o)
+  numbers-at : (k unit n : ℕ) (zs : List ℕ) → k ≡ unit + n
+      → numbers k unit zs ≡ sum zs * (size_of o k * (o.draws - 1)) + get_or zs n 0 * (total o - o.draws * largest o)
   numbers-at k unit n [] h = omega arith
   numbers-at k unit zero (z ∷ zs) h =
       let same : k ≡ unit = omega arith in
@@ -69,7 +76,9 @@ module _ (units : ℕ) (o : Offers) where
       let ne : k ≢ unit = omega arith in
       rw (ne_eqb k unit ne, sum-cons z zs) (omega (arith, numbers-at k (unit + 1) n zs (omega arith)))
 
-  offers_even_open : (k unit : ℕ) (zs : List ℕ) → is_taken o k ≡ false → Same (weighted (λ s. value_over units s k) (offers_from o unit zs)) (over (numbers k unit zs) (total o - largest o))
+  offers_even_open : (k unit : ℕ) (zs : List ℕ) → is_taken o k ≡ false
+      → Same (weighted (λ s. value_over units s k) (offers_from o unit zs))
+      (over (numbers k unit zs) (total o - largest o))
   offers_even_open k unit [] free = same_sym (over_zero (total o - largest o))
   offers_even_open k unit (z ∷ zs) free =
       elim (cases_Bool (nat_eq z 0)) [
@@ -78,45 +87,67 @@ module _ (units : ℕ) (o : Offers) where
             let rest : 0 * offered_number o unit k + numbers k (unit + 1) zs ≡ numbers k (unit + 1) zs = omega arith in
             rw e (rw none (rw rest (offers_even_open k (unit + 1) zs free))))
         | inr e ↦
-            rw (e, free) (same_trans (plus_same (same_refl (times (whole z) (over (offered_number o unit k) (total o - largest o)))) (offers_even_open k (unit + 1) zs free))
+            rw (e, free) (same_trans (plus_same
+            (same_refl (times (whole z) (over (offered_number o unit k) (total o - largest o))))
+            (offers_even_open k (unit + 1) zs free))
             (over_plus z (offered_number o unit k) (numbers k (unit + 1) zs) (total o - largest o)))
       ]
 
 -- the sum of the numerators is the value, times the denominator
-keeps_open : (all draws m z : ℕ) → 1 ≤ draws → draws * m < all → all * (z * (draws - 1)) + z * (all - draws * m) ≡ z * draws * (all - m)
+keeps_open : (all draws m z : ℕ) → 1 ≤ draws → draws * m < all
+    → all * (z * (draws - 1)) + z * (all - draws * m) ≡ z * draws * (all - m)
 keeps_open all draws m z p l =
     let parts = in_parts all draws m m p (omega arith) l in
     let none : m - m ≡ 0 = omega arith in
     let s_is : draws - 1 + 1 ≡ draws = omega arith in
-    let without : all - m ≡ (all - draws * m) + (draws - 1) * m = (let h = parts.without_m in let m_is : m + (m - m) ≡ m = omega arith in rw m_is at h) in
-    let whole_is : all ≡ (all - draws * m) + (draws - 1 + 1) * m = (let h = parts.total_is in let m_is : m + (m - m) ≡ m = omega arith in rw m_is at h) in
+    let without : all - m ≡ (all - draws * m) + (draws - 1) * m =
+    (let h = parts.without_m in let m_is : m + (m - m) ≡ m = omega arith in rw m_is at h) in
+    let whole_is : all ≡ (all - draws * m) + (draws - 1 + 1) * m =
+    (let h = parts.total_is in let m_is : m + (m - m) ≡ m = omega arith in rw m_is at h) in
     let keep = offers_keep (all - draws * m) (draws - 1) m z in
     rw (← without, ← whole_is, s_is) at keep
 
 -- ---- before an offer
 
 module _ (units : ℕ) (o : Offers) (ok : IsOffers units o) (going : 1 ≤ o.draws) where
-  offers_over : (k : ℕ) → Same (weighted (λ s. value_over units s k) (offers_from o 0 o.sizes)) (times (whole (total o)) (brewing_value units (offering o) k))
+  offers_over : (k : ℕ) → Same (weighted (λ s. value_over units s k) (offers_from o 0 o.sizes))
+      (times (whole (total o)) (brewing_value units (offering o) k))
   offers_over k =
       elim (cases_Bool (is_taken o k)) [
         | inl e ↦ same_trans (offers_even_taken units o k 0 o.sizes e) (rw e (same_sym (times-one (whole (total o)))))
         | inr e ↦
             (let high : o.draws * largest o < total o = heaviest units o ok going in
             let parts = in_parts (total o) o.draws (largest o) (largest o) going (omega arith) high in
-            let keeps = numbers-at units o k 0 k o.sizes (omega arith) ∙ keeps_open (total o) o.draws (largest o) (size_of o k) going high in
+            let keeps = numbers-at units o k 0 k o.sizes (omega arith)
+            ∙ keeps_open (total o) o.draws (largest o) (size_of o k) going high in
             same_trans (offers_even_open units o k 0 o.sizes e) (rw (e, keeps)
-            (same_trans (over_whole (size_of o k * o.draws) (total o - largest o) (omega (arith, parts.without_m, high))) (same_sym (whole-over (total o) (size_of o k * o.draws) (some_left units o ok going))))))
+            (same_trans (over_whole (size_of o k * o.draws) (total o - largest o)
+            (omega (arith, parts.without_m, high)))
+            (same_sym (whole-over (total o) (size_of o k * o.draws) (some_left units o ok going))))))
       ]
 
   offers_each : o.refused < allowed units → EachPart (IsPart (brewing_tree units) (IsBrewing units) (offering o)) (offer_parts o)
   offers_each left =
       each_offer o (IsPart (brewing_tree units) (IsBrewing units) (offering o))
-      (λ unit here some. record { heavy = some; falls = omega arith; member = record { offers = ok; going = going; left = left; unit = omega (arith, here, ok.count); has_size = some } })
+      (λ unit here some. record {
+        heavy = some;
+        falls = omega arith;
+        member = record {
+          offers = ok;
+          going = going;
+          left = left;
+          unit = omega (arith, here, ok.count);
+          has_size = some;
+        };
+      })
 
-  offers_even : o.refused < allowed units → (k : ℕ) → Same (weighted (λ s. brewing_value units s k) (offer_parts o)) (times (whole (total o)) (brewing_value units (offering o) k))
+  offers_even : o.refused < allowed units → (k : ℕ)
+      → Same (weighted (λ s. brewing_value units s k) (offer_parts o))
+      (times (whole (total o)) (brewing_value units (offering o) k))
   offers_even left k =
       same_trans
-      (weighted_same (IsPart (brewing_tree units) (IsBrewing units) (offering o)) (λ s. brewing_value units s k) (λ s. value_over units s k) (λ p part. value_is units p.state part.member k)
+      (weighted_same (IsPart (brewing_tree units) (IsBrewing units) (offering o)) (λ s. brewing_value units s k)
+      (λ s. value_over units s k) (λ p part. value_is units p.state part.member k)
       (offer_parts o) (offers_each left))
       (rw (offers_are o) (offers_over k))
 
@@ -163,12 +194,15 @@ module _ (units : ℕ) (o : Offers) (ok : IsOffers units o) (going : 1 ≤ o.dra
   spent_split : o.refused ≡ allowed units → LawfulSplit (brewing_tree units) (IsBrewing units) (offering o)
   spent_split none =
       let is_spent : nat_eq o.refused (allowed units) ≡ true = eq-eqb o.refused (allowed units) none in
-      let short : count_by (fractional (total o)) (shares_left o).numer ≤ units = omega (arith, count_by-le-length (fractional (total o)) (shares_left o).numer, spent_belongs.count) in
+      let short : count_by (fractional (total o)) (shares_left o).numer ≤ units =
+      omega (arith, count_by-le-length (fractional (total o)) (shares_left o).numer, spent_belongs.count) in
       record {
         some = rw is_spent (omega arith);
         narrow = rw is_spent (omega arith);
         each = rw is_spent (record { heavy = omega arith; falls = omega (arith, short); member = spent_belongs }, tt);
-        even = λ k l. rw is_spent (same_trans (plus-zero (times (whole 1) (over (get_or (shares_left o).numer k 0) (total o)))) (times_same (same_refl (whole 1)) (spent_value k l)));
+        even = λ k l. rw is_spent (same_trans
+            (plus-zero (times (whole 1) (over (get_or (shares_left o).numer k 0) (total o))))
+            (times_same (same_refl (whole 1)) (spent_value k l)));
       }
 
 -- ---- the pivotal steps
@@ -184,21 +218,25 @@ module _ (units : ℕ) where
     value = λ i here k h. same_refl ((steps_tree units).value i k);
   }
 
-  steps_through : (s : Shares) → IsValues units (2 ^ 80) s → (steps_tree units).done s ≡ false → LawfulSplit (brewing_tree units) (IsBrewing units) (spent s)
+  steps_through : (s : Shares) → IsValues units (2 ^ 80) s → (steps_tree units).done s ≡ false
+      → LawfulSplit (brewing_tree units) (IsBrewing units) (spent s)
   steps_through s ok going =
-      split_through (steps_tree units) (IsValues units (2 ^ 80)) (brewing_tree units) spent as_unit spent_lens (IsBrewing units) (λ i m. m) s ok going
+      split_through (steps_tree units) (IsValues units (2 ^ 80)) (brewing_tree units) spent as_unit spent_lens
+      (IsBrewing units) (λ i m. m) s ok going
       ((steps_lawful units).split s ok going)
 
 -- ---- all states
 
-brewing_split : (units : ℕ) (b : Brewing) → IsBrewing units b → brewing_ended units b ≡ false → LawfulSplit (brewing_tree units) (IsBrewing units) b
+brewing_split : (units : ℕ) (b : Brewing) → IsBrewing units b → brewing_ended units b ≡ false
+    → LawfulSplit (brewing_tree units) (IsBrewing units) b
 brewing_split units (offering o) ok going =
     let ne : o.draws ≢ 0 = eqb-false o.draws 0 going in
     elim (cases_eq o.refused (allowed units)) [
       | inl e ↦ spent_split units o ok (omega arith) e
       | inr n ↦ offer_split units o ok (omega arith) (omega (arith, ok.again, n))
     ]
-brewing_split units (offered o j) ok going = take_split units o ok.offers ok.going j (omega (arith, ok.unit, ok.offers.count)) ok.has_size ok.left
+brewing_split units (offered o j) ok going =
+    take_split units o ok.offers ok.going j (omega (arith, ok.unit, ok.offers.count)) ok.has_size ok.left
 brewing_split units (spent s) ok going = steps_through units s ok going
 
 brewing_end : (units : ℕ) (b : Brewing) → IsBrewing units b → brewing_ended units b ≡ true → LawfulEnd (brewing_tree units) b

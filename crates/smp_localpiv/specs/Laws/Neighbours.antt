@@ -1,5 +1,6 @@
 -- A unit that may meet another one has a neighbour, which is fractional too.
-use Rattle.std.proofs.Common.{◌≡◌, ◌≢◌, ℕ, ◌<◌, true, false, not, nat_eq, Some, length, map, get_or, set, refl, sym, ap, ◌∙◌, arith}
+use Rattle.std.proofs.Common.{◌≡◌, ◌≢◌, ℕ, ◌<◌, true, false, not, nat_eq, Some, length, map, get_or, set, refl, sym, ap}
+use Rattle.std.proofs.Common.{◌∙◌, arith}
 use Rattle.std.specs.Prelude.{unwrap_or}
 use Rattle.std.proofs.Math.ListN as lists
 use Rattle.std.proofs.lemmas.Bool.{and_parts, and_from, ne_eqb, eqb-false, not-true}
@@ -25,9 +26,11 @@ module _ (s : Local) where
   living_is unit = lists.get_or-map (fractional s.state.den) s.state.numer unit 0
 
   other_is : (unit k : ℕ) → is_fractional s.state k ≡ true → k ≢ unit → is_other (points_of s) unit k ≡ true
-  other_is unit k h ne = and_from (not (nat_eq k unit)) (get_or (map (fractional s.state.den) s.state.numer) k false) (rw (ne_eqb k unit ne) refl) (living_is k ∙ h)
+  other_is unit k h ne = and_from (not (nat_eq k unit))
+      (get_or (map (fractional s.state.den) s.state.numer) k false) (rw (ne_eqb k unit ne) refl) (living_is k ∙ h)
 
-  met_at : (unit : ℕ) → is_fractional s.state unit ≡ true → (near : Neighbour (points_of s) unit) → local.neighbour s unit ≡ near.j → IsMet s unit
+  met_at : (unit : ℕ) → is_fractional s.state unit ≡ true → (near : Neighbour (points_of s) unit)
+      → local.neighbour s unit ≡ near.j → IsMet s unit
   met_at unit h near same =
       let parts = and_parts (not (nat_eq near.j unit)) (get_or (map (fractional s.state.den) s.state.numer) near.j false) near.is.other in
       let other : is_fractional s.state near.j ≡ true = sym (living_is near.j) ∙ parts.1 in
@@ -44,7 +47,9 @@ module _ (s : Local) where
   pub met : (unit : ℕ) → MayMeet s.state unit → IsMet s unit
   met unit may =
       let few : 1 < fractional_count s.state = may.another in
-      let some : Passes (fractional s.state.den) (set s.state.numer unit 0) 0 = some_passes (fractional s.state.den) 0 (set s.state.numer unit 0) (omega (arith, others_count s.state unit may.open_at)) in
+      let some : Passes (fractional s.state.den) (set s.state.numer unit 0) 0 =
+      some_passes (fractional s.state.den) 0 (set s.state.numer unit 0)
+      (omega (arith, others_count s.state unit may.open_at)) in
       let another = other_of s.state unit may.open_at some.place some.passes in
       let near = neighbour (points_of s) unit some.place (other_is unit some.place another.1 another.0) in
       met_at unit may.open_at near (ap (λ o. unwrap_or o unit) near.given)

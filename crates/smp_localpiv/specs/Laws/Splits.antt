@@ -1,5 +1,6 @@
 -- The splits of a local pivotal selection are lawful.
-use Rattle.std.proofs.Common.{◌≡◌, ◌≢◌, ℕ, ◌^◌, ◌<◌, ◌≤◌, true, false, nat_lt, List, Option, Some, None, length, get_or, refl, arith, inl, inr}
+use Rattle.std.proofs.Common.{◌≡◌, ◌≢◌, ℕ, ◌^◌, ◌<◌, ◌≤◌, true, false, nat_lt, List, Option, Some, None, length}
+use Rattle.std.proofs.Common.{get_or, refl, arith, inl, inr}
 use Rattle.std.proofs.lemmas.Bool.{cases_Bool, eqb-false, ltb-true}
 use Rattle.std.proofs.lemmas.List.Sums.{count_by-le-length}
 use Rattle.smp_fractions.proofs.Fractions.{same_refl}
@@ -24,7 +25,8 @@ module _ (units : ℕ) (s : Local) (ok : IsLocal units s) where
   IsSplit parts = LawfulParts (local_tree units) (IsLocal units) s parts
 
   -- the parts of a step on the values, after which no unit is chosen
-  stepped : (parts : List (Part Shares)) → LawfulParts (steps_tree units) (IsValues units (2 ^ 80)) s.state parts → IsSplit (moved (unchosen s) parts)
+  stepped : (parts : List (Part Shares)) → LawfulParts (steps_tree units) (IsValues units (2 ^ 80)) s.state parts
+      → IsSplit (moved (unchosen s) parts)
   stepped =
       parts_through (steps_tree units) (IsValues units (2 ^ 80)) (local_tree units) (IsLocal units) (unchosen s) as_unit s.state s
       (record {
@@ -43,7 +45,8 @@ module _ (units : ℕ) (s : Local) (ok : IsLocal units s) where
   choice_split : s.chosen ≡ None → 1 < fractional_count s.state → IsSplit (choice s)
   choice_split none several =
       let to : ℕ → Local = λ place. choosing s (fractional_at s.state place) in
-      let total : weight_sum (equal_parts (fractional_count s.state) to) ≡ fractional_count s.state = weight_sum-equal to (fractional_count s.state) in
+      let total : weight_sum (equal_parts (fractional_count s.state) to) ≡ fractional_count s.state =
+      weight_sum-equal to (fractional_count s.state) in
       let most : fractional_count s.state ≤ length s.state.numer = count_by-le-length (fractional s.state.den) s.state.numer in
       record {
         some = omega arith;
@@ -52,14 +55,20 @@ module _ (units : ℕ) (s : Local) (ok : IsLocal units s) where
             (λ place h. record {
               heavy = omega arith;
               falls = rw none (omega arith);
-              member = record { values = ok.values; few = ok.few; placed = ok.placed; meets = record { open_at = fractional_at_is s.state place h; another = several } };
+              member = record {
+                values = ok.values;
+                few = ok.few;
+                placed = ok.placed;
+                meets = record { open_at = fractional_at_is s.state place h; another = several };
+              };
             });
         even = λ k h.
             weighted-same (λ t. value_at t.state k) (value_at s.state k) (choice s)
             (each_equal to (λ p. value_at p.state.state k ≡ value_at s.state k) (fractional_count s.state) (λ place _. refl));
       }
 
-  split_at : (chosen : Option ℕ) → s.chosen ≡ chosen → IsChosen s.state chosen → is_settled s.state ≡ false → IsSplit (parts_from s chosen)
+  split_at : (chosen : Option ℕ) → s.chosen ≡ chosen → IsChosen s.state chosen → is_settled s.state ≡ false
+      → IsSplit (parts_from s chosen)
   split_at None none meets going =
       let some : fractional_count s.state ≢ 0 = eqb-false (fractional_count s.state) 0 going in
       elim (cases_Bool (nat_lt 1 (fractional_count s.state))) [
@@ -68,7 +77,8 @@ module _ (units : ℕ) (s : Local) (ok : IsLocal units s) where
             (let open_at = fractional_at_is s.state 0 (omega arith) in
             rw e
             (stepped (lone_parts s.state (fractional_at s.state 0))
-            (lone_lawful units s.state ok.values (fractional_at s.state 0) (fractional_within s.state (fractional_at s.state 0) open_at) open_at)))
+            (lone_lawful units s.state ok.values (fractional_at s.state 0)
+            (fractional_within s.state (fractional_at s.state 0) open_at) open_at)))
       ]
   split_at (Some unit) e meets going =
       let at = met s unit meets in
@@ -76,7 +86,8 @@ module _ (units : ℕ) (s : Local) (ok : IsLocal units s) where
       (pair_lawful units s.state ok.values unit (neighbour s unit) at.apart at.unit_in at.other_in at.unit_open at.other_open)
 
   local_end : is_settled s.state ≡ true → LawfulEnd (local_tree units) s
-  local_end done k h = over_settled s.state.den (get_or s.state.numer k 0) ok.values.positive (each_settled units (2 ^ 80) s.state ok.values done k)
+  local_end done k h = over_settled s.state.den (get_or s.state.numer k 0) ok.values.positive
+      (each_settled units (2 ^ 80) s.state ok.values done k)
 
 pub local_lawful : (units : ℕ) → Lawful (local_tree units) (IsLocal units)
 local_lawful units = record {

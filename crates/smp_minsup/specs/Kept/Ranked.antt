@@ -1,5 +1,6 @@
 -- Units in two groups, the large ones and the small ones.
-use Rattle.std.specs.Prelude.{◌≡◌, ℕ, ◌+◌, ◌-◌, ◌<◌, ◌≤◌, ◌^◌, Bool, true, false, not, nat_eq, if◌then◌else◌, List, length, map, slice_index, slice_index_or, slice_set}
+use Rattle.std.specs.Prelude.{◌≡◌, ℕ, ◌+◌, ◌-◌, ◌<◌, ◌≤◌, ◌^◌, Bool, true, false, not, nat_eq}
+use Rattle.std.specs.Prelude.{if◌then◌else◌, List, length, map, slice_index, slice_index_or, slice_set}
 use Rattle.std.specs.List.{All, count_by, range_with_len}
 use Rattle.std.specs.BinaryHeap.{IsHeap}
 use Rattle.std.specs.Ordering.{nat_cmp, ordering_then}

@@ -13,10 +13,12 @@ pub least_within : (bound : ℕ) (xs : List ℕ) → least bound xs ≤ bound
 least_within bound [] = omega arith
 least_within bound (x ∷ xs) = omega (arith, least_within bound xs)
 
-pub least_found : (bound : ℕ) (xs : List ℕ) → least bound xs < bound → Found (λ k. (k < length xs) × (get_or xs k 0 ≡ least bound xs))
+pub least_found : (bound : ℕ) (xs : List ℕ) → least bound xs < bound
+    → Found (λ k. (k < length xs) × (get_or xs k 0 ≡ least bound xs))
 least_found bound [] h = absurd (omega (arith, h))
 least_found bound (x ∷ xs) h =
     elim (cases_lt x (least bound xs)) [
       | inl l ↦ record { place = 0; holds = (omega arith, omega arith) }
-      | inr l ↦ (let found = least_found bound xs (omega arith) in record { place = suc found.place; holds = (omega (arith, found.holds.0), omega (arith, found.holds.1)) })
+      | inr l ↦ (let found = least_found bound xs (omega arith) in
+          record { place = suc found.place; holds = (omega (arith, found.holds.0), omega (arith, found.holds.1)) })
     ]

@@ -1,6 +1,8 @@
 -- Of any units exactly r are among the r largest.
-use Rattle.std.proofs.Common.{◌≡◌, ◌≢◌, ℕ, zero, suc, ◌+◌, ◌-◌, ◌<◌, ◌≤◌, true, false, cond, nat_lt, nat_eq, ◌&&◌, List, length, get_or, arith, refl, sym, ap, ◌∙◌, inl, inr, ◌⊎◌}
-use Rattle.std.proofs.lemmas.Bool.{cases_Bool, cases_eq, cases_order, or_cases, and_parts, ltb-true, lt-ltb, le-ltb, eqb-true, eq-eqb, false_from_ne_true}
+use Rattle.std.proofs.Common.{◌≡◌, ◌≢◌, ℕ, zero, suc, ◌+◌, ◌-◌, ◌<◌, ◌≤◌, true, false, cond, nat_lt, nat_eq}
+use Rattle.std.proofs.Common.{◌&&◌, List, length, get_or, arith, refl, sym, ap, ◌∙◌, inl, inr, ◌⊎◌}
+use Rattle.std.proofs.lemmas.Bool.{cases_Bool, cases_eq, cases_order, or_cases, and_parts, ltb-true, lt-ltb, le-ltb, eqb-true, eq-eqb}
+use Rattle.std.proofs.lemmas.Bool.{false_from_ne_true}
 use Rattle.smp_minsup.specs.Support.{is_larger, larger_units}
 use Rattle.smp_split.proofs.NumberSums.{counts, sums_less, sums-none, sums_constant, sum_by-range, weight_true, weight_false}
 
@@ -23,19 +25,27 @@ module _ (numer : List ℕ) where
   larger_means j k h = elim (larger_is j k h) [ inl l ↦ omega arith | inr l ↦ omega (arith, l.0) ]
 
   pub not_itself : (k : ℕ) → is_larger numer k k ≡ false
-  not_itself k = false_from_ne_true (is_larger numer k k) (λ h. elim (larger_is k k h) [ inl l ↦ omega arith | inr l ↦ omega (arith, l.1) ])
+  not_itself k = false_from_ne_true (is_larger numer k k)
+      (λ h. elim (larger_is k k h) [ inl l ↦ omega arith | inr l ↦ omega (arith, l.1) ])
 
   pub larger_trans : (i j k : ℕ) → is_larger numer i j ≡ true → is_larger numer j k ≡ true → is_larger numer i k ≡ true
   larger_trans i j k g h =
       elim (larger_is i j g) [
-        | inl l ↦ elim (larger_is j k h) [ inl m ↦ larger_of i k (inl (omega arith)) | inr m ↦ larger_of i k (inl (omega (arith, m.0))) ]
-        | inr l ↦ elim (larger_is j k h) [ inl m ↦ larger_of i k (inl (omega (arith, l.0))) | inr m ↦ larger_of i k (inr (omega (arith, l.0, m.0), omega (arith, l.1, m.1))) ]
+        | inl l ↦ elim (larger_is j k h) [
+          | inl m ↦ larger_of i k (inl (omega arith))
+          | inr m ↦ larger_of i k (inl (omega (arith, m.0)))
+        ]
+        | inr l ↦ elim (larger_is j k h) [
+          | inl m ↦ larger_of i k (inl (omega (arith, l.0)))
+          | inr m ↦ larger_of i k (inr (omega (arith, l.0, m.0), omega (arith, l.1, m.1)))
+        ]
       ]
 
   -- of two units one is the larger
   pub larger_total : (i j : ℕ) → i ≢ j → is_larger numer i j ≡ false → is_larger numer j i ≡ true
   larger_total i j ne h =
-      let no : ((at j < at i) ⊎ ((at j ≡ at i) × (j < i))) → ⊥ = λ l. (let is : is_larger numer i j ≡ true = larger_of i j l in cc) in
+      let no : ((at j < at i) ⊎ ((at j ≡ at i) × (j < i))) → ⊥ =
+      λ l. (let is : is_larger numer i j ≡ true = larger_of i j l in cc) in
       elim (cases_order (at i) (at j)) [
         | inl same ↦ elim (cases_order i j) [
           | inl e ↦ absurd (ne e)
@@ -53,7 +63,8 @@ module _ (numer : List ℕ) where
   pub fewer_larger : (i j : ℕ) → i < length numer → is_larger numer i j ≡ true → larger_units numer i < larger_units numer j
   fewer_larger i j l h =
       let fewer = sums_less (length numer) i (λ k. cond (is_larger numer k i) 1 0) (λ k. cond (is_larger numer k j) 1 0) l
-      (λ k m. elim (cases_Bool (is_larger numer k i)) [ inl e ↦ rw (e, larger_trans k i j e h) (omega arith) | inr e ↦ rw e (omega arith) ]) in
+      (λ k m. elim (cases_Bool (is_larger numer k i))
+      [ inl e ↦ rw (e, larger_trans k i j e h) (omega arith) | inr e ↦ rw e (omega arith) ]) in
       omega (arith, fewer, weight_true h, weight_false (not_itself i), larger_units_are i, larger_units_are j)
 
   larger_within : (k : ℕ) → k < length numer → larger_units numer k < length numer
@@ -81,9 +92,12 @@ module _ (numer : List ℕ) where
         | inr e ↦ rw e (omega (arith, at_most_one r n (omega arith)))
         | inl e ↦
             (let here : larger_units numer n ≡ r = eqb-true (larger_units numer n) r e in
-            let none = sums-none n (λ k. cond (nat_eq (larger_units numer k) r) 1 0) (λ k l. elim (cases_Bool (nat_eq (larger_units numer k) r)) [
+            let none = sums-none n (λ k. cond (nat_eq (larger_units numer k) r) 1 0)
+            (λ k l. elim (cases_Bool (nat_eq (larger_units numer k) r)) [
               | inr f ↦ rw f refl
-              | inl f ↦ (let same : larger_units numer k ≡ larger_units numer n = eqb-true (larger_units numer k) r f ∙ sym here in absurd (omega (arith, one_rank k n (omega arith) (omega arith) same)))
+              | inl f ↦ (let same : larger_units numer k ≡ larger_units numer n =
+                  eqb-true (larger_units numer k) r f ∙ sym here in
+                  absurd (omega (arith, one_rank k n (omega arith) (omega arith) same)))
             ]) in
             rw e (omega (arith, none)))
       ]
@@ -91,14 +105,29 @@ module _ (numer : List ℕ) where
   abbrev below : ℕ → ℕ
   below r = counts (length numer) (λ k. nat_lt (larger_units numer k) r)
 
-  one_more : (r n : ℕ) → counts n (λ k. nat_lt (larger_units numer k) (suc r)) ≡ counts n (λ k. nat_lt (larger_units numer k) r) + counts n (λ k. nat_eq (larger_units numer k) r)
+  one_more : (r n : ℕ) → counts n (λ k. nat_lt (larger_units numer k) (suc r))
+      ≡ counts n (λ k. nat_lt (larger_units numer k) r) + counts n (λ k. nat_eq (larger_units numer k) r)
   one_more r zero = omega arith
   one_more r (suc n) =
       elim (cases_order (larger_units numer n) r) [
-        | inl e ↦ rw (lt-ltb (larger_units numer n) (suc r) (omega arith), le-ltb (larger_units numer n) r (omega arith), eq-eqb (larger_units numer n) r e) (omega (arith, one_more r n))
+        | inl e ↦ rw (
+          lt-ltb (larger_units numer n) (suc r) (omega arith),
+          le-ltb (larger_units numer n) r (omega arith),
+          eq-eqb (larger_units numer n) r e,
+        )
+            (omega (arith, one_more r n))
         | inr l ↦ elim l [
-          | inl m ↦ rw (lt-ltb (larger_units numer n) (suc r) (omega arith), lt-ltb (larger_units numer n) r m, other (larger_units numer n) r (omega arith)) (omega (arith, one_more r n))
-          | inr m ↦ rw (le-ltb (larger_units numer n) (suc r) (omega arith), le-ltb (larger_units numer n) r (omega arith), other (larger_units numer n) r (omega arith)) (omega (arith, one_more r n))
+          | inl m ↦ rw (
+            lt-ltb (larger_units numer n) (suc r) (omega arith),
+            lt-ltb (larger_units numer n) r m,
+            other (larger_units numer n) r (omega arith),
+          ) (omega (arith, one_more r n))
+          | inr m ↦ rw (
+            le-ltb (larger_units numer n) (suc r) (omega arith),
+            le-ltb (larger_units numer n) r (omega arith),
+            other (larger_units numer n) r (omega arith),
+          )
+              (omega (arith, one_more r n))
         ]
       ]
     where
@@ -113,7 +142,8 @@ module _ (numer : List ℕ) where
 
   all_below : (n : ℕ) → n ≤ length numer → counts n (λ k. nat_lt (larger_units numer k) (length numer)) ≡ n
   all_below zero h = refl
-  all_below (suc n) h = rw (lt-ltb (larger_units numer n) (length numer) (larger_within n (omega arith))) (omega (arith, all_below n (omega arith)))
+  all_below (suc n) h = rw (lt-ltb (larger_units numer n) (length numer) (larger_within n (omega arith)))
+      (omega (arith, all_below n (omega arith)))
 
   none_below : (n : ℕ) → counts n (λ k. nat_lt (larger_units numer k) 0) ≡ 0
   none_below zero = refl

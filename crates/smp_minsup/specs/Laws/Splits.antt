@@ -1,5 +1,6 @@
 -- The splits of the minimum support design are lawful, and keep a whole sum of the values.
-use Rattle.std.proofs.Common.{◌≡◌, ◌≢◌, ℕ, zero, suc, ◌+◌, ◌-◌, ◌*◌, ◌/◌, ◌^◌, ◌<◌, ◌≤◌, Bool, true, false, cond, length, get_or, arith, refl, sym, ap, ◌∙◌, inl, inr}
+use Rattle.std.proofs.Common.{◌≡◌, ◌≢◌, ℕ, zero, suc, ◌+◌, ◌-◌, ◌*◌, ◌/◌, ◌^◌, ◌<◌, ◌≤◌, Bool}
+use Rattle.std.proofs.Common.{true, false, cond, length, get_or, arith, refl, sym, ap, ◌∙◌, inl, inr}
 use Rattle.std.specs.List.{sum}
 use Rattle.std.proofs.Math.Nat.{mul-le-mul_right, mul-div_cancel}
 use Rattle.std.proofs.lemmas.Bool.{cases_Bool, cases_lt, ltb-true, ltb-false, eqb-false}
@@ -12,13 +13,15 @@ use Rattle.smp_fractions.proofs.Over.{over_zero, over_one}
 use Rattle.smp_split.specs.Counts.{AddsUp, LeavesSelect}
 use Rattle.smp_split.specs.Trees.{EachPart, LawfulSplit, Lawful, weight_sum, weighted}
 use Rattle.smp_split.specs.declared.kind.Kind.TheVariants.{Support}
-use Rattle.smp_split.proofs.NumberSums.{sums, counts, sums_most, sums_less, sums-none, sums_scaled, sums_constant, weight_true, weight_false, counts_found, sum_by-list, sum_by-map-range}
+use Rattle.smp_split.proofs.NumberSums.{sums, counts, sums_most, sums_less, sums-none, sums_scaled, sums_constant, weight_true}
+use Rattle.smp_split.proofs.NumberSums.{weight_false, counts_found, sum_by-list, sum_by-map-range}
 use Rattle.smp_split.proofs.Over.{whole-over}
 use Rattle.smp_split.proofs.Parts.{plus-whole}
 use Rattle.smp_values.specs.Values.{AddTo, fractional, fractional_count, is_settled}
 use Rattle.smp_values.proofs.Designs.{values_lawful, values_count}
 use Rattle.smp_values.proofs.Fractional.{fractional_is, is_fractional-between, fractional_den, not_fractional}
-use Rattle.smp_minsup.specs.Support.{is_larger, larger_units, draws_of, is_large, for_units, most_small, least_large, lambda, settled, lowered, support_parts, support_tree, IsSupport}
+use Rattle.smp_minsup.specs.Support.{is_larger, larger_units, draws_of, is_large, for_units, most_small, least_large, lambda, settled}
+use Rattle.smp_minsup.specs.Support.{lowered, support_parts, support_tree, IsSupport}
 use Rattle.smp_minsup.specs.Laws.Ranks.{larger_of, larger_means, not_itself, larger_units_are, ranked}
 use Rattle.smp_values.proofs.Largest.{largest-at, largest_found}
 use Rattle.smp_minsup.specs.Laws.Bounds.{least-at, least_within, least_found}
@@ -26,10 +29,14 @@ use Rattle.smp_minsup.specs.Laws.Bounds.{least-at, least_within, least_found}
 -- ---- fractions
 
 -- both parts together, where the first has the value b once it is multiplied by its weight
-parts_even : (l w d x y b a : ℕ) → 1 ≤ w → l + (w + 0) ≡ d → b + y ≡ a → Same (times (whole l) (over x d)) (whole b) → Same (plus (times (whole l) (over x d)) (plus (times (whole w) (over y w)) (whole 0))) (times (whole (l + (w + 0))) (over a d))
+parts_even : (l w d x y b a : ℕ) → 1 ≤ w → l + (w + 0) ≡ d → b + y ≡ a → Same (times (whole l) (over x d)) (whole b)
+    → Same (plus (times (whole l) (over x d)) (plus (times (whole w) (over y w)) (whole 0)))
+    (times (whole (l + (w + 0))) (over a d))
 parts_even l w d x y b a p d_is a_is first =
-    let rest : Same (plus (times (whole w) (over y w)) (whole 0)) (whole (y + 0)) = same_trans (plus_same (whole-over w y p) (same_refl (whole 0))) (plus-whole y 0) in
-    let both : Same (plus (times (whole l) (over x d)) (plus (times (whole w) (over y w)) (whole 0))) (whole (b + (y + 0))) = same_trans (plus_same first rest) (plus-whole b (y + 0)) in
+    let rest : Same (plus (times (whole w) (over y w)) (whole 0)) (whole (y + 0)) =
+    same_trans (plus_same (whole-over w y p) (same_refl (whole 0))) (plus-whole y 0) in
+    let both : Same (plus (times (whole l) (over x d)) (plus (times (whole w) (over y w)) (whole 0)))
+    (whole (b + (y + 0))) = same_trans (plus_same first rest) (plus-whole b (y + 0)) in
     let total : b + (y + 0) ≡ a = omega (arith, a_is) in
     let all : Same (times (whole d) (over a d)) (whole a) = whole-over d a (omega (arith, p, d_is)) in
     rw d_is (same_trans (rw total at both) (same_sym all))
@@ -48,7 +55,8 @@ pub whole_sum : (r : ℕ) (s : Shares) → 1 ≤ s.den → sum s.numer ≡ r * s
 whole_sum r s one total = rw (draws_are r s one total) total
 
 -- the sum where some are lowered by l
-lowered_total : (n : ℕ) (p : ℕ → Bool) (l : ℕ) (f : ℕ → ℕ) → ((k : ℕ) → k < n → p k ≡ true → l ≤ f k) → sums n (λ k. cond (p k) (f k - l) (f k)) + counts n p * l ≡ sums n f
+lowered_total : (n : ℕ) (p : ℕ → Bool) (l : ℕ) (f : ℕ → ℕ) → ((k : ℕ) → k < n → p k ≡ true → l ≤ f k)
+    → sums n (λ k. cond (p k) (f k - l) (f k)) + counts n p * l ≡ sums n f
 lowered_total zero p l f h = omega arith
 lowered_total (suc n) p l f h =
     let rest = lowered_total n p l f (λ k m. h k (omega arith)) in
@@ -73,7 +81,14 @@ module _ (units : ℕ) (s : Shares) (ok : IsSupport units s) where
         | inr l ↦ l
         | inl l ↦
             (let more : (n + 1) * s.den ≤ draws_of s * s.den = mul-le-mul_right s.den (omega arith) in
-            absurd (omega (arith, more, sum_is, ok.values.positive, sums_most n at (λ k. s.den) (λ k _. ok.values.each k), sums_constant n s.den)))
+            absurd (omega (
+              arith,
+              more,
+              sum_is,
+              ok.values.positive,
+              sums_most n at (λ k. s.den) (λ k _. ok.values.each k),
+              sums_constant n s.den,
+            )))
       ]
 
   pub count_is : counts n large ≡ draws_of s
@@ -102,13 +117,24 @@ module _ (units : ℕ) (s : Shares) (ok : IsSupport units s) where
       elim (cases_lt (at k) s.den) [
         | inl l ↦ l
         | inr full ↦
-            (let above = sums_less n k (λ j. cond (is_larger s.numer j k) s.den 0) at here (λ j _. elim (cases_Bool (is_larger s.numer j k)) [
+            (let above = sums_less n k (λ j. cond (is_larger s.numer j k) s.den 0) at here
+            (λ j _. elim (cases_Bool (is_larger s.numer j k)) [
               | inl e ↦ rw e (omega (arith, full, larger_means s.numer j k e))
               | inr e ↦ rw e (omega arith)
             ]) in
             let none : cond (is_larger s.numer k k) s.den 0 ≡ 0 = rw (not_itself s.numer k) refl in
             let more : draws_of s * s.den ≤ larger_units s.numer k * s.den = mul-le-mul_right s.den many in
-            absurd (omega (arith, above, none, more, full, sum_is, ok.values.positive, sums_scaled n s.den (λ j. is_larger s.numer j k), ap (λ x. x * s.den) (larger_units_are s.numer k))))
+            absurd (omega (
+              arith,
+              above,
+              none,
+              more,
+              full,
+              sum_is,
+              ok.values.positive,
+              sums_scaled n s.den (λ j. is_larger s.numer j k),
+              ap (λ x. x * s.den) (larger_units_are s.numer k),
+            )))
       ]
 
   -- ---- lambda
@@ -180,7 +206,8 @@ module _ (units : ℕ) (s : Shares) (ok : IsSupport units s) where
   pub settled_done : fractional_count (settled s) ≡ 0
   settled_done =
       sum_by-map-range n (λ a. cond (fractional s.den a) 1 0) after_settling
-      ∙ sums-none n (λ k. cond (fractional s.den (after_settling k)) 1 0) (λ k _. elim (cases_Bool (large k)) [ inl e ↦ rw (e, fractional_den s.den) refl | inr e ↦ rw e refl ])
+      ∙ sums-none n (λ k. cond (fractional s.den (after_settling k)) 1 0)
+      (λ k _. elim (cases_Bool (large k)) [ inl e ↦ rw (e, fractional_den s.den) refl | inr e ↦ rw e refl ])
 
   pub settled_sum : sum (settled s).numer ≡ draws_of s * s.den
   settled_sum = sum_by-map-range n (λ x. x) after_settling ∙ sums_scaled n s.den large ∙ ap (λ x. x * s.den) count_is
@@ -188,7 +215,8 @@ module _ (units : ℕ) (s : Shares) (ok : IsSupport units s) where
   settled_each : (k : ℕ) → get_or (settled s).numer k 0 ≤ s.den
   settled_each k =
       elim (cases_lt k n) [
-        | inl h ↦ rw (at_units after_settling k h) (elim (cases_Bool (large k)) [ inl e ↦ rw e (omega arith) | inr e ↦ rw e (omega arith) ])
+        | inl h ↦ rw (at_units after_settling k h)
+            (elim (cases_Bool (large k)) [ inl e ↦ rw e (omega arith) | inr e ↦ rw e (omega arith) ])
         | inr h ↦ rw (get_or_past (settled s).numer k 0 (omega (arith, h, length-units after_settling))) (omega arith)
       ]
 
@@ -230,14 +258,25 @@ module _ (units : ℕ) (s : Shares) (ok : IsSupport units s) where
           ]
         ]
 
-    falls_at : (k : ℕ) → k < n → fractional s.den (at k) ≡ true → fractional (s.den - lambda s) (after_lowering k) ≡ false → fractional_count (lowered s) < fractional_count s
+    falls_at : (k : ℕ) → k < n → fractional s.den (at k) ≡ true
+        → fractional (s.den - lambda s) (after_lowering k) ≡ false
+        → fractional_count (lowered s) < fractional_count s
     falls_at k h was is =
-        let less = sums_less n k (λ j. cond (fractional (s.den - lambda s) (after_lowering j)) 1 0) (λ j. cond (fractional s.den (at j)) 1 0) h
+        let less = sums_less n k (λ j. cond (fractional (s.den - lambda s) (after_lowering j)) 1 0)
+        (λ j. cond (fractional s.den (at j)) 1 0) h
         (λ j l. elim (cases_Bool (fractional s.den (at j))) [
-          | inl e ↦ elim (cases_Bool (fractional (s.den - lambda s) (after_lowering j))) [ inl f ↦ rw (e, f) (omega arith) | inr f ↦ rw (e, f) (omega arith) ]
+          | inl e ↦ elim (cases_Bool (fractional (s.den - lambda s) (after_lowering j)))
+              [ inl f ↦ rw (e, f) (omega arith) | inr f ↦ rw (e, f) (omega arith) ]
           | inr e ↦ rw (e, lowered_keeps j l e) (omega arith)
         ]) in
-        omega (arith, less, weight_true was, weight_false is, fractional_count_is, sum_by-map-range n (λ a. cond (fractional (s.den - lambda s) a) 1 0) after_lowering)
+        omega (
+          arith,
+          less,
+          weight_true was,
+          weight_false is,
+          fractional_count_is,
+          sum_by-map-range n (λ a. cond (fractional (s.den - lambda s) a) 1 0) after_lowering,
+        )
 
     -- where lambda is met, one is fractional no more
     pub lowered_falls : fractional_count (lowered s) < fractional_count s
@@ -253,7 +292,9 @@ module _ (units : ℕ) (s : Shares) (ok : IsSupport units s) where
                 | inr e ↦
                     (let same : at found.place ≡ most_small s = rw e at is in
                     let den_is : s.den - lambda s ≡ at found.place = omega (arith, l, same, most_below) in
-                    falls_at found.place here (is_fractional-between s.den (at found.place) (omega (arith, same, l, within)) (omega (arith, same, most_below))) (rw (e, den_is) (fractional_den (at found.place))))
+                    falls_at found.place here (is_fractional-between s.den (at found.place)
+                    (omega (arith, same, l, within)) (omega (arith, same, most_below)))
+                    (rw (e, den_is) (fractional_den (at found.place))))
               ])
           | inr l ↦
               (let less : lambda s < s.den = lambda_less in
@@ -264,7 +305,8 @@ module _ (units : ℕ) (s : Shares) (ok : IsSupport units s) where
                 | inl e ↦
                     (let same : at found.place ≡ least_large s = rw e at is in
                     let none : at found.place - lambda s ≡ 0 = omega (arith, l, same) in
-                    falls_at found.place here (is_fractional-between s.den (at found.place) (omega (arith, same, least_positive)) (omega (arith, same, l, less))) (rw (e, none) refl))
+                    falls_at found.place here (is_fractional-between s.den (at found.place)
+                    (omega (arith, same, least_positive)) (omega (arith, same, l, less))) (rw (e, none) refl))
                 | inr e ↦ (let same : s.den ≡ least_large s = rw e at is in absurd (omega (arith, same, l, less)))
               ])
         ]
@@ -273,13 +315,18 @@ module _ (units : ℕ) (s : Shares) (ok : IsSupport units s) where
     lowered_sum =
         let taken = lowered_total n large (lambda s) at lambda_large in
         let den_is : s.den ≡ s.den - lambda s + lambda s = omega (arith, lambda_less) in
-        let product : draws_of s * s.den ≡ draws_of s * (s.den - lambda s) + draws_of s * lambda s = ap (λ x. draws_of s * x) den_is ∙ omega arith in
+        let product : draws_of s * s.den ≡ draws_of s * (s.den - lambda s) + draws_of s * lambda s =
+        ap (λ x. draws_of s * x) den_is ∙ omega arith in
         omega (arith, taken, sum_is, product, ap (λ x. x * lambda s) count_is, sum_by-map-range n (λ x. x) after_lowering)
 
     lowered_each : (k : ℕ) → get_or (lowered s).numer k 0 ≤ s.den - lambda s
     lowered_each k =
         elim (cases_lt k n) [
-          | inl h ↦ rw (at_units after_lowering k h) (elim (cases_Bool (large k)) [ inl e ↦ rw e (omega (arith, ok.values.each k)) | inr e ↦ rw e (omega (arith, lambda_small k h e)) ])
+          | inl h ↦ rw (at_units after_lowering k h)
+              (elim (cases_Bool (large k)) [
+                | inl e ↦ rw e (omega (arith, ok.values.each k))
+                | inr e ↦ rw e (omega (arith, lambda_small k h e))
+              ])
           | inr h ↦ rw (get_or_past (lowered s).numer k 0 (omega (arith, h, length-units after_lowering))) (omega arith)
         ]
 
@@ -294,13 +341,16 @@ module _ (units : ℕ) (s : Shares) (ok : IsSupport units s) where
       whole = whole_sum (draws_of s) (lowered s) (omega (arith, lambda_less)) lowered_sum;
     }
 
-    support_even : (k : ℕ) → k < n → Same (weighted (λ t. over (get_or t.numer k 0) t.den) (support_parts s)) (times (whole (weight_sum (support_parts s))) (over (at k) s.den))
+    support_even : (k : ℕ) → k < n → Same (weighted (λ t. over (get_or t.numer k 0) t.den) (support_parts s))
+        (times (whole (weight_sum (support_parts s))) (over (at k) s.den))
     support_even k h =
         let weight : 1 ≤ s.den - lambda s = omega (arith, lambda_less) in
         let total : lambda s + (s.den - lambda s + 0) ≡ s.den = omega (arith, lambda_less) in
         rw (at_units after_settling k h, at_units after_lowering k h) (elim (cases_Bool (large k)) [
-          | inl e ↦ rw e (parts_even (lambda s) (s.den - lambda s) s.den s.den (at k - lambda s) (lambda s) (at k) weight total (omega (arith, lambda_large k h e)) (one_of (lambda s) s.den ok.values.positive))
-          | inr e ↦ rw e (parts_even (lambda s) (s.den - lambda s) s.den 0 (at k) 0 (at k) weight total (omega arith) (none_of (lambda s) s.den))
+          | inl e ↦ rw e (parts_even (lambda s) (s.den - lambda s) s.den s.den (at k - lambda s) (lambda s) (at k)
+              weight total (omega (arith, lambda_large k h e)) (one_of (lambda s) s.den ok.values.positive))
+          | inr e ↦ rw e (parts_even (lambda s) (s.den - lambda s) s.den 0 (at k) 0 (at k) weight total
+              (omega arith) (none_of (lambda s) s.den))
         ])
 
     pub support_split : LawfulSplit (support_tree units) (IsSupport units) s
@@ -328,7 +378,9 @@ support_lawful units =
     (λ s ok going. support_split units s ok (still_going s going))
 
 -- where the values add up to n, each leaf selects n units
-pub leaf_count : (units n : ℕ) (s : Shares) → IsSupport units s → AddsUp (support_tree units) n s → LeavesSelect (support_tree units) n s
+pub leaf_count : (units n : ℕ) (s : Shares) → IsSupport units s → AddsUp (support_tree units) n s
+    → LeavesSelect (support_tree units) n s
 leaf_count units n s ok adds =
-    values_count units (2 ^ 126 - 1) (λ _. Support) support_parts (λ fractional. fractional) (IsSupport units) (λ t here. here.values) (support_lawful units) n
+    values_count units (2 ^ 126 - 1) (λ _. Support) support_parts (λ fractional. fractional) (IsSupport units)
+    (λ t here. here.values) (support_lawful units) n
     (λ t here going whole. support_keep units t here (still_going t going) n whole) s ok adds

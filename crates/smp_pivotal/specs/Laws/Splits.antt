@@ -1,4 +1,5 @@
--- The splits of sequential pivotal selection are lawful, and each leaf selects one of the whole numbers of units around the sum of the values.
+-- The splits of sequential pivotal selection are lawful, and each leaf selects one of the whole numbers of units around the sum of
+-- the values.
 use Rattle.std.proofs.Common.{◌^◌, ℕ, arith}
 use Rattle.smp_prob.specs.Shares.{Shares}
 use Rattle.smp_split.specs.Counts.{LeavesSelectAround}

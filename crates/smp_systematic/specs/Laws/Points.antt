@@ -1,9 +1,11 @@
 -- The points that a systematic draw picks: the draw, and all points that are whole multiples of the denominator further on.
-use Rattle.std.proofs.Common.{◌≡◌, ℕ, zero, suc, ◌+◌, ◌-◌, ◌*◌, ◌/◌, ◌%◌, ◌<◌, ◌≤◌, Bool, true, false, cond, nat_lt, nat_le, ◌&&◌, length, arith, refl, sym, ap, ◌∙◌, inl, inr}
+use Rattle.std.proofs.Common.{◌≡◌, ℕ, zero, suc, ◌+◌, ◌-◌, ◌*◌, ◌/◌, ◌%◌, ◌<◌, ◌≤◌, Bool, true, false}
+use Rattle.std.proofs.Common.{cond, nat_lt, nat_le, ◌&&◌, length, arith, refl, sym, ap, ◌∙◌, inl, inr}
 use Rattle.std.specs.Bool.{Decides}
 use Rattle.std.specs.List.{list_any, range_with_len}
 use Rattle.std.proofs.Math.Nat.{add-mul-div_right, div-eq_of_lt, mul-le-mul_right, mul-le-mul_left}
-use Rattle.std.proofs.lemmas.Bool.{cases_Bool, cases_lt, ltb-true, ltb-false, leb-true, lt-ltb, le-ltb, le-leb, lt-leb, and_parts, and_right}
+use Rattle.std.proofs.lemmas.Bool.{cases_Bool, cases_lt, ltb-true, ltb-false, leb-true, lt-ltb, le-ltb, le-leb, lt-leb, and_parts}
+use Rattle.std.proofs.lemmas.Bool.{and_right}
 use Rattle.std.proofs.lemmas.List.Folds.{list_any_at}
 use Rattle.std.proofs.lemmas.List.FromFn.{length-range_with_len, get_or-range_with_len}
 use Rattle.smp_split.proofs.NumberSums.{sums, counts, sums_front, sums_plus, sums_same, sums-none}
@@ -26,7 +28,8 @@ abbrev holds : ℕ → ℕ → ℕ → ℕ → ℕ → Bool
 holds den start after draw j = nat_le start (draw + j * den) && nat_lt (draw + j * den) after
 
 -- a point of the piece is found
-found : (den start after draw j : ℕ) → 1 ≤ den → start ≤ draw + j * den → draw + j * den < after → meets den start after draw ≡ true
+found : (den start after draw j : ℕ) → 1 ≤ den → start ≤ draw + j * den → draw + j * den < after
+    → meets den start after draw ≡ true
 found den start after draw j one from below =
     let few : j * 1 ≤ j * den = mul-le-mul_left j one in
     let index : j < after = omega arith in
@@ -74,16 +77,20 @@ module _ (den start draw gap steps : ℕ) (is : IsGap den start draw gap steps) 
             rw e (none_of (holds den start after draw) after 0 (λ j.
             elim (cases_lt (draw + j * den) start) [
               | inl before ↦ rw (lt-leb start (draw + j * den) before) refl
-              | inr not_before ↦ and_right (nat_le start (draw + j * den)) (nat_lt (draw + j * den) after) (le-ltb (draw + j * den) after (omega (arith, past_gap j not_before)))
+              | inr not_before ↦ and_right (nat_le start (draw + j * den)) (nat_lt (draw + j * den) after)
+                  (le-ltb (draw + j * den) after (omega (arith, past_gap j not_before)))
             ])))
       ]
 
   -- the gap of the next piece
-  pub next_gap : (size : ℕ) → size ≤ den → IsGap den (start + size) draw (cond (nat_lt gap size) (gap + (den - size)) (gap - size)) (cond (nat_lt gap size) 1 0 + steps)
+  pub next_gap : (size : ℕ) → size ≤ den
+      → IsGap den (start + size) draw (cond (nat_lt gap size) (gap + (den - size)) (gap - size))
+      (cond (nat_lt gap size) 1 0 + steps)
   next_gap size le =
       elim (cases_Bool (nat_lt gap size)) [
         | inl e ↦ (let within : gap < size = ltb-true gap size e in rw e (record { at = omega (arith, is.at); short = omega arith }))
-        | inr e ↦ (let long : size ≤ gap = ltb-false gap size e in rw e (record { at = omega (arith, is.at); short = omega (arith, is.short) }))
+        | inr e ↦ (let long : size ≤ gap = ltb-false gap size e in
+            rw e (record { at = omega (arith, is.at); short = omega (arith, is.short) }))
       ]
 
 -- ---- how many points lie before a place, and how many draws have one in a piece
@@ -92,7 +99,8 @@ module _ (den start draw gap steps : ℕ) (is : IsGap den start draw gap steps) 
 abbrev pub points : ℕ → ℕ → ℕ → ℕ
 points den below draw = (below + (den - 1 - draw)) / den
 
-pub gap_of : (den start draw : ℕ) → draw < den → IsGap den start draw (den - 1 - (start + (den - 1 - draw)) % den) (points den start draw)
+pub gap_of : (den start draw : ℕ) → draw < den
+    → IsGap den start draw (den - 1 - (start + (den - 1 - draw)) % den) (points den start draw)
 gap_of den start draw h =
     let x : ℕ = start + (den - 1 - draw) in
     let r : x % den < den = omega arith in
@@ -103,7 +111,8 @@ points_are : (den start draw gap steps : ℕ) → draw < den → IsGap den start
 points_are den start draw gap steps h is =
     let some : 0 < den = omega arith in
     let sum : start + (den - 1 - draw) ≡ (den - 1 - gap) + steps * den = omega (arith, is.at, is.short) in
-    ap (λ x. x / den) sum ∙ add-mul-div_right (den - 1 - gap) steps some ∙ (let none : (den - 1 - gap) / den ≡ 0 = div-eq_of_lt (omega arith) in omega arith)
+    ap (λ x. x / den) sum ∙ add-mul-div_right (den - 1 - gap) steps some
+    ∙ (let none : (den - 1 - gap) / den ≡ 0 = div-eq_of_lt (omega arith) in omega arith)
 
 -- one whole turn on
 turn : (den x : ℕ) → 1 ≤ den → (x + den) / den ≡ x / den + 1
@@ -130,7 +139,8 @@ points_sum_all zero c h = absurd (omega arith)
 points_sum_all (suc m) c h = points_sum m c
 
 -- the points before the end of a piece
-pub points_next : (den start size after draw : ℕ) → draw < den → size ≤ den → after ≡ start + size → points den after draw ≡ cond (meets den start after draw) 1 0 + points den start draw
+pub points_next : (den start size after draw : ℕ) → draw < den → size ≤ den → after ≡ start + size
+    → points den after draw ≡ cond (meets den start after draw) 1 0 + points den start draw
 points_next den start size after draw h le end =
     let is = gap_of den start draw h in
     let gap : ℕ = den - 1 - (start + (den - 1 - draw)) % den in
@@ -139,9 +149,16 @@ points_next den start size after draw h le end =
     ∙ sym (ap (λ b. cond b 1 0 + points den start draw) (meets_is den start draw gap (points den start draw) is size after end))
 
 -- a piece is met by as many draws as it is long
-pub meets_count : (den start size after : ℕ) → 1 ≤ den → size ≤ den → after ≡ start + size → counts den (meets den start after) ≡ size
+pub meets_count : (den start size after : ℕ) → 1 ≤ den → size ≤ den → after ≡ start + size
+    → counts den (meets den start after) ≡ size
 meets_count den start size after one le end =
-    omega (arith, sums_plus den (points den after) (λ d. cond (meets den start after d) 1 0) (points den start) (λ d l. points_next den start size after d l le end), points_sum_all den after one, points_sum_all den start one)
+    omega (
+      arith,
+      sums_plus den (points den after) (λ d. cond (meets den start after d) 1 0) (points den start)
+          (λ d l. points_next den start size after d l le end),
+      points_sum_all den after one,
+      points_sum_all den start one,
+    )
 
 -- before 0 no point lies
 pub points_zero : (den draw : ℕ) → draw < den → points den 0 draw ≡ 0

@@ -1,5 +1,6 @@
 -- The law of systematic selection: its split is lawful, and leaves a sum of the values that is one of the whole numbers around theirs.
-use Rattle.std.proofs.Common.{◌≡◌, ℕ, zero, suc, ◌+◌, ◌-◌, ◌*◌, ◌^◌, ◌<◌, ◌≤◌, Bool, true, false, cond, nat_eq, List, length, get_or, arith, refl, sym, ap, ◌∙◌, inl, inr}
+use Rattle.std.proofs.Common.{◌≡◌, ℕ, zero, suc, ◌+◌, ◌-◌, ◌*◌, ◌^◌, ◌<◌, ◌≤◌, Bool, true, false, cond}
+use Rattle.std.proofs.Common.{nat_eq, List, length, get_or, arith, refl, sym, ap, ◌∙◌, inl, inr}
 use Rattle.std.specs.List.{sum}
 use Rattle.std.proofs.Math.Seq.{take-length}
 use Rattle.std.proofs.lemmas.Bool.{cases_lt, eq-eqb}
@@ -56,18 +57,24 @@ module _ (units : ℕ) (s : Shares) (ok : IsValues units (2 ^ 126 - 1) s) where
   pub draws_taking : (place : ℕ) → place < units → counts s.den (λ draw. takes s draw place) ≡ get_or s.numer place 0
   draws_taking place h =
       let here : place < length s.numer = omega (arith, ok.count) in
-      meets_count s.den (cumulated s.numer place) (get_or s.numer place 0) (cumulated s.numer (place + 1)) ok.positive (ok.each place) (cumulated_next s.numer place here)
+      meets_count s.den (cumulated s.numer place) (get_or s.numer place 0) (cumulated s.numer (place + 1))
+      ok.positive (ok.each place) (cumulated_next s.numer place here)
 
   sampled_within : (draw k : ℕ) → get_or (sampled s draw).numer k 0 ≤ s.den
   sampled_within draw k =
       elim (cases_lt k (length s.numer)) [
         | inl here ↦ rw (sampled_at s draw k here) (either_within s.den (takes s draw k))
         | inr past ↦
-            (let none : get_or (sampled s draw).numer k 0 ≡ 0 = get_or_past (sampled s draw).numer k 0 (rw (length-map-range_with_len (λ place. cond (takes s draw place) s.den 0) 0 (length s.numer)) past) in
+            (let none : get_or (sampled s draw).numer k 0 ≡ 0 =
+            get_or_past (sampled s draw).numer k 0
+            (rw (length-map-range_with_len (λ place. cond (takes s draw place) s.den 0) 0 (length s.numer))
+            past) in
             rw none (omega arith))
       ]
 
-  sampled_part : is_settled s ≡ false → (draw : ℕ) → IsPart (places_tree systematic_rule units) (IsValues units (2 ^ 126 - 1)) s (record { weight = 1; state = sampled s draw })
+  sampled_part : is_settled s ≡ false → (draw : ℕ)
+      → IsPart (places_tree systematic_rule units) (IsValues units (2 ^ 126 - 1)) s
+      (record { weight = 1; state = sampled s draw })
   sampled_part going draw = record {
     heavy = omega arith;
     falls = rw (sampled_done s draw, going) (omega arith);
@@ -79,7 +86,9 @@ module _ (units : ℕ) (s : Shares) (ok : IsValues units (2 ^ 126 - 1) s) where
     };
   }
 
-  sampled_even : (place : ℕ) → place < units → Same (weighted (λ t. over (get_or t.numer place 0) t.den) (equal_parts s.den (sampled s))) (times (whole (weight_sum (equal_parts s.den (sampled s)))) (over (get_or s.numer place 0) s.den))
+  sampled_even : (place : ℕ) → place < units
+      → Same (weighted (λ t. over (get_or t.numer place 0) t.den) (equal_parts s.den (sampled s)))
+      (times (whole (weight_sum (equal_parts s.den (sampled s)))) (over (get_or s.numer place 0) s.den))
   sampled_even place h =
       let here : place < length s.numer = omega (arith, ok.count) in
       let at : Shares → ℕ = λ t. get_or t.numer place 0 in
@@ -91,14 +100,16 @@ module _ (units : ℕ) (s : Shares) (ok : IsValues units (2 ^ 126 - 1) s) where
       ∙ sums_scaled s.den s.den (λ draw. takes s draw place)
       ∙ ap (λ n. n * s.den) (draws_taking place h) in
       let weights : weight_sum (equal_parts s.den (sampled s)) ≡ s.den = weight_sum-equal (sampled s) s.den in
-      even_over at den_of s.den (get_or s.numer place 0) (equal_parts s.den (sampled s)) (each_equal (sampled s) (λ p. p.state.den ≡ s.den) s.den (λ _ _. refl))
+      even_over at den_of s.den (get_or s.numer place 0) (equal_parts s.den (sampled s))
+      (each_equal (sampled s) (λ p. p.state.den ≡ s.den) s.den (λ _ _. refl))
       (rw weights (omega (arith, total)))
 
   pub places_split : is_settled s ≡ false → LawfulSplit (places_tree systematic_rule units) (IsValues units (2 ^ 126 - 1)) s
   places_split going = record {
     some = rw (weight_sum-equal (sampled s) s.den) ok.positive;
     narrow = rw (weight_sum-equal (sampled s) s.den) (omega (arith, ok.narrow));
-    each = each_equal (sampled s) (IsPart (places_tree systematic_rule units) (IsValues units (2 ^ 126 - 1)) s) s.den (λ draw _. sampled_part going draw);
+    each = each_equal (sampled s) (IsPart (places_tree systematic_rule units) (IsValues units (2 ^ 126 - 1)) s)
+        s.den (λ draw _. sampled_part going draw);
     even = sampled_even;
   }
 
@@ -111,23 +122,28 @@ module _ (units : ℕ) (s : Shares) (ok : IsValues units (2 ^ 126 - 1) s) where
     taken_points (suc m) h =
         let one_more : m + 1 ≡ suc m = omega arith in
         let next : points s.den (cumulated s.numer (m + 1)) draw ≡ cond (takes s draw m) 1 0 + points s.den (cumulated s.numer m) draw =
-        points_next s.den (cumulated s.numer m) (get_or s.numer m 0) (cumulated s.numer (m + 1)) draw within (ok.each m) (cumulated_next s.numer m (omega arith)) in
+        points_next s.den (cumulated s.numer m) (get_or s.numer m 0) (cumulated s.numer (m + 1)) draw within
+        (ok.each m) (cumulated_next s.numer m (omega arith)) in
         omega (arith, taken_points m (omega arith), ap (λ k. points s.den (cumulated s.numer k) draw) one_more)
 
     sampled_sum : sum (sampled s draw).numer ≡ points s.den (sum s.numer) draw * s.den
     sampled_sum =
         sum_by-map-range (length s.numer) (λ a. a) (λ place. cond (takes s draw place) s.den 0)
         ∙ sums_scaled (length s.numer) s.den (takes s draw)
-        ∙ ap (λ k. k * s.den) (taken_points (length s.numer) (omega arith) ∙ ap (λ xs. points s.den (sum xs) draw) (take-length s.numer))
+        ∙ ap (λ k. k * s.den) (taken_points (length s.numer) (omega arith)
+        ∙ ap (λ xs. points s.den (sum xs) draw) (take-length s.numer))
 
     sampled_near : (total den : ℕ) → s.den ≡ den → sum s.numer ≡ total → IsNear total den (sampled s draw)
     sampled_near total den is same =
         let gap = gap_of s.den (sum s.numer) draw within in
-        near_settled total den (sampled s draw) is (sampled_done s draw) (omega (arith, sampled_sum, gap.at, gap.short)) (omega (arith, sampled_sum, gap.at, gap.short))
+        near_settled total den (sampled s draw) is (sampled_done s draw)
+        (omega (arith, sampled_sum, gap.at, gap.short)) (omega (arith, sampled_sum, gap.at, gap.short))
 
-  pub places_near : is_settled s ≡ false → (total den : ℕ) → IsNear total den s → EachPart (λ p. IsNear total den p.state) (equal_parts s.den (sampled s))
+  pub places_near : is_settled s ≡ false → (total den : ℕ) → IsNear total den s
+      → EachPart (λ p. IsNear total den p.state) (equal_parts s.den (sampled s))
   places_near going total den near =
-      each_equal (sampled s) (λ p. IsNear total den p.state) s.den (λ draw within. sampled_near draw within total den near.den_is (near.going going))
+      each_equal (sampled s) (λ p. IsNear total den p.state) s.den
+      (λ draw within. sampled_near draw within total den near.den_is (near.going going))
 
 -- ---- in either order
 
@@ -135,11 +151,13 @@ abbrev one_step : ℕ → ℕ
 one_step fractional = cond (nat_eq fractional 0) 0 1
 
 pub systematic_lawful : (units : ℕ) → Lawful (systematic_tree units) (IsSystematic units)
-systematic_lawful units = in_order_lawful units (2 ^ 126 - 1) (λ _. System) (λ s. equal_parts s.den (sampled s)) one_step (places_split units)
+systematic_lawful units = in_order_lawful units (2 ^ 126 - 1) (λ _. System) (λ s. equal_parts s.den (sampled s))
+    one_step (places_split units)
 
 -- each leaf selects one of the whole numbers of units around the sum of the values
 pub leaf_around : (units : ℕ) (s : Ordered Shares) → IsSystematic units s → LeavesSelectAround (systematic_tree units) s
-leaf_around units = in_order_around units (2 ^ 126 - 1) (λ _. System) (λ t. equal_parts t.den (sampled t)) one_step (places_split units) (λ total den t here going. places_near units t here going total den)
+leaf_around units = in_order_around units (2 ^ 126 - 1) (λ _. System) (λ t. equal_parts t.den (sampled t)) one_step
+    (places_split units) (λ total den t here going. places_near units t here going total den)
 
 pub systematic_law : LawfulRule systematic_rule
 systematic_law = record { wide = omega arith; lawful = systematic_lawful; around = leaf_around }

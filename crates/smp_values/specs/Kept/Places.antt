@@ -1,5 +1,6 @@
 -- What the code keeps of a row of values: its first two fractional units.
-use Rattle.std.specs.Prelude.{◌≡◌, ◌≢◌, ℕ, ◌+◌, ◌≤◌, ◌<◌, ◌^◌, min, false, nat_lt, if◌then◌else◌, List, length, slice_index, drop}
+use Rattle.std.specs.Prelude.{◌≡◌, ◌≢◌, ℕ, ◌+◌, ◌≤◌, ◌<◌, ◌^◌, min, false, nat_lt, if◌then◌else◌}
+use Rattle.std.specs.Prelude.{List, length, slice_index, drop}
 use Rattle.std.specs.List.{position_or_len}
 use Rattle.smp_prob.specs.Shares.{Shares}
 use Rattle.smp_split.specs.Trees.{Part}
