@@ -27,7 +27,8 @@ use Rattle.smp_plan.specs.Plans.{Plan, parts, row_id, row_probability}
 use Rattle.smp_app.specs.Drawn.{covered, drawn_rows}
 use Rattle.smp_plan.specs.Planned.{IsPlanned, plan_view}
 use Rattle.smp_app.specs.Stages.{IsSelection, selection_view}
-use Rattle.smp_app.proofs.Alone.{covered_positive, seats_long}
+use Rattle.smp_twostage.proofs.Positive.{covered_positive}
+use Rattle.smp_app.proofs.Alone.{seats_long}
 
 -- the row of one more element
 pub next_row : {A : Type 0} (line : A → List ℕ) (xs : List A) (i : ℕ) (d : A) (old new : Option (List ℕ)) (text whole : List ℕ) → i < length xs → AddsRow old new text → text ≡ line (get_or xs i d)

@@ -1,8 +1,8 @@
 -- Only rows that can be selected are selected.
-use Rattle.std.proofs.Common.{◌≡◌, ℕ, zero, suc, ◌+◌, ◌*◌, ◌<◌, ◌≤◌, mul-pos, Bool, true, false, true≢false, ℤ, pos, negsuc, List, length, Option, Some, None, arith, refl, sym, ap, subst, ◌∙◌}
+use Rattle.std.proofs.Common.{◌≡◌, ℕ, zero, suc, ◌+◌, ◌*◌, ◌<◌, ◌≤◌, mul-pos, Bool, true, false, true≢false, ℤ, pos, negsuc, List, length, Option, Some, None, arith, refl, sym, ap, subst, ◌∙◌, inl, inr}
 use Rattle.std.specs.Prelude.{is_some, slice_index, option_and_then}
 use Rattle.std.specs.List.{slice_get}
-use Rattle.std.proofs.lemmas.Bool.{and_parts}
+use Rattle.std.proofs.lemmas.Bool.{and_parts, cases_Bool}
 use Rattle.smp_fractions.specs.Fractions.{Fraction, times}
 use Rattle.smp_prob.specs.declared.requests.Request.{Request}
 use Rattle.smp_prob.specs.declared.inclusions.Inclusion.{Inclusion}
@@ -21,8 +21,9 @@ use Rattle.smp_strata.specs.Plans.{Parts}
 use Rattle.smp_strata.specs.Seats.{first_at, first_fraction, place_fraction, stage_fraction, unit_fraction}
 use Rattle.smp_strata.specs.declared.strata.Seat.{Seat}
 use Rattle.smp_twostage.specs.Plans.{CanBeDrawn}
-use Rattle.smp_twostage.specs.Selections.{Selecting, tree_of, first_number, first_stage, place_of, seat_by, second_stage, stages_of, whole_tree}
+use Rattle.smp_twostage.specs.Selections.{Coverage, Selecting, tree_of, covered_tree, first_number, first_stage, is_of_stratum, parts_by, place_of, seat_alone, seat_by, second_stage, stages_of}
 use Rattle.smp_twostage.specs.Starts.{is_positive, row_fraction}
+use Rattle.smp_twostage.specs.Laws.Covered.{its_place, made_at}
 use Rattle.smp_twostage.specs.Laws.Numbering.{first_there, second_there}
 use Rattle.smp_twostage.specs.Laws.Places.{StandsIn}
 use Rattle.smp_twostage.specs.Laws.Staged.{first_is, none_in, place_stands, seat_at, seconds_in}
@@ -59,61 +60,78 @@ module _ (request : Request) (sound : IsRequest request) (chosen : ℕ → Bool)
   taken_positive : (unit : ℕ) → is_taken chosen (inclusion request unit) ≡ true → is_positive (asked_fraction request unit).num ≡ true
   taken_positive unit = taken_at (inclusion request unit) (free_within request unit)
 
-module _ (plan : Parts) (drawable : CanBeDrawn plan) (states : List AnyState) where
+-- ---- a row that is selected, where all strata are drawn or one alone
+
+-- the strata that are drawn, of which that of the row has this number
+module _ (plan : Parts) (drawable : CanBeDrawn plan) (drawn : Parts) (second_same : drawn.second ≡ plan.second) (number : ℕ) (states : List AnyState) where
   -- a unit that is selected in its stage
   selected_at : (stage : Stage Selecting) (unit : ℕ) (state : Option AnyState) → IsRequest stage.design.request → read tree_of false (λ tree s. tree.selected s unit) (Some stage) state ≡ true → is_positive (asked_fraction stage.design.request unit).num ≡ true
   selected_at stage unit (Some state) sound selected = taken_positive stage.design.request sound ((method_of stage.design.design).tree.selected state) unit selected
   selected_at stage unit None sound selected = absurd (true≢false (sym selected))
 
-  selected_unit : (i unit : ℕ) (stage : Stage Selecting) → slice_get (stages_of plan) i ≡ Some stage → IsRequest stage.design.request → unit_selected tree_of (stages_of plan) states (record { stage = i; unit = unit }) ≡ true → is_positive (asked_fraction stage.design.request unit).num ≡ true
+  selected_unit : (i unit : ℕ) (stage : Stage Selecting) → slice_get (stages_of drawn) i ≡ Some stage → IsRequest stage.design.request → unit_selected tree_of (stages_of drawn) states (record { stage = i; unit = unit }) ≡ true → is_positive (asked_fraction stage.design.request unit).num ≡ true
   selected_unit i unit stage is sound selected =
       selected_at stage unit (slice_get states i) sound (ap (λ o. read tree_of false (λ tree s. tree.selected s unit) o (slice_get states i)) (sym is) ∙ selected)
 
-  module _ (row : ℕ) (here : StandsIn plan.strata row (place_of plan.strata row)) where
+  module _ (row : ℕ) (here : StandsIn plan.strata row (place_of plan.strata row)) (found : slice_get drawn.strata number ≡ Some here.stratum) where
     abbrev place : Seat
     place = place_of plan.strata row
 
     abbrev at : ℕ
-    at = first_number plan place.stratum
+    at = first_number drawn number
 
     abbrev is_selected : Place → Bool
-    is_selected = unit_selected tree_of (stages_of plan) states
+    is_selected = unit_selected tree_of (stages_of drawn) states
 
     first_positive : is_selected (record { stage = at; unit = place.unit }) ≡ true → is_positive (first_fraction plan.strata place.stratum place.unit).num ≡ true
     first_positive selected =
         subst (λ o. is_positive (unit_fraction o place.unit).num ≡ true) (sym here.is_stratum)
-        (selected_unit at place.unit (first_stage plan here.stratum) (first_there plan place.stratum here.stratum here.is_stratum) (is_planned plan drawable place.stratum here.stratum here.is_stratum).stratum.over.sound selected)
+        (selected_unit at place.unit (first_stage drawn here.stratum) (first_there drawn number here.stratum found) (is_planned plan drawable place.stratum here.stratum here.is_stratum).stratum.over.sound selected)
 
     place_is : place_fraction (first_at plan.strata place.stratum place.unit) place.place ≡ stage_fraction here.unit.second place.place
     place_is =
         ap (λ o. place_fraction (option_and_then (λ s. slice_get s.units place.unit) o) place.place) here.is_stratum
         ∙ ap (λ o. place_fraction o place.place) here.is_unit
 
-    alone : (request : Option Request) → is_some request ≡ false → is_positive (stage_fraction request place.place).num ≡ true
-    alone None none = refl
-    alone (Some request) none = absurd (cc)
+    without : (request : Option Request) → is_some request ≡ false → is_positive (stage_fraction request place.place).num ≡ true
+    without None none = refl
+    without (Some request) none = absurd (cc)
 
     second_positive : (method : Method) → plan.second ≡ Some method → (request : Option Request) → here.unit.second ≡ request → is_some request ≡ true → is_selected (record { stage = suc (at + place.unit); unit = place.place }) ≡ true
         → is_positive (stage_fraction request place.place).num ≡ true
     second_positive method second (Some request) asks some selected =
         let over : IsWholeOver (length here.unit.rows) request = rw asks at (first_is plan drawable place.stratum place.unit here.stratum here.unit here.is_stratum here.is_unit).over in
         selected_unit (suc (at + place.unit)) place.place (second_stage method request (length here.unit.rows) at place.unit)
-        (second_there plan place.stratum here.stratum here.is_stratum method second (seconds_in plan drawable method second place.stratum here.stratum here.is_stratum) place.unit here.unit here.is_unit request asks)
+        (second_there drawn number here.stratum found method (second_same ∙ second) (seconds_in plan drawable method second place.stratum here.stratum here.is_stratum) place.unit here.unit here.is_unit request asks)
         over.over.sound selected
     second_positive method second None asks some selected = absurd (cc)
 
     by_method : (method : Option Method) → plan.second ≡ method → seat_selected is_selected (Some (seat_by method at place)) ≡ true → is_positive (row_fraction plan row).num ≡ true
     by_method None second selected =
         positive_times (first_fraction plan.strata place.stratum place.unit) (place_fraction (first_at plan.strata place.stratum place.unit) place.place) (first_positive selected)
-        (ap (λ (f : Fraction). is_positive f.num) place_is ∙ alone here.unit.second (none_in plan drawable second place.stratum place.unit here.stratum here.unit here.is_stratum here.is_unit))
+        (ap (λ (f : Fraction). is_positive f.num) place_is ∙ without here.unit.second (none_in plan drawable second place.stratum place.unit here.stratum here.unit here.is_stratum here.is_unit))
     by_method (Some method) second selected =
         let both = and_parts _ _ selected in
         positive_times (first_fraction plan.strata place.stratum place.unit) (place_fraction (first_at plan.strata place.stratum place.unit) place.place) (first_positive both.0)
         (ap (λ (f : Fraction). is_positive f.num) place_is
         ∙ second_positive method second here.unit.second refl (seconds_in plan drawable method second place.stratum here.stratum here.is_stratum place.unit here.unit here.is_unit) both.1)
 
+module _ (plan : Parts) (drawable : CanBeDrawn plan) (leaf : Progress AnyState) (row : ℕ) (l : row < plan.rows) where
+  abbrev stands : StandsIn plan.strata row (place_of plan.strata row)
+  stands = place_stands plan drawable row l
+
+  positive_by : (only : Option ℕ) → (covered_tree (record { plan = plan; only = only })).selected leaf row ≡ true → is_positive (row_fraction plan row).num ≡ true
+  positive_by None selected =
+      by_method plan drawable plan refl (place_of plan.strata row).stratum leaf.states row stands stands.is_stratum plan.second refl
+      (ap (seat_selected (unit_selected tree_of (stages_of plan) leaf.states)) (sym (seat_at plan drawable row l)) ∙ selected)
+  positive_by (Some h) selected =
+      let test = seat_selected (unit_selected tree_of (stages_of (parts_by plan (Some h))) leaf.states) in
+      let seated : test (Some (seat_alone plan h row)) ≡ true = ap test (sym (made_at (seat_alone plan h) plan.rows row l)) ∙ selected in
+      elim (cases_Bool (is_of_stratum plan h row)) [
+        | inl its ↦ by_method plan drawable (parts_by plan (Some h)) refl 0 leaf.states row stands (its_place plan drawable h row stands its) plan.second refl (rw its at seated)
+        | inr other ↦ absurd (true≢false (sym (let no : false ≡ true = rw other at seated in no)))
+      ]
+
 -- a row that is selected has a positive probability
-pub selected_positive : (plan : Parts) → CanBeDrawn plan → (leaf : Progress AnyState) (row : ℕ) → row < plan.rows → (whole_tree plan).selected leaf row ≡ true → is_positive (row_fraction plan row).num ≡ true
-selected_positive plan drawable leaf row l selected =
-    by_method plan drawable leaf.states row (place_stands plan drawable row l) plan.second refl
-    (ap (seat_selected (unit_selected tree_of (stages_of plan) leaf.states)) (sym (seat_at plan drawable row l)) ∙ selected)
+pub covered_positive : (c : Coverage) → CanBeDrawn c.plan → (leaf : Progress AnyState) (row : ℕ) → row < c.plan.rows → (covered_tree c).selected leaf row ≡ true → is_positive (row_fraction c.plan row).num ≡ true
+covered_positive c drawable leaf row l selected = positive_by c.plan drawable leaf row l c.only selected
