@@ -8,7 +8,8 @@ use Rattle.smp_words.specs.Words.{command_of}
 use Rattle.smp_app.specs.declared.outputs.OutputFile.{OutputFile}
 use Rattle.smp_plan.specs.Plans.{Plan, quick_design}
 use Rattle.smp_app.specs.Drawn.{Drawn}
-use Rattle.smp_app.specs.Texts.{ids_text, steps_text, log_text, sample_text, report_text, migrated_text, demo_text, probabilities_text, accepted_text}
+use Rattle.smp_app.specs.Texts.{ids_text, steps_text, log_text, sample_text, report_text, migrated_text, demo_text, probabilities_text}
+use Rattle.smp_app.specs.Texts.{accepted_text}
 use Rattle.smp_app.specs.Deliveries.{Outputs}
 use Rattle.smp_cases.specs.Demo.{demo_design_text, demo_frame_text, demo_key}
 use Rattle.smp_plan.specs.Inputs.{DesignSource, FrameSource, input_names, Held, Given, Made, FrameHeld, FrameMade}

@@ -29,7 +29,8 @@ pub record StopsAtFile (outputs : List OutputFile) (files files_now : Option Fil
 -- Where the outputs stopped: at the write of a file, with nothing put, or at the put, with all files written and a front put.
 pub data StopsAt (outputs : Outputs) (files files_now : Option Files) (written written_now : Option (List ℕ)) : Type 0 where
   AtFile : StopsAtFile outputs.files files files_now → written_now ≡ written → StopsAt outputs files files_now written written_now
-  AtPut : files_now ≡ option_map (with_files outputs.files) files → AppendsFront outputs.put written written_now → StopsAt outputs files files_now written written_now
+  AtPut : files_now ≡ option_map (with_files outputs.files) files → AppendsFront outputs.put written written_now
+      → StopsAt outputs files files_now written written_now
 
 -- What holds of the place where the outputs stopped: of the name of the file whose write stopped them, or of the put.
 abbrev pub AtPlace : {outputs : Outputs} {files files_now : Option Files} {written written_now : Option (List ℕ)}
@@ -43,7 +44,8 @@ pub record FailsAtFile (outputs : List OutputFile) (files files_now : Option Fil
   pub cause : of_file stop.file.name
 
 -- The outputs stopped, and this holds of the place.
-pub record FailsAt (outputs : Outputs) (files files_now : Option Files) (written written_now : Option (List ℕ)) (of_file : List ℕ → Type 0) (of_put : Type 0) : Type 0 where
+pub record FailsAt (outputs : Outputs) (files files_now : Option Files) (written written_now : Option (List ℕ))
+    (of_file : List ℕ → Type 0) (of_put : Type 0) : Type 0 where
   pub stops : StopsAt outputs files files_now written written_now
   pub cause : AtPlace stops of_file of_put
 

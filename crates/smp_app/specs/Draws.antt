@@ -1,5 +1,6 @@
 -- What holds of what a job draws.
-use Rattle.std.specs.Prelude.{◌≡◌, ◌≢◌, IfSome, ℕ, ◌+◌, ◌-◌, ◌<◌, true, ℤ, List, length, Option, Some, None, Result, Ok, Err}
+use Rattle.std.specs.Prelude.{◌≡◌, ◌≢◌, IfSome, ℕ, ◌+◌, ◌-◌, ◌<◌, true, ℤ, List, length, Option, Some, None}
+use Rattle.std.specs.Prelude.{Result, Ok, Err}
 use Rattle.std.specs.List.{count_by, range_with_len, slice_get}
 use Rattle.smp_io.specs.Store.{Files}
 use Rattle.smp_fractions.specs.Bounds.{IsAround}
@@ -23,7 +24,8 @@ use Rattle.smp_strata.specs.declared.strata.Stratum.{Stratum}
 use Rattle.smp_stages.specs.Paths.{GoesByStages}
 use Rattle.smp_twostage.specs.Cubes.{IsDrawnByCube, balancing}
 use Rattle.smp_twostage.specs.Covered.{StartsAlone}
-use Rattle.smp_twostage.specs.Selections.{BelongsToCovered, BelongsToWhole, covered_start, covered_tree, tree_of as stage_tree, first_number, stages_of, states_of}
+use Rattle.smp_twostage.specs.Selections.{BelongsToCovered, BelongsToWhole, covered_start, covered_tree, tree_of as stage_tree}
+use Rattle.smp_twostage.specs.Selections.{first_number, stages_of, states_of}
 use Rattle.smp_twostage.specs.Starts.{first_selected, known, second_selected, weighted}
 use Rattle.smp_plan.specs.Plans.{Plan, parts, row_probability}
 use Rattle.smp_app.specs.Drawn.{tree_of, start_of, sections_of, Drawn}
@@ -124,8 +126,9 @@ pub record HasProbabilities (plan : Plan) : Type 0 where
 pub record IsDrawnBy (plan : Plan) (drawn : Drawn) : Type 0 where
   pub plan_is : drawn.plan ≡ plan
   pub all : drawn.only ≡ None
-  -- The draw tree splits lawfully: in each state that isn't done the weights are at least 1, each part's rank is lower, and each row's value
-  -- is the weighted mean of its values in the parts; at a done state it is 1 for the rows that are selected, and 0 for the others.
+  -- The draw tree splits lawfully: in each state that isn't done the weights are at least 1, each part's rank is lower, and each
+  -- row's value is the weighted mean of its values in the parts; at a done state it is 1 for the rows that are selected, and 0 for
+  -- the others.
   pub lawful : Lawful (tree_of plan) (BelongsToWhole (parts plan))
   -- The draw starts from a state of the tree, and its path leads from there to a leaf, which is done.
   pub start : BelongsToWhole (parts plan) (start_of plan)

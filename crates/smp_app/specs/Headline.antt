@@ -59,8 +59,8 @@ IsDrawnByChance (Seed seed) fs drawn = IsDrawnBySeed seed drawn
 
 -- ---- what was read
 
--- The bytes in the file of a frame are what the plan says: its rows, by the columns of the design, which they serve. The head names these very
--- bytes, and those of the design, by their digests.
+-- The bytes in the file of a frame are what the plan says: its rows, by the columns of the design, which they serve. The head names
+-- these very bytes, and those of the design, by their digests.
 pub record IsReadFrame (frame design_bytes : List ℕ) (fs : Files) (plan : Plan) : Type 0 where
   pub frame_bytes : List ℕ
   pub frame_held : fs frame ≡ Some frame_bytes
@@ -102,8 +102,8 @@ pub record IsReplayed (drawn : Drawn) : Type 0 where
 
 -- ---- a quick draw
 
--- What a `quick` that ended well has done: a draw of n units by sequential pivotal steps, of which the ids are written, and the lines of the
--- steps put.
+-- What a `quick` that ended well has done: a draw of n units by sequential pivotal steps, of which the ids are written, and the
+-- lines of the steps put.
 pub record IsExactQuick (a : QuickArguments) (fs : Files) (before now : Outside) : Type 0 where
   pub drawn : Drawn
   pub is_drawn : IsDrawnByTape a.tape fs drawn
@@ -208,10 +208,10 @@ pub record Ends (answer : Status) (words : List (List ℕ)) (before : Outside) (
   pub asked : command_of words ≡ Some command
   pub told : before.files ≡ Some fs
 
--- A call that answers Done has done what its command asks for: such a draw, whose log `replay` accepts; such a quick draw; such a replay, of all
--- strata or of the one whose number the words have, counted from 1; such a migration. Where it answers that a log differs at a line, the lines
--- before this one are the most whole lines with which some genuine log begins, of either version for `replay`, of version 1 for `migrate`; with
--- a stratum the line is the first with which no genuine section of it goes on.
+-- A call that answers Done has done what its command asks for: such a draw, whose log `replay` accepts; such a quick draw; such a
+-- replay, of all strata or of the one whose number the words have, counted from 1; such a migration. Where it answers that a log
+-- differs at a line, the lines before this one are the most whole lines with which some genuine log begins, of either version for
+-- `replay`, of version 1 for `migrate`; with a stratum the line is the first with which no genuine section of it goes on.
 pub record Headline (answer : Status) (words : List (List ℕ)) (before now : Outside) : Type 0 where
   pub draw : (a : DrawArguments) (fs : Files)
       → Ends answer words before status.Done (commands.Draw a) fs → IsExactDraw a fs before now

@@ -29,7 +29,8 @@ use Rattle.smp_app.specs.declared.job.Job as code_job
 use Rattle.smp_status.specs.Codes.{Class, IsDone, IsUsage, IsRefusal, IsReadFault, IsWriteFault, IsNoMemory}
 use Rattle.smp_plan.specs.Plans.{Plan}
 use Rattle.smp_app.specs.Drawn.{tree_of, Drawn, covered, drawn_rows}
-use Rattle.smp_app.specs.Texts.{ids_text, steps_text, log_text, sample_text, report_text, migrated_text, demo_text, probabilities_text, accepted_text}
+use Rattle.smp_app.specs.Texts.{ids_text, steps_text, log_text, sample_text, report_text, migrated_text, demo_text, probabilities_text}
+use Rattle.smp_app.specs.Texts.{accepted_text}
 use Rattle.smp_app.specs.Commands.{Source, ByTape, BySeed, ByLog, ByOldLog, BySection, DrawnFile, Work, Lists, Draws, Job, inputs_of}
 use Rattle.smp_plan.specs.Stops.{Stop, Refused}
 use Rattle.smp_app.specs.Verdict.{draw_status, drawn_at}

@@ -1,5 +1,6 @@
 -- What a call is to answer, by its words and the files: the first refusal in the order of work, or what it is to write and put.
-use Rattle.std.specs.Prelude.{ℕ, ◌+◌, ◌-◌, List, [], length, ◌==◌, nat_le, Option, Some, None, Result, Ok, Err, if◌then◌else◌}
+use Rattle.std.specs.Prelude.{ℕ, ◌+◌, ◌-◌, List, [], length, ◌==◌, nat_le, Option, Some, None, Result, Ok, Err}
+use Rattle.std.specs.Prelude.{if◌then◌else◌}
 use Rattle.smp_io.specs.Store.{Files}
 use Rattle.smp_tape.specs.Sources as sources
 use Rattle.smp_tape.specs.TapeText.{tape_of}

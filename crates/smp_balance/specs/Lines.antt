@@ -1,5 +1,6 @@
 -- What the report tells of a stratum that was drawn by the cube: `left H L`, and then `balance H J E T` for each balancing column.
-use Rattle.std.specs.Prelude.{◌≡◌, ℕ, zero, suc, ◌+◌, ◌<◌, ◌≤◌, ◌++◌, true, if◌then◌else◌, List, ℤ, pos, ◌+ℤ◌, length, map, All, codes, Result, Ok, Err}
+use Rattle.std.specs.Prelude.{◌≡◌, ℕ, zero, suc, ◌+◌, ◌<◌, ◌≤◌, ◌++◌, true, if◌then◌else◌, List, ℤ, pos}
+use Rattle.std.specs.Prelude.{◌+ℤ◌, length, map, All, codes, Result, Ok, Err}
 use Rattle.std.specs.List.{flat_map, range_with_len}
 use Rattle.std.specs.Fmt.{decimal, signed_decimal}
 use Rattle.smp_prob.specs.Inclusions.{inclusion, asked_fraction}

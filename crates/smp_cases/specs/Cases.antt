@@ -1,5 +1,6 @@
 -- What a case comes to: n units, with probabilities in proportion to size, drawn by a method with the values of a tape.
-use Rattle.std.specs.Prelude.{◌≡◌, ℕ, ◌^◌, Bool, true, false, nat_lt, if◌then◌else◌, List, [], length, map, sum_by, unwrap_or, Result, Ok, Err, ⊤}
+use Rattle.std.specs.Prelude.{◌≡◌, ℕ, ◌^◌, Bool, true, false, nat_lt, if◌then◌else◌, List, [], length, map, sum_by}
+use Rattle.std.specs.Prelude.{unwrap_or, Result, Ok, Err, ⊤}
 use Rattle.smp_tape.specs.TapeSources.{tape_source}
 use Rattle.smp_tape.specs.Tapes.{Values, tape_of_values}
 use Rattle.smp_split.specs.Counts.{selected_units}

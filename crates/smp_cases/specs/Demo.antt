@@ -1,4 +1,5 @@
--- The input of the demonstration: a frame of farms with numbers from a linear congruential generator, a design for it, and the key of its draw.
+-- The input of the demonstration: a frame of farms with numbers from a linear congruential generator, a design for it, and the key
+-- of its draw.
 use Rattle.std.specs.Prelude.{ℕ, ◌+◌, ◌-◌, ◌*◌, ◌/◌, ◌%◌, ◌^◌, zero, suc, List, ◌++◌, codes}
 use Rattle.std.specs.List.{flat_map, range_with_len}
 use Rattle.std.specs.Fmt.{decimal}

@@ -1,5 +1,6 @@
 -- What is true of every design that was read.
-use Rattle.std.specs.Prelude.{◌≡◌, ℕ, ◌≤◌, List, [], length, map, None, IsSome, IfSome, IfNone, OnSome, IsTrue, All, is_some, false}
+use Rattle.std.specs.Prelude.{◌≡◌, ℕ, ◌≤◌, List, [], length, map, None, IsSome, IfSome, IfNone, OnSome, IsTrue, All, is_some}
+use Rattle.std.specs.Prelude.{false}
 use Rattle.std.specs.Ordering.{nat_cmp}
 use Rattle.std.specs.Cmp.Lexicographic.{slice_cmp}
 use Rattle.std.specs.List.Sorted.{IsStrictlySortedBy}

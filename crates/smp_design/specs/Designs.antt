@@ -69,7 +69,15 @@ values version t = do
     version = version;
     method = method;
     order = sample.order;
-    columns = record { id = unit.id; stratum = unit.stratum; psu = second.psu; size = unit.size; second_size = second.size; prob = sample.prob; values = columns };
+    columns = record {
+      id = unit.id;
+      stratum = unit.stratum;
+      psu = second.psu;
+      size = unit.size;
+      second_size = second.size;
+      prob = sample.prob;
+      values = columns;
+    };
     n = sample.n;
     sizes = sample.sizes;
     second = second.second;

@@ -1,5 +1,6 @@
 -- The keys of a design: which there can be, which have to be there, and which don't go together.
-use Rattle.std.specs.Prelude.{ℕ, List, [], ◌∷◌, ◌++◌, Bool, false, ◌&&◌, not, ◌==◌, Option, Some, None, is_some, option_map, option_and_then, if◌then◌else◌, codes, filter}
+use Rattle.std.specs.Prelude.{ℕ, List, [], ◌∷◌, ◌++◌, Bool, false, ◌&&◌, not, ◌==◌, Option, Some, None, is_some}
+use Rattle.std.specs.Prelude.{option_map, option_and_then, if◌then◌else◌, codes, filter}
 use Rattle.std.specs.Ordering.{nat_cmp, is_lt}
 use Rattle.std.specs.Cmp.Lexicographic.{slice_cmp}
 use Rattle.std.specs.Str.{bytes_eq}
@@ -23,7 +24,8 @@ prob_key version = if version == 1 then [] else codes "prob" ∷ []
 -- the keys of a design of this version
 abbrev pub known_keys : ℕ → List (List ℕ)
 known_keys version =
-    codes "version" ∷ codes "method" ∷ codes "id" ∷ codes "stratum" ∷ codes "size" ∷ codes "n" ∷ codes "sizes" ∷ prob_key version
+    codes "version" ∷ codes "method" ∷ codes "id" ∷ codes "stratum" ∷ codes "size" ∷ codes "n" ∷ codes "sizes" ∷
+    prob_key version
     ++ codes "order" ∷ codes "balance" ∷ codes "near" ∷ codes "second" ∷ []
 
 -- the keys of its table `second`
@@ -64,7 +66,8 @@ or_else None other = other
 
 -- the first unknown key of a design of this version; one of the table `second` comes after those of the design itself
 unfoldable pub unknown_key : ℕ → Members → Option (List ℕ)
-unknown_key version t = or_else (first_unknown (known_keys version) t) (option_map (λ key. codes "second." ++ key) (option_and_then (first_unknown second_keys) (second_table t)))
+unknown_key version t = or_else (first_unknown (known_keys version) t)
+    (option_map (λ key. codes "second." ++ key) (option_and_then (first_unknown second_keys) (second_table t)))
 
 -- a key is there
 abbrev pub has : List ℕ → Members → Bool

@@ -1,5 +1,6 @@
 -- What the values of a design's keys mean.
-use Rattle.std.specs.Prelude.{ℕ, ℤ, pos, negsuc, List, [], ◌∷◌, ◌&&◌, nat_le, length, Option, Some, None, option_map, option_and_then, if◌then◌else◌}
+use Rattle.std.specs.Prelude.{ℕ, ℤ, pos, negsuc, List, [], ◌∷◌, ◌&&◌, nat_le, length, Option, Some, None, option_map}
+use Rattle.std.specs.Prelude.{option_and_then, if◌then◌else◌}
 use Rattle.smp_fractions.specs.Limits.{most_rows}
 use Rattle.toml.specs.Data.{Data, Items, no_items, item, Members, no_members, member, as_integer, as_str, as_array, as_table}
 use Rattle.smp_prob.specs.declared.orders.Order.{Order}
@@ -60,7 +61,9 @@ names most value = option_and_then (few most) (option_and_then strings (as_array
 -- the quotas of a table's entries, in their order
 abbrev pub quotas_of : Members → Option (List quota.Quota)
 quotas_of no_members = Some []
-quotas_of (member stratum value rest) = option_and_then (λ n. option_map (λ more. record { stratum = stratum; n = n } ∷ more) (quotas_of rest)) (number value)
+quotas_of (member stratum value rest) =
+    option_and_then (λ n. option_map (λ more. record { stratum = stratum; n = n } ∷ more) (quotas_of rest))
+    (number value)
 
 -- a table of strata's names and numbers of units
 abbrev pub quotas : Data → Option (List quota.Quota)

@@ -1,5 +1,6 @@
 -- Common divisors and common multiples.
-use Rattle.std.specs.Prelude.{ℕ, zero, suc, ◌%◌, ◌<◌, ◌≤◌, max, nat_eq, Bool, ◌&&◌, if◌then◌else◌, List, ℤ, pos, length, slice_index_or}
+use Rattle.std.specs.Prelude.{ℕ, zero, suc, ◌%◌, ◌<◌, ◌≤◌, max, nat_eq, Bool, ◌&&◌, if◌then◌else◌, List, ℤ, pos}
+use Rattle.std.specs.Prelude.{length, slice_index_or}
 use Rattle.std.specs.Int.RustNames.{unsigned_abs}
 use Prim.Native.Nat.{◌∣◌}
 

@@ -1,5 +1,6 @@
 -- Frac and Signed as fractions, a fraction in decimal, and the numbers that sums, products and differences need.
-use Rattle.std.specs.Prelude.{ℕ, ◌+◌, ◌*◌, ◌/◌, max, ℤ, pos, negsuc, unsigned_abs, if◌then◌else◌, List, [], ◌++◌, codes}
+use Rattle.std.specs.Prelude.{ℕ, ◌+◌, ◌*◌, ◌/◌, max, ℤ, pos, negsuc, unsigned_abs, if◌then◌else◌, List, [], ◌++◌}
+use Rattle.std.specs.Prelude.{codes}
 use Rattle.std.specs.Int.{abs_diff}
 use Rattle.std.specs.Fmt.{decimal}
 use Rattle.smp_fractions.specs.Fractions.{Fraction, negated}

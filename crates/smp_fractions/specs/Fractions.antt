@@ -1,5 +1,6 @@
 -- Fractions: a whole number over a positive one, of any size. Two are the same where their cross products are equal.
-use Rattle.std.specs.Prelude.{◌≡◌, ℕ, zero, suc, ◌*◌, ◌≤◌, max, ℤ, pos, negsuc, neg_ℤ, ◌+ℤ◌, ◌*ℤ◌, ◌≤ℤ◌, ◌<ℤ◌}
+use Rattle.std.specs.Prelude.{◌≡◌, ℕ, zero, suc, ◌*◌, ◌≤◌, max, ℤ, pos, negsuc, neg_ℤ, ◌+ℤ◌, ◌*ℤ◌}
+use Rattle.std.specs.Prelude.{◌≤ℤ◌, ◌<ℤ◌}
 use Rattle.std.proofs.Common.{arith}
 
 pub record Fraction : Type 0 where
@@ -40,7 +41,11 @@ abbrev pub negated : Fraction → Fraction
 negated a = record { num = neg_ℤ a.num; den = a.den; positive = a.positive }
 
 abbrev pub plus : Fraction → Fraction → Fraction
-plus a b = record { num = a.num *ℤ pos b.den +ℤ b.num *ℤ pos a.den; den = a.den * b.den; positive = positive_product a.den b.den a.positive b.positive }
+plus a b = record {
+  num = a.num *ℤ pos b.den +ℤ b.num *ℤ pos a.den;
+  den = a.den * b.den;
+  positive = positive_product a.den b.den a.positive b.positive;
+}
 
 -- a less b
 abbrev pub minus : Fraction → Fraction → Fraction

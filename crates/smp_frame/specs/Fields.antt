@@ -1,5 +1,6 @@
 -- What the fields of a row write.
-use Rattle.std.specs.Prelude.{ℕ, ℤ, pos, neg_ℤ, Bool, false, ◌&&◌, List, [], ◌∷◌, codes, Option, Some, None, unwrap_or, ◌==◌, nat_lt, nat_le, Result, Ok, if◌then◌else◌}
+use Rattle.std.specs.Prelude.{ℕ, ℤ, pos, neg_ℤ, Bool, false, ◌&&◌, List, [], ◌∷◌, codes, Option, Some, None, unwrap_or}
+use Rattle.std.specs.Prelude.{◌==◌, nat_lt, nat_le, Result, Ok, if◌then◌else◌}
 use Rattle.std.specs.Str.Parse.{digits_value}
 use Rattle.smp_lines.specs.Cuts.{cut_at}
 use Rattle.smp_lines.specs.Decimals.{is_decimal}
@@ -62,7 +63,8 @@ without_minus (b ∷ digits) = if b == 45 then digits else b ∷ digits
 
 -- a value: written as a size is, and one minus may stand in front
 abbrev pub field_value : ℕ → List ℕ → List ℕ → Result ℤ FrameFault
-field_value number name text = size_of number name (without_minus text) >>= λ size. Ok (if is_minus text then neg_ℤ (pos size) else pos size)
+field_value number name text = size_of number name (without_minus text) >>= λ size. Ok
+    (if is_minus text then neg_ℤ (pos size) else pos size)
 
 -- the values in asked columns
 abbrev pub values_in : ℕ → List (List ℕ) → List Column → Result (List ℤ) FrameFault

@@ -23,7 +23,15 @@ unit_of layout number ids row = do
   second_size ← size_in number row layout.second_size
   prob ← prob_in number row layout.prob
   values ← values_in number row layout.values
-  Ok (record { id = field row layout.id.place; stratum = text_in row layout.stratum; psu = text_in row layout.psu; size = size; second_size = second_size; prob = prob; values = values })
+  Ok (record {
+    id = field row layout.id.place;
+    stratum = text_in row layout.stratum;
+    psu = text_in row layout.psu;
+    size = size;
+    second_size = second_size;
+    prob = prob;
+    values = values;
+  })
 
 -- the units of rows, of which the first has this number, where earlier rows have these ids
 abbrev pub units_from : Layout → ℕ → List (List ℕ) → List (List (List ℕ)) → Result (List unit.Unit) FrameFault

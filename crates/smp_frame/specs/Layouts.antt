@@ -11,7 +11,8 @@ use Rattle.smp_frame.specs.declared.fault.FrameFault.TheVariants.{MissingColumn,
 -- the places of the fields that are this name, where the first field has this place
 abbrev pub places_from : ℕ → List ℕ → List (List ℕ) → List ℕ
 places_from place name [] = []
-places_from place name (field ∷ fields) = if bytes_eq field name then place ∷ places_from (place + 1) name fields else places_from (place + 1) name fields
+places_from place name (field ∷ fields) =
+    if bytes_eq field name then place ∷ places_from (place + 1) name fields else places_from (place + 1) name fields
 
 -- the column of a name with these places, if it has one place
 abbrev pub column_at : List ℕ → List ℕ → Result Column FrameFault
@@ -46,4 +47,13 @@ layout_of columns header = do
   second_size ← asked_in header columns.second_size
   prob ← asked_in header columns.prob
   values ← columns_in header columns.values
-  Ok (record { width = length header; id = id; stratum = stratum; psu = psu; size = size; second_size = second_size; prob = prob; values = values })
+  Ok (record {
+    width = length header;
+    id = id;
+    stratum = stratum;
+    psu = psu;
+    size = size;
+    second_size = second_size;
+    prob = prob;
+    values = values;
+  })

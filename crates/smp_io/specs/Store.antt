@@ -18,4 +18,5 @@ Holds (Some files) name bytes = files name ≡ Some bytes
 -- The files are told where they were told, and each name but this one holds what it held.
 abbrev pub OthersStay : List ℕ → Option Files → Option Files → Type 0
 OthersStay name None now = now ≡ None
-OthersStay name (Some before) now = (after : Files) × (now ≡ Some after) × ((other : List ℕ) → other ≢ name → after other ≡ before other)
+OthersStay name (Some before) now = (after : Files) × (now ≡ Some after)
+    × ((other : List ℕ) → other ≢ name → after other ≡ before other)

@@ -1,5 +1,6 @@
 -- Requests for units whose inclusion probabilities are given as fractions.
-use Rattle.std.specs.Prelude.{ℕ, ◌*◌, ◌/◌, ◌%◌, ◌≤◌, Bool, nat_eq, nat_lt, ◌&&◌, if◌then◌else◌, List, length, map, filter, fold, sum, slice_index_or, All}
+use Rattle.std.specs.Prelude.{ℕ, ◌*◌, ◌/◌, ◌%◌, ◌≤◌, Bool, nat_eq, nat_lt, ◌&&◌, if◌then◌else◌, List, length}
+use Rattle.std.specs.Prelude.{map, filter, fold, sum, slice_index_or, All}
 use Prim.Native.Nat.{◌∣◌}
 use Rattle.smp_fractions.specs.Fractions.{Fraction, Same, whole, sum_below}
 use Rattle.smp_fractions.specs.Limits.{most_rows}

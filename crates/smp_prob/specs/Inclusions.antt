@@ -1,5 +1,6 @@
 -- Where the units stand in a request, and the probability that it gives each of them.
-use Rattle.std.specs.Prelude.{◌≡◌, ℕ, ◌*◌, ◌<◌, Bool, true, false, nat_eq, List, length, slice_index, position, is_some, Option, Some, None, if◌then◌else◌, All}
+use Rattle.std.specs.Prelude.{◌≡◌, ℕ, ◌*◌, ◌<◌, Bool, true, false, nat_eq, List, length, slice_index, position, is_some}
+use Rattle.std.specs.Prelude.{Option, Some, None, if◌then◌else◌, All}
 use Rattle.std.specs.List.{count_by, range_with_len}
 use Rattle.smp_prob.specs.declared.requests.Request.{Request}
 use Rattle.smp_prob.specs.declared.inclusions.Inclusion.{Inclusion}

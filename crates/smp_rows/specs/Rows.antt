@@ -29,7 +29,8 @@ rows_tree rows request tree = record {
 }
 
 -- the state is one of the design, whose units are the free units of the request
-pub record BelongsToRows {State : Type 0} (request : Request) (tree : Tree State) (belongs : State → Type 0) (state : State) : Type 0 where
+pub record BelongsToRows {State : Type 0} (request : Request) (tree : Tree State) (belongs : State → Type 0)
+    (state : State) : Type 0 where
   pub member : belongs state
   pub ordered : IsRising request
   pub paired : length request.free ≡ tree.units
@@ -42,4 +43,5 @@ pub record SelectsAsRequested {State : Type 0} (request : Request) (tree : Tree 
 
 -- where r of the free units are drawn, n rows are selected
 abbrev pub AddsUpTo : Request → ℕ → ℕ → Type 0
-AddsUpTo request rows n = (drawn : ℕ → Bool) → count_by drawn (range_with_len 0 (length request.free)) ≡ request.r → count_taken request drawn rows ≡ n
+AddsUpTo request rows n = (drawn : ℕ → Bool) → count_by drawn (range_with_len 0 (length request.free)) ≡ request.r
+    → count_taken request drawn rows ≡ n

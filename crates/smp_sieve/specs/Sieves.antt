@@ -1,5 +1,6 @@
 -- Draws below a bound from words of 32 bits.
-use Rattle.std.specs.Prelude.{◌≡◌, ℕ, zero, suc, ◌+◌, ◌-◌, ◌*◌, ◌/◌, ◌%◌, ◌^◌, ◌<◌, ◌≤◌, cond, nat_lt, ◌==◌, if◌then◌else◌, Result, Ok, Err}
+use Rattle.std.specs.Prelude.{◌≡◌, ℕ, zero, suc, ◌+◌, ◌-◌, ◌*◌, ◌/◌, ◌%◌, ◌^◌, ◌<◌, ◌≤◌, cond}
+use Rattle.std.specs.Prelude.{nat_lt, ◌==◌, if◌then◌else◌, Result, Ok, Err}
 use Rattle.smp_sieve.specs.Streams.{Stream, ahead, behind}
 use Rattle.smp_tape.specs.Sources.{Drawn}
 use Rattle.smp_tape.specs.declared.draws.DrawFault.{DrawFault}

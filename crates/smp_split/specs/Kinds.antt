@@ -1,7 +1,8 @@
 -- The words of the kinds of steps.
 use Rattle.std.specs.Prelude.{ℕ, List, codes}
 use Rattle.smp_split.specs.declared.kind.Kind.{Kind}
-use Rattle.smp_split.specs.declared.kind.Kind.TheVariants.{Order, Pivot, Lone, System, Support, Offer, Take, Spent, Choose, Flight, Drop, Wide}
+use Rattle.smp_split.specs.declared.kind.Kind.TheVariants.{Order, Pivot, Lone, System, Support, Offer, Take, Spent, Choose, Flight, Drop}
+use Rattle.smp_split.specs.declared.kind.Kind.TheVariants.{Wide}
 
 abbrev pub kind_word : Kind → List ℕ
 kind_word Order = codes "order"

@@ -1,5 +1,6 @@
 -- A selection design as a tree of weighted parts, and its lawful splits (Deville and Tillé 1998).
-use Rattle.std.specs.Prelude.{◌≡◌, ℕ, ◌+◌, ◌-◌, ◌*◌, ◌^◌, ◌≤◌, ◌<◌, Bool, true, false, cond, nat_lt, List, [], ◌∷◌}
+use Rattle.std.specs.Prelude.{◌≡◌, ℕ, ◌+◌, ◌-◌, ◌*◌, ◌^◌, ◌≤◌, ◌<◌, Bool, true, false, cond, nat_lt, List}
+use Rattle.std.specs.Prelude.{[], ◌∷◌}
 use Rattle.smp_fractions.specs.Fractions.{Fraction, Same, whole, plus, times}
 use Rattle.smp_split.specs.declared.kind.Kind.{Kind}
 

@@ -25,24 +25,36 @@ frame_line frame_fault.NoHeader = Some (codes "error 4.1 no header\n")
 frame_line (frame_fault.MissingColumn name) = Some (codes "error 4.2 missing column " ++ (name ++ codes "\n"))
 frame_line (frame_fault.RepeatedColumn name) = Some (codes "error 4.3 repeated column " ++ (name ++ codes "\n"))
 frame_line (frame_fault.RowLength row) = Some (codes "error 4.4 length of row " ++ (decimal row ++ codes "\n"))
-frame_line (frame_fault.NotNumber row column) = Some (codes "error 4.5 no number in row " ++ (decimal row ++ (codes " column " ++ (column ++ codes "\n"))))
-frame_line (frame_fault.TooLarge row column) = Some (codes "error 4.6 number too large in row " ++ (decimal row ++ (codes " column " ++ (column ++ codes "\n"))))
+frame_line (frame_fault.NotNumber row column) =
+    Some (codes "error 4.5 no number in row " ++ (decimal row ++ (codes " column " ++ (column ++ codes "\n"))))
+frame_line (frame_fault.TooLarge row column) =
+    Some (codes "error 4.6 number too large in row "
+    ++ (decimal row ++ (codes " column " ++ (column ++ codes "\n"))))
 frame_line (frame_fault.RepeatedId row) = Some (codes "error 4.7 repeated id in row " ++ (decimal row ++ codes "\n"))
 frame_line frame_fault.TooManyRows = Some (codes "error 4.8 too many rows\n")
 frame_line (frame_fault.NotText row) = Some (codes "error 4.9 row " ++ (decimal row ++ codes " isn't UTF-8\n"))
 frame_line frame_fault.NoRows = Some (codes "error 4.10 no rows\n")
-frame_line (frame_fault.NotFraction row column) = Some (codes "error 4.11 no fraction in row " ++ (decimal row ++ (codes " column " ++ (column ++ codes "\n"))))
-frame_line (frame_fault.NotProbability row column) = Some (codes "error 4.12 no probability in row " ++ (decimal row ++ (codes " column " ++ (column ++ codes "\n"))))
+frame_line (frame_fault.NotFraction row column) =
+    Some (codes "error 4.11 no fraction in row " ++ (decimal row ++ (codes " column " ++ (column ++ codes "\n"))))
+frame_line (frame_fault.NotProbability row column) =
+    Some (codes "error 4.12 no probability in row "
+    ++ (decimal row ++ (codes " column " ++ (column ++ codes "\n"))))
 frame_line frame_fault.NoMemory = None
 
 abbrev pub misfit_line : Misfit → Option (List ℕ)
 misfit_line (misfits.UnitInTwo psu) = Some (codes "error 5.1 first stage unit in two strata: " ++ (psu ++ codes "\n"))
 misfit_line (misfits.PsuTooLarge psu) = Some (codes "error 5.2 first stage unit too large: " ++ (psu ++ codes "\n"))
 misfit_line (misfits.NoSize stratum) = Some (codes "error 5.3 no sample size: " ++ (stratum ++ codes "\n"))
-misfit_line (misfits.TooMany stratum n positive) = Some (codes "error 5.4 " ++ (decimal n ++ (codes " asked of " ++ (decimal positive ++ (codes ": " ++ (stratum ++ codes "\n"))))))
-misfit_line (misfits.SecondTooMany psu n positive) = Some (codes "error 5.5 second stage " ++ (decimal n ++ (codes " asked of " ++ (decimal positive ++ (codes ": " ++ (psu ++ codes "\n"))))))
+misfit_line (misfits.TooMany stratum n positive) =
+    Some (codes "error 5.4 " ++ (decimal n
+    ++ (codes " asked of " ++ (decimal positive ++ (codes ": " ++ (stratum ++ codes "\n"))))))
+misfit_line (misfits.SecondTooMany psu n positive) =
+    Some (codes "error 5.5 second stage "
+    ++ (decimal n ++ (codes " asked of " ++ (decimal positive ++ (codes ": " ++ (psu ++ codes "\n"))))))
 misfit_line (misfits.Denominator stratum) = Some (codes "error 5.6 denominator too large: " ++ (stratum ++ codes "\n"))
-misfit_line (misfits.NotWhole stratum sum) = Some (codes "error 5.7 sum " ++ (decimal sum.num ++ (codes "/" ++ (decimal sum.den ++ (codes " isn't whole: " ++ (stratum ++ codes "\n"))))))
+misfit_line (misfits.NotWhole stratum sum) =
+    Some (codes "error 5.7 sum " ++ (decimal sum.num
+    ++ (codes "/" ++ (decimal sum.den ++ (codes " isn't whole: " ++ (stratum ++ codes "\n"))))))
 misfit_line misfits.NoMemory = None
 
 abbrev pub usage_line : List ℕ
@@ -55,7 +67,8 @@ refusal_line (status.Misfit misfit) = misfit_line misfit
 refusal_line (status.TapeText line) = Some (codes "error 6 tape line " ++ (decimal line ++ codes " isn't a number\n"))
 refusal_line (status.TapeShort taken) = Some (codes "error 7 tape ends after " ++ (decimal taken ++ codes "\n"))
 refusal_line (status.TapeValue place value bound) =
-    Some (codes "error 8 tape value " ++ (decimal place ++ (codes " is " ++ (decimal value ++ (codes ", bound " ++ (decimal bound ++ codes "\n"))))))
+    Some (codes "error 8 tape value " ++ (decimal place
+    ++ (codes " is " ++ (decimal value ++ (codes ", bound " ++ (decimal bound ++ codes "\n"))))))
 refusal_line (status.TapeLong left) = Some (codes "error 9 tape has " ++ (decimal left ++ codes " more\n"))
 refusal_line (status.Rejected bound) = Some (codes "error 10 rejected 256 times below " ++ (decimal bound ++ codes "\n"))
 refusal_line (status.LogDiffers line) = Some (codes "error 11 log differs at line " ++ (decimal line ++ codes "\n"))

@@ -1,5 +1,6 @@
 -- Proportional allocation by largest remainders: how many first stage units each stratum gets.
-use Rattle.std.specs.Prelude.{◌≡◌, ◌⊎◌, ℕ, ◌+◌, ◌-◌, ◌*◌, ◌/◌, ◌%◌, ◌<◌, Bool, nat_lt, ◌==◌, ◌&&◌, ◌||◌, if◌then◌else◌, List, length, map, slice_index, sum, sum_by, count_by}
+use Rattle.std.specs.Prelude.{◌≡◌, ◌⊎◌, ℕ, ◌+◌, ◌-◌, ◌*◌, ◌/◌, ◌%◌, ◌<◌, Bool, nat_lt, ◌==◌}
+use Rattle.std.specs.Prelude.{◌&&◌, ◌||◌, if◌then◌else◌, List, length, map, slice_index, sum, sum_by, count_by}
 use Rattle.std.specs.List.{range_with_len}
 
 -- the whole part of n * N_h / N and its remainder, for a stratum of `count` of the `all` first stage units

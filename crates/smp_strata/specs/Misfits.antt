@@ -1,5 +1,6 @@
 -- Why a frame doesn't serve a design: the first misfit, in the order of their kinds.
-use Rattle.std.specs.Prelude.{◌≡◌, ℕ, nat_lt, nat_eq, ◌==◌, ◌&&◌, not, Bool, if◌then◌else◌, List, [], ◌∷◌, Option, Some, None, Result, Ok, Err, length, ⊤}
+use Rattle.std.specs.Prelude.{◌≡◌, ℕ, nat_lt, nat_eq, ◌==◌, ◌&&◌, not, Bool, if◌then◌else◌, List, [], ◌∷◌}
+use Rattle.std.specs.Prelude.{Option, Some, None, Result, Ok, Err, length, ⊤}
 use Rattle.std.specs.List.{list_any, range_with_len}
 use Rattle.std.specs.Str.{bytes_eq}
 use Rattle.smp_frac.specs.LowestTerms.{lowest_terms}
@@ -15,7 +16,8 @@ use Rattle.smp_strata.specs.Clusters.{clusters, first_row, strata_numbers, strat
 use Rattle.smp_strata.specs.Rows.{rows_of, stratum_at, psu_at, is_large}
 use Rattle.smp_strata.specs.Plans.{sample_size, first_probs, first_sizes, second_sizes}
 use Rattle.smp_strata.specs.declared.misfit.Misfit.{Misfit}
-use Rattle.smp_strata.specs.declared.misfit.Misfit.TheVariants.{UnitInTwo, PsuTooLarge, NoSize, TooMany, SecondTooMany, Denominator, NotWhole, NoMemory}
+use Rattle.smp_strata.specs.declared.misfit.Misfit.TheVariants.{UnitInTwo, PsuTooLarge, NoSize, TooMany, SecondTooMany, Denominator}
+use Rattle.smp_strata.specs.declared.misfit.Misfit.TheVariants.{NotWhole, NoMemory}
 
 -- the first that is there, of what may be found at each entry of a list
 abbrev pub first_found : {A B : Type 0} → (A → Option B) → List A → Option B

@@ -1,5 +1,6 @@
 -- The rows of a frame by their numbers, of which the first is 0: what stands in a row, and the sums over some rows.
-use Rattle.std.specs.Prelude.{ℕ, ◌^◌, ℤ, pos, ◌+ℤ◌, nat_abs, nat_le, ◌||◌, Bool, List, [], length, map, fold, sum_by, slice_index, slice_index_or}
+use Rattle.std.specs.Prelude.{ℕ, ◌^◌, ℤ, pos, ◌+ℤ◌, nat_abs, nat_le, ◌||◌, Bool, List, [], length, map, fold, sum_by}
+use Rattle.std.specs.Prelude.{slice_index, slice_index_or}
 use Rattle.std.specs.List.{list_any, range_with_len}
 use Rattle.smp_fractions.specs.Fractions.{whole}
 use Rattle.smp_frac.specs.LowestTerms.{lowest_terms}

@@ -1,5 +1,6 @@
 -- Which bytes are a tape, and of which values.
-use Rattle.std.specs.Prelude.{ℕ, ◌+◌, ◌^◌, ◌==◌, if◌then◌else◌, List, [], ◌∷◌, Option, Some, None, Result, Ok, Err}
+use Rattle.std.specs.Prelude.{ℕ, ◌+◌, ◌^◌, ◌==◌, if◌then◌else◌, List, [], ◌∷◌, Option, Some, None, Result, Ok}
+use Rattle.std.specs.Prelude.{Err}
 use Rattle.std.specs.Io.BufRead.{strip_last}
 use Rattle.smp_lines.specs.Decimals.{number_below}
 use Rattle.smp_tape.specs.declared.fault.TapeFault.{TapeFault}

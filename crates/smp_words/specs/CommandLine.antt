@@ -28,7 +28,8 @@ with_positionals app = with_rule (with_rule app command_rule) rest_rule
 -- the names of all options
 abbrev pub option_names : List (List ℕ)
 option_names =
-    codes "design" ∷ codes "frame" ∷ codes "tape" ∷ codes "seed" ∷ codes "log" ∷ codes "sample" ∷ codes "stratum" ∷ codes "to" ∷ []
+    codes "design" ∷ codes "frame" ∷ codes "tape" ∷ codes "seed" ∷ codes "log" ∷ codes "sample" ∷ codes "stratum" ∷
+    codes "to" ∷ []
 
 abbrev pub sampler_app : App
 sampler_app = with_options (with_positionals plain_app) option_names

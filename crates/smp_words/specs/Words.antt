@@ -1,5 +1,6 @@
 -- What the words of a command line ask for: the table of the commands.
-use Rattle.std.specs.Prelude.{◌≡◌, ℕ, ◌^◌, ◌≤◌, List, [], ◌∷◌, ◌++◌, Bool, true, false, not, ◌&&◌, nat_le, Option, Some, None, Result, Ok, Err, option_map, unwrap_or, if◌then◌else◌, IfSome, codes}
+use Rattle.std.specs.Prelude.{◌≡◌, ℕ, ◌^◌, ◌≤◌, List, [], ◌∷◌, ◌++◌, Bool, true, false, not, ◌&&◌, nat_le}
+use Rattle.std.specs.Prelude.{Option, Some, None, Result, Ok, Err, option_map, unwrap_or, if◌then◌else◌, IfSome, codes}
 use Rattle.std.specs.List.{list_any, list_all}
 use Rattle.std.specs.Str.{bytes_eq}
 use Rattle.clap.specs.Words.{Row, first_of, all_of}
@@ -101,7 +102,9 @@ most_quick_units = 200000
 -- FRAME N TAPE OUT, with N from 1 to 200,000
 abbrev pub quick_words : List (List ℕ) → Option Command
 quick_words (frame ∷ n ∷ tape ∷ out ∷ []) =
-    when (all_distinct (frame ∷ tape ∷ out ∷ [])) (number_from 1 most_quick_units n >>= λ size. Some (Quick (record { frame = frame; n = size; tape = tape; out = out })))
+    when (all_distinct (frame ∷ tape ∷ out ∷ []))
+    (number_from 1 most_quick_units n >>= λ size. Some
+    (Quick (record { frame = frame; n = size; tape = tape; out = out })))
 quick_words other = None
 
 -- the fewest and the most units of the frame that `demo` makes
@@ -195,13 +198,16 @@ migrate g = when (is_empty g.rest) (do
   frame ← g.frame
   log ← g.log
   to ← g.to
-  when (all_distinct (design ∷ frame ∷ log ∷ to ∷ [])) (Some (Migrate (record { design = design; frame = frame; log = log; to = to }))))
+  when (all_distinct (design ∷ frame ∷ log ∷ to ∷ []))
+      (Some (Migrate (record { design = design; frame = frame; log = log; to = to }))))
 
 -- the options that a command takes
 abbrev pub options_for : List ℕ → List (List ℕ)
 options_for name =
-    if bytes_eq name (codes "draw") then codes "design" ∷ codes "frame" ∷ codes "tape" ∷ codes "seed" ∷ codes "log" ∷ codes "sample" ∷ []
-    else if bytes_eq name (codes "replay") then codes "design" ∷ codes "frame" ∷ codes "log" ∷ codes "sample" ∷ codes "stratum" ∷ []
+    if bytes_eq name (codes "draw") then codes "design" ∷ codes "frame" ∷ codes "tape" ∷ codes "seed" ∷ codes "log"
+    ∷ codes "sample" ∷ []
+    else if bytes_eq name (codes "replay") then codes "design" ∷ codes "frame" ∷ codes "log" ∷ codes "sample" ∷
+    codes "stratum" ∷ []
     else if bytes_eq name (codes "migrate") then codes "design" ∷ codes "frame" ∷ codes "log" ∷ codes "to" ∷ []
     else if bytes_eq name (codes "probs") then codes "design" ∷ codes "frame" ∷ []
     else if bytes_eq name (codes "check") then codes "design" ∷ codes "frame" ∷ []
@@ -258,8 +264,8 @@ IsSized (Replay arguments) = IfSome arguments.stratum (λ number. (1 ≤ number)
 IsSized (Demo arguments) = (least_demo_units ≤ arguments.n) × (arguments.n ≤ most_demo_units)
 IsSized other = Unit {0}
 
--- No two files of a command have the same name. `quick` asks for 1 to 200,000 units, `demo` for 30 to 100,000, and `replay` for all strata or
--- one with a number from 1 to 200,000.
+-- No two files of a command have the same name. `quick` asks for 1 to 200,000 units, `demo` for 30 to 100,000, and `replay` for all
+-- strata or one with a number from 1 to 200,000.
 pub record IsAsked (command : Command) : Type 0 where
   pub distinct : all_distinct (inputs_of command ++ outputs_of command) ≡ true
   pub sized : IsSized command

@@ -1,8 +1,10 @@
 -- Numbers without a common divisor, and what divides their products.
-use Rattle.std.proofs.Common.{◌≡◌, ℕ, ◌+◌, ◌*◌, ◌/◌, ◌<◌, ◌≤◌, arith, sym, ap, ◌∙◌, subst, inl, inr, eq-zero-or-pos, mul_comm, mul_assoc, mul-pos}
+use Rattle.std.proofs.Common.{◌≡◌, ℕ, ◌+◌, ◌*◌, ◌/◌, ◌<◌, ◌≤◌, arith, sym, ap, ◌∙◌, subst, inl, inr}
+use Rattle.std.proofs.Common.{eq-zero-or-pos, mul_comm, mul_assoc, mul-pos}
 use Rattle.std.specs.Int.{IsGcd}
 use Rattle.std.proofs.lemmas.Nat.Gcd.{dvd_refl, dvd_trans, dvd-zero, le_of_dvd}
-use Rattle.std.proofs.Math.Nat.{one-dvd, dvd-mul_right, dvd-mul_left, dvd-mul_left_of_dvd, dvd-add_iff_left, dvd-add_iff_right, mul-dvd-mul_left, dvd_of_mul-dvd-mul_left, mul-div_cancel', mul-div_cancel_left, pos_of_dvd_of_pos}
+use Rattle.std.proofs.Math.Nat.{one-dvd, dvd-mul_right, dvd-mul_left, dvd-mul_left_of_dvd, dvd-add_iff_left, dvd-add_iff_right}
+use Rattle.std.proofs.Math.Nat.{mul-dvd-mul_left, dvd_of_mul-dvd-mul_left, mul-div_cancel', mul-div_cancel_left, pos_of_dvd_of_pos}
 use Prim.Native.Nat.{◌∣◌}
 use Rattle.smp_frac.specs.Divisors.{greatest_common_divisor, IsCommonMultiple, IsLeastMultiple}
 use Rattle.smp_frac.specs.Laws.Gcds.{IsGcd-greatest_common_divisor}
@@ -86,7 +88,8 @@ IsLeastMultiple-from_gcd a b g pa pb r =
     let ea : g * (a / g) ≡ a = mul-div_cancel' g r.0 in
     let c : ℕ = a / g in
     let d : ℕ = b / g in
-    let same : a * d ≡ c * b = (let f : (g * c) * d ≡ c * (g * d) = omega arith in ap (λ x. x * d) (sym ea) ∙ f ∙ ap (λ x. c * x) e) in
+    let same : a * d ≡ c * b = (let f : (g * c) * d ≡ c * (g * d) = omega arith in
+    ap (λ x. x * d) (sym ea) ∙ f ∙ ap (λ x. c * x) e) in
     record {
       common = record {
         positive = mul-pos (part_positive a g pa r.0) pb;
@@ -100,7 +103,8 @@ pub least_at_most : (a b m n : ℕ) → IsLeastMultiple a b m → IsCommonMultip
 least_at_most a b m n is common = le_of_dvd common.positive (is.least n common)
 
 -- n / g and part * (d / g) have no common divisor, where g takes from n all that it has in common with a divisor of d
-pub coprime_over : (n part d common g : ℕ) → 1 ≤ d → common ∣ d → IsGcd n part 1 → IsGcd n (d / common) 1 → IsGcd n common g → IsGcd (n / g) (part * (d / g)) 1
+pub coprime_over : (n part d common g : ℕ) → 1 ≤ d → common ∣ d → IsGcd n part 1 → IsGcd n (d / common) 1
+    → IsGcd n common g → IsGcd (n / g) (part * (d / g)) 1
 coprime_over n part d common g pd h apart rest r =
     let pc : 0 < common = pos_of_dvd_of_pos h pd in
     let pg : 0 < g = divisor_positive n common g pc r in
@@ -109,9 +113,12 @@ coprime_over n part d common g pd h apart rest r =
     let y : ℕ = d / common in
     let ex : g * x ≡ common = mul-div_cancel' g r.1 in
     let ey : common * y ≡ d = mul-div_cancel' common h in
-    let e : d / g ≡ x * y = ap (λ z. z / g) (sym ey ∙ ap (λ z. z * y) (sym ex) ∙ mul_assoc g x y) ∙ mul-div_cancel_left (x * y) pg in
-    let parts : IsGcd (n / g) (x * y) 1 = coprime_product (n / g) x y (coprime_parts n common g pg r) (coprime_divisor n y (n / g) below rest) in
-    coprime_product (n / g) part (d / g) (coprime_divisor n part (n / g) below apart) (subst (λ (z : ℕ). IsGcd (n / g) z 1) (sym e) parts)
+    let e : d / g ≡ x * y = ap (λ z. z / g) (sym ey ∙ ap (λ z. z * y) (sym ex) ∙ mul_assoc g x y)
+    ∙ mul-div_cancel_left (x * y) pg in
+    let parts : IsGcd (n / g) (x * y) 1 =
+    coprime_product (n / g) x y (coprime_parts n common g pg r) (coprime_divisor n y (n / g) below rest) in
+    coprime_product (n / g) part (d / g) (coprime_divisor n part (n / g) below apart)
+    (subst (λ (z : ℕ). IsGcd (n / g) z 1) (sym e) parts)
 
 -- a common divisor of b / g and a * (d / g) is 1, for a / b and c / d in lowest terms
 term_apart : (a b d g k : ℕ) → 0 < g → IsGcd a b 1 → IsGcd b d g → k ∣ b / g → k ∣ a * (d / g) → k ∣ 1
@@ -121,7 +128,8 @@ term_apart a b d g k pg ab bd kb kt =
     ab.2 k ka (let P : ℕ → Type 0 = λ x. k ∣ x in subst P (mul-div_cancel' g bd.0) (dvd-mul_left_of_dvd k kb g))
 
 -- n has no divisor in common with b / g, where each that it has with the other term is one of a * (d / g)
-pub terms_apart : (a b c d g n : ℕ) → 1 ≤ d → IsGcd a b 1 → IsGcd b d g → ((k : ℕ) → k ∣ n → k ∣ c * (b / g) → k ∣ a * (d / g)) → IsGcd n (b / g) 1
+pub terms_apart : (a b c d g n : ℕ) → 1 ≤ d → IsGcd a b 1 → IsGcd b d g
+    → ((k : ℕ) → k ∣ n → k ∣ c * (b / g) → k ∣ a * (d / g)) → IsGcd n (b / g) 1
 terms_apart a b c d g n pd ab bd other =
     coprime n (b / g) (λ k kn kb. term_apart a b d g k (divisor_positive b d g pd bd) ab bd kb (other k kn (dvd-mul_left_of_dvd k kb c)))
 
@@ -134,5 +142,9 @@ dvd_second x y k h kx = (dvd-add_iff_right k kx).1 h
 
 -- the greatest common divisor of two products in proportion to numbers without one
 pub IsGcd-times : (g x y : ℕ) → 0 < g → IsGcd x y 1 → IsGcd (g * x) (g * y) g
-IsGcd-times g x y p r =
-    (dvd-mul_right g x, dvd-mul_right g y, λ k kx ky. let P : ℕ → Type 0 = λ z. k ∣ z in subst P (omega arith) (dvd_gcd_mul g x y 1 k p r kx ky))
+IsGcd-times g x y p r = (
+  dvd-mul_right g x,
+  dvd-mul_right g y,
+  λ k kx ky. let P : ℕ → Type 0 = λ z. k ∣ z in
+      subst P (omega arith) (dvd_gcd_mul g x y 1 k p r kx ky),
+)

@@ -1,9 +1,11 @@
 -- The greatest number that divides both is what each number that divides both divides.
-use Rattle.std.proofs.Common.{◌≡◌, ℕ, zero, suc, ◌+◌, ◌%◌, ◌<◌, ◌≤◌, max, true, arith, refl, sym, subst, ◌∙◌, inl, inr}
+use Rattle.std.proofs.Common.{◌≡◌, ℕ, zero, suc, ◌+◌, ◌%◌, ◌<◌, ◌≤◌, max, true, arith, refl, sym, subst}
+use Rattle.std.proofs.Common.{◌∙◌, inl, inr}
 use Rattle.std.proofs.lemmas.Bool.{cases_Bool, cases_eq, and_from, and_parts, eq-eqb, eqb-true, true≢false}
 use Rattle.std.proofs.Math.Nat.{eq-zero_of_zero-dvd}
 use Prim.Native.Nat.{◌∣◌}
-use Rattle.std.proofs.lemmas.Nat.Gcd.{IsGcd-from_zero, IsGcd-from_mod, same_from_IsGcd, le_from_IsGcd, le_of_dvd, dvd_of_mod-eq-zero, mod-eq-zero_of_dvd}
+use Rattle.std.proofs.lemmas.Nat.Gcd.{IsGcd-from_zero, IsGcd-from_mod, same_from_IsGcd, le_from_IsGcd, le_of_dvd, dvd_of_mod-eq-zero}
+use Rattle.std.proofs.lemmas.Nat.Gcd.{mod-eq-zero_of_dvd}
 use Rattle.std.proofs.lemmas.Nat.{mod_below}
 use Rattle.std.specs.Int.{IsGcd}
 use Rattle.smp_frac.specs.Divisors.{divides_both, greatest_up_to, greatest_common_divisor}
@@ -39,7 +41,9 @@ greatest_up_to-IsGcd a b g (suc n) h some le =
           let above : suc n ≤ g = le_from_IsGcd a b g (suc n) h some parts.0 parts.1 in
           rw e (omega (arith, above, le)))
       | inr e ↦
-          (let other : g ≡ suc n → ⊥ = λ same. true≢false (sym (divides_both-true a b (suc n) (subst (λ (d : ℕ). d ∣ a) same h.0) (subst (λ (d : ℕ). d ∣ b) same h.1)) ∙ e) in
+          (let other : g ≡ suc n → ⊥ = λ same. true≢false
+          (sym (divides_both-true a b (suc n) (subst (λ (d : ℕ). d ∣ a) same h.0)
+          (subst (λ (d : ℕ). d ∣ b) same h.1)) ∙ e) in
           rw e (greatest_up_to-IsGcd a b g n h some (omega (arith, le, other))))
     ]
 

@@ -1,5 +1,6 @@
 -- Ranges of coordinates, and the least squared distance that a point within them may have.
-use Rattle.std.specs.Prelude.{ℕ, ◌+◌, ◌*◌, ◌≤◌, ◌<◌, ℤ, pos, ◌-ℤ◌, ◌≤ℤ◌, unsigned_abs, int_lt, if◌then◌else◌, List, [], ◌∷◌, length, slice_index_or}
+use Rattle.std.specs.Prelude.{ℕ, ◌+◌, ◌*◌, ◌≤◌, ◌<◌, ℤ, pos, ◌-ℤ◌, ◌≤ℤ◌, unsigned_abs, int_lt}
+use Rattle.std.specs.Prelude.{if◌then◌else◌, List, [], ◌∷◌, length, slice_index_or}
 use Rattle.smp_near.specs.declared.region.Region.{Region}
 
 -- the square of the distance of a coordinate from a range

@@ -15,7 +15,8 @@ use Rattle.smp_split.proofs.Lenses.{split_through, end_through}
 use Rattle.smp_split.proofs.Parts.{moved-same}
 use Rattle.smp_rows.specs.Rows.{row_value, rows_tree, BelongsToRows}
 
-at_place : (request : Request) (row place_is : ℕ) (place : Option ℕ) → position (nat_eq row) request.free ≡ place → free_or_never place ≡ Free place_is → place_is < length request.free
+at_place : (request : Request) (row place_is : ℕ) (place : Option ℕ) → position (nat_eq row) request.free ≡ place
+    → free_or_never place ≡ Free place_is → place_is < length request.free
 at_place request row unit (Some place) at is =
     let same : place ≡ unit = cc in rw (← same) (position-Some (nat_eq row) request.free place 0 at).0
 at_place request row unit None at is = absurd (cc)
@@ -35,7 +36,8 @@ row_view (Free k) = as_unit k
 row_view Never = fixed (whole 0)
 
 module _ {State : Type 0} (rows : ℕ) (request : Request) (tree : Tree State) (belongs : State → Type 0) where
-  view_within : (paired : length request.free ≡ tree.units) (stands : Inclusion) → ((k : ℕ) → stands ≡ Free k → k < length request.free) → Within tree.units (row_view stands)
+  view_within : (paired : length request.free ≡ tree.units) (stands : Inclusion)
+      → ((k : ℕ) → stands ≡ Free k → k < length request.free) → Within tree.units (row_view stands)
   view_within paired Certain within = tt
   view_within paired (Free k) within = omega (arith, within k refl, paired)
   view_within paired Never within = tt
@@ -50,7 +52,8 @@ module _ {State : Type 0} (rows : ℕ) (request : Request) (tree : Tree State) (
   view_shows selected (Free k) = refl
   view_shows selected Never = same_refl (whole 0)
 
-  pub rows_lens : length request.free ≡ tree.units → Lens tree belongs (rows_tree rows request tree) (λ s. s) (λ row. row_view (inclusion request row))
+  pub rows_lens : length request.free ≡ tree.units
+      → Lens tree belongs (rows_tree rows request tree) (λ s. s) (λ row. row_view (inclusion request row))
   rows_lens paired = record {
     within = λ row _. view_within paired (inclusion request row) (free_within request row);
     going = λ i e. e;
@@ -65,7 +68,11 @@ module _ {State : Type 0} (rows : ℕ) (request : Request) (tree : Tree State) (
 
   pub rows_lawful : Lawful tree belongs → Lawful (rows_tree rows request tree) (BelongsToRows request tree belongs)
   rows_lawful lawful = record {
-    split = λ s here going. split_through tree belongs (rows_tree rows request tree) (λ t. t) (λ row. row_view (inclusion request row)) (rows_lens here.paired) (BelongsToRows request tree belongs)
-        (λ i m. record { member = m; ordered = here.ordered; paired = here.paired }) s here.member going (lawful.split s here.member going);
-    end = λ s here done. end_through tree belongs (rows_tree rows request tree) (λ t. t) (λ row. row_view (inclusion request row)) (rows_lens here.paired) rows_close s here.member done (lawful.end s here.member done);
+    split = λ s here going. split_through tree belongs (rows_tree rows request tree) (λ t. t)
+        (λ row. row_view (inclusion request row)) (rows_lens here.paired) (BelongsToRows request tree belongs)
+        (λ i m. record { member = m; ordered = here.ordered; paired = here.paired }) s here.member going
+        (lawful.split s here.member going);
+    end = λ s here done. end_through tree belongs (rows_tree rows request tree) (λ t. t)
+        (λ row. row_view (inclusion request row)) (rows_lens here.paired) rows_close s here.member done
+        (lawful.end s here.member done);
   }

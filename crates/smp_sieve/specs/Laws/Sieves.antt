@@ -7,9 +7,11 @@ use Rattle.smp_sieve.specs.Streams.{Stream}
 use Rattle.smp_sieve.specs.Sieves.{candidate, first_below, sieve_draw, sieve_next, words_of}
 
 -- the first candidate below a bound is below it
-first-below : (n : ℕ) (words : ℕ → ℕ) (place bound value : ℕ) → (first_below n words place bound).0 ≡ Ok value → value < bound
+first-below : (n : ℕ) (words : ℕ → ℕ) (place bound value : ℕ) → (first_below n words place bound).0 ≡ Ok value
+    → value < bound
 unfolding first_below
-first-below zero words place bound value h = absurd (let f : ◌≡◌ {A = Result ℕ DrawFault} (Err (Rejected bound)) (Ok value) = h in cc)
+first-below zero words place bound value h =
+    absurd (let f : ◌≡◌ {A = Result ℕ DrawFault} (Err (Rejected bound)) (Ok value) = h in cc)
 first-below (suc n) words place bound value h =
     elim (cases_Bool (nat_lt (candidate words place bound) bound)) [
       | inl e ↦
@@ -28,6 +30,7 @@ draw_below words bound value some h =
       | inr e ↦ (let f : ◌≡◌ {A = Result ℕ DrawFault} (Ok 0) (Ok value) = rw e at h in let v : 0 ≡ value = cc in omega arith)
     ]
 
-pub draw_idle : {Words : Type 0} (stream : Stream Words) (words : Words) → sieve_next stream words 1 ≡ record { answer = Ok 0; rest = words }
+pub draw_idle : {Words : Type 0} (stream : Stream Words) (words : Words)
+    → sieve_next stream words 1 ≡ record { answer = Ok 0; rest = words }
 unfolding sieve_draw
 draw_idle stream words = refl

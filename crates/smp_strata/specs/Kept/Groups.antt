@@ -1,5 +1,6 @@
 -- Places by the numbers that stand there.
-use Rattle.std.specs.Prelude.{◌≡◌, ℕ, ◌<◌, nat_eq, List, [], ◌∷◌, Option, Some, None, length, filter, slice_index, slice_get}
+use Rattle.std.specs.Prelude.{◌≡◌, ℕ, ◌<◌, nat_eq, List, [], ◌∷◌, Option, Some, None, length, filter, slice_index}
+use Rattle.std.specs.Prelude.{slice_get}
 use Rattle.std.specs.List.{range_with_len}
 
 -- the numbers of a group: a single one, or those of a list

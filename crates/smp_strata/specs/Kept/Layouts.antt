@@ -1,5 +1,6 @@
 -- Rows and their first stage units, and these and their strata, by numbers.
-use Rattle.std.specs.Prelude.{ℕ, ◌<◌, ◌≤◌, ◌≡◌, nat_lt, List, [], Option, Some, None, length, map, slice_index, slice_index_or, All}
+use Rattle.std.specs.Prelude.{ℕ, ◌<◌, ◌≤◌, ◌≡◌, nat_lt, List, [], Option, Some, None, length, map, slice_index}
+use Rattle.std.specs.Prelude.{slice_index_or, All}
 use Rattle.std.specs.List.{position_or_len, range_with_len}
 use Rattle.std.specs.Str.{bytes_eq}
 use Rattle.smp_fractions.specs.Limits.{most_rows}
