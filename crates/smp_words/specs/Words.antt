@@ -1,5 +1,5 @@
 -- What the words of a command line ask for: the table of the commands.
-use Rattle.std.specs.Prelude.{◌≡◌, ℕ, ◌^◌, ◌≤◌, List, [], ◌∷◌, ◌++◌, Bool, true, false, not, ◌&&◌, nat_le}
+use Rattle.std.specs.Prelude.{◌≡◌, ℕ, ◌^◌, ◌≤◌, List, [], ◌∷◌, Bool, true, false, not, ◌&&◌, nat_le}
 use Rattle.std.specs.Prelude.{Option, Some, None, Result, Ok, Err, option_map, unwrap_or, if◌then◌else◌, IfSome, codes}
 use Rattle.std.specs.List.{list_any, list_all}
 use Rattle.std.specs.Str.{bytes_eq}
@@ -235,27 +235,20 @@ command_of words = words_of words >>= λ rows. command_given (given_of rows)
 
 -- ---- the files of a command
 
--- the file of a tape; a seed has none
-abbrev pub tape_names : Chance → List (List ℕ)
-tape_names (Tape name) = name ∷ []
-tape_names (Seed key) = []
+-- these files, and before them that of a tape, where the draws come from one
+abbrev pub with_tape : Chance → List (List ℕ) → List (List ℕ)
+with_tape (Tape name) names = name ∷ names
+with_tape (Seed key) names = names
 
--- the files that a command reads, and those that it writes, in the order of its work
-abbrev pub inputs_of : Command → List (List ℕ)
-inputs_of (Quick arguments) = arguments.frame ∷ arguments.tape ∷ []
-inputs_of (Draw arguments) = arguments.design ∷ arguments.frame ∷ tape_names arguments.chance
-inputs_of (Replay arguments) = arguments.design ∷ arguments.frame ∷ arguments.log ∷ []
-inputs_of (Migrate arguments) = arguments.design ∷ arguments.frame ∷ arguments.log ∷ []
-inputs_of (Probs arguments) = arguments.design ∷ arguments.frame ∷ []
-inputs_of (Check arguments) = arguments.design ∷ arguments.frame ∷ []
-inputs_of (Demo arguments) = []
-
-abbrev pub outputs_of : Command → List (List ℕ)
-outputs_of (Quick arguments) = arguments.out ∷ []
-outputs_of (Draw arguments) = arguments.log ∷ arguments.sample ∷ []
-outputs_of (Replay arguments) = arguments.sample ∷ []
-outputs_of (Migrate arguments) = arguments.to ∷ []
-outputs_of other = []
+-- the files of a command, in the order of its work
+abbrev pub names_of : Command → List (List ℕ)
+names_of (Quick a) = a.frame ∷ a.tape ∷ a.out ∷ []
+names_of (Draw a) = a.design ∷ a.frame ∷ with_tape a.chance (a.log ∷ a.sample ∷ [])
+names_of (Replay a) = a.design ∷ a.frame ∷ a.log ∷ a.sample ∷ []
+names_of (Migrate a) = a.design ∷ a.frame ∷ a.log ∷ a.to ∷ []
+names_of (Probs a) = a.design ∷ a.frame ∷ []
+names_of (Check a) = a.design ∷ a.frame ∷ []
+names_of (Demo a) = []
 
 -- the units that a command itself asks for, or its stratum
 abbrev pub IsSized : Command → Type 0
@@ -267,5 +260,5 @@ IsSized other = Unit {0}
 -- No two files of a command have the same name. `quick` asks for 1 to 200,000 units, `demo` for 30 to 100,000, and `replay` for all
 -- strata or one with a number from 1 to 200,000.
 pub record IsAsked (command : Command) : Type 0 where
-  pub distinct : all_distinct (inputs_of command ++ outputs_of command) ≡ true
+  pub distinct : all_distinct (names_of command) ≡ true
   pub sized : IsSized command
