@@ -4,7 +4,8 @@ ghost use Rattle.std.specs.Prelude.{◌≡◌, IfOk, map, option_map, string_byt
 ghost use Rattle.clap.specs.Words.{app_of, rule_of, rows_of, found_of, first_of, all_of};
 ghost use Rattle.smp_words.specs.Views.{names_view};
 ghost use Rattle.smp_words.specs.CommandLine;
-ghost use Rattle.smp_words.specs.CommandLine.{command_rule, rest_rule, option_rule, with_options, plain_app, sampler_app, words_of};
+ghost use Rattle.smp_words.specs.CommandLine.{command_rule, rest_rule, option_rule, with_options};
+ghost use Rattle.smp_words.specs.CommandLine.{plain_app, sampler_app, words_of};
 
 use clap::error::ErrorKind;
 use clap::{Arg, ArgAction, ArgMatches, Command};
@@ -82,7 +83,8 @@ pub(crate) fn matches_from<'a>(
     alloc: Global,
     words: &'a [String],
 ) -> Result<Option<ArgMatches<'a>>, NoMemory>
-    ensures { IfOk result (λ o. option_map (λ m. rows_of (found_of m)) o ≡ words_of (map string_bytes words.entry.now)) }
+    ensures { IfOk result (λ o. option_map (λ m. rows_of (found_of m)) o
+        ≡ words_of (map string_bytes words.entry.now)) }
 {
     let Ok(command) = sampler_command(alloc) else {
         return Err(NoMemory);
@@ -105,7 +107,8 @@ pub(crate) fn value_of<'a>(matches: &ArgMatches<'a>, name: &str) -> Option<&'a s
 
 /// The values of an argument that takes several.
 pub(crate) fn values_of<'b, 'a>(matches: &'b ArgMatches<'a>, name: &str) -> Option<&'b [&'a str]>
-    ensures { option_map (λ s. map (λ v. v.now) s.now) result ≡ all_of name.now (rows_of (found_of matches.now)) }
+    ensures { option_map (λ s. map (λ v. v.now) s.now) result
+        ≡ all_of name.now (rows_of (found_of matches.now)) }
 {
     matches.get_strs(name)
 }

@@ -173,7 +173,8 @@ fn draw(alloc: Global, given: &Given) -> Result<Option<Command>, NoMemory>
 }
 
 fn draw_by_tape(alloc: Global, files: &DrawFiles, tape: &str) -> Result<Option<Command>, NoMemory>
-    ensures { IfOk result (λ command. command ≡ draw_by (files_view files.now) (Some tape.now) None) }
+    ensures { IfOk result (λ command.
+        command ≡ draw_by (files_view files.now) (Some tape.now) None) }
 {
     if !are_distinct(&[files.design, files.frame, tape, files.log, files.sample]) {
         return Ok(None);
@@ -183,7 +184,8 @@ fn draw_by_tape(alloc: Global, files: &DrawFiles, tape: &str) -> Result<Option<C
 }
 
 fn draw_by_seed(alloc: Global, files: &DrawFiles, seed: &str) -> Result<Option<Command>, NoMemory>
-    ensures { IfOk result (λ command. command ≡ draw_by (files_view files.now) None (Some seed.now)) }
+    ensures { IfOk result (λ command.
+        command ≡ draw_by (files_view files.now) None (Some seed.now)) }
 {
     if !files.are_distinct() {
         return Ok(None);
