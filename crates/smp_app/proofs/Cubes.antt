@@ -1,5 +1,5 @@
 -- What the cube draws of the strata of a plan, and what the report tells of it.
-use Rattle.std.proofs.Common.{◌≡◌, ℕ, Bool, List, [], ◌∷◌, length, map, Some, None, refl, sym, ap, subst, ◌∙◌}
+use Rattle.std.proofs.Common.{◌≡◌, ℕ, Bool, true, List, [], ◌∷◌, length, map, Some, None, refl, sym, ap, subst, ◌∙◌}
 use Rattle.std.specs.List.{filter, range_with_len, slice_get}
 use Rattle.std.proofs.lemmas.List.{length-map}
 use Rattle.smp_split.specs.Paths.{Entry}
@@ -9,7 +9,7 @@ use Rattle.smp_balance.specs.Totals.{is_selected}
 use Rattle.smp_balance.specs.Reports.{TellsColumn}
 use Rattle.smp_balance.proofs.Balances.{each_is_balanced}
 use Rattle.smp_balance.proofs.Reports.{each_line_tells}
-use Rattle.smp_design.specs.declared.method.Method.TheVariants.{Cube}
+use Rattle.smp_design.specs.Words.{balances}
 use Rattle.smp_methods.specs.declared.any.AnyState.TheVariants as states
 use Rattle.smp_methods.specs.declared.any.AnyState.{AnyState}
 use Rattle.smp_stages.specs.Paths.{GoesByStages}
@@ -35,7 +35,7 @@ filter_same : (p q : ℕ → Bool) (xs : List ℕ) → ((k : ℕ) → p k ≡ q 
 filter_same p q [] same = refl
 filter_same p q (x ∷ xs) same = rw (same x, filter_same p q xs same) refl
 
-module _ (plan : FramePlan) (planned : IsPlanned plan) (cube : plan.design.method ≡ Cube) (h : ℕ) (s : Stratum) (is : slice_get (parts (plan_view plan)).strata h ≡ Some s) where
+module _ (plan : FramePlan) (planned : IsPlanned plan) (balance : balances plan.design.method ≡ true) (h : ℕ) (s : Stratum) (is : slice_get (parts (plan_view plan)).strata h ≡ Some s) where
   abbrev all : Parts
   all = parts (plan_view plan)
 
@@ -44,7 +44,7 @@ module _ (plan : FramePlan) (planned : IsPlanned plan) (cube : plan.design.metho
 
   -- the stratum, as the cube draws from it
   pub is_stratum : AreStratumUnits (balancing s)
-  is_stratum = cube_stratum all drawable cube h s is
+  is_stratum = cube_stratum all drawable balance h s is
 
   -- ---- what was drawn of it
 
@@ -54,7 +54,7 @@ module _ (plan : FramePlan) (planned : IsPlanned plan) (cube : plan.design.metho
 
     units_are : (drawn_stratum here h s).units ≡ filter (is_selected (balancing s) leaf) (range_with_len 0 (length (map (λ u. u.values) s.units)))
     units_are =
-        filter_same (first_selected all to.states h) (is_selected (balancing s) leaf) (range_with_len 0 (length s.units)) (cube_selected all drawable cube to.states h s is leaf leaf_is)
+        filter_same (first_selected all to.states h) (is_selected (balancing s) leaf) (range_with_len 0 (length s.units)) (cube_selected all drawable balance to.states h s is leaf leaf_is)
         ∙ ap (λ n. filter (is_selected (balancing s) leaf) (range_with_len 0 n)) (sym (length-map s.units (λ u. u.values)))
 
     pub tells : (column : ℕ) → TellsColumn (drawn_stratum here h s) leaf column
@@ -67,20 +67,20 @@ module _ (plan : FramePlan) (planned : IsPlanned plan) (path : List Entry) (to :
   Goes p = GoesByStages stage_tree (stages_of p) (states_of p) path to.states
 
   abbrev Has : Parts → Type 0
-  Has p = (goes : Goes p) × ((h : ℕ) (s : Stratum) → slice_get p.strata h ≡ Some s → p.method ≡ Cube → IsDrawnByCube p h s (goes.part (first_number p h)) to.states)
+  Has p = (goes : Goes p) × ((h : ℕ) (s : Stratum) → slice_get p.strata h ≡ Some s → balances p.method ≡ true → IsDrawnByCube p h s (goes.part (first_number p h)) to.states)
 
-  pub keeps_balance : (goes : Goes plan.plan) → (plan.plan.method ≡ Cube → (q : List Entry) (ends : List AnyState) (by : GoesByStages stage_tree (stages_of plan.plan) (states_of plan.plan) q ends) (h : ℕ) (s : Stratum)
+  pub keeps_balance : (goes : Goes plan.plan) → (balances plan.plan.method ≡ true → (q : List Entry) (ends : List AnyState) (by : GoesByStages stage_tree (stages_of plan.plan) (states_of plan.plan) q ends) (h : ℕ) (s : Stratum)
       → slice_get plan.plan.strata h ≡ Some s → IsDrawnByCube plan.plan h s (by.part (first_number plan.plan h)) ends)
       → KeepsBalance (record { plan = plan_view plan; only = None; leaf = to; path = path })
   keeps_balance goes cubes =
-      let has : Has (parts (plan_view plan)) = subst Has planned.parts_are (goes, λ h s is cube. cubes cube path to.states goes h s is) in
+      let has : Has (parts (plan_view plan)) = subst Has planned.parts_are (goes, λ h s is balance. cubes balance path to.states goes h s is) in
       record {
         goes = has.0;
-        cubes = λ cube h s is.
-            (let drawn_so = has.1 h s is cube in
+        cubes = λ balance h s is.
+            (let drawn_so = has.1 h s is balance in
             record {
               drawn_so = drawn_so;
-              balanced = each_is_balanced (balancing s) (is_stratum plan planned cube h s is);
-              told = tells plan planned cube h s is path to drawn_so.leaf drawn_so.leaf_is;
+              balanced = each_is_balanced (balancing s) (is_stratum plan planned balance h s is);
+              told = tells plan planned balance h s is path to drawn_so.leaf drawn_so.leaf_is;
             });
       }

@@ -1,5 +1,5 @@
 -- What is selected by a tape or by a seed is what the verdict draws, with the requested probabilities.
-use Rattle.std.proofs.Common.{◌≡◌, ◌≢◌, ℕ, ◌<◌, List, length, Option, Some, None, Result, Ok, Err, true, refl, sym, ap, subst, ◌∙◌, arith, inr}
+use Rattle.std.proofs.Common.{◌≡◌, ℕ, ◌<◌, List, length, Option, Some, None, Result, Ok, Err, true, false, refl, sym, ap, subst, ◌∙◌, arith, inr}
 use Rattle.std.specs.Prelude.{◌+◌, IfOk, IfSome, OnOk, is_some, option_map}
 use Rattle.std.specs.List.{count_by, range_with_len, slice_get}
 use Rattle.std.proofs.lemmas.List.Elements.{All-get_or}
@@ -11,7 +11,7 @@ use Rattle.smp_split.specs.Means.{mean, inclusion_probability}
 use Rattle.smp_fractions.proofs.Fractions.{same_sym, same_trans}
 use Rattle.smp_prob.specs.declared.requests.Request.{Request}
 use Rattle.smp_prob.specs.Given.{expected_size}
-use Rattle.smp_design.specs.declared.method.Method.TheVariants.{Cube}
+use Rattle.smp_design.specs.Words.{balances}
 use Rattle.smp_tape.specs.Sources.{Source}
 use Rattle.smp_tape.specs.declared.draws.DrawFault.{DrawFault}
 use Rattle.smp_log.specs.Answers.{AnswersAs, log_reading}
@@ -197,7 +197,7 @@ module _ (plan : FramePlan) (planned : IsPlanned plan) where
 
       abbrev AroundBy : Parts → Type 0
       AroundBy p =
-          plan.design.method ≢ Cube → (h : ℕ) (s : Stratum) → slice_get p.strata h ≡ Some s
+          balances plan.design.method ≡ false → (h : ℕ) (s : Stratum) → slice_get p.strata h ≡ Some s
           → IfSome plan.design.columns.prob (λ column. IsAround (count_by (first_selected p to.states h) (range_with_len 0 (length s.units))) (expected_size (first_probs plan.design plan.frame h)))
 
       method_is : plan.plan.method ≡ plan.design.method
@@ -210,7 +210,7 @@ module _ (plan : FramePlan) (planned : IsPlanned plan) where
       around_own : AroundBy plan.plan
       around_own other h s is =
           around_by plan.design.columns.prob _ (expected_firsts s) (expected_size (first_probs plan.design plan.frame h)) (planned.draws h s is).expected
-          (starts.around (λ e. other (sym method_is ∙ e)) h s is path to leads done)
+          (starts.around (ap balances method_is ∙ other) h s is path to leads done)
 
       abbrev SecondsBy : Parts → Type 0
       SecondsBy p =

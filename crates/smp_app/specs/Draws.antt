@@ -1,6 +1,6 @@
 -- What holds of what a job draws.
-use Rattle.std.specs.Prelude.{◌≡◌, ◌≢◌, IfSome, ℕ, ◌+◌, ◌-◌, ◌<◌, true, ℤ, List, length, Option, Some, None}
-use Rattle.std.specs.Prelude.{Result, Ok, Err}
+use Rattle.std.specs.Prelude.{◌≡◌, IfSome, ℕ, ◌+◌, ◌-◌, ◌<◌, true, false, ℤ, List, length, Option, Some, None, Result}
+use Rattle.std.specs.Prelude.{Ok, Err}
 use Rattle.std.specs.List.{count_by, range_with_len, slice_get}
 use Rattle.smp_io.specs.Store.{Files}
 use Rattle.smp_fractions.specs.Bounds.{IsAround}
@@ -10,7 +10,7 @@ use Rattle.smp_split.specs.Means.{mean, inclusion_probability}
 use Rattle.smp_balance.specs.Totals.{IsBalanced}
 use Rattle.smp_balance.specs.Reports.{TellsColumn}
 use Rattle.smp_design.specs.declared.design.Second as second
-use Rattle.smp_design.specs.declared.method.Method.TheVariants.{Cube}
+use Rattle.smp_design.specs.Words.{balances}
 use Rattle.smp_log.specs.Genuine.{DiffersAt, IsFullPath, IsGenuine}
 use Rattle.smp_log.specs.LoneSections.{SectionDiffers}
 use Rattle.smp_log.specs.SectionLogs.{IsAnyGenuine}
@@ -54,8 +54,8 @@ DrawsFirsts drawn =
     (h n : ℕ) (s : Stratum) → slice_get (parts drawn.plan).strata h ≡ Some s
     → AreAsked drawn.plan.design drawn.plan.units h n → firsts_drawn drawn h s ≡ n
 
--- Where the design gives the probabilities, as many are drawn by every method but the cube as these add up to, or, where that isn't a whole
--- number, one of the two whole numbers around it.
+-- Where the design gives the probabilities, as many are drawn by every method that doesn't balance as these add up to, or, where
+-- that isn't a whole number, one of the two whole numbers around it.
 abbrev pub IsDrawnAround : Drawn → ℕ → Stratum → Type 0
 IsDrawnAround drawn h s =
     let sum = expected_size (first_probs drawn.plan.design drawn.plan.units h) in
@@ -63,7 +63,7 @@ IsDrawnAround drawn h s =
 
 abbrev pub DrawsAround : Drawn → Type 0
 DrawsAround drawn =
-    drawn.plan.design.method ≢ Cube → (h : ℕ) (s : Stratum)
+    balances drawn.plan.design.method ≡ false → (h : ℕ) (s : Stratum)
     → slice_get (parts drawn.plan).strata h ≡ Some s → IsDrawnAround drawn h s
 
 -- with a second stage, as many rows of each of these as it asks for
@@ -98,10 +98,10 @@ pub record IsCubeDraw (drawn : Drawn) (goes : Goes drawn) (h : ℕ) (s : Stratum
   -- The report tells the estimates at that leaf and the known totals.
   pub told : (column : ℕ) → TellsColumn (drawn_stratum drawn h s) drawn_so.leaf column
 
--- Where the method is the cube, each stratum is drawn so.
+-- Where the method balances, each stratum is drawn so.
 pub record KeepsBalance (drawn : Drawn) : Type 0 where
   pub goes : Goes drawn
-  pub cubes : drawn.plan.design.method ≡ Cube → (h : ℕ) (s : Stratum)
+  pub cubes : balances drawn.plan.design.method ≡ true → (h : ℕ) (s : Stratum)
       → slice_get (parts drawn.plan).strata h ≡ Some s → IsCubeDraw drawn goes h s
 
 -- ---- what is drawn by a plan

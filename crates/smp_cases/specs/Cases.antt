@@ -1,6 +1,6 @@
 -- What a case comes to: n units, with probabilities in proportion to size, drawn by a method with the values of a tape.
-use Rattle.std.specs.Prelude.{◌≡◌, ℕ, ◌^◌, Bool, true, false, nat_lt, if◌then◌else◌, List, [], length, map, sum_by}
-use Rattle.std.specs.Prelude.{unwrap_or, Result, Ok, Err, ⊤}
+use Rattle.std.specs.Prelude.{◌≡◌, ℕ, ◌^◌, Bool, not, nat_lt, if◌then◌else◌, List, [], length, map, sum_by, Result, Ok}
+use Rattle.std.specs.Prelude.{Err, ⊤}
 use Rattle.smp_tape.specs.TapeSources.{tape_source}
 use Rattle.smp_tape.specs.Tapes.{Values, tape_of_values}
 use Rattle.smp_split.specs.Counts.{selected_units}
@@ -11,31 +11,23 @@ use Rattle.smp_prob.specs.declared.orders.Order.TheVariants.{Frame}
 use Rattle.smp_prob.specs.declared.requests.Request.{Request}
 use Rattle.smp_rows.specs.Rows.{rows_tree}
 use Rattle.smp_design.specs.declared.method.Method.{Method}
-use Rattle.smp_design.specs.declared.method.Method.TheVariants.{LocalPivotal, Cube}
+use Rattle.smp_design.specs.Words.{takes_columns}
 use Rattle.smp_methods.specs.declared.any.AnyDesign.{AnyDesign}
 use Rattle.smp_methods.specs.declared.any.AnyState.{AnyState}
-use Rattle.smp_methods.specs.declared.procedure.Procedure.{Procedure}
-use Rattle.smp_methods.specs.declared.procedure.Procedure.TheVariants.{Pivotal}
 use Rattle.smp_methods.specs.Designs.{design_of, first_state, method_of}
-use Rattle.smp_methods.specs.Procedures.{procedure_of}
+use Rattle.smp_methods.specs.Procedures.{procedure}
 use Rattle.smp_cases.specs.declared.fault.CaseFault.{CaseFault}
 use Rattle.smp_cases.specs.declared.fault.CaseFault.TheVariants.{TooMany, Draw, Long, NoMemory}
 
 -- whether a method needs columns of a frame, as coordinates or as balancing values
 abbrev pub needs_columns : Method → Bool
-needs_columns LocalPivotal = true
-needs_columns Cube = true
-needs_columns other = false
+needs_columns method = not (takes_columns method 0)
 
 -- ---- the draw tree
 
--- how a method without columns draws: the units in frame order
-abbrev pub procedure : Method → Procedure
-procedure method = unwrap_or (procedure_of method Frame 0) (Pivotal Frame)
-
--- the design that draws the free units of a request by a method, without columns of values
+-- the design that draws the free units of a request by a method, without columns of values, in frame order
 abbrev pub design : Method → Request → AnyDesign
-design method request = design_of (procedure method) request (map (λ _. []) request.free)
+design method request = design_of (procedure method Frame 0) request (map (λ _. []) request.free)
 
 -- The draw tree of a case over all units. The certain ones are selected at each leaf, those of size 0 at none.
 abbrev pub case_tree : Method → List ℕ → ℕ → Tree AnyState

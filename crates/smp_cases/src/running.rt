@@ -4,7 +4,9 @@ ghost use Rattle.std.specs.Prelude.{◌≡◌, ◌^◌, ◌<◌, ◌≤◌, true
 ghost use Rattle.smp_cases.specs.Cases as Cases;
 ghost use Rattle.smp_cases.specs.Cases.{Answers, drawn, mask, verdict};
 ghost use Rattle.smp_methods.specs.Designs.{method_of};
+ghost use Rattle.smp_methods.specs.Procedures.{procedure};
 ghost use Rattle.smp_methods.specs.Starts.{IsStarted};
+ghost use Rattle.smp_prob.specs.declared.orders.Order.TheVariants.{Frame};
 ghost use Rattle.smp_prob.specs.Requests.{IsRequest};
 ghost use Rattle.smp_rows.specs.Rows.{BelongsToRows, rows_tree};
 ghost use Rattle.smp_split.specs.Counts.{selected_units};
@@ -21,17 +23,17 @@ use smp_split::{NoTrace, Splitting, WalkFault, walk};
 use smp_tape::Tape;
 use std::alloc::Global;
 
-/// Whether a method needs columns of a frame: local pivotal the coordinates of the units, the cube their balancing values.
+/// Whether a method needs columns of a frame, as the coordinates of the units or as their balancing values.
 pub fn needs_columns(method: Method) -> bool
     ensures { result ≡ Cases.needs_columns method }
 {
-    matches!(method, Method::LocalPivotal | Method::Cube)
+    !method.takes_columns(0)
 }
 
 // How a method without columns draws, in frame order.
 fn procedure(method: Method) -> Procedure
     requires { Cases.needs_columns method ≡ false }
-    ensures { result ≡ Cases.procedure method }
+    ensures { result ≡ procedure method Frame 0 }
 {
     match Procedure::of_method(method, Order::Frame, 0) {
         Some(procedure) => procedure,
@@ -56,7 +58,7 @@ fn start(alloc: Global, method: Method, request: &Request) -> Result<Started, No
     requires request { IsRequest request.now }
     requires whole { IsWhole request.now }
     ensures { IfOk result
-        (IsStarted (Cases.procedure method) request.now (map (λ _. []) request.now.free)) }
+        (IsStarted (procedure method Frame 0) request.now (map (λ _. []) request.now.free)) }
 {
     let values = no_values(alloc, request)?;
     Started::new(alloc, procedure(method), request, values.as_slice())

@@ -1,4 +1,5 @@
 pub mod ReadBack
+pub mod Rows
 pub mod FirstKeys
 pub mod Documents
 pub mod QuotasOf

@@ -15,7 +15,7 @@ use Rattle.smp_design.specs.Designs.{unit_columns, sample_size, value_columns, s
 use Rattle.smp_design.specs.Keys.{has, lacks, needs, missing_key, rival_keys, clash}
 use Rattle.smp_design.specs.Faults.{good}
 use Rattle.smp_design.specs.Values.{number, method, second_method, order, names, quotas, optional}
-use Rattle.smp_design.specs.Words.{row, is_balance, is_near}
+use Rattle.smp_design.specs.Words.{row, in_second, is_balance, is_near}
 use Rattle.smp_design.proofs.Went.{went, is_good, neither, first_fails, goes_on}
 use Rattle.smp_design.proofs.ValueBounds.{Few, number-range, quotas-range, names-few, second_method-is, optional-holds, optional-there}
 
@@ -158,7 +158,7 @@ value_facts t columns h =
 -- the second stage
 pub record SecondFacts (o : Option Data) (s : SecondStage) : Type 0 where
   pub size : IfSome s.second (λ x. InRange x.n)
-  pub method : IfSome s.second (λ x. (row x.method).in_second ≡ true)
+  pub method : IfSome s.second (λ x. in_second x.method ≡ true)
   pub psu : is_some s.psu ≡ is_some s.second
   pub sizes : IfNone s.second (s.size ≡ None)
   pub there : is_some s.second ≡ is_some o

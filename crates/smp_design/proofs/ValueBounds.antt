@@ -9,7 +9,7 @@ use Rattle.smp_design.specs.declared.design.Quota as quota
 use Rattle.smp_design.specs.declared.method.Method.{Method}
 use Rattle.smp_design.specs.Bounds.{From1To, InRange}
 use Rattle.smp_design.specs.Values.{last_version, from_1_to, integer_to, version, number, method, if_second, second_method, few, names, strings, quotas_of, quotas, optional}
-use Rattle.smp_design.specs.Words.{row}
+use Rattle.smp_design.specs.Words.{in_second}
 use Rattle.smp_design.proofs.Went.{goes_on, mapped, passes}
 
 from_1_to-range : (most : ℕ) (z : ℤ) (n : ℕ) → from_1_to most z ≡ Some n → From1To most n
@@ -59,12 +59,12 @@ names-few most value xs h =
     let is : step.value ≡ xs = (let same : ◌≡◌ {A = Option (List (List ℕ))} (Some step.value) (Some xs) = test.gives in cc) in
     subst (λ (ys : List (List ℕ)). Few most ys) is (leb-true 1 (length step.value) parts.0, leb-true (length step.value) most parts.1)
 
-pub second_method-is : (value : Data) (m : Method) → second_method value ≡ Some m → (row m).in_second ≡ true
+pub second_method-is : (value : Data) (m : Method) → second_method value ≡ Some m → in_second m ≡ true
 second_method-is value m h =
     let step = goes_on if_second (method value) m h in
-    let test = passes (row step.value).in_second (Some step.value) m step.gives in
+    let test = passes (in_second step.value) (Some step.value) m step.gives in
     let is : step.value ≡ m = (let same : ◌≡◌ {A = Option Method} (Some step.value) (Some m) = test.gives in cc) in
-    subst (λ (k : Method). (row k).in_second ≡ true) is test.holds
+    subst (λ (k : Method). in_second k ≡ true) is test.holds
 
 -- an optional value: what holds of every good one, and whether it is there
 pub optional-holds : {A : Type 0} (P : A → Type 0) (read : Data → Option A) → ((value : Data) (x : A) → read value ≡ Some x → P x) → (o : Option Data) (x : Option A) → optional read o ≡ Some x → IfSome x P

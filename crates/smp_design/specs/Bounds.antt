@@ -11,7 +11,7 @@ use Rattle.smp_design.specs.declared.method.Needs.TheVariants.{Nothing, Balance,
 use Rattle.smp_design.specs.declared.design.Design.{Design}
 use Rattle.smp_design.specs.declared.design.Quota as quota
 use Rattle.smp_design.specs.Values.{last_version}
-use Rattle.smp_design.specs.Words.{row, is_near}
+use Rattle.smp_design.specs.Words.{row, in_second, is_near, most_balance, most_near}
 
 -- a whole number from 1 to `most`
 abbrev pub From1To : ℕ → ℕ → Type 0
@@ -30,8 +30,8 @@ least_values Near = 1
 -- the greatest number of columns of values, by what a method needs
 abbrev pub most_values : Needs → ℕ
 most_values Nothing = 0
-most_values Balance = 15
-most_values Near = 4
+most_values Balance = most_balance
+most_values Near = most_near
 
 -- quotas in byte order of their strata's names, which differ
 abbrev pub Ascend : List quota.Quota → Type 0
@@ -62,7 +62,7 @@ pub record IsDesign (d : Design) : Type 0 where
   pub few_values : length d.columns.values ≤ most_values (row d.method).needs
   -- the second stage, whose first stage units stand in a column
   pub second_size : IfSome d.second (λ s. InRange s.n)
-  pub second_method : IfSome d.second (λ s. IsTrue (row s.method).in_second)
+  pub second_method : IfSome d.second (λ s. IsTrue (in_second s.method))
   pub second_first : OnSome d.second (is_near (row d.method).needs ≡ false)
   pub psu : is_some d.columns.psu ≡ is_some d.second
   pub second_sizes : IfNone d.second (d.columns.second_size ≡ None)

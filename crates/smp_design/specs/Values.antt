@@ -6,7 +6,7 @@ use Rattle.toml.specs.Data.{Data, Items, no_items, item, Members, no_members, me
 use Rattle.smp_prob.specs.declared.orders.Order.{Order}
 use Rattle.smp_design.specs.declared.method.Method.{Method}
 use Rattle.smp_design.specs.declared.design.Quota as quota
-use Rattle.smp_design.specs.Words.{row, method_of, order_of}
+use Rattle.smp_design.specs.Words.{in_second, method_of, order_of}
 
 -- the versions of a design go from 1 to this one
 abbrev pub last_version : ℕ
@@ -35,7 +35,7 @@ method value = option_and_then method_of (as_str value)
 
 -- a method, if a second stage may have it
 abbrev pub if_second : Method → Option Method
-if_second m = if (row m).in_second then Some m else None
+if_second m = if in_second m then Some m else None
 
 -- the word of a method that a second stage may have
 abbrev pub second_method : Data → Option Method

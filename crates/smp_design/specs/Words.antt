@@ -1,10 +1,10 @@
 -- The table of the methods, and the words of a design for methods and orders.
-use Rattle.std.specs.Prelude.{ℕ, List, [], ◌∷◌, Bool, true, false, Option, codes, find}
+use Rattle.std.specs.Prelude.{ℕ, nat_le, ◌&&◌, List, [], ◌∷◌, Bool, true, false, Option, codes, find}
 use Rattle.std.specs.Str.{bytes_eq}
 use Rattle.smp_prob.specs.declared.orders.Order.{Order}
 use Rattle.smp_prob.specs.declared.orders.Order.TheVariants.{Frame, Random}
 use Rattle.smp_design.specs.declared.method.Method.{Method}
-use Rattle.smp_design.specs.declared.method.Method.TheVariants.{Pivotal, Systematic, MinimumSupport, Brewer, LocalPivotal, Cube}
+use Rattle.smp_design.specs.declared.method.Method.TheVariants as the
 use Rattle.smp_design.specs.declared.method.Needs.{Needs}
 use Rattle.smp_design.specs.declared.method.Needs.TheVariants.{Nothing, Balance, Near}
 
@@ -16,23 +16,22 @@ pub record Row : Type 0 where
   pub needs : Needs
   -- whether the design may have an order
   pub takes_order : Bool
-  -- whether a second stage may have the method
-  pub in_second : Bool
   -- whether it draws a whole number of units alone, so that their probabilities have to add up to one
   pub draws_whole : Bool
 
 -- the table of the methods, a row for each
 unfoldable pub row : Method → Row
-row Pivotal = record { word = codes "pivotal"; needs = Nothing; takes_order = true; in_second = true; draws_whole = false }
-row Systematic = record { word = codes "systematic"; needs = Nothing; takes_order = true; in_second = true; draws_whole = false }
-row MinimumSupport = record { word = codes "minimum_support"; needs = Nothing; takes_order = false; in_second = true; draws_whole = true }
-row Brewer = record { word = codes "brewer"; needs = Nothing; takes_order = false; in_second = true; draws_whole = true }
-row LocalPivotal = record { word = codes "local_pivotal"; needs = Near; takes_order = false; in_second = false; draws_whole = false }
-row Cube = record { word = codes "cube"; needs = Balance; takes_order = false; in_second = false; draws_whole = false }
+row the.Pivotal = record { word = codes "pivotal"; needs = Nothing; takes_order = true; draws_whole = false }
+row the.Systematic = record { word = codes "systematic"; needs = Nothing; takes_order = true; draws_whole = false }
+row the.MinimumSupport = record { word = codes "minimum_support"; needs = Nothing; takes_order = false; draws_whole = true }
+row the.Brewer = record { word = codes "brewer"; needs = Nothing; takes_order = false; draws_whole = true }
+row the.LocalPivotal = record { word = codes "local_pivotal"; needs = Near; takes_order = false; draws_whole = false }
+row the.Cube = record { word = codes "cube"; needs = Balance; takes_order = false; draws_whole = false }
 
 -- all methods
 abbrev pub methods : List Method
-methods = Pivotal ∷ Systematic ∷ MinimumSupport ∷ Brewer ∷ LocalPivotal ∷ Cube ∷ []
+methods =
+    the.Pivotal ∷ the.Systematic ∷ the.MinimumSupport ∷ the.Brewer ∷ the.LocalPivotal ∷ the.Cube ∷ []
 
 -- what a word means: the first of some things whose word it is
 abbrev pub meaning : {A : Type 0} → (A → List ℕ) → List A → List ℕ → Option A
@@ -51,6 +50,31 @@ is_balance other = false
 abbrev pub is_near : Needs → Bool
 is_near Near = true
 is_near other = false
+
+-- the most columns of `balance`, and of `near`
+abbrev pub most_balance : ℕ
+most_balance = 15
+
+abbrev pub most_near : ℕ
+most_near = 4
+
+-- so many columns are what is needed: where nothing is, any columns are left alone
+abbrev pub fits_columns : Needs → ℕ → Bool
+fits_columns Nothing columns = true
+fits_columns Balance columns = nat_le 1 columns && nat_le columns most_balance
+fits_columns Near columns = nat_le 1 columns && nat_le columns most_near
+
+-- whether a method can be used with so many columns of values
+abbrev pub takes_columns : Method → ℕ → Bool
+takes_columns method columns = fits_columns (row method).needs columns
+
+-- whether a second stage may have the method: its units are rows, which have no values
+abbrev pub in_second : Method → Bool
+in_second method = takes_columns method 0
+
+-- whether the method balances the sample
+abbrev pub balances : Method → Bool
+balances method = is_balance (row method).needs
 
 -- the word of an order
 abbrev pub order_word : Order → List ℕ

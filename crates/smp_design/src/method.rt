@@ -6,6 +6,12 @@ ghost use Rattle.smp_design.specs.Words.{row, method_of, order_word};
 
 use smp_prob::Order;
 
+// How many columns can be balanced.
+pub(crate) const MAX_BALANCE: usize = 15;
+
+// How many columns can be coordinates.
+pub(crate) const MAX_NEAR: usize = 4;
+
 /// How the units of a stage are drawn.
 #[derive(Clone, Copy, Debug, PartialEq, Eq)]
 pub enum Method {
@@ -23,15 +29,40 @@ pub enum Method {
     Cube,
 }
 
+/// The table of the methods, handed to a macro with what else is said: each method with its word, the
+/// columns of values that it needs, whether the design may have an order, and whether it draws a whole
+/// number of units alone.
+#[macro_export]
+macro_rules! each_method {
+    ($table:ident: $($said:tt)*) => {
+        $table!(of [
+            Pivotal("pivotal", Nothing, true, false),
+            Systematic("systematic", Nothing, true, false),
+            MinimumSupport("minimum_support", Nothing, false, true),
+            Brewer("brewer", Nothing, false, true),
+            LocalPivotal("local_pivotal", Near, false, false),
+            Cube("cube", Balance, false, false)
+        ] $($said)*)
+    };
+}
+
+// Every method, and the row of a method.
+macro_rules! table {
+    (of [$($method:ident($word:literal, $needs:ident, $order:literal, $whole:literal)),*] all) => {
+        &[$(Method::$method),*]
+    };
+    (
+        of [$($method:ident($word:literal, $needs:ident, $order:literal, $whole:literal)),*]
+        row $of:expr
+    ) => {
+        match $of {
+            $(Method::$method => Row::new($word, Needs::$needs, $order, $whole),)*
+        }
+    };
+}
+
 // Every method.
-const METHODS: &[Method] = &[
-    Method::Pivotal,
-    Method::Systematic,
-    Method::MinimumSupport,
-    Method::Brewer,
-    Method::LocalPivotal,
-    Method::Cube,
-];
+const METHODS: &[Method] = each_method!(table: all);
 
 // The columns of values that a method needs.
 #[derive(Clone, Copy)]
@@ -55,6 +86,17 @@ impl Needs {
     {
         matches!(self, Needs::Near)
     }
+
+    // Whether so many columns are what is needed. Where nothing is needed, any columns are left alone.
+    fn fits(self, columns: usize) -> bool
+        ensures { result ≡ Words.fits_columns self columns }
+    {
+        match self {
+            Needs::Nothing => true,
+            Needs::Balance => 1 <= columns && columns <= MAX_BALANCE,
+            Needs::Near => 1 <= columns && columns <= MAX_NEAR,
+        }
+    }
 }
 
 // What a design may say of a method.
@@ -65,22 +107,22 @@ pub(crate) struct Row {
     pub(crate) needs: Needs,
     // Whether the design may have an order.
     pub(crate) takes_order: bool,
-    // Whether a second stage may have the method.
-    pub(crate) in_second: bool,
+    // Whether the method draws a whole number of units alone.
+    draws_whole: bool,
 }
 
 impl Row {
-    fn new(word: &'static str, needs: Needs, takes_order: bool, in_second: bool) -> Row
+    fn new(word: &'static str, needs: Needs, takes_order: bool, draws_whole: bool) -> Row
         ensures word { result.word ≡ word.entry }
         ensures needs { result.needs ≡ needs }
         ensures takes_order { result.takes_order ≡ takes_order }
-        ensures in_second { result.in_second ≡ in_second }
+        ensures draws_whole { result.draws_whole ≡ draws_whole }
     {
         Row {
             word,
             needs,
             takes_order,
-            in_second,
+            draws_whole,
         }
     }
 }
@@ -96,33 +138,40 @@ impl Method {
             .find(|method| method.row().word == word)
     }
 
-    /// Whether the method draws a whole number of units alone, so that their inclusion probabilities have to add up to
-    /// one: minimum support and Brewer's method do.
-    #[tactic(auto, unfolding(crate::specs::Words::row))]
+    /// Whether the method draws a whole number of units alone, so that their inclusion probabilities
+    /// have to add up to one.
     pub fn draws_whole(self) -> bool
         ensures { result ≡ (row self).draws_whole }
     {
-        matches!(self, Method::MinimumSupport | Method::Brewer)
+        self.row().draws_whole
+    }
+
+    /// Whether the method can be used with so many columns of values: those on which it balances, or
+    /// the coordinates of its points. A method that needs no columns leaves any alone.
+    pub fn takes_columns(self, columns: usize) -> bool
+        ensures { result ≡ Words.takes_columns self columns }
+    {
+        self.row().needs.fits(columns)
+    }
+
+    /// Whether the method balances the sample.
+    pub fn balances(self) -> bool
+        ensures { result ≡ Words.balances self }
+    {
+        self.row().needs.is_balance()
     }
 
     // The row of the method, whose word means no other method.
     #[tactic(auto, unfolding(crate::specs::Words::row), using(crate::proofs::ReadBack::method_read_back))]
     pub(crate) fn row(self) -> Row
-        ensures read_back { (word : List ℕ) → (method_of word ≡ Some self) ↔ (word ≡ result.word.now) }
+        ensures read_back { (word : List ℕ) →
+            (method_of word ≡ Some self) ↔ (word ≡ result.word.now) }
         ensures word { result.word.now ≡ (row self).word }
         ensures needs { result.needs ≡ (row self).needs }
         ensures takes_order { result.takes_order ≡ (row self).takes_order }
-        ensures in_second { result.in_second ≡ (row self).in_second }
+        ensures draws_whole { result.draws_whole ≡ (row self).draws_whole }
     {
-        // its word, the columns that it needs, whether it takes an order, whether a second stage may have it
-        match self {
-            Method::Pivotal => Row::new("pivotal", Needs::Nothing, true, true),
-            Method::Systematic => Row::new("systematic", Needs::Nothing, true, true),
-            Method::MinimumSupport => Row::new("minimum_support", Needs::Nothing, false, true),
-            Method::Brewer => Row::new("brewer", Needs::Nothing, false, true),
-            Method::LocalPivotal => Row::new("local_pivotal", Needs::Near, false, false),
-            Method::Cube => Row::new("cube", Needs::Balance, false, false),
-        }
+        each_method!(table: row self)
     }
 }
 

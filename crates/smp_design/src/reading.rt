@@ -16,6 +16,7 @@ use crate::entries::{
     text_at,
 };
 use crate::keys::value_at;
+use crate::method::{MAX_BALANCE, MAX_NEAR};
 use crate::values::{method, number, second_method};
 use crate::{Design, DesignFault, Quotas, Second};
 use smp_frac::Text;
@@ -23,12 +24,6 @@ use smp_frame::{Columns, Names};
 use smp_prob::Order;
 use std::alloc::Global;
 use toml::Table;
-
-/// How many columns can be balanced.
-const MAX_BALANCE: usize = 15;
-
-/// How many columns can be coordinates.
-const MAX_NEAR: usize = 4;
 
 /// Reads a design from a TOML document in UTF-8.
 ///

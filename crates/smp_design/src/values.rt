@@ -63,7 +63,7 @@ pub(crate) fn method(value: &Value) -> Option<Method>
 pub(crate) fn second_method(value: &Value) -> Option<Method>
     ensures { result ≡ Values.second_method (view value.now) }
 {
-    method(value).filter(|method| method.row().in_second)
+    method(value).filter(|method| method.takes_columns(0))
 }
 
 pub(crate) fn order(value: &Value) -> Option<Order>

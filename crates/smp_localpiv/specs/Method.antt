@@ -17,6 +17,10 @@ abbrev pub started_from : Request → Dimensions → ℕ → List (List ℤ) →
 started_from request dimensions place values =
     started request (points_from (coordinate_count dimensions) place values)
 
+-- the same, where they are as many as there are columns of values
+abbrev pub started_on : Request → ℕ → List (List ℤ) → Local
+started_on request columns values = started request (points_from columns 0 values)
+
 -- the method over as many units as the design has
 abbrev pub method_of : Local → Method Local
 method_of design = record {

@@ -7,7 +7,7 @@ ghost use Rattle.smp_split.specs.Methods.{Starts};
 ghost use Rattle.smp_values.specs.Starts.{IsRequested};
 ghost use Rattle.smp_localpiv.specs.Coordinates.{points_from};
 ghost use Rattle.smp_localpiv.specs.Local.{IsLocal, local_tree};
-ghost use Rattle.smp_localpiv.specs.Method.{method_of, started, started_from};
+ghost use Rattle.smp_localpiv.specs.Method.{method_of, started, started_from, started_on};
 
 use crate::design::LocalPivotal;
 use crate::dimensions::{Dimensions, points};
@@ -113,6 +113,30 @@ impl AnyLocalPivotal {
             IsRequested (method_of design).tree request.now design) }
     {
         in_each!(design dimensions => located(alloc, request, place, values)?)
+    }
+
+    /// The same, with all values of a unit as its coordinates. There are so many of them, from 1 to 4.
+    pub fn on_columns(
+        alloc: Global,
+        request: &Request,
+        columns: usize,
+        values: &[Numbers],
+    ) -> Result<AnyLocalPivotal, NoMemory>
+        requires request { IsRequest request.now }
+        requires columns { (1 ≤ columns) × (columns ≤ 4) }
+        requires paired { length values.now ≡ length request.now.free }
+        ensures design { IfOk result (λ design.
+            design ≡ started_on request.now columns values.now) }
+        ensures requested { IfOk result (λ design.
+            IsRequested (method_of design).tree request.now design) }
+    {
+        let dimensions = match columns {
+            1 => Dimensions::One,
+            2 => Dimensions::Two,
+            3 => Dimensions::Three,
+            _ => Dimensions::Four,
+        };
+        AnyLocalPivotal::new(alloc, request, dimensions, 0, values)
     }
 
     /// The state before the first step. Over all draws, each unit is selected with the probability that is its value.

@@ -1,34 +1,21 @@
 -- A procedure takes the values that a frame has for it.
-use Rattle.std.proofs.Common.{◌≡◌, ℕ, zero, suc, ◌-◌, ◌^◌, ◌<◌, ◌≤◌, Bool, true, false, nat_le, if◌then◌else◌, ℤ, List, [], ◌∷◌, length, get_or, Option, Some, None, All, arith, refl, sym, ◌∙◌}
-use Rattle.std.specs.Prelude.{option_map}
-use Rattle.std.proofs.lemmas.Bool.{leb-true}
-use Rattle.std.proofs.lemmas.List.Elements.{All-get_or}
+use Rattle.std.proofs.Common.{◌≡◌, ℕ, zero, suc, ◌-◌, ◌^◌, ◌<◌, ◌≤◌, true, ℤ, List, [], ◌∷◌, length, map, get_or, Some, All, arith, refl, sym, subst, ◌∙◌}
+use Rattle.std.specs.Prelude.{◌&&◌, nat_le}
+use Rattle.std.proofs.lemmas.Bool.{and_parts, leb-true}
+use Rattle.std.proofs.lemmas.List.Elements.{All-get_or, All-map}
 use Rattle.smp_kernel.specs.Vectors.{Within}
 use Rattle.smp_design.specs.declared.method.Method.{Method}
-use Rattle.smp_design.specs.declared.method.Method.TheVariants as method
-use Rattle.smp_localpiv.specs.Coordinates.{dimensions_of}
-use Rattle.smp_localpiv.specs.declared.dimensions.Dimensions.{Dimensions}
+use Rattle.smp_design.specs.Words.{balances, takes_columns}
+use Rattle.smp_design.proofs.Rows.{balances_few}
 use Rattle.smp_prob.specs.declared.orders.Order.{Order}
 use Rattle.smp_flight.specs.Requests.{AreValues}
 use Rattle.smp_methods.specs.declared.procedure.Procedure.{Procedure}
-use Rattle.smp_methods.specs.declared.procedure.Procedure.TheVariants as procedure
-use Rattle.smp_methods.specs.Procedures.{procedure_of, TakesValues}
+use Rattle.smp_methods.specs.Procedures.{procedure, procedure_of, TakesValues}
+use Rattle.smp_methods.proofs.Wholes.{needed_if, takes_of, way_of}
 
-few_if : (few : Bool) → (if few then Some procedure.Cube else None) ≡ Some procedure.Cube → few ≡ true
-few_if true h = refl
-few_if false h = absurd (cc)
-
-not_local : (found : Option Dimensions) → option_map procedure.LocalPivotal found ≡ Some procedure.Cube → ⊥
-not_local (Some dimensions) h = cc
-not_local None h = cc
-
-few_columns : (m : Method) (order : Order) (columns : ℕ) → procedure_of m order columns ≡ Some procedure.Cube → columns ≤ 15
-few_columns method.Pivotal order columns h = absurd (cc)
-few_columns method.Systematic order columns h = absurd (cc)
-few_columns method.MinimumSupport order columns h = absurd (cc)
-few_columns method.Brewer order columns h = absurd (cc)
-few_columns method.LocalPivotal order columns h = absurd (not_local (dimensions_of columns) h)
-few_columns method.Cube order columns h = leb-true columns 15 (few_if (nat_le columns 15) h)
+-- the coordinates of points are few
+pub few_points : (columns : ℕ) → (nat_le 1 columns && nat_le columns 4) ≡ true → (1 ≤ columns) × (columns ≤ 4)
+few_points columns h = let parts = and_parts (nat_le 1 columns) (nat_le columns 4) h in (leb-true 1 columns parts.0, leb-true columns 4 parts.1)
 
 module _ (columns : ℕ) (values : List (List ℤ)) (counted : All (λ v. length v ≡ columns) values) (small : All (Within (2 ^ 31 - 1)) values) where
   length_at : (k : ℕ) → k < length values → length (get_or values k []) ≡ columns
@@ -51,9 +38,18 @@ module _ (columns : ℕ) (values : List (List ℤ)) (counted : All (λ v. length
 
   -- the values of a frame that was read with so many columns
   pub procedure_takes : (m : Method) (order : Order) (way : Procedure) → procedure_of m order columns ≡ Some way → TakesValues way values
-  procedure_takes m order procedure.Cube h = are_values (few_columns m order columns h)
-  procedure_takes m order (procedure.Pivotal o) h = tt
-  procedure_takes m order (procedure.Systematic o) h = tt
-  procedure_takes m order procedure.MinimumSupport h = tt
-  procedure_takes m order procedure.Brewer h = tt
-  procedure_takes m order (procedure.LocalPivotal d) h = tt
+  procedure_takes m order way is =
+      let takes = takes_of m order columns way is in
+      subst (λ (w : Procedure). TakesValues w values) (way_of m order columns way is) (record {
+        columns = takes;
+        balancing = needed_if (balances m) (AreValues values) (λ balance. are_values (balances_few m columns balance takes));
+      })
+
+-- units that have no values
+pub takes_none : (m : Method) (order : Order) (units : List ℕ) → takes_columns m 0 ≡ true → TakesValues (procedure m order 0) (map (λ _. []) units)
+takes_none m order units takes = record {
+  columns = takes;
+  balancing = needed_if (balances m) (AreValues (map (λ _. []) units)) (λ balance.
+      are_values 0 (map (λ _. []) units) (All-map (λ (v : List ℤ). length v ≡ 0) (λ _. []) units (λ k d l. refl))
+      (All-map (Within (2 ^ 31 - 1)) (λ _. []) units (λ k d l i e m. absurd (omega (arith, m)))) (omega arith));
+}

@@ -23,4 +23,4 @@ module _ {State : Type 0} (into : State → AnyState) (out : AnyState → Option
       ∙ ap (λ (ps : List (Part AnyState)). picked from ps draw) (sym parts)
 
 pub steps_among : (v : Variant) (from to : AnyState) (draw : ℕ) → StepsAlone v from to draw → to ≡ picked from ((method_among v).tree.parts from) draw
-steps_among (variant method design into out back) from to draw step = step_at into out back method from to draw (out from) refl step
+steps_among (variant name method design into out back) from to draw step = step_at into out back method from to draw (out from) refl step

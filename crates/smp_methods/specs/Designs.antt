@@ -1,10 +1,13 @@
 -- The design of a request by any procedure, and what it owes. Each method has a row in each of two
--- lists: how it starts, and how its states stand among those of all methods.
+-- lists: how it starts, and what is asked of it.
 use Rattle.std.specs.Prelude.{◌≡◌, ℕ, ℤ, List, Option, Some, None, refl}
+use Rattle.smp_prob.specs.declared.orders.Order.{Order}
 use Rattle.smp_prob.specs.declared.requests.Request.{Request}
 use Rattle.smp_split.specs.Embeds.{embedded, BelongsInside}
 use Rattle.smp_split.specs.Methods.{Method}
 use Rattle.smp_split.proofs.Embeds.{embedded_lawful}
+use Rattle.smp_design.specs.declared.method.Method as named
+use Rattle.smp_design.specs.declared.method.Method.TheVariants as method
 use Rattle.smp_pivotal.specs.Method as pivotal
 use Rattle.smp_systematic.specs.Method as systematic
 use Rattle.smp_minsup.specs.Method as support
@@ -14,46 +17,53 @@ use Rattle.smp_flight.specs.Requests.{units_of}
 use Rattle.smp_landing.specs.Cube.{left_in}
 use Rattle.smp_landing.specs.Method as cube
 use Rattle.smp_methods.specs.declared.procedure.Procedure.{Procedure}
-use Rattle.smp_methods.specs.declared.procedure.Procedure.TheVariants as procedure
 use Rattle.smp_methods.specs.declared.any.AnyDesign.{AnyDesign}
 use Rattle.smp_methods.specs.declared.any.AnyDesign.TheVariants as designs
 use Rattle.smp_methods.specs.declared.any.AnyState.{AnyState}
 use Rattle.smp_methods.specs.declared.any.AnyState.TheVariants as states
 
--- The design of a request by a procedure, with the requested values. The values of the free units
--- serve as coordinates, or as balancing values.
-abbrev pub design_of : Procedure → Request → List (List ℤ) → AnyDesign
-design_of (procedure.Pivotal order) request values =
+-- The design of a request by a method, with the requested values: with the units in this order, where so
+-- many columns of values are read. The values of the free units serve as coordinates, or as balancing values.
+abbrev pub design_by : named.Method → Order → ℕ → Request → List (List ℤ) → AnyDesign
+design_by method.Pivotal order columns request values =
     designs.Pivotal (pivotal.started request order)
-design_of (procedure.Systematic order) request values =
+design_by method.Systematic order columns request values =
     designs.Systematic (systematic.started request order)
-design_of procedure.MinimumSupport request values =
+design_by method.MinimumSupport order columns request values =
     designs.MinimumSupport (support.started request)
-design_of procedure.Brewer request values = designs.Brewer (brewer.started request)
-design_of (procedure.LocalPivotal dimensions) request values =
-    designs.LocalPivotal (local.started_from request dimensions 0 values)
-design_of procedure.Cube request values = designs.Cube (units_of request values)
+design_by method.Brewer order columns request values = designs.Brewer (brewer.started request)
+design_by method.LocalPivotal order columns request values =
+    designs.LocalPivotal (local.started_on request columns values)
+design_by method.Cube order columns request values = designs.Cube (units_of request values)
 
--- One method's design among all: what the method owes; the design, which is seen as its first state;
--- `into`, which puts the method's states among those of all methods, and `out`, which gives them back.
+abbrev pub design_of : Procedure → Request → List (List ℤ) → AnyDesign
+design_of way request values = design_by way.method way.order way.columns request values
+
+-- One method's design among all: its method, whose row says what else is asked of it; what the method owes;
+-- the design, which is seen as its first state; `into`, which puts the method's states among those of all
+-- methods, and `out`, which gives them back.
 pub data Variant : Type 1 where
-  variant : {State : Type 0} → Method State → State → (into : State → AnyState)
+  variant : {State : Type 0} → named.Method → Method State → State → (into : State → AnyState)
       → (out : AnyState → Option State) → ((state : State) → out (into state) ≡ Some state)
       → Variant
 
 -- the list of the methods
 abbrev pub variant_of : AnyDesign → Variant
-variant_of (designs.Pivotal s) = variant (pivotal.method_of s) s states.Pivotal
+variant_of (designs.Pivotal s) = variant method.Pivotal (pivotal.method_of s) s states.Pivotal
     (elim [ states.Pivotal state ↦ Some state | other ↦ None ]) (λ _. refl)
-variant_of (designs.Systematic s) = variant (systematic.method_of s) s states.Systematic
+variant_of (designs.Systematic s) =
+    variant method.Systematic (systematic.method_of s) s states.Systematic
     (elim [ states.Systematic state ↦ Some state | other ↦ None ]) (λ _. refl)
-variant_of (designs.MinimumSupport s) = variant (support.method_of s) s states.MinimumSupport
+variant_of (designs.MinimumSupport s) =
+    variant method.MinimumSupport (support.method_of s) s states.MinimumSupport
     (elim [ states.MinimumSupport state ↦ Some state | other ↦ None ]) (λ _. refl)
-variant_of (designs.Brewer s) = variant (brewer.method_of s) s states.Brewer
+variant_of (designs.Brewer s) = variant method.Brewer (brewer.method_of s) s states.Brewer
     (elim [ states.Brewer state ↦ Some state | other ↦ None ]) (λ _. refl)
-variant_of (designs.LocalPivotal s) = variant (local.method_of s) s states.LocalPivotal
+variant_of (designs.LocalPivotal s) =
+    variant method.LocalPivotal (local.method_of s) s states.LocalPivotal
     (elim [ states.LocalPivotal state ↦ Some state | other ↦ None ]) (λ _. refl)
-variant_of (designs.Cube units) = variant (cube.method_of units) (cube.started units) states.Cube
+variant_of (designs.Cube units) =
+    variant method.Cube (cube.method_of units) (cube.started units) states.Cube
     (elim [ states.Cube state ↦ Some state | other ↦ None ]) (λ _. refl)
 
 -- a method put into a larger type of states
@@ -68,10 +78,17 @@ module _ {Inner Outer : Type 0} (into : Inner → Outer) (out : Outer → Option
 
 -- the method, and the design's first state, among those of all methods
 abbrev pub method_among : Variant → Method AnyState
-method_among (variant method design into out back) = embedded_method into out back method
+method_among (variant name method design into out back) = embedded_method into out back method
 
 abbrev pub state_among : Variant → AnyState
-state_among (variant method design into out back) = into design
+state_among (variant name method design into out back) = into design
+
+-- the method that a design is drawn by
+abbrev pub name_of : Variant → named.Method
+name_of (variant name method design into out back) = name
+
+abbrev pub drawn_by : AnyDesign → named.Method
+drawn_by design = name_of (variant_of design)
 
 -- the state before the first step
 abbrev pub first_state : AnyDesign → AnyState

@@ -1,25 +1,25 @@
 -- What a selection starts with.
-use Rattle.std.specs.Prelude.{◌≡◌, ℤ, List}
+use Rattle.std.specs.Prelude.{◌≡◌, false, ℤ, List}
 use Rattle.smp_prob.specs.declared.requests.Request.{Request}
+use Rattle.smp_design.specs.Words.{balances}
 use Rattle.smp_split.specs.Counts.{LeavesSelectAround}
 use Rattle.smp_split.specs.Methods.{Starts}
 use Rattle.smp_values.specs.Starts.{IsRequested}
 use Rattle.smp_methods.specs.declared.any.AnyDesign.{AnyDesign}
-use Rattle.smp_methods.specs.declared.any.AnyDesign.TheVariants as designs
 use Rattle.smp_methods.specs.declared.any.AnyState.{AnyState}
 use Rattle.smp_methods.specs.declared.procedure.Procedure.{Procedure}
 use Rattle.smp_methods.specs.declared.start.Started.{Started}
-use Rattle.smp_methods.specs.Designs.{design_of, first_state, method_of}
+use Rattle.smp_methods.specs.Designs.{design_of, drawn_by, first_state, method_of}
 
 -- Each leaf selects as many units as the values add up to, or, where that isn't whole, one of the two
--- whole numbers around it. It isn't said of the cube.
+-- whole numbers around it. It isn't said of a method that balances.
 abbrev pub SelectsAround : AnyDesign → AnyState → Type 0
-SelectsAround (designs.Cube units) state = Unit {0}
-SelectsAround design state = LeavesSelectAround (method_of design).tree state
+SelectsAround design state =
+    balances (drawn_by design) ≡ false → LeavesSelectAround (method_of design).tree state
 
 -- It is the design of the request by the procedure, at its first state: each free unit has the value
--- that is requested of it, and over all draws it is selected with that probability. By every method but
--- the cube, as many units are selected as the values add up to, rounded down or up.
+-- that is requested of it, and over all draws it is selected with that probability. By every method
+-- that doesn't balance, as many units are selected as the values add up to, rounded down or up.
 pub record IsStarted (way : Procedure) (request : Request) (values : List (List ℤ))
     (started : Started) : Type 0 where
   pub design : started.design ≡ design_of way request values

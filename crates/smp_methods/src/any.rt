@@ -8,6 +8,7 @@ ghost use Rattle.smp_methods.specs.Kept.Alone.{AroundAlone, RequestedAlone, Star
 ghost use Rattle.smp_methods.specs.Procedures.{NeedsWhole, TakesValues};
 
 use crate::Procedure;
+use smp_design::{Method, each_method};
 use smp_frac::NoMemory;
 use smp_frame::Numbers;
 use smp_prob::Request;
@@ -40,18 +41,18 @@ pub enum AnyState {
 // What the design of a method says, whichever method it is: of itself; a state that it makes; or of
 // a state, with the last word for a state of another method.
 macro_rules! by_method {
-    (of [$($method:ident),*] $any:expr, $design:ident => $answer:expr) => {
+    (of [$($method:ident $row:tt),*] $any:expr, $design:ident => $answer:expr) => {
         match $any {
             $(AnyDesign::$method($design) => $answer,)*
         }
     };
-    (of [$($method:ident),*] $any:expr, $design:ident => state $answer:expr) => {
+    (of [$($method:ident $row:tt),*] $any:expr, $design:ident => state $answer:expr) => {
         match $any {
             $(AnyDesign::$method($design) => Ok(AnyState::$method($answer)),)*
         }
     };
     (
-        of [$($method:ident),*]
+        of [$($method:ident $row:tt),*]
         $any:expr, $state:expr, ($design:ident, $inner:ident) => $answer:expr, $other:expr
     ) => {
         match ($any, $state) {
@@ -60,12 +61,13 @@ macro_rules! by_method {
         }
     };
     ($($said:tt)*) => {
-        by_method!(of [Pivotal, Systematic, MinimumSupport, Brewer, LocalPivotal, Cube] $($said)*)
+        each_method!(by_method: $($said)*)
     };
 }
 
 impl AnyDesign {
     /// The design of a request by a procedure. Each free unit has the value that is requested.
+    #[tactic(auto, using(crate::proofs::Columns::few_points), unfolding(smp_design::specs::Words::row))]
     pub(crate) fn new(
         alloc: Global,
         procedure: Procedure,
@@ -81,29 +83,31 @@ impl AnyDesign {
         ensures requested { IfOk result (λ design.
             RequestedAlone request.now (variant_of design)) }
     {
-        match procedure {
-            Procedure::Pivotal(order) => Ok(AnyDesign::Pivotal(smp_pivotal::Pivotal::new(
-                alloc, request, order,
-            )?)),
-            Procedure::Systematic(order) => Ok(AnyDesign::Systematic(
-                smp_systematic::Systematic::new(alloc, request, order)?,
-            )),
-            Procedure::MinimumSupport => Ok(AnyDesign::MinimumSupport(
-                smp_minsup::MinimumSupport::new(alloc, request)?,
-            )),
-            Procedure::Brewer => Ok(AnyDesign::Brewer(smp_brewer::Brewer::new(alloc, request)?)),
-            Procedure::LocalPivotal(dimensions) => Ok(AnyDesign::LocalPivotal(
-                smp_localpiv::AnyLocalPivotal::new(alloc, request, dimensions, 0, values)?,
-            )),
-            Procedure::Cube => Ok(AnyDesign::Cube(smp_landing::Cube::new(alloc, request, values)?)),
-        }
+        let Procedure { order, columns, .. } = procedure;
+        Ok(match procedure.method {
+            Method::Pivotal => {
+                AnyDesign::Pivotal(smp_pivotal::Pivotal::new(alloc, request, order)?)
+            }
+            Method::Systematic => {
+                AnyDesign::Systematic(smp_systematic::Systematic::new(alloc, request, order)?)
+            }
+            Method::MinimumSupport => {
+                AnyDesign::MinimumSupport(smp_minsup::MinimumSupport::new(alloc, request)?)
+            }
+            Method::Brewer => AnyDesign::Brewer(smp_brewer::Brewer::new(alloc, request)?),
+            Method::LocalPivotal => AnyDesign::LocalPivotal(
+                smp_localpiv::AnyLocalPivotal::on_columns(alloc, request, columns, values)?,
+            ),
+            Method::Cube => AnyDesign::Cube(smp_landing::Cube::new(alloc, request, values)?),
+        })
     }
 
     /// The state before the first step.
+    #[tactic(auto, unfolding(smp_design::specs::Words::row))]
     pub(crate) fn start(&self, alloc: Global) -> Result<AnyState, NoMemory>
         ensures state { IfOk result (λ state. state ≡ first_state self.now) }
         ensures starts { OnOk result (StartsAlone (variant_of self.now)) }
-        ensures around { OnOk result (AroundAlone self.now) }
+        ensures around { OnOk result (AroundAlone (variant_of self.now)) }
     {
         by_method!(self, design => state design.start(alloc)?)
     }

@@ -2,8 +2,8 @@
 //!
 //! A [`Procedure`] says how units are drawn. [`AnyDesign`] is the design of a request by a procedure:
 //! the free units of the request are its units, and its draw tree is that of the procedure's method.
-//! What a further method adds is a variant here, a row in each list of methods, and a line in the proofs that go
-//! method by method.
+//! What a further method adds is a variant in each of the two enums, the arm that makes its design, and two lines of
+//! `specs/Designs.antt`; no proof goes method by method.
 #![tactic(auto)]
 
 mod any;

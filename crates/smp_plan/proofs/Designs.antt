@@ -1,50 +1,29 @@
 -- The plan of a design can be drawn, and the design of `quick` is one.
-use Rattle.std.proofs.Common.{◌≡◌, ℕ, zero, suc, ◌≤◌, true, List, [], length, Option, Some, None, IfSome, arith, refl, sym, subst}
-use Rattle.std.specs.Prelude.{is_some, option_map, nat_le}
-use Rattle.std.proofs.lemmas.Bool.{le-leb}
+use Rattle.std.proofs.Common.{◌≡◌, ℕ, ◌≤◌, true, List, [], length, Option, Some, None, IfSome, arith, refl, sym, subst}
+use Rattle.std.specs.Prelude.{is_some, option_map}
 use Rattle.smp_prob.specs.declared.orders.Order.{Order}
 use Rattle.smp_frame.specs.declared.frame.Unit as unit
 use Rattle.std.specs.List.Sorted.{IsStrictlySortedBy}
 use Rattle.smp_fractions.specs.Limits.{most_rows}
 use Rattle.smp_design.specs.Bounds.{Ascend, IsDesign, least_values, most_values}
-use Rattle.smp_design.specs.Words.{row}
+use Rattle.smp_design.specs.Words.{row, in_second}
+use Rattle.smp_design.proofs.Rows.{takes_own}
 use Rattle.smp_design.specs.declared.design.Design.{Design}
 use Rattle.smp_design.specs.declared.design.Second.{Second}
 use Rattle.smp_design.specs.declared.method.Method.{Method}
-use Rattle.smp_design.specs.declared.method.Method.TheVariants as method
 use Rattle.smp_methods.specs.Procedures.{procedure_of}
 use Rattle.smp_strata.specs.Bounds.{IsPlan}
 use Rattle.smp_strata.specs.Plans.{Parts, parts_of}
 use Rattle.smp_twostage.specs.Plans.{CanBeDrawn, TakesRows}
 use Rattle.smp_plan.specs.Plans.{quick_design}
 
-local_takes : (order : Order) (columns : ℕ) → 1 ≤ columns → columns ≤ 4 → is_some (procedure_of method.LocalPivotal order columns) ≡ true
-local_takes order zero some few = absurd (omega (arith, some))
-local_takes order (suc zero) some few = refl
-local_takes order (suc (suc zero)) some few = refl
-local_takes order (suc (suc (suc zero))) some few = refl
-local_takes order (suc (suc (suc (suc zero)))) some few = refl
-local_takes order (suc (suc (suc (suc (suc n))))) some few = absurd (omega (arith, few))
-
 takes : (m : Method) (order : Order) (columns : ℕ) → least_values (row m).needs ≤ columns → columns ≤ most_values (row m).needs → is_some (procedure_of m order columns) ≡ true
-unfolding row
-takes method.Pivotal order columns some few = refl
-takes method.Systematic order columns some few = refl
-takes method.MinimumSupport order columns some few = refl
-takes method.Brewer order columns some few = refl
-takes method.LocalPivotal order columns some few = local_takes order columns some few
-takes method.Cube order columns some few = let fits : nat_le columns 15 ≡ true = le-leb columns 15 few in rw fits refl
+takes m order columns some few = rw (takes_own m columns some few) refl
 
-takes_rows : (m : Method) → (row m).in_second ≡ true → TakesRows m
-unfolding row
-takes_rows method.Pivotal h = refl
-takes_rows method.Systematic h = refl
-takes_rows method.MinimumSupport h = refl
-takes_rows method.Brewer h = refl
-takes_rows method.LocalPivotal h = absurd (cc)
-takes_rows method.Cube h = absurd (cc)
+takes_rows : (m : Method) → in_second m ≡ true → TakesRows m
+takes_rows m second = rw second refl
 
-second_takes : (second : Option Second) → IfSome second (λ s. (row s.method).in_second ≡ true) → IfSome (option_map (λ s. s.method) second) TakesRows
+second_takes : (second : Option Second) → IfSome second (λ s. in_second s.method ≡ true) → IfSome (option_map (λ s. s.method) second) TakesRows
 second_takes (Some second) h = takes_rows second.method h
 second_takes None h = tt
 

@@ -1,9 +1,8 @@
 -- A stratum's part of a path of the whole selection is one of the cube's own paths.
-use Rattle.std.proofs.Common.{◌≡◌, ℕ, Bool, true, false, List, length, Option, Some, None, nat_le, if◌then◌else◌, arith, refl, sym, ap, subst, ◌∙◌}
-use Rattle.std.specs.Prelude.{◌&&◌, is_some, option_map, unwrap_or}
+use Rattle.std.proofs.Common.{◌≡◌, ℕ, Bool, true, false, List, length, Option, Some, None, arith, refl, sym, ap, subst, ◌∙◌}
+use Rattle.std.specs.Prelude.{◌&&◌, option_map}
 use Rattle.std.specs.List.{slice_get}
 use Rattle.std.proofs.lemmas.Option.{slice_get_within, slice_get-map}
-use Rattle.smp_prob.specs.declared.orders.Order.{Order}
 use Rattle.smp_prob.specs.Inclusions.{inclusion, is_taken}
 use Rattle.smp_split.specs.Embeds.{embedded}
 use Rattle.smp_split.specs.Lenses.{as_unit}
@@ -16,14 +15,14 @@ use Rattle.smp_rows.specs.Laws.Rows.{row_view, rows_lens, rows_close}
 use Rattle.smp_flight.specs.Requests.{units_of}
 use Rattle.smp_landing.specs.Cube.{Balancing, cube_tree}
 use Rattle.smp_landing.specs.Method.{started}
-use Rattle.smp_design.specs.declared.method.Method.{Method}
 use Rattle.smp_design.specs.declared.method.Method.TheVariants.{Cube}
+use Rattle.smp_design.specs.Words.{balances}
+use Rattle.smp_design.proofs.Rows.{is_cube}
 use Rattle.smp_methods.specs.declared.any.AnyState.{AnyState}
 use Rattle.smp_methods.specs.declared.any.AnyState.TheVariants as states
 use Rattle.smp_methods.specs.declared.procedure.Procedure.{Procedure}
-use Rattle.smp_methods.specs.declared.procedure.Procedure.TheVariants as ways
 use Rattle.smp_methods.specs.Designs.{design_of, first_state, method_of}
-use Rattle.smp_methods.specs.Procedures.{procedure_of}
+use Rattle.smp_methods.specs.Procedures.{procedure}
 use Rattle.smp_stages.specs.Paths.{GoesByStages, IsStagePath}
 use Rattle.smp_stages.specs.Stages.{drawn_within, is_drawn, read, unit_selected, within_of}
 use Rattle.smp_stages.specs.Laws.Reads.{some_within}
@@ -33,18 +32,11 @@ use Rattle.smp_balance.specs.Totals.{is_selected}
 use Rattle.smp_twostage.specs.Cubes.{IsDrawnByCube, balancing}
 use Rattle.smp_twostage.specs.Starts.{first_place, first_selected}
 use Rattle.smp_twostage.specs.Plans.{CanBeDrawn}
-use Rattle.smp_twostage.specs.Selections.{tree_of, column_count, first_number, first_stage, free_values, procedure, stages_of, states_of}
+use Rattle.smp_twostage.specs.Selections.{tree_of, column_count, first_number, first_stage, free_values, stages_of, states_of}
 use Rattle.smp_twostage.specs.Laws.Numbering.{first_there}
-use Rattle.smp_twostage.proofs.Columns.{has_procedure, is_planned}
+use Rattle.smp_twostage.proofs.Columns.{is_planned}
 
-cube_if : (few : Bool) (other : Procedure) → is_some (if few then Some ways.Cube else None) ≡ true → unwrap_or (if few then Some ways.Cube else None) other ≡ ways.Cube
-cube_if true other some = refl
-cube_if false other some = absurd (cc)
-
-is_cube : (method : Method) (order : Order) (n : ℕ) → method ≡ Cube → is_some (procedure_of method order n) ≡ true → procedure method order n ≡ ways.Cube
-is_cube method order n is some = rw is (cube_if (nat_le n 15) (ways.Pivotal order) (rw is at some))
-
-module _ (plan : Parts) (drawable : CanBeDrawn plan) (cube : plan.method ≡ Cube) (path : List Entry) (ends : List AnyState) (goes : GoesByStages tree_of (stages_of plan) (states_of plan) path ends) (h : ℕ) (s : Stratum) (is : slice_get plan.strata h ≡ Some s) where
+module _ (plan : Parts) (drawable : CanBeDrawn plan) (balance : balances plan.method ≡ true) (path : List Entry) (ends : List AnyState) (goes : GoesByStages tree_of (stages_of plan) (states_of plan) path ends) (h : ℕ) (s : Stratum) (is : slice_get plan.strata h ≡ Some s) where
   abbrev at : ℕ
   at = first_number plan h
 
@@ -63,8 +55,11 @@ module _ (plan : Parts) (drawable : CanBeDrawn plan) (cube : plan.method ≡ Cub
   abbrev start_by : Procedure → AnyState
   start_by way = first_state (design_of way s.request (free_values s))
 
-  way_is : procedure plan.method plan.order (column_count s) ≡ ways.Cube
-  way_is = is_cube plan.method plan.order (column_count s) cube (has_procedure plan s (is_planned plan drawable h s is))
+  abbrev by_cube : Procedure
+  by_cube = procedure Cube plan.order (column_count s)
+
+  way_is : procedure plan.method plan.order (column_count s) ≡ by_cube
+  way_is = ap (λ m. procedure m plan.order (column_count s)) (is_cube plan.method balance)
 
   there : slice_get (stages_of plan) at ≡ Some (first_stage plan s)
   there = first_there plan h s is
@@ -84,8 +79,8 @@ module _ (plan : Parts) (drawable : CanBeDrawn plan) (cube : plan.method ≡ Cub
   pub drawn_by_cube : IsDrawnByCube plan h s (goes.part at) ends
   drawn_by_cube =
       let request = (is_planned plan drawable h s is).stratum.over.sound in
-      let leads : Leads (tree_by ways.Cube) (start_by ways.Cube) (goes.part at) last.0 = subst (λ (p : Procedure). Leads (tree_by p) (start_by p) (goes.part at) last.0) way_is own.0 in
-      let done : (tree_by ways.Cube).done last.0 ≡ true = subst (λ (p : Procedure). (tree_by p).done last.0 ≡ true) way_is own.1 in
+      let leads : Leads (tree_by by_cube) (start_by by_cube) (goes.part at) last.0 = subst (λ (p : Procedure). Leads (tree_by p) (start_by p) (goes.part at) last.0) way_is own.0 in
+      let done : (tree_by by_cube).done last.0 ≡ true = subst (λ (p : Procedure). (tree_by p).done last.0 ≡ true) way_is own.1 in
       let rows = came_whole outer (λ _. Unit {0}) (rows_tree (length s.units) s.request outer) (λ t. t) (λ row. row_view (inclusion s.request row))
       (rows_lens (length s.units) s.request outer (λ _. Unit {0}) (sym request.paired)) (rows_close (length s.units) s.request outer (λ _. Unit {0}))
       (goes.part at) (states.Cube (started (units_of s.request (free_values s)))) last.0 leads in
@@ -97,17 +92,17 @@ module _ (plan : Parts) (drawable : CanBeDrawn plan) (cube : plan.method ≡ Cub
         leaf = cubes.inside;
         leaf_is = last.1 ∙ ap Some same;
         leads = cubes.leads;
-        ended = subst (λ (t : AnyState). (tree_by ways.Cube).done t ≡ true) same done;
+        ended = subst (λ (t : AnyState). (tree_by by_cube).done t ≡ true) same done;
       }
 
 -- ---- which units the cube has selected
 
-module _ (plan : Parts) (drawable : CanBeDrawn plan) (cube : plan.method ≡ Cube) (ends : List AnyState) (h : ℕ) (s : Stratum) (is : slice_get plan.strata h ≡ Some s) (leaf : Balancing) (leaf_is : slice_get ends (first_number plan h) ≡ Some (states.Cube leaf)) where
+module _ (plan : Parts) (drawable : CanBeDrawn plan) (balance : balances plan.method ≡ true) (ends : List AnyState) (h : ℕ) (s : Stratum) (is : slice_get plan.strata h ≡ Some s) (leaf : Balancing) (leaf_is : slice_get ends (first_number plan h) ≡ Some (states.Cube leaf)) where
   abbrev selected_by : Procedure → ℕ → Bool
   selected_by way k = is_taken ((method_of (design_of way s.request (free_values s))).tree.selected (states.Cube leaf)) (inclusion s.request k)
 
-  is_the_cube : procedure plan.method plan.order (column_count s) ≡ ways.Cube
-  is_the_cube = is_cube plan.method plan.order (column_count s) cube (has_procedure plan s (is_planned plan drawable h s is))
+  is_the_cube : procedure plan.method plan.order (column_count s) ≡ procedure Cube plan.order (column_count s)
+  is_the_cube = ap (λ m. procedure m plan.order (column_count s)) (is_cube plan.method balance)
 
   read_there : (k : ℕ) → unit_selected tree_of (stages_of plan) ends (first_place plan h k) ≡ selected_by (procedure plan.method plan.order (column_count s)) k
   read_there k =

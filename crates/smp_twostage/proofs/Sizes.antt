@@ -1,5 +1,5 @@
--- By every method but the cube, the first stage of a stratum selects one of the whole numbers of units around the expected one.
-use Rattle.std.proofs.Common.{◌≡◌, ◌≢◌, ℕ, true, List, length, Some, arith, refl, subst}
+-- By every method that doesn't balance, the first stage of a stratum selects one of the whole numbers of units around the expected one.
+use Rattle.std.proofs.Common.{◌≡◌, ℕ, true, false, List, length, Some, arith, refl, subst}
 use Rattle.std.specs.List.{slice_get}
 use Rattle.std.proofs.lemmas.Option.{slice_get_within}
 use Rattle.smp_fractions.specs.Bounds.{IsAround}
@@ -12,11 +12,12 @@ use Rattle.smp_split.specs.Means.{value_sum}
 use Rattle.smp_split.specs.Paths.{AtEachLeaf}
 use Rattle.smp_rows.proofs.Around.{rows_around}
 use Rattle.smp_rows.proofs.Asked.{value_is_asked}
-use Rattle.smp_design.specs.declared.method.Method.TheVariants.{Cube}
+use Rattle.smp_design.specs.Words.{balances}
 use Rattle.smp_methods.specs.declared.any.AnyState.{AnyState}
 use Rattle.smp_methods.specs.declared.procedure.Procedure.{Procedure}
 use Rattle.smp_methods.specs.Designs.{method_of}
-use Rattle.smp_methods.proofs.Ways.{around_unless, not_cube}
+use Rattle.smp_methods.specs.Procedures.{procedure}
+use Rattle.smp_methods.proofs.Ways.{around_unless}
 use Rattle.smp_stages.specs.Paths.{GoesByStages, IsStagePath}
 use Rattle.smp_stages.specs.Stages.{is_drawn, progress}
 use Rattle.smp_stages.specs.Laws.Reads.{some_within}
@@ -25,12 +26,12 @@ use Rattle.smp_strata.specs.Plans.{Parts}
 use Rattle.smp_strata.specs.declared.strata.Stratum.{Stratum}
 use Rattle.smp_twostage.specs.Kept.{EachStarts, StageStarts}
 use Rattle.smp_twostage.specs.Plans.{CanBeDrawn}
-use Rattle.smp_twostage.specs.Selections.{Selecting, column_count, first_number, first_stage, free_values, procedure, stages_of, tree_of, whole_tree}
+use Rattle.smp_twostage.specs.Selections.{Selecting, column_count, first_number, first_stage, free_values, stages_of, tree_of, whole_tree}
 use Rattle.smp_twostage.specs.Starts.{FirstSelectsAround}
 use Rattle.smp_twostage.specs.Laws.Numbering.{first_there}
 use Rattle.smp_twostage.proofs.Columns.{is_planned}
 
-module _ (plan : Parts) (drawable : CanBeDrawn plan) (other : plan.method ≢ Cube) (states : List AnyState) (each : EachStarts (stages_of plan) states)
+module _ (plan : Parts) (drawable : CanBeDrawn plan) (other : balances plan.method ≡ false) (states : List AnyState) (each : EachStarts (stages_of plan) states)
     (h : ℕ) (s : Stratum) (is : slice_get plan.strata h ≡ Some s) where
   abbrev at : ℕ
   at = first_number plan h
@@ -58,7 +59,7 @@ module _ (plan : Parts) (drawable : CanBeDrawn plan) (other : plan.method ≢ Cu
       let over = (is_planned plan drawable h s is).stratum.over in
       let way : Procedure = procedure plan.method plan.order (column_count s) in
       rows_around (length s.units) s.request (λ u l. over.free u 0 l) over.apart (method_of own.design).tree starts.member.paired (method_of own.design).belongs first.0
-      (around_unless way s.request (free_values s) first.0 (not_cube plan.method plan.order (column_count s) other) starts.around)
+      (around_unless way s.request (free_values s) first.0 other starts.around)
 
   module _ (start_paths : AtEachLeaf (whole_tree plan) (progress tree_of (stages_of plan) states) (λ path leaf. GoesByStages tree_of (stages_of plan) states path leaf.states)) where
     pub firsts_around : FirstSelectsAround plan (progress tree_of (stages_of plan) states) h s

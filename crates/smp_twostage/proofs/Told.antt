@@ -1,11 +1,9 @@
 -- What is told of a stratum that is drawn by the cube can be told.
 use Rattle.std.proofs.Common.{◌≡◌, ℕ, ◌+◌, ◌-◌, ◌^◌, ◌<◌, ◌≤◌, Bool, true, false, true≢false, ℤ, List, length, map, Option, Some, None, refl, sym, ap, ◌∙◌, arith}
-use Rattle.std.specs.Prelude.{if◌then◌else◌, is_some, nat_le}
 use Rattle.std.specs.List.{range_with_len, slice_get}
-use Rattle.std.proofs.lemmas.Bool.{and_parts, eqb-true, leb-true}
+use Rattle.std.proofs.lemmas.Bool.{and_parts, eqb-true}
 use Rattle.std.proofs.lemmas.List.{length-map}
 use Rattle.std.proofs.lemmas.List.Elements.{All-from_get_or, All-map, All-weaker, filter_passes}
-use Rattle.smp_prob.specs.declared.orders.Order.{Order}
 use Rattle.smp_prob.specs.declared.inclusions.Inclusion.{Inclusion}
 use Rattle.smp_prob.specs.declared.inclusions.Inclusion.TheVariants.{Certain, Free, Never}
 use Rattle.smp_prob.specs.Inclusions.{is_taken, inclusion}
@@ -15,12 +13,11 @@ use Rattle.smp_balance.specs.Lines as lines
 use Rattle.smp_balance.specs.Lines.{IsTold}
 use Rattle.smp_balance.specs.Strata.{AreStratumUnits}
 use Rattle.smp_balance.specs.Totals.{can_be_selected}
-use Rattle.smp_design.specs.declared.method.Method.{Method}
-use Rattle.smp_design.specs.declared.method.Method.TheVariants.{Cube}
+use Rattle.smp_design.specs.Words.{balances}
+use Rattle.smp_design.proofs.Rows.{balances_few}
 use Rattle.smp_methods.specs.declared.any.AnyState.{AnyState}
-use Rattle.smp_methods.specs.declared.procedure.Procedure.TheVariants as ways
 use Rattle.smp_methods.specs.Designs.{method_of}
-use Rattle.smp_methods.specs.Procedures.{procedure_of}
+use Rattle.smp_methods.proofs.Wholes.{takes_some}
 use Rattle.smp_methods.proofs.Columns.{are_values}
 use Rattle.smp_stages.specs.declared.places.Stage.{Stage}
 use Rattle.smp_stages.specs.Stages.{is_drawn, read, unit_selected}
@@ -73,14 +70,7 @@ covered_open c states h s is covered k selected =
 
 -- ---- the stratum, as the cube draws from it
 
-few_if : (few : Bool) → is_some (if few then Some ways.Cube else None) ≡ true → few ≡ true
-few_if true h = refl
-few_if false h = absurd (cc)
-
-few_columns : (m : Method) (order : Order) (columns : ℕ) → m ≡ Cube → is_some (procedure_of m order columns) ≡ true → columns ≤ 15
-few_columns m order columns is some = leb-true columns 15 (few_if (nat_le columns 15) (rw is at some))
-
-module _ (plan : Parts) (drawable : CanBeDrawn plan) (cube : plan.method ≡ Cube) (h : ℕ) (s : Stratum) (is : slice_get plan.strata h ≡ Some s) where
+module _ (plan : Parts) (drawable : CanBeDrawn plan) (balance : balances plan.method ≡ true) (h : ℕ) (s : Stratum) (is : slice_get plan.strata h ≡ Some s) where
   abbrev own : IsPlanned plan s
   own = is_planned plan drawable h s is
 
@@ -89,7 +79,7 @@ module _ (plan : Parts) (drawable : CanBeDrawn plan) (cube : plan.method ≡ Cub
       are_values own.columns (map (λ u. u.values) s.units)
       (All-map (λ (v : List ℤ). length v ≡ own.columns) (λ (u : FirstUnit). u.values) s.units own.counted)
       (All-map (Within (2 ^ 31 - 1)) (λ (u : FirstUnit). u.values) s.units (All-weaker (IsFirst plan.second) (λ u. Within (2 ^ 31 - 1) u.values) (λ u first. near_within u.values first.near) s.units own.stratum.firsts))
-      (few_columns plan.method plan.order own.columns cube own.method)
+      (balances_few plan.method own.columns balance (takes_some plan.method plan.order own.columns own.method))
 
   pub is_stratum : AreStratumUnits (balancing s)
   is_stratum = record {
@@ -102,10 +92,10 @@ module _ (plan : Parts) (drawable : CanBeDrawn plan) (cube : plan.method ≡ Cub
 
 -- ---- what is told of it
 
-module _ (c : Coverage) (drawable : CanBeDrawn c.plan) (cube : c.plan.method ≡ Cube) (states : List AnyState) (h : ℕ) (s : Stratum) (is : slice_get c.plan.strata h ≡ Some s) where
+module _ (c : Coverage) (drawable : CanBeDrawn c.plan) (balance : balances c.plan.method ≡ true) (states : List AnyState) (h : ℕ) (s : Stratum) (is : slice_get c.plan.strata h ≡ Some s) where
   pub is_told : covers c h ≡ true → IsTold (drawn_stratum c states h s)
   is_told covered = record {
-    stratum = is_stratum c.plan drawable cube h s is;
+    stratum = is_stratum c.plan drawable balance h s is;
     few = (let few = (is_planned c.plan drawable h s is).stratum.few in omega (arith, few, length-map s.units (λ u. u.values)));
     columns = refl;
     units =

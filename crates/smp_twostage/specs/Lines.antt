@@ -1,10 +1,9 @@
--- What the report tells of the strata that are drawn by the cube.
-use Rattle.std.specs.Prelude.{ℕ, ◌+◌, List, [], length, Option, Some, None}
+-- What the report tells of the strata that are balanced.
+use Rattle.std.specs.Prelude.{ℕ, ◌+◌, if◌then◌else◌, List, [], length, Option, Some, None}
 use Rattle.std.specs.List.{filter, flat_map, range_with_len, slice_get}
 use Rattle.smp_balance.specs.Lines as balance
 use Rattle.smp_balance.specs.Strata.{column_count}
-use Rattle.smp_design.specs.declared.method.Method.{Method}
-use Rattle.smp_design.specs.declared.method.Method.TheVariants.{Cube}
+use Rattle.smp_design.specs.Words.{balances}
 use Rattle.smp_methods.specs.declared.any.AnyState.{AnyState}
 use Rattle.smp_strata.specs.declared.strata.Stratum.{Stratum}
 use Rattle.smp_twostage.specs.Covered.{covered_first, covered_left}
@@ -32,10 +31,10 @@ lines_at c states h None = []
 abbrev pub stratum_lines : Coverage → List AnyState → ℕ → List ℕ
 stratum_lines c states h = lines_at c states h (slice_get c.plan.strata h)
 
--- the lines of the strata that are covered, in their order; none by any other method
-abbrev pub lines_by : Method → Coverage → List AnyState → List ℕ
-lines_by Cube c states = flat_map (stratum_lines c states) (covered_strata c)
-lines_by other c states = []
+-- the lines of the strata that are covered, in their order
+abbrev pub all_lines : Coverage → List AnyState → List ℕ
+all_lines c states = flat_map (stratum_lines c states) (covered_strata c)
 
+-- where the method balances; none by any other method
 abbrev pub balance_lines : Coverage → List AnyState → List ℕ
-balance_lines c states = lines_by c.plan.method c states
+balance_lines c states = if balances c.plan.method then all_lines c states else []

@@ -2,9 +2,8 @@
 -- and then, where there is a second stage, rows within each of those that were drawn, certain ones among them (Särndal, Swensson and
 -- Wretman 1992).
 use Rattle.std.specs.Prelude.{ℕ, zero, Bool, true, suc, ◌+◌, ℤ, nat_eq, nat_lt, ◌&&◌, if◌then◌else◌, List, [], ◌∷◌}
-use Rattle.std.specs.Prelude.{◌++◌, length, map, take, drop, Option, Some, None, unwrap_or, slice_index_or}
+use Rattle.std.specs.Prelude.{◌++◌, length, map, take, drop, Option, Some, None, slice_index_or}
 use Rattle.std.specs.List.{slice_get, list_any, position_or_len, range_with_len}
-use Rattle.smp_prob.specs.declared.orders.Order.{Order}
 use Rattle.smp_prob.specs.declared.orders.Order.TheVariants.{Frame}
 use Rattle.smp_prob.specs.declared.requests.Request.{Request}
 use Rattle.smp_split.specs.Sectioning.{Sectioning}
@@ -13,9 +12,7 @@ use Rattle.smp_rows.specs.Rows.{rows_tree, BelongsToRows}
 use Rattle.smp_design.specs.declared.method.Method.{Method}
 use Rattle.smp_methods.specs.declared.any.AnyDesign.{AnyDesign}
 use Rattle.smp_methods.specs.declared.any.AnyState.{AnyState}
-use Rattle.smp_methods.specs.declared.procedure.Procedure.{Procedure}
-use Rattle.smp_methods.specs.declared.procedure.Procedure.TheVariants.{Pivotal}
-use Rattle.smp_methods.specs.Procedures.{procedure_of}
+use Rattle.smp_methods.specs.Procedures.{procedure}
 use Rattle.smp_methods.specs.Designs.{design_of, first_state, method_of}
 use Rattle.smp_strata.specs.Plans.{Parts}
 use Rattle.smp_strata.specs.declared.strata.FirstUnit as unit
@@ -42,10 +39,6 @@ tree_of s = rows_tree s.units s.request (method_of s.design).tree
 
 abbrev pub belongs_to : Selecting → AnyState → Type 0
 belongs_to s = BelongsToRows s.request (method_of s.design).tree (method_of s.design).belongs
-
--- The procedure of a method, where so many columns of values are read. A plan that can be drawn has a method for its columns.
-abbrev pub procedure : Method → Order → ℕ → Procedure
-procedure method order columns = unwrap_or (procedure_of method order columns) (Pivotal order)
 
 -- ---- the stages
 

@@ -1,12 +1,12 @@
 -- What the whole selection by a plan starts with.
-use Rattle.std.specs.Prelude.{◌≡◌, ◌≢◌, ℕ, zero, suc, ◌+◌, ◌<◌, Bool, true, false, cond, ℤ, pos, negsuc, List}
+use Rattle.std.specs.Prelude.{◌≡◌, ℕ, zero, suc, ◌+◌, ◌<◌, Bool, true, false, cond, ℤ, pos, negsuc, List}
 use Rattle.std.specs.Prelude.{length, Option, Some}
 use Rattle.std.specs.List.{count_by, range_with_len, slice_get}
 use Rattle.smp_fractions.specs.Bounds.{IsAround}
 use Rattle.smp_fractions.specs.Fractions.{Fraction, Same, integer, inverse, times, sum_below}
 use Rattle.smp_split.specs.Means.{mean, inclusion_probability}
 use Rattle.smp_split.specs.Paths.{AtEachLeaf, Entry}
-use Rattle.smp_design.specs.declared.method.Method.TheVariants.{Cube}
+use Rattle.smp_design.specs.Words.{balances}
 use Rattle.smp_prob.specs.declared.requests.Request.{Request}
 use Rattle.smp_methods.specs.declared.any.AnyState.{AnyState}
 use Rattle.smp_strata.specs.Draws.{IsFor, expected_firsts}
@@ -111,15 +111,15 @@ pub record StartsWhole (plan : Parts) (start : Progress AnyState) : Type 0 where
   pub seconds : (h k n : ℕ) (s : stratum.Stratum) (u : unit.FirstUnit) (request : Request)
       → slice_get plan.strata h ≡ Some s → slice_get s.units k ≡ Some u → u.second ≡ Some request
       → IsFor request (length u.rows) n → SecondSelects plan start h k u n
-  -- By every method but the cube, as many of a stratum's first stage units are selected as their probabilities add up to, and where these
+  -- By every method that doesn't balance, as many of a stratum's first stage units are selected as their probabilities add up to, and where these
   -- have no whole sum, one of the two whole numbers around it.
-  pub around : plan.method ≢ Cube → (h : ℕ) (s : stratum.Stratum) → slice_get plan.strata h ≡ Some s
+  pub around : balances plan.method ≡ false → (h : ℕ) (s : stratum.Stratum) → slice_get plan.strata h ≡ Some s
       → FirstSelectsAround plan start h s
   -- A path to a leaf is made of the stages' own paths, one after another.
   pub paths : AtEachLeaf (whole_tree plan) start
       (λ path leaf. GoesByStages tree_of (stages_of plan) (states_of plan) path leaf.states)
-  -- Where the method is the cube, each stratum's part of it is one of the cube's own paths.
-  pub cubes : plan.method ≡ Cube → (path : List Entry) (ends : List AnyState)
+  -- Where the method balances, each stratum's part of it is one of the cube's own paths.
+  pub cubes : balances plan.method ≡ true → (path : List Entry) (ends : List AnyState)
       (goes : GoesByStages tree_of (stages_of plan) (states_of plan) path ends)
       → (h : ℕ) (s : stratum.Stratum) → slice_get plan.strata h ≡ Some s
       → IsDrawnByCube plan h s (goes.part (first_number plan h)) ends

@@ -1,16 +1,15 @@
-//! What the report tells of the strata that are drawn by the cube.
+//! What the report tells of the strata that are balanced.
 
 ghost use Rattle.std.specs.Prelude.{◌≡◌, ◌++◌, ◌+◌, ◌^◌, ◌<◌, true, length, map, IfOk, OnOk, string_bytes};
 ghost use Rattle.std.specs.List.{filter, range_with_len, slice_get};
-ghost use Rattle.smp_design.specs.declared.method.Method.TheVariants.{Cube};
+ghost use Rattle.smp_design.specs.Words.{balances};
 ghost use Rattle.smp_twostage.specs.Covered.{covered_first};
-ghost use Rattle.smp_twostage.specs.Lines.{balance_lines, lines_by, stratum_lines};
+ghost use Rattle.smp_twostage.specs.Lines.{all_lines, balance_lines, stratum_lines};
 ghost use Rattle.smp_twostage.specs.Selections.{BelongsToCovered, covered_tree, covers, units_at};
 
 use crate::Whole;
 use crate::made::column_count;
 use smp_balance::DrawnStratum;
-use smp_design::Method;
 use smp_frac::NoMemory;
 use smp_methods::AnyState;
 use smp_stages::StagesState;
@@ -34,22 +33,23 @@ pub fn balance_lines(
     requires done { (covered_tree whole.now).done state.now ≡ true }
     ensures { IfOk result (λ text. string_bytes text ≡ balance_lines whole.now state.now.states) }
 {
-    match whole.plan().method() {
-        Method::Cube => cube_lines(alloc, whole, state),
-        _ => Ok(String::new(alloc)),
+    if whole.plan().method().balances() {
+        all_lines(alloc, whole, state)
+    } else {
+        Ok(String::new(alloc))
     }
 }
 
-// The lines of the strata that are covered, where they are drawn by the cube.
-fn cube_lines(
+// The lines of the strata that are covered, where the method balances.
+fn all_lines(
     alloc: Global,
     whole: &Whole,
     state: &StagesState<AnyState>,
 ) -> Result<String, NoMemory>
     requires state { BelongsToCovered whole.now state.now }
     requires done { (covered_tree whole.now).done state.now ≡ true }
-    requires cube { whole.now.plan.method ≡ Cube }
-    ensures { IfOk result (λ text. string_bytes text ≡ lines_by Cube whole.now state.now.states) }
+    requires balance { balances whole.now.plan.method ≡ true }
+    ensures { IfOk result (λ text. string_bytes text ≡ all_lines whole.now state.now.states) }
 {
     let mut text = String::new(alloc);
     for stratum in 0..whole.plan().strata() {
@@ -70,7 +70,7 @@ fn push_stratum_lines(
 ) -> Result<(), NoMemory>
     requires state { BelongsToCovered whole.now state.now }
     requires done { (covered_tree whole.now).done state.now ≡ true }
-    requires cube { whole.now.plan.method ≡ Cube }
+    requires balance { balances whole.now.plan.method ≡ true }
     requires within { stratum < length whole.now.plan.strata }
     requires covered { covers whole.now stratum ≡ true }
     requires room { stratum + 1 < 2 ^ 64 }
@@ -91,7 +91,7 @@ fn stratum_lines(
 ) -> Result<String, NoMemory>
     requires state { BelongsToCovered whole.now state.now }
     requires done { (covered_tree whole.now).done state.now ≡ true }
-    requires cube { whole.now.plan.method ≡ Cube }
+    requires balance { balances whole.now.plan.method ≡ true }
     requires number { number < length whole.now.plan.strata }
     requires covered { covers whole.now number ≡ true }
     requires room { number + 1 < 2 ^ 64 }

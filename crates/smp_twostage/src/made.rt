@@ -4,12 +4,12 @@ ghost use Rattle.std.specs.Prelude.{◌≡◌, ◌<◌, ◌++◌, ◌∷◌, [],
 ghost use Rattle.smp_prob.specs.Requests.{IsRequest};
 ghost use Rattle.smp_prob.specs.Inclusions.{IsRising};
 ghost use Rattle.smp_methods.specs.Designs.{design_of};
-ghost use Rattle.smp_methods.specs.Procedures.{NeedsWhole, procedure_of, TakesValues};
+ghost use Rattle.smp_methods.specs.Procedures.{NeedsWhole, procedure, procedure_of, TakesValues};
 ghost use Rattle.smp_strata.specs.Bounds.{IsFirst};
 ghost use Rattle.smp_twostage.specs.Kept.{EachStarts, IsPlanned, StageStarts, first_numbers};
 ghost use Rattle.smp_twostage.specs.Plans.{CanBeDrawn, TakesRows};
 ghost use Rattle.smp_twostage.specs.Selections as Selections;
-ghost use Rattle.smp_twostage.specs.Selections.{all_of, covered_stages, first_stage, one_of, procedure, stage_by, stages_in, stages_of, stages_within};
+ghost use Rattle.smp_twostage.specs.Selections.{all_of, covered_stages, first_stage, one_of, stage_by, stages_in, stages_of, stages_within};
 
 use crate::StageDesign;
 use smp_design::{Method, Order};

@@ -1,34 +1,28 @@
 -- What a method itself says of its design and of a step, before it is told among all methods.
-use Rattle.std.specs.Prelude.{◌≡◌, ℕ, Option, Some, None}
+use Rattle.std.specs.Prelude.{◌≡◌, ℕ, false, Option, Some, None}
 use Rattle.smp_prob.specs.declared.requests.Request.{Request}
+use Rattle.smp_design.specs.Words.{row, balances}
 use Rattle.smp_split.specs.Counts.{LeavesSelectAround}
 use Rattle.smp_split.specs.Methods.{Method, Starts}
 use Rattle.smp_split.specs.Trees.{picked}
 use Rattle.smp_values.specs.Starts.{IsRequested}
-use Rattle.smp_methods.specs.declared.any.AnyDesign.{AnyDesign}
-use Rattle.smp_methods.specs.declared.any.AnyDesign.TheVariants as designs
 use Rattle.smp_methods.specs.declared.any.AnyState.{AnyState}
-use Rattle.smp_methods.specs.Designs.{Variant, variant, variant_of}
+use Rattle.smp_methods.specs.Designs.{Variant, variant}
 
 -- a selection starts with the design
 abbrev pub StartsAlone : Variant → Type 0
-StartsAlone (variant method design into out back) = Starts method design
+StartsAlone (variant name method design into out back) = Starts method design
 
 -- and its values are those that are requested
 abbrev pub RequestedAlone : Request → Variant → Type 0
-RequestedAlone request (variant method design into out back) =
+RequestedAlone request (variant name method design into out back) =
     IsRequested method.tree request design
 
--- each leaf selects one of the whole numbers of units around the sum of the values
-abbrev pub OwnAround : Variant → Type 0
-OwnAround (variant method design into out back) = LeavesSelectAround method.tree design
-
--- so it is by sequential pivotal, systematic and local pivotal selection, whatever the sum
-abbrev pub AroundAlone : AnyDesign → Type 0
-AroundAlone (designs.Pivotal s) = OwnAround (variant_of (designs.Pivotal s))
-AroundAlone (designs.Systematic s) = OwnAround (variant_of (designs.Systematic s))
-AroundAlone (designs.LocalPivotal s) = OwnAround (variant_of (designs.LocalPivotal s))
-AroundAlone other = Unit {0}
+-- Each leaf selects one of the whole numbers of units around the sum of the values, whatever the sum, by a
+-- method that draws not only a whole number of units and doesn't balance.
+abbrev pub AroundAlone : Variant → Type 0
+AroundAlone (variant name method design into out back) =
+    (row name).draws_whole ≡ false → balances name ≡ false → LeavesSelectAround method.tree design
 
 -- the draw leads from the method's own state to that of its part
 abbrev pub IsStep : {State : Type 0} → (State → AnyState) → Method State → Option State
@@ -38,5 +32,5 @@ IsStep into method (Some state) from to draw =
     (from ≡ into state) × (to ≡ into (picked state (method.tree.parts state) draw))
 
 abbrev pub StepsAlone : Variant → AnyState → AnyState → ℕ → Type 0
-StepsAlone (variant method design into out back) from to draw =
+StepsAlone (variant name method design into out back) from to draw =
     IsStep into method (out from) from to draw

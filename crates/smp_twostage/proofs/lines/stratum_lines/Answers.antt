@@ -31,7 +31,7 @@ module _ (c : After-as_slice-2) where
 pub balance_lines-requires : goal.balance_lines-requires
 balance_lines-requires c =
     let at = (goal.at.balance_lines-requires c).After-as_slice-2 in
-    subst IsTold (sym (same at)) (is_told c.args.whole.now c.requires.state.drawable c.requires.cube c.args.state.now.states c.args.number c.stratum-stratum.result.now (there at) c.requires.covered)
+    subst IsTold (sym (same at)) (is_told c.args.whole.now c.requires.state.drawable c.requires.balance c.args.state.now.states c.args.number c.stratum-stratum.result.now (there at) c.requires.covered)
 
 pub returns : goal.returns
 returns c =

@@ -1,12 +1,11 @@
 use Rattle.std.proofs.Common.{◌≡◌, ◌<◌, ◌≤◌, true, false, length, arith, sym, ap, ◌∙◌}
 use Rattle.std.specs.Prelude.{string_bytes}
-use Rattle.smp_design.specs.declared.method.Method.TheVariants.{Cube}
 use Rattle.smp_strata.specs.Plans.{Parts}
-use Rattle.smp_twostage.specs.Lines.{lines_by, stratum_lines}
+use Rattle.smp_twostage.specs.Lines.{all_lines, stratum_lines}
 use Rattle.smp_twostage.specs.Selections.{covers}
 use Rattle.smp_twostage.proofs.Numbers.{line_more, line_passed, lines_all}
-use Rattle.smp_twostage.proofs.lines.cube_lines.Goals.{then-covers+in_ok-push_stratum_lines, else-covers}
-use Rattle.smp_twostage.proofs.lines.cube_lines.Goals as goal
+use Rattle.smp_twostage.proofs.lines.all_lines.Goals.{then-covers+in_ok-push_stratum_lines, else-covers}
+use Rattle.smp_twostage.proofs.lines.all_lines.Goals as goal
 
 pub loop-stratum-preserved : goal.loop-stratum-preserved
 loop-stratum-preserved c =
@@ -15,7 +14,7 @@ loop-stratum-preserved c =
     let n = length whole.plan.strata in
     let i = c.loop-stratum.stratum in
     let old = string_bytes c.loop-stratum.text in
-    let all = lines_by Cube whole states in
+    let all = all_lines whole states in
     let within : i < n = omega (arith, c.loop-stratum-test.true, c.strata-stratum-end.ensures, ap (λ (p : Parts). length p.strata) c.plan.ensures) in
     elim c.if-covers.branch [
       | then-covers+in_ok-push_stratum_lines w ↦
