@@ -17,7 +17,7 @@ use Rattle.smp_app.specs.Verdict.{outputs_stage, verdict}
 use Rattle.smp_app.specs.Draws.{IsExact, IsExactRefusal}
 use Rattle.smp_plan.specs.Reads.{IsErrorOf, IsCaused, ReadCause}
 use Rattle.smp_status.specs.Reports.{IsOfInputs, Put, PutsLine, Whole, Cut, OutOfMemory, Reports}
-use Rattle.smp_app.specs.Stages.{Refusing, WorkSays}
+use Rattle.smp_app.specs.Kept.Stages.{Refusing, WorkSays}
 use Rattle.smp_app.specs.Deliveries.{Outputs, SomeRose, names_of, with_files, StopsAt, FailsAt}
 use Rattle.smp_app.specs.Answers.{Outside, Untouched, Done, RefusesBy, Refusal, Stopped, WriteFault, NoMemory, Says, Undisturbed, IsVerdict, UsageOnly, IsAnswer}
 use Rattle.smp_plan.proofs.Steps.{rose_since}

@@ -16,7 +16,7 @@ use Rattle.smp_log.specs.Told.{path_told}
 use Rattle.smp_log.proofs.Answered.{exact_reading}
 use Rattle.smp_log.proofs.LoneExact.{exact_section}
 use Rattle.smp_log.proofs.TwoVersions.{exact_any}
-use Rattle.smp_twostage.specs.Selections.{BelongsToCovered, BelongsToWhole, all_of, covered_start, covered_tree}
+use Rattle.smp_twostage.specs.Selections.{BelongsToCovered, BelongsToWhole, Coverage, all_of, covered_start, covered_tree}
 use Rattle.smp_twostage.specs.Laws.Wholes.{covered_lawful, strata_sectioned, whole_lawful}
 use Rattle.smp_status.specs.declared.status.Status.{Status}
 use Rattle.smp_status.specs.declared.status.Status.TheVariants as status
@@ -34,6 +34,9 @@ use Rattle.smp_status.specs.Codes.{design_status, frame_status}
 use Rattle.smp_plan.specs.Reads.{Follows, result_view}
 use Rattle.smp_faults.specs.Steps.{◌>>=◌}
 use Rattle.smp_plan.specs.Stops.{Stop, Refused, content, or_fault}
+use Rattle.smp_app.specs.declared.selection.Taken.{Taken}
+use Rattle.smp_app.specs.declared.selection.Taken.TheVariants as takes
+use Rattle.smp_app.specs.Kept.Stages.{DiffersTaken, drawn_by_taken, only_of}
 use Rattle.smp_app.specs.Drawn.{Drawn, tree_of, start_of, sections_of}
 use Rattle.smp_app.specs.Draws.{IfLine, OldDiffers, RefusesLog, StratumDiffers, WholeDiffers}
 use Rattle.smp_app.specs.Verdict.{alone, drawn_by_log, drawn_by_old_log, drawn_by_section, stratum_at, told_by}
@@ -77,23 +80,32 @@ told_line plan only path (Err at) line h =
     ap Err one
 
 module _ (plan : Plan) (is_head : IsHead plan.head) (log : List ℕ) (line : ℕ) where
+  -- the strata for which the log is taken
+  abbrev of_plan : Taken → Coverage
+  of_plan taken = record { plan = parts plan; only = only_of taken }
+
   module _ (member : BelongsToWhole (parts plan) (start_of plan)) where
-    pub whole_differs : drawn_by_log plan log ≡ Err (Refused (status.LogDiffers line)) → WholeDiffers plan log line
+    whole_differs : drawn_by_log plan log ≡ Err (Refused (status.LogDiffers line)) → WholeDiffers plan log line
     whole_differs h =
         let exact = exact_any (tree_of plan) (BelongsToWhole (parts plan)) (whole_lawful (parts plan)) (sections_of plan) (strata_sectioned (all_of (parts plan))) (start_of plan) member plan.head is_head log in
         subst (IsAnswer (IsAnyGenuine (tree_of plan) (sections_of plan) (start_of plan) plan.head) log) (told_line plan None (path_told (tree_of plan) (start_of plan) log) _ line h) exact.right
 
-    pub old_differs : drawn_by_old_log plan log ≡ Err (Refused (status.LogDiffers line)) → OldDiffers plan log line
+    old_differs : drawn_by_old_log plan log ≡ Err (Refused (status.LogDiffers line)) → OldDiffers plan log line
     old_differs h =
         let exact = exact_reading (tree_of plan) (BelongsToWhole (parts plan)) (whole_lawful (parts plan)) (start_of plan) member plan.head is_head log in
         subst (IsAnswer (IsGenuine (tree_of plan) (start_of plan) plan.head) log) (told_line plan None (path_told (tree_of plan) (start_of plan) log) _ line h) exact.right
 
-  pub stratum_differs : (h : ℕ) → BelongsToCovered (alone plan h) (covered_start (alone plan h)) → drawn_by_section plan h log ≡ Err (Refused (status.LogDiffers line)) → StratumDiffers h plan log line
+  stratum_differs : (h : ℕ) → BelongsToCovered (alone plan h) (covered_start (alone plan h)) → drawn_by_section plan h log ≡ Err (Refused (status.LogDiffers line)) → StratumDiffers h plan log line
   stratum_differs h member e =
       let tree = covered_tree (alone plan h) in
       let start = covered_start (alone plan h) in
       let exact = exact_section tree (BelongsToCovered (alone plan h)) (covered_lawful (alone plan h)) start member plan.head is_head (h + 1) log in
       subst (IsSectionAnswer tree start plan.head (h + 1) log) (told_line plan (Some h) (section_told tree start (h + 1) log) _ line e) exact.right
+
+  pub taken_differs : (taken : Taken) → BelongsToCovered (of_plan taken) (covered_start (of_plan taken)) → drawn_by_taken taken plan log ≡ Err (Refused (status.LogDiffers line)) → DiffersTaken taken plan log line
+  taken_differs takes.Either member e = whole_differs member e
+  taken_differs takes.Old member e = old_differs member e
+  taken_differs (takes.Stratum h) member e = stratum_differs h member e
 
 -- ---- the log in its file
 

@@ -1,6 +1,6 @@
 -- What is selected by a tape or by a seed is what the verdict draws, with the requested probabilities.
 use Rattle.std.proofs.Common.{◌≡◌, ℕ, ◌<◌, List, length, Option, Some, None, Result, Ok, Err, true, false, refl, sym, ap, subst, ◌∙◌, arith, inr}
-use Rattle.std.specs.Prelude.{◌+◌, IfOk, IfSome, OnOk, is_some, option_map}
+use Rattle.std.specs.Prelude.{◌^◌, IfOk, IfSome, OnOk, is_some, option_map}
 use Rattle.std.specs.List.{count_by, range_with_len, slice_get}
 use Rattle.std.proofs.lemmas.List.Elements.{All-get_or}
 use Rattle.std.proofs.lemmas.Option.{slice_get_within, get_or_from_slice_get}
@@ -14,16 +14,13 @@ use Rattle.smp_prob.specs.Given.{expected_size}
 use Rattle.smp_design.specs.Words.{balances}
 use Rattle.smp_tape.specs.Sources.{Source}
 use Rattle.smp_tape.specs.declared.draws.DrawFault.{DrawFault}
-use Rattle.smp_log.specs.Answers.{AnswersAs, log_reading}
+use Rattle.smp_log.specs.Answers.{AnswersAs}
 use Rattle.smp_log.specs.Genuine.{DiffersAt, IsFullPath}
-use Rattle.smp_log.specs.LoneSections.{section_reading, section_told}
 use Rattle.smp_log.specs.declared.fault.ReplayFault.{ReplayFault}
 use Rattle.smp_log.specs.declared.fault.ReplayFault.TheVariants as replays
 use Rattle.smp_log.specs.SectionLogs.{HasLeaf, IsAnyGenuine, sectioned_log_text}
-use Rattle.smp_log.specs.SectionReading.{any_reading}
 use Rattle.smp_log.specs.declared.fault.LogFault.{LogFault}
 use Rattle.smp_log.specs.declared.fault.LogFault.TheVariants.{Differs}
-use Rattle.smp_log.specs.Told.{path_told}
 use Rattle.smp_split.specs.Paths.{Entry, Leads}
 use Rattle.smp_split.specs.Runs.{Outcome, run, leaf, stopped, IsLeaf, IsStop, IsOutcome}
 use Rattle.smp_split.proofs.Runs.{run_is}
@@ -45,14 +42,17 @@ use Rattle.smp_twostage.specs.Laws.Staged.{seconds_in}
 use Rattle.smp_twostage.specs.Laws.Wholes.{covered_lawful, whole_lawful}
 use Rattle.smp_plan.specs.declared.plan.FramePlan.{FramePlan}
 use Rattle.smp_plan.specs.Planned.{IsPlanned, plan_view}
-use Rattle.smp_app.specs.Stages.{IsWalked, EndsAsTold, RefusedAt, end_told}
+use Rattle.smp_twostage.specs.declared.whole.StartedWhole.{StartedWhole}
+use Rattle.smp_app.specs.declared.selection.Taken.{Taken}
+use Rattle.smp_app.specs.declared.selection.Taken.TheVariants as takes
+use Rattle.smp_app.specs.Kept.Stages.{EndsAsTold, HasStratum, IsStart, IsWalked, RefusedAt, StartsOf, drawn_by_taken, end_told, only_of, path_by, reading_by}
 use Rattle.smp_app.specs.Draws.{IsDrawnBy, IsDrawnOf, HasProbabilities}
 use Rattle.smp_plan.specs.Plans.{Plan, parts, row_probability}
 use Rattle.smp_app.specs.Drawn.{tree_of, start_of, Drawn, covered}
 use Rattle.smp_app.specs.Texts.{log_text}
 use Rattle.smp_app.proofs.Cubes.{keeps_balance}
 use Rattle.smp_plan.specs.Stops.{Stop}
-use Rattle.smp_app.specs.Verdict.{alone, told_by, drawn_by_log, drawn_by_old_log, drawn_by_section}
+use Rattle.smp_app.specs.Verdict.{alone, told_by}
 
 -- the entries that were told
 pub told_is : {path lines : List Entry} → Some lines ≡ Some path → lines ≡ path
@@ -104,26 +104,23 @@ pub on_both : {A E : Type 0} (result : Result A E) (P Q R : Type 0) → (P → Q
 on_both (Ok x) P Q R f p q = f p q
 on_both (Err e) P Q R f p q = tt
 
+pub on_more : {A E : Type 0} (result : Result A E) (P Q : Type 0) → (P → Q) → OnOk result P → OnOk result Q
+on_more (Ok x) P Q f p = f p
+on_more (Err e) P Q f p = tt
+
 -- what is read in a selection that is seen so is what the plan's draw tree reads
-module _ (plan : Plan) (own : Coverage) (start : Progress AnyState) (log : List ℕ) where
-  abbrev any_by : Coverage → Progress AnyState → Result Drawn Stop
-  any_by c from = told_by plan None (path_told (covered_tree c) from log) (any_reading (covered_tree c) (strata_sections c) from plan.head log)
+module _ (plan : Plan) (taken : Taken) (log : List ℕ) where
+  abbrev tells_by : Coverage → Progress AnyState → Result Drawn Stop
+  tells_by c from = told_by plan (only_of taken) (path_by taken c from log) (reading_by taken c from plan.head log)
 
-  pub any_stage : own ≡ all_of (parts plan) → start ≡ start_of plan → drawn_by_log plan log ≡ any_by own start
-  any_stage is from = sym (ap (any_by own) from ∙ ap (λ c. any_by c (start_of plan)) is)
+-- the strata for which it is taken
+abbrev taken_of : Taken → Parts → Coverage
+taken_of taken plan = record { plan = plan; only = only_of taken }
 
-  abbrev old_by : Coverage → Progress AnyState → Result Drawn Stop
-  old_by c from = told_by plan None (path_told (covered_tree c) from log) (log_reading (covered_tree c) from plan.head log)
-
-  pub old_stage : own ≡ all_of (parts plan) → start ≡ start_of plan → drawn_by_old_log plan log ≡ old_by own start
-  old_stage is from = sym (ap (old_by own) from ∙ ap (λ c. old_by c (start_of plan)) is)
-
-  module _ (h : ℕ) where
-    abbrev section_by : Coverage → Progress AnyState → Result Drawn Stop
-    section_by c from = told_by plan (Some h) (section_told (covered_tree c) from (h + 1) log) (section_reading (covered_tree c) from plan.head (h + 1) log)
-
-    pub section_stage : own ≡ alone plan h → start ≡ covered_start (alone plan h) → drawn_by_section plan h log ≡ section_by own start
-    section_stage is from = sym (ap (section_by own) from ∙ ap (λ c. section_by c (covered_start (alone plan h))) is)
+tells_so : (plan : Plan) (taken : Taken) (log : List ℕ) → drawn_by_taken taken plan log ≡ tells_by plan taken log (taken_of taken (parts plan)) (covered_start (taken_of taken (parts plan)))
+tells_so plan takes.Either log = refl
+tells_so plan takes.Old log = refl
+tells_so plan (takes.Stratum h) log = refl
 
 -- ---- what a run of a selection comes to
 
@@ -139,10 +136,43 @@ module _ {Rest : Type 0} (source : Source Rest) (own : Coverage) (start : Progre
 
 -- ---- what is drawn by a plan
 
-module _ (plan : FramePlan) where
-  -- the state from which a walk starts is one of the selection
-  pub belongs : (own : Coverage) → own ≡ all_of plan.plan → (state : Progress AnyState) → StartsWhole plan.plan state → BelongsToCovered own state
-  belongs own is state starts = subst (λ c. BelongsToCovered c state) (sym is) starts.member
+-- the state from which a walk starts is one of the selection
+starts_member : (plan : Parts) (only : Option ℕ) (state : Progress AnyState) → StartsOf plan only state → BelongsToCovered (record { plan = plan; only = only }) state
+starts_member plan None state starts = starts.member
+starts_member plan (Some h) state starts = starts.member
+
+module _ (plan : Parts) (only : Option ℕ) (started : StartedWhole) (start : IsStart plan only started) where
+  pub belongs : BelongsToCovered started.whole started.state
+  belongs = subst (λ (c : Coverage). BelongsToCovered c started.state) (sym start.whole) (starts_member plan only started.state start.starts)
+
+is_one_by : (only : Option ℕ) (plan : Parts) → IfSome only (λ h. (strata_sections (record { plan = plan; only = only })).count ≡ 1)
+is_one_by None plan = tt
+is_one_by (Some h) plan = refl
+
+-- one stratum alone is one section
+pub is_one : (plan : Parts) (only : Option ℕ) (started : StartedWhole) → IsStart plan only started → IfSome only (λ h. (strata_sections started.whole).count ≡ 1)
+is_one plan only started start = subst (λ (c : Coverage). IfSome only (λ h. (strata_sections c).count ≡ 1)) (sym start.whole) (is_one_by only plan)
+
+pub taken_small : (plan : Parts) (taken : Taken) → HasStratum plan (only_of taken) → IfSome (only_of taken) (λ h. h < 2 ^ 32)
+taken_small plan takes.Either has = tt
+taken_small plan takes.Old has = tt
+taken_small plan (takes.Stratum h) has = has.1
+
+pub taken_stage : (plan : FramePlan) → IsPlanned plan → (started : StartedWhole) (taken : Taken) → IsStart plan.plan (only_of taken) started → (log : List ℕ)
+    → drawn_by_taken taken (plan_view plan) log ≡ tells_by (plan_view plan) taken log started.whole started.state
+taken_stage plan planned started taken start log =
+    let view = plan_view plan in
+    let by : Parts → Result Drawn Stop = λ p. tells_by view taken log (taken_of taken p) (covered_start (taken_of taken p)) in
+    tells_so view taken log ∙ sym
+    (ap (tells_by view taken log started.whole) start.state
+    ∙ ap (λ (c : Coverage). tells_by view taken log c (covered_start (taken_of taken plan.plan))) start.whole
+    ∙ ap by planned.parts_are)
+
+pub start_belongs : (plan : FramePlan) → IsPlanned plan → (only : Option ℕ) (started : StartedWhole) → IsStart plan.plan only started
+    → BelongsToCovered (record { plan = parts (plan_view plan); only = only }) (covered_start (record { plan = parts (plan_view plan); only = only }))
+start_belongs plan planned only started start =
+    subst (λ (p : Parts). BelongsToCovered (record { plan = p; only = only }) (covered_start (record { plan = p; only = only }))) planned.parts_are
+    (subst (λ (s : Progress AnyState). BelongsToCovered (record { plan = plan.plan; only = only }) s) start.state (starts_member plan.plan only started.state start.starts))
 
 module _ (plan : FramePlan) (planned : IsPlanned plan) where
   pub own_is : (own : Coverage) → own ≡ all_of plan.plan → own ≡ all_of (parts (plan_view plan))
@@ -167,8 +197,8 @@ module _ (plan : FramePlan) (planned : IsPlanned plan) where
       planned.asked row (place_of plan.plan.strata row) l (place_is_seat plan.plan.strata row seated.seat seated.is)
 
   module _ (state : Progress AnyState) (starts : StartsWhole plan.plan state) (state_is : state ≡ start_of (plan_view plan)) where
-    pub start_member : BelongsToWhole (parts (plan_view plan)) (start_of (plan_view plan))
-    start_member = subst (λ (s : Progress AnyState). BelongsToWhole (parts (plan_view plan)) s) state_is (belongs plan (all_of (parts (plan_view plan))) (sym (own_is (all_of plan.plan) refl)) state starts)
+    start_member : BelongsToWhole (parts (plan_view plan)) (start_of (plan_view plan))
+    start_member = subst (λ (s : Progress AnyState). BelongsToWhole (parts (plan_view plan)) s) state_is (subst (λ (c : Coverage). BelongsToCovered c state) (own_is (all_of plan.plan) refl) starts.member)
 
     probabilities_own : HasProbabilities (plan_view plan)
     probabilities_own = record {
@@ -255,9 +285,14 @@ module _ (plan : FramePlan) (planned : IsPlanned plan) where
   view = plan_view plan
 
   -- a walk of all strata that came to a leaf
-  pub walked_all : (own : Coverage) → own ≡ all_of plan.plan → (start : Progress AnyState) → StartsWhole plan.plan start → start ≡ selections.start_of plan.plan → (to : Progress AnyState) → BelongsToCovered own to → (path lines : List Entry) → IsFullPath (covered_tree own) start path to → lines ≡ path
-      → IsWalked view own (record { plan = view; only = None; leaf = to; path = lines })
-  walked_all own is start starts from to here path lines full same =
+  pub walked_all : (started : StartedWhole) → IsStart plan.plan None started → (to : Progress AnyState) → BelongsToCovered started.whole to → (path lines : List Entry) → IsFullPath (covered_tree started.whole) started.state path to → lines ≡ path
+      → IsWalked view started.whole (record { plan = view; only = None; leaf = to; path = lines })
+  walked_all started begun to here path lines full same =
+      let own = started.whole in
+      let is : own ≡ all_of plan.plan = begun.whole in
+      let start = started.state in
+      let starts : StartsWhole plan.plan start = begun.starts in
+      let from : start ≡ selections.start_of plan.plan = begun.state in
       subst (λ (p : List Entry). IsWalked view own (record { plan = view; only = None; leaf = to; path = p })) (sym same)
       (record {
         whole = own_is own is;
@@ -267,9 +302,14 @@ module _ (plan : FramePlan) (planned : IsPlanned plan) where
       })
 
   -- a walk of one stratum alone that came to a leaf
-  pub walked_alone : (h : ℕ) → h < length plan.plan.strata → (own : Coverage) → own ≡ one_of plan.plan h → (start : Progress AnyState) → StartsAlone plan.plan h start → start ≡ covered_start (one_of plan.plan h) → (to : Progress AnyState) → BelongsToCovered own to
-      → (path lines : List Entry) → IsFullPath (covered_tree own) start path to → lines ≡ path → IsWalked view own (record { plan = view; only = Some h; leaf = to; path = lines })
-  walked_alone h within own is start starts from to here path lines full same =
+  walked_alone : (h : ℕ) → h < length plan.plan.strata → (started : StartedWhole) → IsStart plan.plan (Some h) started → (to : Progress AnyState) → BelongsToCovered started.whole to → (path lines : List Entry) → IsFullPath (covered_tree started.whole) started.state path to → lines ≡ path
+      → IsWalked view started.whole (record { plan = view; only = Some h; leaf = to; path = lines })
+  walked_alone h within started begun to here path lines full same =
+      let own = started.whole in
+      let is : own ≡ one_of plan.plan h = begun.whole in
+      let start = started.state in
+      let starts : StartsAlone plan.plan h start = begun.starts in
+      let from : start ≡ covered_start (one_of plan.plan h) = begun.state in
       let seen : own ≡ alone view h = is ∙ ap (λ (p : Parts). one_of p h) planned.parts_are in
       let begins : start ≡ covered_start (alone view h) = from ∙ ap (λ (p : Parts). covered_start (one_of p h)) planned.parts_are in
       subst (λ (p : List Entry). IsWalked view own (record { plan = view; only = Some h; leaf = to; path = p })) (sym same)
@@ -286,6 +326,12 @@ module _ (plan : FramePlan) (planned : IsPlanned plan) where
           full = subst (λ (s : Progress AnyState). IsFullPath (covered_tree (alone view h)) s path to) begins (subst (λ (c : Coverage). IsFullPath (covered_tree c) start path to) seen full);
         };
       })
+
+  pub taken_walked : (taken : Taken) → HasStratum plan.plan (only_of taken) → (started : StartedWhole) → IsStart plan.plan (only_of taken) started → (to : Progress AnyState) → BelongsToCovered started.whole to → (path lines : List Entry) → IsFullPath (covered_tree started.whole) started.state path to → lines ≡ path
+      → IsWalked view started.whole (record { plan = view; only = only_of taken; leaf = to; path = lines })
+  taken_walked takes.Either has started begun to here path lines full same = walked_all started begun to here path lines full same
+  taken_walked takes.Old has started begun to here path lines full same = walked_all started begun to here path lines full same
+  taken_walked (takes.Stratum h) has started begun to here path lines full same = walked_alone h has.0 started begun to here path lines full same
 
 -- ---- the log of what is drawn
 

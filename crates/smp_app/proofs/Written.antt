@@ -26,7 +26,7 @@ use Rattle.smp_app.specs.declared.selection.Selection.{Selection}
 use Rattle.smp_plan.specs.Plans.{Plan, parts, row_id, row_probability}
 use Rattle.smp_app.specs.Drawn.{covered, drawn_rows}
 use Rattle.smp_plan.specs.Planned.{IsPlanned, plan_view}
-use Rattle.smp_app.specs.Stages.{IsSelection, selection_view}
+use Rattle.smp_app.specs.Kept.Stages.{IsSelection, selection_view}
 use Rattle.smp_twostage.proofs.Positive.{covered_positive}
 use Rattle.smp_app.proofs.Alone.{seats_long}
 

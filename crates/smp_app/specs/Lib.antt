@@ -4,6 +4,6 @@ pub mod Deliveries
 pub mod Drawn
 pub mod Draws
 pub mod Headline
-pub mod Stages
+pub mod Kept
 pub mod Texts
 pub mod Verdict

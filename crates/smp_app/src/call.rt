@@ -4,7 +4,7 @@ ghost use Rattle.smp_app.specs.Answers.{IsAnswer, outside};
 ghost use Rattle.smp_app.specs.Headline.{Headline};
 ghost use Rattle.smp_status.specs.Codes.{class_of};
 ghost use Rattle.smp_app.specs.Commands.{files_named, files_of, job_for, job_of};
-ghost use Rattle.smp_app.specs.Stages.{IsJob, WorkSays, job_view};
+ghost use Rattle.smp_app.specs.Kept.Stages.{IsJob, WorkSays, job_view};
 
 use crate::Status;
 use crate::job::Job;

@@ -7,7 +7,7 @@ ghost use Rattle.smp_plan.specs.declared.source.DesignSource.TheVariants as Desi
 ghost use Rattle.smp_plan.specs.declared.source.FrameSource.TheVariants as FrameSource;
 ghost use Rattle.smp_plan.specs.Inputs.{FrameHeld, Held};
 ghost use Rattle.smp_app.specs.Commands.{Lists, job_of, log_source, source_of};
-ghost use Rattle.smp_app.specs.Stages.{IsJob, draw_view, job_view, file_view, plan_text, drawn_text};
+ghost use Rattle.smp_app.specs.Kept.Stages.{IsJob, draw_view, job_view, file_view, plan_text, drawn_text};
 
 use smp_cases::demo_key;
 use smp_frac::{NoMemory, Text};

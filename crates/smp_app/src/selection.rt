@@ -1,26 +1,29 @@
-ghost use Rattle.std.specs.Prelude.{◌≡◌, ◌∷◌, [], ◌+◌, ◌^◌, ◌<◌, ◌≤◌, length, None, Some, IfOk, IfErr};
+ghost use Rattle.std.specs.Prelude.{◌≡◌, [], ◌^◌, ◌<◌, ◌≤◌, length, None, Some, IfOk, IfErr, IfSome, OnOk};
 ghost use Rattle.smp_tape.specs.TapeSources.{tape_source};
-ghost use Rattle.smp_split.specs.Runs.{run};
+ghost use Rattle.smp_split.specs.Runs.{and_then, run};
+ghost use Rattle.smp_log.specs.Answers.{AnswersAs};
+ghost use Rattle.smp_log.specs.Genuine.{IsFullPath};
+ghost use Rattle.smp_twostage.specs.Selections.{BelongsToCovered, covered_tree, strata_sections};
 ghost use Rattle.smp_app.specs.Commands.{source_names};
-ghost use Rattle.smp_twostage.specs.Selections as Selections;
-ghost use Rattle.smp_twostage.specs.Covered.{StartsAlone};
-ghost use Rattle.smp_twostage.specs.Starts.{StartsWhole};
 ghost use Rattle.smp_app.specs.Drawn.{tree_of, start_of};
-ghost use Rattle.smp_app.specs.Draws.{IfLine, IsRefusedBy, OldDiffers, StratumDiffers, WholeDiffers};
+ghost use Rattle.smp_app.specs.Draws.{IfLine, IsRefusedBy};
 ghost use Rattle.smp_io.specs.Store.{Files};
-ghost use Rattle.smp_app.specs.Verdict.{drawn_by_log, drawn_by_old_log, drawn_by_section, drawn_by_seed};
-ghost use Rattle.smp_app.specs.Verdict.{drawn_from, drawn_stage, stratum_at, values_left, values_taken};
+ghost use Rattle.smp_app.specs.Verdict.{drawn_by_seed, drawn_from, drawn_stage, stratum_at};
+ghost use Rattle.smp_app.specs.Verdict.{values_left, values_taken};
 ghost use Rattle.smp_status.specs.Codes.{class_of};
 ghost use Rattle.smp_plan.specs.Reads.{Follows, Reads, told, result_view};
-ghost use Rattle.smp_app.specs.Stages.{EndsAs, EndsAsTold, FollowsEnd, IsSelection, IsSourceInRanges, IsWalked};
-ghost use Rattle.smp_app.specs.Stages.{draw_view, end_told, selection_view, stopped_status, walked_view};
+ghost use Rattle.smp_app.specs.Kept.Stages.{DiffersTaken, EndsAs, EndsAsTold, FollowsEnd, HasStratum, IsSelection};
+ghost use Rattle.smp_app.specs.Kept.Stages.{IsSourceInRanges, IsStart, IsWalked};
+ghost use Rattle.smp_app.specs.Kept.Stages.{draw_view, drawn_by_taken, end_told, only_of, path_by, reading_by};
+ghost use Rattle.smp_app.specs.Kept.Stages.{selection_view, stopped_status, walked_view};
 ghost use Rattle.smp_status.specs.Reports.{IsOfContent};
 ghost use Rattle.smp_plan.specs.Planned.{IsPlanned, plan_view};
 
 use crate::Status;
 use crate::job::DrawSource;
+use smp_frac::NoMemory;
 use smp_io::Store;
-use smp_log::{ReplayFault, old_replay_into, replay_into, replay_section_into};
+use smp_log::{Head, ReplayFault, old_replay_into, replay_into, replay_section_into};
 use smp_methods::AnyState;
 use smp_plan::{FramePlan, read_input};
 use smp_sieve::{ChaChaWords, Sieve};
@@ -39,6 +42,29 @@ pub enum Stopped {
     Log { line: u64 },
     /// Memory ran out.
     NoMemory,
+}
+
+/// How a log is taken.
+#[derive(Clone, Copy)]
+pub enum Taken {
+    /// As a log of all strata, of either version.
+    Either,
+    /// As a log of all strata, of version 1 alone.
+    Old,
+    /// As a log of version 2, of which the section of one stratum counts, counted from 0.
+    Stratum(usize),
+}
+
+impl Taken {
+    // The number of the stratum for which it is taken, where it is one alone.
+    fn only(self) -> Option<usize>
+        ensures { result ≡ only_of self }
+    {
+        match self {
+            Taken::Either | Taken::Old => None,
+            Taken::Stratum(stratum) => Some(stratum),
+        }
+    }
 }
 
 /// The selection by a plan, of all strata or of the one with this number, the state at which a walk ended, and how it ended: at a leaf, with
@@ -62,6 +88,22 @@ pub struct Selection<'a> {
     pub lines: Lines,
 }
 
+// The start of a selection of all strata, or of the one with this number.
+fn started_for<'a>(
+    alloc: Global,
+    plan: &'a FramePlan,
+    only: Option<usize>,
+) -> Result<StartedWhole<'a>, NoMemory>
+    requires planned { IsPlanned plan.now }
+    requires only { HasStratum plan.now.plan only }
+    ensures { IfOk result (IsStart plan.now.plan only) }
+{
+    match only {
+        None => Whole::start(alloc, &plan.plan),
+        Some(stratum) => Whole::only(alloc, &plan.plan, stratum),
+    }
+}
+
 // Walks by a plan from its start.
 fn walk_from<'a, D: Draws>(
     alloc: Global,
@@ -70,9 +112,7 @@ fn walk_from<'a, D: Draws>(
     draws: &mut D,
 ) -> Walked<'a>
     requires planned { IsPlanned plan.now }
-    requires whole { started.whole ≡ Selections.all_of plan.now.plan }
-    requires state { started.state ≡ Selections.start_of plan.now.plan }
-    requires starts { StartsWhole plan.now.plan started.state }
+    requires started { IsStart plan.now.plan None started }
     ensures only { result.only ≡ None }
     ensures ends { EndsAs (plan_view plan.now)
         (run D.source (tree_of (plan_view plan.now)) (start_of (plan_view plan.now)) draws.old)
@@ -125,90 +165,58 @@ fn end_told(told: Result<(), ReplayFault>, lines: Lines) -> Result<Lines, Stoppe
     }
 }
 
-// Goes along the steps of a log of either version from a plan's start.
+// Goes along the steps that a log tells, by the way in which it is taken.
+fn replay_taken(
+    whole: &Whole,
+    state: &mut StagesState<AnyState>,
+    head: &Head,
+    taken: Taken,
+    log: &[u8],
+    lines: &mut Lines,
+) -> Result<(), ReplayFault>
+    requires belongs { BelongsToCovered whole.now state.old }
+    requires one { IfSome (only_of taken) (λ h. (strata_sections whole.now).count ≡ 1) }
+    requires room { IfSome (only_of taken) (λ h. h < 2 ^ 32) }
+    ensures reading { AnswersAs result state.new
+        (reading_by taken whole.now state.old head.now log.now) }
+    ensures told { OnOk result (Some lines.new
+        ≡ and_then (Some lines.old) (path_by taken whole.now state.old log.now)) }
+    ensures full { OnOk result (IsFullPath (covered_tree whole.now) state.old
+        (path_by taken whole.now state.old log.now) state.new) }
+    ensures belongs { BelongsToCovered whole.now state.new }
+{
+    match taken {
+        Taken::Either => replay_into(whole, state, head, log, lines),
+        Taken::Old => old_replay_into(whole, state, head, log, lines),
+        Taken::Stratum(stratum) => {
+            replay_section_into(whole, state, head, stratum + 1, log, lines)
+        }
+    }
+}
+
+// Goes along the steps that a log tells, from the start of the strata for which it is taken.
 fn walk_by_log<'a>(
     alloc: Global,
     plan: &'a FramePlan,
     started: StartedWhole<'a>,
+    taken: Taken,
     log: &[u8],
 ) -> Walked<'a>
     requires planned { IsPlanned plan.now }
-    requires whole { started.whole ≡ Selections.all_of plan.now.plan }
-    requires state { started.state ≡ Selections.start_of plan.now.plan }
-    requires starts { StartsWhole plan.now.plan started.state }
-    ensures only { result.only ≡ None }
-    ensures ends { EndsAsTold (plan_view plan.now) None
-        (drawn_by_log (plan_view plan.now) log.now) result.state result.end }
+    requires only { HasStratum plan.now.plan (only_of taken) }
+    requires started { IsStart plan.now.plan (only_of taken) started }
+    ensures only { result.only ≡ only_of taken }
+    ensures ends { EndsAsTold (plan_view plan.now) (only_of taken)
+        (drawn_by_taken taken (plan_view plan.now) log.now) result.state result.end }
     ensures walked { IfOk result.end (λ path. IsWalked (plan_view plan.now) result.whole
         (walked_view (plan_view plan.now) result path)) }
 {
     let StartedWhole { whole, mut state } = started;
     let mut lines = Lines::new(alloc);
-    let told = replay_into(&whole, &mut state, &plan.head, log, &mut lines);
+    let told = replay_taken(&whole, &mut state, &plan.head, taken, log, &mut lines);
     Walked {
         whole,
-        only: None,
-        state,
-        end: end_told(told, lines),
-    }
-}
-
-// Goes along the steps of a log of version 1 from a plan's start.
-fn walk_by_old_log<'a>(
-    alloc: Global,
-    plan: &'a FramePlan,
-    started: StartedWhole<'a>,
-    log: &[u8],
-) -> Walked<'a>
-    requires planned { IsPlanned plan.now }
-    requires whole { started.whole ≡ Selections.all_of plan.now.plan }
-    requires state { started.state ≡ Selections.start_of plan.now.plan }
-    requires starts { StartsWhole plan.now.plan started.state }
-    ensures only { result.only ≡ None }
-    ensures ends { EndsAsTold (plan_view plan.now) None
-        (drawn_by_old_log (plan_view plan.now) log.now) result.state result.end }
-    ensures walked { IfOk result.end (λ path. IsWalked (plan_view plan.now) result.whole
-        (walked_view (plan_view plan.now) result path)) }
-{
-    let StartedWhole { whole, mut state } = started;
-    let mut lines = Lines::new(alloc);
-    let told = old_replay_into(&whole, &mut state, &plan.head, log, &mut lines);
-    Walked {
-        whole,
-        only: None,
-        state,
-        end: end_told(told, lines),
-    }
-}
-
-// Goes along the steps of one stratum in a log of version 2, from the start of the stratum alone.
-fn walk_by_section<'a>(
-    alloc: Global,
-    plan: &'a FramePlan,
-    started: StartedWhole<'a>,
-    stratum: usize,
-    log: &[u8],
-) -> Walked<'a>
-    requires planned { IsPlanned plan.now }
-    requires stratum { stratum < length plan.now.plan.strata }
-    requires room { stratum < 2 ^ 32 }
-    requires whole { started.whole ≡ Selections.one_of plan.now.plan stratum }
-    requires state { started.state
-        ≡ Selections.covered_start (Selections.one_of plan.now.plan stratum) }
-    requires starts { StartsAlone plan.now.plan stratum started.state }
-    ensures only { result.only ≡ Some stratum }
-    ensures ends { EndsAsTold (plan_view plan.now) (Some stratum)
-        (drawn_by_section (plan_view plan.now) stratum log.now) result.state result.end }
-    ensures walked { IfOk result.end (λ path. IsWalked (plan_view plan.now) result.whole
-        (walked_view (plan_view plan.now) result path)) }
-{
-    let StartedWhole { whole, mut state } = started;
-    let mut lines = Lines::new(alloc);
-    let number = stratum + 1;
-    let told = replay_section_into(&whole, &mut state, &plan.head, number, log, &mut lines);
-    Walked {
-        whole,
-        only: Some(stratum),
+        only: taken.only(),
         state,
         end: end_told(told, lines),
     }
@@ -291,7 +299,7 @@ fn select_by_tape<'a>(
     ensures kinds { IfErr result (λ error. IsOfContent (class_of error) error) }
     ensures selection { IfOk result (IsSelection (plan_view plan.now)) }
 {
-    let started = Whole::start(alloc, &plan.plan)?;
+    let started = started_for(alloc, plan, None)?;
     let mut tape = tape;
     let walked = walk_from(alloc, plan, started, &mut tape);
     selection_at(alloc, plan, walked, tape.taken(), tape.left())
@@ -309,30 +317,9 @@ fn select_by_seed<'a>(
     ensures kinds { IfErr result (λ error. IsOfContent (class_of error) error) }
     ensures selection { IfOk result (IsSelection (plan_view plan.now)) }
 {
-    let started = Whole::start(alloc, &plan.plan)?;
+    let started = started_for(alloc, plan, None)?;
     let mut draws = Sieve::new(ChaChaWords::new(seed));
     let walked = walk_from(alloc, plan, started, &mut draws);
-    selection_at(alloc, plan, walked, 0, 0)
-}
-
-// Selects by a plan what a log of version 1 tells.
-fn select_by_old_log<'a>(
-    alloc: Global,
-    plan: &'a FramePlan,
-    log: &[u8],
-) -> Result<Selection<'a>, Status>
-    requires { IsPlanned plan.now }
-    ensures follows { Follows (result_view (selection_view (plan_view plan.now)) result)
-        (drawn_by_old_log (plan_view plan.now) log.now) }
-    ensures differs { IfErr result (λ refusal. IfLine refusal
-        (OldDiffers (plan_view plan.now) log.now)) }
-    ensures kinds { IfErr result (λ error. IsOfContent (class_of error) error) }
-    ensures selection { IfOk result (IsSelection (plan_view plan.now)) }
-{
-    let started = Whole::start(alloc, &plan.plan)?;
-    // The head tells its lines.
-    let _lines = plan.head.as_slice();
-    let walked = walk_by_old_log(alloc, plan, started, log);
     selection_at(alloc, plan, walked, 0, 0)
 }
 
@@ -355,48 +342,26 @@ fn stratum_at(plan: &FramePlan, number: u32) -> Result<usize, Status>
     Ok(number as usize - 1)
 }
 
-// Selects by a plan what the section of one stratum tells in a log of version 2. No other stratum has a state.
-fn select_by_section<'a>(
-    alloc: Global,
-    plan: &'a FramePlan,
-    stratum: usize,
-    log: &[u8],
-) -> Result<Selection<'a>, Status>
-    requires planned { IsPlanned plan.now }
-    requires stratum { stratum < length plan.now.plan.strata }
-    requires room { stratum < 2 ^ 32 }
-    ensures follows { Follows (result_view (selection_view (plan_view plan.now)) result)
-        (drawn_by_section (plan_view plan.now) stratum log.now) }
-    ensures differs { IfErr result (λ refusal. IfLine refusal
-        (StratumDiffers stratum (plan_view plan.now) log.now)) }
-    ensures kinds { IfErr result (λ error. IsOfContent (class_of error) error) }
-    ensures selection { IfOk result (IsSelection (plan_view plan.now)) }
-{
-    let started = Whole::only(alloc, &plan.plan, stratum)?;
-    // The head tells its lines.
-    let _lines = plan.head.as_slice();
-    let walked = walk_by_section(alloc, plan, started, stratum, log);
-    selection_at(alloc, plan, walked, 0, 0)
-}
-
-// Selects by a plan what a log tells.
+// Selects by a plan what a log tells. Where one stratum is taken, no other stratum has a state.
 fn select_by_log<'a>(
     alloc: Global,
     plan: &'a FramePlan,
+    taken: Taken,
     log: &[u8],
 ) -> Result<Selection<'a>, Status>
-    requires { IsPlanned plan.now }
+    requires planned { IsPlanned plan.now }
+    requires only { HasStratum plan.now.plan (only_of taken) }
     ensures follows { Follows (result_view (selection_view (plan_view plan.now)) result)
-        (drawn_by_log (plan_view plan.now) log.now) }
+        (drawn_by_taken taken (plan_view plan.now) log.now) }
     ensures differs { IfErr result (λ refusal. IfLine refusal
-        (WholeDiffers (plan_view plan.now) log.now)) }
+        (DiffersTaken taken (plan_view plan.now) log.now)) }
     ensures kinds { IfErr result (λ error. IsOfContent (class_of error) error) }
     ensures selection { IfOk result (IsSelection (plan_view plan.now)) }
 {
-    let started = Whole::start(alloc, &plan.plan)?;
+    let started = started_for(alloc, plan, taken.only())?;
     // The head tells its lines.
     let _lines = plan.head.as_slice();
-    let walked = walk_by_log(alloc, plan, started, log);
+    let walked = walk_by_log(alloc, plan, started, taken, log);
     selection_at(alloc, plan, walked, 0, 0)
 }
 
@@ -430,16 +395,16 @@ pub fn selection_from<'a, K: Store>(
         DrawSource::Seed(seed) => select_by_seed(alloc, plan, seed),
         DrawSource::Log(name) => {
             let bytes = read_input(alloc, store, name.as_str())?;
-            select_by_log(alloc, plan, bytes.as_slice())
+            select_by_log(alloc, plan, Taken::Either, bytes.as_slice())
         }
         DrawSource::OldLog(name) => {
             let bytes = read_input(alloc, store, name.as_str())?;
-            select_by_old_log(alloc, plan, bytes.as_slice())
+            select_by_log(alloc, plan, Taken::Old, bytes.as_slice())
         }
         DrawSource::Section(name, number) => {
             let stratum = stratum_at(plan, number)?;
             let bytes = read_input(alloc, store, name.as_str())?;
-            select_by_section(alloc, plan, stratum, bytes.as_slice())
+            select_by_log(alloc, plan, Taken::Stratum(stratum), bytes.as_slice())
         }
     }
 }

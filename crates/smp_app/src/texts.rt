@@ -2,9 +2,9 @@ ghost use Rattle.std.specs.Prelude.{◌≡◌, ◌++◌, ◌∷◌, [], ◌<◌,
 ghost use Rattle.std.specs.Fmt.{decimal};
 ghost use Rattle.smp_app.specs.Texts;
 ghost use Rattle.smp_app.specs.Drawn.{rows_by};
-ghost use Rattle.smp_app.specs.Stages as Stages;
+ghost use Rattle.smp_app.specs.Kept.Stages as Stages;
 ghost use Rattle.smp_plan.specs.Planned.{IsPlanned, plan_view};
-ghost use Rattle.smp_app.specs.Stages.{IsSelection, selection_view};
+ghost use Rattle.smp_app.specs.Kept.Stages.{IsSelection, selection_view};
 ghost use Rattle.smp_frac.specs.Fractions.{fraction, fraction_text};
 ghost use Rattle.smp_twostage.specs.Selections.{BelongsToCovered, covered_start};
 ghost use Rattle.smp_weights.specs.Rows.{AddsRow, row};

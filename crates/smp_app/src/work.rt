@@ -5,7 +5,7 @@ ghost use Rattle.smp_app.specs.Verdict.{outputs_stage, work_stage};
 ghost use Rattle.smp_app.specs.Draws.{EndsExact, EndsExactFrom};
 ghost use Rattle.smp_app.specs.Deliveries.{outputs_view, names_of};
 ghost use Rattle.smp_plan.specs.Reads.{Reads, told, result_view};
-ghost use Rattle.smp_app.specs.Stages.{IsJob, IsSelection, IsWorkInRanges, job_view, work_view, file_view, drawn_text, selection_view};
+ghost use Rattle.smp_app.specs.Kept.Stages.{IsJob, IsSelection, IsWorkInRanges, job_view, work_view, file_view, drawn_text, selection_view};
 ghost use Rattle.smp_plan.specs.Planned.{IsPlanned, plan_view};
 
 use crate::job::{DrawnFile, DrawnText, Job, Work};

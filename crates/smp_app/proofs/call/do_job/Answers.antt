@@ -1,6 +1,6 @@
 use Rattle.std.proofs.Common.{Err, inr, refl, ap}
 use Rattle.smp_app.specs.Deliveries.{outputs_view}
-use Rattle.smp_app.specs.Stages.{job_view}
+use Rattle.smp_app.specs.Kept.Stages.{job_view}
 use Rattle.smp_app.proofs.Ends.{error_says, all_done, stopped, write_fault}
 use Rattle.smp_app.proofs.call.do_job.Goals as goal
 

@@ -1,19 +1,19 @@
 use Rattle.std.proofs.Common.{rules}
-use Rattle.smp_app.specs.Draws.{WholeDiffers}
-use Rattle.smp_app.specs.Stages.{selection_view}
-use Rattle.smp_app.specs.Verdict.{drawn_by_log}
+use Rattle.smp_app.specs.Kept.Stages.{DiffersTaken, drawn_by_taken, only_of, selection_view}
 use Rattle.smp_plan.specs.Planned.{plan_view}
 use Rattle.smp_plan.specs.Reads.{Follows, result_view}
-use Rattle.smp_app.proofs.Refusals.{if_line, whole_differs}
-use Rattle.smp_app.proofs.Selections.{start_is, start_member}
+use Rattle.smp_app.proofs.Refusals.{if_line, taken_differs}
+use Rattle.smp_app.proofs.Selections.{start_belongs}
 use Rattle.smp_app.proofs.selection.select_by_log.Goals as goal
 
 pub returns-clause-differs : goal.returns-clause-differs
 returns-clause-differs c =
     let plan = c.args.plan.now in
     let view = plan_view plan in
+    let taken = c.args.taken in
+    let stage = drawn_by_taken taken view c.args.log.now in
     let started = c.in_ok-started in
-    let member = start_member plan c.requires started.started.state started.ensures.starts (start_is plan c.requires started.started.state started.ensures.state) in
-    let follows : Follows (result_view (selection_view view) c.selection_at.result) (drawn_by_log view c.args.log.now) = search rules in
-    if_line (selection_view view) c.selection_at.result (drawn_by_log view c.args.log.now) (WholeDiffers view c.args.log.now) follows
-    (λ line e. whole_differs view c.as_slice-lines.ensures.lines c.args.log.now line member e)
+    let follows : Follows (result_view (selection_view view) c.selection_at.result) stage = search rules in
+    let member = start_belongs plan c.requires.planned (only_of taken) started.started (rw c.only.ensures at started.ensures) in
+    if_line (selection_view view) c.selection_at.result stage (DiffersTaken taken view c.args.log.now) follows
+    (λ line e. taken_differs view c.as_slice-lines.ensures.lines c.args.log.now line taken member e)

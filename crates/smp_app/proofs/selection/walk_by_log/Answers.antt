@@ -1,39 +1,49 @@
-use Rattle.std.proofs.Common.{List, Result, IfOk, None, sym, subst, ◌∙◌}
+use Rattle.std.proofs.Common.{List, Result, IfOk, sym, subst}
 use Rattle.smp_split.specs.Paths.{Entry}
-use Rattle.smp_log.specs.SectionLogs.{IsToldAny}
-use Rattle.smp_twostage.specs.Selections.{covered_tree, strata_sections}
+use Rattle.smp_log.specs.Genuine.{IsFullPath}
+use Rattle.smp_twostage.specs.Selections.{covered_tree}
 use Rattle.smp_app.specs.declared.selection.Stopped.{Stopped}
-use Rattle.smp_app.specs.Stages.{EndsAsTold, IsWalked}
+use Rattle.smp_app.specs.Kept.Stages.{EndsAsTold, IsWalked, drawn_by_taken, only_of, path_by}
 use Rattle.smp_plan.specs.Planned.{plan_view}
-use Rattle.smp_app.specs.Verdict.{drawn_by_log}
-use Rattle.smp_app.proofs.Selections.{any_stage, belongs, ends_told, on_both, own_is, start_is, told_holds, told_is, walked_all}
+use Rattle.smp_app.proofs.Selections.{belongs, ends_told, is_one, on_both, taken_stage, taken_small, taken_walked, told_holds, told_is}
 use Rattle.smp_app.proofs.selection.walk_by_log.Goals as goal
 
-pub replay_into-told-requires : goal.replay_into-told-requires
-replay_into-told-requires c = belongs c.args.plan.now c.args.started.whole c.requires.whole c.args.started.state c.requires.starts
+pub replay_taken-told-requires-clause-belongs : goal.replay_taken-told-requires-clause-belongs
+replay_taken-told-requires-clause-belongs c = belongs c.args.plan.now.plan (only_of c.args.taken) c.args.started c.requires.started
+
+pub replay_taken-told-requires-clause-one : goal.replay_taken-told-requires-clause-one
+replay_taken-told-requires-clause-one c = is_one c.args.plan.now.plan (only_of c.args.taken) c.args.started c.requires.started
+
+pub replay_taken-told-requires-clause-room : goal.replay_taken-told-requires-clause-room
+replay_taken-told-requires-clause-room c = taken_small c.args.plan.now.plan c.args.taken c.requires.only
 
 pub returns-clause-ends : goal.returns-clause-ends
 returns-clause-ends c =
     let plan = c.args.plan.now in
     let view = plan_view plan in
-    let own = c.args.started.whole in
-    let start = c.args.started.state in
-    let stage = any_stage view own start c.args.log.now (own_is plan c.requires.planned own c.requires.whole) (start_is plan c.requires.planned start c.requires.state) in
-    subst (EndsAsTold view None (drawn_by_log view c.args.log.now) c.replay_into-told.new.state) (sym c.end_told.ensures)
-    (ends_told view None c.replay_into-told.new.state (drawn_by_log view c.args.log.now) c.replay_into-told.result c.replay_into-told.new.trace _ _ stage c.replay_into-told.ensures.reading
-    (rw c.new-lines.ensures at c.replay_into-told.ensures.told))
+    let taken = c.args.taken in
+    let only = only_of taken in
+    let state = c.replay_taken-told.new.state in
+    let tells = drawn_by_taken taken view c.args.log.now in
+    subst (EndsAsTold view only tells state) (sym c.end_told.ensures)
+    (ends_told view only state tells c.replay_taken-told.result c.replay_taken-told.new.lines _ _
+    (taken_stage plan c.requires.planned c.args.started taken c.requires.started c.args.log.now) c.replay_taken-told.ensures.reading
+    (rw c.new-lines.ensures at c.replay_taken-told.ensures.told))
 
 pub returns-clause-walked : goal.returns-clause-walked
 returns-clause-walked c =
     let plan = c.args.plan.now in
     let view = plan_view plan in
+    let taken = c.args.taken in
     let own = c.args.started.whole in
-    let start = c.args.started.state in
-    let state = c.replay_into-told.new.state in
-    let lines = c.replay_into-told.new.trace in
-    let Walks : List Entry → Type 0 = λ path. IsWalked view own (record { plan = view; only = None; leaf = state; path = path }) in
-    subst (λ (end : Result (List Entry) Stopped). IfOk end Walks) (sym c.end_told.ensures)
-    (told_holds c.replay_into-told.result lines Walks
-    (on_both c.replay_into-told.result (IsToldAny (covered_tree own) (strata_sections own) start view.head c.args.log.now state) _ (Walks lines)
-    (λ told same. walked_all plan c.requires.planned own c.requires.whole start c.requires.starts c.requires.state state c.replay_into-told.ensures.belongs told.genuine.path lines told.genuine.full (told_is same ∙ told.told))
-    c.replay_into-told.ensures.genuine (rw c.new-lines.ensures at c.replay_into-told.ensures.told)))
+    let from = c.args.started.state in
+    let state = c.replay_taken-told.new.state in
+    let lines = c.replay_taken-told.new.lines in
+    let path = path_by taken own from c.args.log.now in
+    let Walks : List Entry → Type 0 = λ path. IsWalked view own (record { plan = view; only = only_of taken; leaf = state; path = path }) in
+    rw c.only.ensures
+    (subst (λ (end : Result (List Entry) Stopped). IfOk end Walks) (sym c.end_told.ensures)
+    (told_holds c.replay_taken-told.result lines Walks
+    (on_both c.replay_taken-told.result (IsFullPath (covered_tree own) from path state) _ (Walks lines)
+    (λ full same. taken_walked plan c.requires.planned taken c.requires.only c.args.started c.requires.started state c.replay_taken-told.ensures.belongs path lines full (told_is same))
+    c.replay_taken-told.ensures.full (rw c.new-lines.ensures at c.replay_taken-told.ensures.told))))

@@ -7,7 +7,7 @@ use Rattle.smp_twostage.specs.Selections.{Coverage, covers}
 use Rattle.smp_app.specs.Drawn.{covered}
 use Rattle.smp_plan.specs.Plans.{parts}
 use Rattle.smp_plan.specs.Planned.{plan_view}
-use Rattle.smp_app.specs.Stages.{selection_view}
+use Rattle.smp_app.specs.Kept.Stages.{selection_view}
 use Rattle.smp_app.specs.Texts.{left_text, lefts_text}
 use Rattle.smp_twostage.proofs.Numbers.{line_more, line_passed, lines_all}
 use Rattle.smp_app.proofs.texts.lefts_text.Goals.{then-covers+in_ok-push_left, else-covers}

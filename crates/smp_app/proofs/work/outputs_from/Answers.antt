@@ -5,7 +5,7 @@ use Rattle.smp_plan.proofs.Inputs.{plan_ignores}
 use Rattle.smp_plan.proofs.Names.{first_distinct, no_first, no_second}
 use Rattle.smp_plan.proofs.Steps.{goes_on}
 use Rattle.smp_app.specs.Commands.{drawn_names}
-use Rattle.smp_app.specs.Stages.{job_view}
+use Rattle.smp_app.specs.Kept.Stages.{job_view}
 use Rattle.smp_app.specs.Verdict.{work_stage}
 use Rattle.smp_app.proofs.Stages.{exact_end, plan_refused}
 use Rattle.smp_app.proofs.work.outputs_from.Goals as goal

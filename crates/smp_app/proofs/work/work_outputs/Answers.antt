@@ -5,7 +5,7 @@ use Rattle.smp_app.specs.Commands.{source_names, Draws, outputs_by}
 use Rattle.smp_app.specs.Verdict.{work_stage, drawn_stage}
 use Rattle.smp_app.specs.Deliveries.{Outputs, names_of}
 use Rattle.smp_plan.specs.Reads.{Reads, told}
-use Rattle.smp_app.specs.Stages.{draw_view, drawn_text, file_view, selection_view}
+use Rattle.smp_app.specs.Kept.Stages.{draw_view, drawn_text, file_view, selection_view}
 use Rattle.smp_plan.specs.Planned.{plan_view}
 use Rattle.smp_plan.proofs.Steps.{stops}
 use Rattle.smp_app.proofs.Stages.{names_written}

@@ -1,5 +1,5 @@
 -- What the functions of the crate owe each other: they read, and hand on a result that is a stage of the verdict.
-use Rattle.std.specs.Prelude.{◌≡◌, ◌≤◌, ℕ, List, map, Option, true, Result, Ok, Err}
+use Rattle.std.specs.Prelude.{◌≡◌, ◌+◌, ◌<◌, ◌≤◌, ◌^◌, ℕ, List, length, map, Option, Some, None, IfSome, true, Result, Ok, Err}
 use Rattle.smp_log.specs.declared.fault.ReplayFault.{ReplayFault}
 use Rattle.smp_log.specs.declared.fault.ReplayFault.TheVariants as replays
 use Rattle.smp_tape.specs.declared.draws.DrawFault.{DrawFault}
@@ -8,12 +8,22 @@ use Rattle.smp_split.specs.Runs.{Outcome, leaf, stopped}
 use Rattle.smp_split.specs.Trees.{weight_sum}
 use Rattle.smp_methods.specs.declared.any.AnyState.{AnyState}
 use Rattle.smp_stages.specs.Stages.{Progress}
-use Rattle.smp_twostage.specs.Selections.{BelongsToCovered, Coverage, covered_tree}
+use Rattle.smp_strata.specs.Plans.{Parts}
+use Rattle.smp_twostage.specs.declared.whole.StartedWhole.{StartedWhole}
+use Rattle.smp_twostage.specs.Covered.{StartsAlone}
+use Rattle.smp_twostage.specs.Selections.{BelongsToCovered, Coverage, covered_start, covered_tree, strata_sections}
+use Rattle.smp_log.specs.Answers.{log_reading}
+use Rattle.smp_log.specs.LoneSections.{section_reading, section_told}
+use Rattle.smp_log.specs.SectionReading.{any_reading}
+use Rattle.smp_log.specs.Told.{path_told}
+use Rattle.smp_twostage.specs.Starts.{StartsWhole}
 use Rattle.smp_words.specs.Words.{all_distinct}
 use Rattle.smp_status.specs.declared.status.Status.{Status}
 use Rattle.smp_status.specs.declared.status.Status.TheVariants as status
 use Rattle.smp_app.specs.declared.selection.Stopped.{Stopped}
 use Rattle.smp_app.specs.declared.selection.Stopped.TheVariants as stops
+use Rattle.smp_app.specs.declared.selection.Taken.{Taken}
+use Rattle.smp_app.specs.declared.selection.Taken.TheVariants as takes
 use Rattle.smp_app.specs.declared.selection.Walked.{Walked}
 use Rattle.smp_app.specs.declared.selection.Selection.{Selection}
 use Rattle.smp_app.specs.declared.job.DrawSource.{DrawSource}
@@ -33,8 +43,8 @@ use Rattle.smp_app.specs.Texts.{ids_text, steps_text, log_text, sample_text, rep
 use Rattle.smp_app.specs.Texts.{accepted_text}
 use Rattle.smp_app.specs.Commands.{Source, ByTape, BySeed, ByLog, ByOldLog, BySection, DrawnFile, Work, Lists, Draws, Job, inputs_of}
 use Rattle.smp_plan.specs.Stops.{Stop, Refused}
-use Rattle.smp_app.specs.Verdict.{draw_status, drawn_at}
-use Rattle.smp_app.specs.Draws.{IsDrawnOf}
+use Rattle.smp_app.specs.Verdict.{draw_status, drawn_at, drawn_by_log, drawn_by_old_log, drawn_by_section}
+use Rattle.smp_app.specs.Draws.{IsDrawnOf, OldDiffers, StratumDiffers, WholeDiffers}
 use Rattle.smp_app.specs.Answers.{Outside, Untouched, RefusesBy, Done, ReadFault, WriteFault, NoMemory}
 use Rattle.smp_status.specs.Reports.{HasLine}
 use Rattle.smp_plan.specs.Reads.{Follows}
@@ -83,6 +93,48 @@ job_view job =
     record { design = source_view job.design; frame = frame_view job.frame; work = work_view job.work }
 
 -- ---- selections
+
+-- where one stratum alone is drawn, the plan has it
+abbrev pub HasStratum : Parts → Option ℕ → Type 0
+HasStratum plan only = IfSome only (λ h. (h < length plan.strata) × (h < 2 ^ 32))
+
+-- where a walk of all strata starts, or of the one with this number
+abbrev pub StartsOf : Parts → Option ℕ → Progress AnyState → Type 0
+StartsOf plan None state = StartsWhole plan state
+StartsOf plan (Some h) state = StartsAlone plan h state
+
+pub record IsStart (plan : Parts) (only : Option ℕ) (started : StartedWhole) : Type 0 where
+  pub whole : started.whole ≡ record { plan = plan; only = only }
+  pub state : started.state ≡ covered_start (record { plan = plan; only = only })
+  pub starts : StartsOf plan only started.state
+
+-- the number of the stratum for which a log is taken, where it is one alone
+abbrev pub only_of : Taken → Option ℕ
+only_of takes.Either = None
+only_of takes.Old = None
+only_of (takes.Stratum h) = Some h
+
+-- the path that a log tells of a selection from a state, and its reading there
+abbrev pub path_by : Taken → Coverage → Progress AnyState → List ℕ → List Entry
+path_by (takes.Stratum h) c from log = section_told (covered_tree c) from (h + 1) log
+path_by other c from log = path_told (covered_tree c) from log
+
+abbrev pub reading_by : Taken → Coverage → Progress AnyState → (head log : List ℕ)
+    → Result (Progress AnyState) ℕ
+reading_by takes.Either c from head log = any_reading (covered_tree c) (strata_sections c) from head log
+reading_by takes.Old c from head log = log_reading (covered_tree c) from head log
+reading_by (takes.Stratum h) c from head log = section_reading (covered_tree c) from head (h + 1) log
+
+-- what it tells by a plan, and the line where it differs
+abbrev pub drawn_by_taken : Taken → Plan → List ℕ → Result Drawn Stop
+drawn_by_taken takes.Either plan log = drawn_by_log plan log
+drawn_by_taken takes.Old plan log = drawn_by_old_log plan log
+drawn_by_taken (takes.Stratum h) plan log = drawn_by_section plan h log
+
+abbrev pub DiffersTaken : Taken → Plan → List ℕ → ℕ → Type 0
+DiffersTaken takes.Either plan log line = WholeDiffers plan log line
+DiffersTaken takes.Old plan log line = OldDiffers plan log line
+DiffersTaken (takes.Stratum h) plan log line = StratumDiffers h plan log line
 
 -- where a run stopped: at a state whose draw was refused
 pub record RefusedAt {Rest : Type 0} (plan : Plan) (outcome : Outcome (Progress AnyState) Rest)
