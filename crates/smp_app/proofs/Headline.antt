@@ -1,5 +1,5 @@
 -- A call that ended well has drawn by the design, the frame and the draws that were read, and a log that was refused differs at its line.
-use Rattle.std.proofs.Common.{◌≡◌, ℕ, zero, suc, ◌+◌, ◌-◌, ◌^◌, ◌<◌, ◌≤◌, Bool, true, false, ◌&&◌, List, [], ◌∷◌, ◌++◌, length, Option, Some, None, Result, Ok, Err, refl, sym, ap, subst, ◌∙◌, inl, inr, arith, length-append}
+use Rattle.std.proofs.Common.{◌≡◌, ℕ, zero, suc, ◌+◌, ◌-◌, ◌^◌, ◌<◌, ◌≤◌, Bool, true, false, ◌&&◌, List, [], ◌∷◌, ◌++◌, map, length, Option, Some, None, Result, Ok, Err, refl, sym, ap, subst, ◌∙◌, inl, inr, arith, length-append}
 use Rattle.std.specs.Prelude.{◌==◌, if◌then◌else◌, nat_le, option_map}
 use Rattle.std.specs.List.{filter, flat_map, range_with_len}
 use Rattle.std.proofs.lemmas.Bool.{cases_Bool, eqb-true}
@@ -61,13 +61,13 @@ use Rattle.smp_plan.specs.Plans.{Plan, parts, quick_design}
 use Rattle.smp_app.specs.Drawn.{Drawn, tree_of, start_of, sections_of, covered, drawn_rows}
 use Rattle.smp_app.specs.Texts.{ids_text, log_text, migrated_text, report_text, sample_text, steps_text}
 use Rattle.smp_plan.specs.Inputs.{Given, Held, FrameHeld, ReadDesign, unless_misfit, design_stage, frame_stage, plan_stage}
-use Rattle.smp_app.specs.Commands.{DrawnFile, ByTape, ByLog, ByOldLog, BySection, Draws, Job, source_of, log_source, job_of, job_for, outputs_by}
+use Rattle.smp_app.specs.Commands.{DrawnFile, ByTape, ByLog, ByOldLog, BySection, Draws, Job, source_of, log_source, job_of, job_for, outputs_by, written_by}
 use Rattle.smp_app.specs.Commands as drawing
 use Rattle.smp_faults.specs.Steps.{◌>>=◌}
 use Rattle.smp_plan.specs.Stops.{Stop, Refused, content, or_fault}
 use Rattle.smp_app.specs.Verdict.{values_taken, values_left, no_words, drawn_at, drawn_of, drawn_by_tape, drawn_by_seed, alone, stratum_at, told_by, drawn_by_log, drawn_by_old_log, drawn_by_section, drawn_stage, outputs_stage}
 use Rattle.smp_app.specs.Deliveries.{Outputs, with_files}
-use Rattle.smp_app.specs.Draws.{IsDraw, IsDrawnAlone, IsDrawnBy, IsDrawnOf, IsExactRefusal, IsRefused, IsRefusedAt, OldDiffers, RefusesLog, StratumDiffers, WholeDiffers}
+use Rattle.smp_app.specs.Draws.{IsDrawFrom, IsDrawnAlone, IsDrawnBy, IsDrawnOf, IsExactFrom, IsExactRefusal, IsRefused, IsRefusedFrom, OldDiffers, RefusesLog, StratumDiffers, WholeDiffers}
 use Rattle.smp_app.specs.Answers.{Outside, Says, IsWork, Done, Refuses}
 use Rattle.smp_app.specs.Headline.{IsDrawnByTape, IsDrawnBySeed, IsDrawnByChance, IsReadFrame, IsReadPlan, IsExactDraw, IsReplayed, IsExactQuick, IsExactReplay, IsExactSection, IsExactMigration, IsRefusedLog, Ends, Headline}
 use Rattle.smp_app.proofs.Alone.{seats_long}
@@ -440,6 +440,35 @@ outputs_are words job fs before now source files put plan drawn asked work_is pl
     let staged : outputs_stage job fs ≡ Ok (outputs_by files put drawn) = rw (planned_is, work_is, drawn_is) refl in
     ok_same _ _ (sym work.accepted ∙ verdict_of words job asked fs ∙ staged)
 
+-- what a job that draws has drawn by its plan, and what it has written and put of that
+record Drew (job : Job) (source : drawing.Source) (files : List DrawnFile) (put : Drawn → List ℕ) (fs : Files) (before now : Outside) : Type 0 where
+  plan : Plan
+  planned : plan_stage job.design job.frame fs ≡ Ok plan
+  drawn : Drawn
+  staged : drawn_stage plan source fs ≡ Ok drawn
+  by_plan : IsDrawnOf drawn.only plan drawn
+  written : now.files ≡ Some (with_files (map (written_by drawn) files) fs)
+  shown : now.written ≡ with_bytes (put drawn) before.written
+
+drew : (words : List (List ℕ)) (job : Job) (fs : Files) (before now : Outside) (source : drawing.Source) (files : List DrawnFile) (put : Drawn → List ℕ)
+    → job_for words ≡ Some job → job.work ≡ Draws source files put → Done words before now → before.files ≡ Some fs → Drew job source files put fs before now
+drew words job fs before now source files put asked work_is done told =
+    let same : done.job ≡ job = some_same _ _ (sym done.asked ∙ asked) in
+    let work : IsWork words job fs before now = subst (λ (j : Job). IsWork words j fs before now) same (done.done fs told) in
+    let plan = work.exact.plan in
+    let planned_so = work.exact.planned in
+    let from : IsDrawFrom plan source fs = subst (λ (w : drawing.Work). IsExactFrom plan w fs) work_is work.exact.from_plan in
+    let outputs = outputs_are words job fs before now source files put plan from.drawn asked work_is planned_so from.is_drawn work in
+    record {
+      plan = plan;
+      planned = planned_so;
+      drawn = from.drawn;
+      staged = from.is_drawn;
+      by_plan = from.by_plan;
+      written = work.files ∙ ap (λ (o : Outputs). Some (with_files o.files fs)) outputs;
+      shown = work.written ∙ ap (λ (o : Outputs). with_bytes o.put before.written) outputs;
+    }
+
 -- what is drawn of all strata
 by_whole : (plan : Plan) (drawn : Drawn) → drawn.only ≡ None → IsDrawnOf drawn.only plan drawn → IsDrawnBy plan drawn
 by_whole plan drawn all by = subst (λ (o : Option ℕ). IsDrawnOf o plan drawn) all by
@@ -513,30 +542,19 @@ module _ (a : DrawArguments) (fs : Files) (before now : Outside) (words : List (
   draw_asked : job_for words ≡ Some draw_job
   draw_asked = ap (option_map job_of) asked
 
-  drawn_work : IsWork words draw_job fs before now → IsExactDraw a fs before now
-  drawn_work work =
-      let exact : IsDraw draw_job (source_of a.chance) fs = work.exact in
-      let plan = exact.plan in
-      let drawn = exact.from_plan.drawn in
-      let from = read_plan a.design a.frame fs plan (read a.design a.frame fs plan exact.planned) in
-      let same = chance_same plan a.chance fs drawn exact.from_plan.is_drawn in
-      let by = by_whole plan drawn same.only_so exact.from_plan.by_plan in
-      let own = own_plan plan drawn by in
-      let here : IsReadPlan a.design a.frame fs drawn.plan = subst (IsReadPlan a.design a.frame fs) (sym same.by_plan) from in
-      let outputs = outputs_are words draw_job fs before now (source_of a.chance) draw_files report_text plan drawn draw_asked refl exact.planned exact.from_plan.is_drawn work in
-      record {
-        drawn = drawn;
-        is_drawn = by_chance plan by.start a.chance fs drawn same.by_plan exact.from_plan.is_drawn;
-        by_plan = own;
-        written = work.files ∙ ap (λ (o : Outputs). Some (with_files o.files fs)) outputs;
-        put = work.written ∙ ap (λ (o : Outputs). with_bytes o.put before.written) outputs;
-        read = here;
-      }
-
   pub exact_draw : Done words before now → before.files ≡ Some fs → IsExactDraw a fs before now
   exact_draw done told =
-      let same : done.job ≡ draw_job = some_same _ _ (sym done.asked ∙ draw_asked) in
-      drawn_work (subst (λ (j : Job). IsWork words j fs before now) same (done.done fs told))
+      let d = drew words draw_job fs before now (source_of a.chance) draw_files report_text draw_asked refl done told in
+      let same = chance_same d.plan a.chance fs d.drawn d.staged in
+      let by = by_whole d.plan d.drawn same.only_so d.by_plan in
+      record {
+        drawn = d.drawn;
+        is_drawn = by_chance d.plan by.start a.chance fs d.drawn same.by_plan d.staged;
+        by_plan = own_plan d.plan d.drawn by;
+        written = d.written;
+        put = d.shown;
+        read = subst (IsReadPlan a.design a.frame fs) (sym same.by_plan) (read_plan a.design a.frame fs d.plan (read a.design a.frame fs d.plan d.planned));
+      }
 
   -- what it wrote is accepted
   pub is_replayed : (exact : IsExactDraw a fs before now) → IsReplayed exact.drawn
@@ -561,29 +579,21 @@ module _ (a : QuickArguments) (fs : Files) (before now : Outside) (words : List 
   unfolding design_stage
   quick_planned plan h = planned quick_read a.frame fs plan h
 
-  quick_work : IsWork words quick_job fs before now → IsExactQuick a fs before now
-  quick_work work =
-      let exact : IsDraw quick_job (ByTape a.tape) fs = work.exact in
-      let plan = exact.plan in
-      let drawn = exact.from_plan.drawn in
-      let from = frame_plan quick_read a.frame fs plan (quick_planned plan exact.planned) in
-      let same = chance_same plan (Tape a.tape) fs drawn exact.from_plan.is_drawn in
-      let by = by_whole plan drawn same.only_so exact.from_plan.by_plan in
-      let outputs = outputs_are words quick_job fs before now (ByTape a.tape) quick_files steps_text plan drawn quick_asked refl exact.planned exact.from_plan.is_drawn work in
+  pub exact_quick : Done words before now → before.files ≡ Some fs → IsExactQuick a fs before now
+  exact_quick done told =
+      let d = drew words quick_job fs before now (ByTape a.tape) quick_files steps_text quick_asked refl done told in
+      let from = frame_plan quick_read a.frame fs d.plan (quick_planned d.plan d.planned) in
+      let same = chance_same d.plan (Tape a.tape) fs d.drawn d.staged in
+      let by = by_whole d.plan d.drawn same.only_so d.by_plan in
       record {
-        drawn = drawn;
-        is_drawn = by_chance plan by.start (Tape a.tape) fs drawn same.by_plan exact.from_plan.is_drawn;
-        by_plan = own_plan plan drawn by;
-        written = work.files ∙ ap (λ (o : Outputs). Some (with_files o.files fs)) outputs;
-        put = work.written ∙ ap (λ (o : Outputs). with_bytes o.put before.written) outputs;
+        drawn = d.drawn;
+        is_drawn = by_chance d.plan by.start (Tape a.tape) fs d.drawn same.by_plan d.staged;
+        by_plan = own_plan d.plan d.drawn by;
+        written = d.written;
+        put = d.shown;
         design = ap (λ (p : Plan). p.design) same.by_plan ∙ from.0;
         read = subst (IsReadFrame a.frame [] fs) (sym same.by_plan) from.1;
       }
-
-  pub exact_quick : Done words before now → before.files ≡ Some fs → IsExactQuick a fs before now
-  exact_quick done told =
-      let same : done.job ≡ quick_job = some_same _ _ (sym done.asked ∙ quick_asked) in
-      quick_work (subst (λ (j : Job). IsWork words j fs before now) same (done.done fs told))
 
 -- ---- a replay that ended well
 
@@ -598,25 +608,19 @@ module _ (a : ReplayArguments) (fs : Files) (before now : Outside) (words : List
     replay_asked : job_for words ≡ Some (replay_job source)
     replay_asked = ap (option_map job_of) asked ∙ ap (λ (s : drawing.Source). Some (replay_job s)) from_words
 
-    replay_done : Done words before now → before.files ≡ Some fs → IsWork words (replay_job source) fs before now
-    replay_done done told =
-        let same : done.job ≡ replay_job source = some_same _ _ (sym done.asked ∙ replay_asked) in
-        subst (λ (j : Job). IsWork words j fs before now) same (done.done fs told)
+    replay_drew : Done words before now → before.files ≡ Some fs → Drew (replay_job source) source replay_files report_text fs before now
+    replay_drew = drew words (replay_job source) fs before now source replay_files report_text replay_asked refl
 
-    replay_outputs : (work : IsWork words (replay_job source) fs before now) (exact : IsDraw (replay_job source) source fs) → work.outputs ≡ outputs_by replay_files report_text exact.from_plan.drawn
-    replay_outputs work exact = outputs_are words (replay_job source) fs before now source replay_files report_text exact.plan exact.from_plan.drawn replay_asked refl exact.planned exact.from_plan.is_drawn work
-
-  replayed_work : a.stratum ≡ None → IsWork words (replay_job (ByLog a.log)) fs before now → IsExactReplay a fs before now
-  replayed_work none work =
-      let exact : IsDraw (replay_job (ByLog a.log)) (ByLog a.log) fs = work.exact in
-      let plan = exact.plan in
-      let drawn = exact.from_plan.drawn in
-      let from = read_plan a.design a.frame fs plan (read a.design a.frame fs plan exact.planned) in
-      let logged = by_log plan a.log fs drawn exact.from_plan.is_drawn in
+  pub exact_replay : a.stratum ≡ None → Done words before now → before.files ≡ Some fs → IsExactReplay a fs before now
+  exact_replay none done told_files =
+      let d = replay_drew (ByLog a.log) (ap (log_source a.log) none) done told_files in
+      let plan = d.plan in
+      let drawn = d.drawn in
+      let from = read_plan a.design a.frame fs plan (read a.design a.frame fs plan d.planned) in
+      let logged = by_log plan a.log fs drawn d.staged in
       let told = told_so plan None (path_told (tree_of plan) (start_of plan) logged.log) (any_reading (tree_of plan) (sections_of plan) (start_of plan) plan.head logged.log) drawn logged.tells in
-      let by = by_whole plan drawn told.same.only_so exact.from_plan.by_plan in
+      let by = by_whole plan drawn told.same.only_so d.by_plan in
       let any = any_log plan by.start (head_so a.design a.frame fs plan from) logged.log drawn logged.tells in
-      let outputs = replay_outputs (ByLog a.log) (ap (log_source a.log) none) work exact in
       record {
         drawn = drawn;
         log = logged.log;
@@ -628,13 +632,10 @@ module _ (a : ReplayArguments) (fs : Files) (before now : Outside) (words : List
         };
         path_is = any.path_is;
         by_plan = own_plan plan drawn by;
-        written = work.files ∙ ap (λ (o : Outputs). Some (with_files o.files fs)) outputs;
-        put = work.written ∙ ap (λ (o : Outputs). with_bytes o.put before.written) outputs;
+        written = d.written;
+        put = d.shown;
         read = subst (IsReadPlan a.design a.frame fs) (sym any.same.by_plan) from;
       }
-
-  pub exact_replay : a.stratum ≡ None → Done words before now → before.files ≡ Some fs → IsExactReplay a fs before now
-  exact_replay none done told = replayed_work none (replay_done (ByLog a.log) (ap (log_source a.log) none) done told)
 
   -- ---- of one stratum
 
@@ -646,16 +647,16 @@ module _ (a : ReplayArguments) (fs : Files) (before now : Outside) (words : List
       rows : BelongsToWhole (parts plan) (start_of plan) → (leaf : Progress AnyState) → IsSectionedGenuine (tree_of plan) (sections_of plan) (start_of plan) plan.head log leaf → length log < 2 ^ 64
           → drawn_rows drawn ≡ filter (is_of_stratum (parts plan) h) (selected_units (tree_of plan) leaf)
 
-    section_work : a.stratum ≡ Some (h + 1) → IsWork words (replay_job (BySection a.log (h + 1))) fs before now → IsExactSection a h fs before now
-    section_work number work =
-        let exact : IsDraw (replay_job (BySection a.log (h + 1))) (BySection a.log (h + 1)) fs = work.exact in
-        let plan = exact.plan in
-        let drawn = exact.from_plan.drawn in
-        let from = read_plan a.design a.frame fs plan (read a.design a.frame fs plan exact.planned) in
-        let logged = by_section plan a.log (h + 1) h fs drawn refl exact.from_plan.is_drawn in
+    pub exact_section_replay : a.stratum ≡ Some (h + 1) → Done words before now → before.files ≡ Some fs → IsExactSection a h fs before now
+    exact_section_replay number done told_files =
+        let d = replay_drew (BySection a.log (h + 1)) (ap (log_source a.log) number) done told_files in
+        let plan = d.plan in
+        let drawn = d.drawn in
+        let from = read_plan a.design a.frame fs plan (read a.design a.frame fs plan d.planned) in
+        let logged = by_section plan a.log (h + 1) h fs drawn refl d.staged in
         let own = alone plan h in
         let told = told_so plan (Some h) (section_told (covered_tree own) (covered_start own) (h + 1) logged.log) (section_reading (covered_tree own) (covered_start own) plan.head (h + 1) logged.log) drawn logged.tells in
-        let by : IsDrawnAlone plan h drawn = subst (λ (o : Option ℕ). IsDrawnOf o plan drawn) told.same.only_so exact.from_plan.by_plan in
+        let by : IsDrawnAlone plan h drawn = subst (λ (o : Option ℕ). IsDrawnOf o plan drawn) told.same.only_so d.by_plan in
         let lone = section_log plan (head_so a.design a.frame fs plan from) h by.there by.starts logged.log drawn logged.tells in
         let seen : covered drawn ≡ own = ap (λ (p : Plan). record { plan = parts p; only = drawn.only }) lone.same.by_plan ∙ ap (λ (o : Option ℕ). record { plan = parts plan; only = o }) lone.same.only_so in
         let of_plan : Sectioned drawn plan logged.log = record {
@@ -664,7 +665,6 @@ module _ (a : ReplayArguments) (fs : Files) (before now : Outside) (words : List
           rows = λ member leaf genuine short. (ap (λ (c : Coverage). selected_units (covered_tree c) drawn.leaf) seen ∙ lone.rows member leaf short genuine);
         } in
         let of_drawn : Sectioned drawn drawn.plan logged.log = subst (λ (p : Plan). Sectioned drawn p logged.log) (sym lone.same.by_plan) of_plan in
-        let outputs = replay_outputs (BySection a.log (h + 1)) (ap (log_source a.log) number) work exact in
         record {
           drawn = drawn;
           log = logged.log;
@@ -673,13 +673,10 @@ module _ (a : ReplayArguments) (fs : Files) (before now : Outside) (words : List
           path_is = of_drawn.path_is;
           by_plan = subst (λ (p : Plan). IsDrawnAlone p h drawn) (sym lone.same.by_plan) by;
           rows = of_drawn.rows;
-          written = work.files ∙ ap (λ (o : Outputs). Some (with_files o.files fs)) outputs;
-          put = work.written ∙ ap (λ (o : Outputs). with_bytes o.put before.written) outputs;
+          written = d.written;
+          put = d.shown;
           read = subst (IsReadPlan a.design a.frame fs) (sym lone.same.by_plan) from;
         }
-
-    pub exact_section_replay : a.stratum ≡ Some (h + 1) → Done words before now → before.files ≡ Some fs → IsExactSection a h fs before now
-    exact_section_replay number done told = section_work number (replay_done (BySection a.log (h + 1)) (ap (log_source a.log) number) done told)
 
 -- ---- a migration that ended well
 
@@ -693,17 +690,16 @@ module _ (a : MigrateArguments) (fs : Files) (before now : Outside) (words : Lis
   migrate_asked : job_for words ≡ Some migrate_job
   migrate_asked = ap (option_map job_of) asked
 
-  migrated_work : IsWork words migrate_job fs before now → IsExactMigration a fs before now
-  migrated_work work =
-      let exact : IsDraw migrate_job (ByOldLog a.log) fs = work.exact in
-      let plan = exact.plan in
-      let drawn = exact.from_plan.drawn in
-      let from = read_plan a.design a.frame fs plan (read a.design a.frame fs plan exact.planned) in
-      let logged = by_old_log plan a.log fs drawn exact.from_plan.is_drawn in
+  pub exact_migration : Done words before now → before.files ≡ Some fs → IsExactMigration a fs before now
+  exact_migration done told_files =
+      let d = drew words migrate_job fs before now (ByOldLog a.log) migrate_files migrated_text migrate_asked refl done told_files in
+      let plan = d.plan in
+      let drawn = d.drawn in
+      let from = read_plan a.design a.frame fs plan (read a.design a.frame fs plan d.planned) in
+      let logged = by_old_log plan a.log fs drawn d.staged in
       let told = told_so plan None (path_told (tree_of plan) (start_of plan) logged.log) (log_reading (tree_of plan) (start_of plan) plan.head logged.log) drawn logged.tells in
-      let by = by_whole plan drawn told.same.only_so exact.from_plan.by_plan in
+      let by = by_whole plan drawn told.same.only_so d.by_plan in
       let old = old_log plan by.start (head_so a.design a.frame fs plan from) logged.log drawn logged.tells in
-      let outputs = outputs_are words migrate_job fs before now (ByOldLog a.log) migrate_files migrated_text plan drawn migrate_asked refl exact.planned exact.from_plan.is_drawn work in
       record {
         drawn = drawn;
         log = logged.log;
@@ -715,17 +711,12 @@ module _ (a : MigrateArguments) (fs : Files) (before now : Outside) (words : Lis
         };
         path_is = old.path_is;
         by_plan = own_plan plan drawn by;
-        written = work.files ∙ ap (λ (o : Outputs). Some (with_files o.files fs)) outputs;
+        written = d.written;
         genuine = (written_genuine plan drawn by).0;
         same_path = (written_genuine plan drawn by).1 ∙ old.path_is;
-        put = work.written ∙ ap (λ (o : Outputs). with_bytes o.put before.written) outputs;
+        put = d.shown;
         read = subst (IsReadPlan a.design a.frame fs) (sym old.same.by_plan) from;
       }
-
-  pub exact_migration : Done words before now → before.files ≡ Some fs → IsExactMigration a fs before now
-  exact_migration done told =
-      let same : done.job ≡ migrate_job = some_same _ _ (sym done.asked ∙ migrate_asked) in
-      migrated_work (subst (λ (j : Job). IsWork words j fs before now) same (done.done fs told))
 
 -- ---- a log that was refused
 
@@ -738,9 +729,9 @@ module _ (words : List (List ℕ)) (fs : Files) (line : ℕ) (told : Option File
       subst (λ (c : Command). IsExactRefusal (job_of c) (status.LogDiffers line) fs) same (refuses.exact fs held)
 
 -- so the log that was read differs
-refused_log : (design frame log : List ℕ) (fs : Files) (line : ℕ) (job : Job) (source : drawing.Source) (Differs : Plan → List ℕ → Type 0) → job.design ≡ Held design → job.frame ≡ FrameHeld frame
-    → ((plan : Plan) → IsRefusedAt plan source fs line → RefusesLog (Differs plan) log fs) → IsRefused job source line fs → IsRefusedLog design frame log fs Differs
-refused_log design frame log fs line job source Differs held frame_held differs refused =
+refused_log : (design frame log : List ℕ) (fs : Files) (line : ℕ) (job : Job) (Differs : Plan → List ℕ → Type 0) → job.design ≡ Held design → job.frame ≡ FrameHeld frame
+    → ((plan : Plan) → IsRefusedFrom plan job.work fs line → RefusesLog (Differs plan) log fs) → IsRefused job fs line → IsRefusedLog design frame log fs Differs
+refused_log design frame log fs line job Differs held frame_held differs refused =
     let staged : design_stage (Held design) fs >>= (λ d. frame_stage d (FrameHeld frame) fs) ≡ Ok refused.plan = rw (← held, ← frame_held) refused.planned in
     record {
       plan = refused.plan;
@@ -756,21 +747,21 @@ module _ (answer : Status) (words : List (List ℕ)) (before now : Outside) (fs 
   replay_line a ends none =
       let job : Job = replay_job a fs before now words ends.asked (ByLog a.log) in
       let exact : IsExactRefusal (job_of (commands.Replay a)) (status.LogDiffers line) fs = refused_by words fs line before.files ends.told (refuses_line ends.answered) (commands.Replay a) ends.asked in
-      let refused : IsRefused job (ByLog a.log) line fs = subst (λ (o : Option ℕ). IsExactRefusal (replay_job a fs before now words ends.asked (log_source a.log o)) (status.LogDiffers line) fs) none exact in
-      refused_log a.design a.frame a.log fs line job (ByLog a.log) (λ plan log. WholeDiffers plan log line) refl refl (λ plan r. r) refused
+      let refused : IsRefused job fs line = subst (λ (o : Option ℕ). IsExactRefusal (replay_job a fs before now words ends.asked (log_source a.log o)) (status.LogDiffers line) fs) none exact in
+      refused_log a.design a.frame a.log fs line job (λ plan log. WholeDiffers plan log line) refl refl (λ plan r. r) refused
 
   section_line : (a : ReplayArguments) (h : ℕ) → Ends answer words before (status.LogDiffers line) (commands.Replay a) fs → a.stratum ≡ Some (h + 1) → IsRefusedLog a.design a.frame a.log fs (λ plan log. StratumDiffers h plan log line)
   section_line a h ends number =
       let job : Job = replay_job a fs before now words ends.asked (BySection a.log (h + 1)) in
       let exact : IsExactRefusal (job_of (commands.Replay a)) (status.LogDiffers line) fs = refused_by words fs line before.files ends.told (refuses_line ends.answered) (commands.Replay a) ends.asked in
-      let refused : IsRefused job (BySection a.log (h + 1)) line fs = subst (λ (o : Option ℕ). IsExactRefusal (replay_job a fs before now words ends.asked (log_source a.log o)) (status.LogDiffers line) fs) number exact in
+      let refused : IsRefused job fs line = subst (λ (o : Option ℕ). IsExactRefusal (replay_job a fs before now words ends.asked (log_source a.log o)) (status.LogDiffers line) fs) number exact in
       let back : h + 1 - 1 ≡ h = omega arith in
-      refused_log a.design a.frame a.log fs line job (BySection a.log (h + 1)) (λ plan log. StratumDiffers h plan log line) refl refl
+      refused_log a.design a.frame a.log fs line job (λ plan log. StratumDiffers h plan log line) refl refl
       (λ plan r. subst (λ (k : ℕ). RefusesLog (λ bytes. StratumDiffers k plan bytes line) a.log fs) back r) refused
 
   migrate_line : (a : MigrateArguments) → Ends answer words before (status.LogDiffers line) (commands.Migrate a) fs → IsRefusedLog a.design a.frame a.log fs (λ plan log. OldDiffers plan log line)
   migrate_line a ends =
-      refused_log a.design a.frame a.log fs line (migrate_job a fs before now words ends.asked) (ByOldLog a.log) (λ plan log. OldDiffers plan log line) refl refl (λ plan r. r)
+      refused_log a.design a.frame a.log fs line (migrate_job a fs before now words ends.asked) (λ plan log. OldDiffers plan log line) refl refl (λ plan r. r)
       (refused_by words fs line before.files ends.told (refuses_line ends.answered) (commands.Migrate a) ends.asked)
 
 pub headline : (answer : Status) (words : List (List ℕ)) (before now : Outside) → Says (class_of answer) answer words before now → Headline answer words before now

@@ -4,7 +4,7 @@ use Rattle.std.specs.Prelude.{Ok, Err}
 use Rattle.std.specs.List.{count_by, range_with_len, slice_get}
 use Rattle.smp_io.specs.Store.{Files}
 use Rattle.smp_fractions.specs.Bounds.{IsAround}
-use Rattle.smp_fractions.specs.Fractions.{Fraction, Same, integer, sum_below}
+use Rattle.smp_fractions.specs.Fractions.{Same, integer, sum_below}
 use Rattle.smp_prob.specs.Given.{expected_size}
 use Rattle.smp_split.specs.Means.{mean, inclusion_probability}
 use Rattle.smp_balance.specs.Totals.{IsBalanced}
@@ -36,16 +36,11 @@ use Rattle.smp_plan.specs.Inputs.{plan_stage}
 
 -- ---- how many are drawn
 
--- how many of the first stage units of stratum h are drawn, and how many rows of its unit k
+-- how many of the first stage units of stratum h are drawn
 abbrev pub firsts_drawn : Drawn → ℕ → Stratum → ℕ
 firsts_drawn drawn h s =
     let selected = first_selected (parts drawn.plan) drawn.leaf.states h in
     count_by selected (range_with_len 0 (length s.units))
-
-abbrev pub rows_drawn : Drawn → ℕ → ℕ → first.FirstUnit → ℕ
-rows_drawn drawn h k u =
-    let selected = second_selected (parts drawn.plan) drawn.leaf.states h k in
-    count_by selected (range_with_len 0 (length u.rows))
 
 -- As many first stage units of each stratum are drawn as the design asks for: its sample size, or with given probabilities what they add up
 -- to, where that is a whole number.
@@ -56,15 +51,12 @@ DrawsFirsts drawn =
 
 -- Where the design gives the probabilities, as many are drawn by every method that doesn't balance as these add up to, or, where
 -- that isn't a whole number, one of the two whole numbers around it.
-abbrev pub IsDrawnAround : Drawn → ℕ → Stratum → Type 0
-IsDrawnAround drawn h s =
-    let sum = expected_size (first_probs drawn.plan.design drawn.plan.units h) in
-    IfSome drawn.plan.design.columns.prob (λ column. IsAround (firsts_drawn drawn h s) sum)
-
 abbrev pub DrawsAround : Drawn → Type 0
 DrawsAround drawn =
     balances drawn.plan.design.method ≡ false → (h : ℕ) (s : Stratum)
-    → slice_get (parts drawn.plan).strata h ≡ Some s → IsDrawnAround drawn h s
+    → slice_get (parts drawn.plan).strata h ≡ Some s
+    → IfSome drawn.plan.design.columns.prob (λ column. IsAround (firsts_drawn drawn h s)
+    (expected_size (first_probs drawn.plan.design drawn.plan.units h)))
 
 -- with a second stage, as many rows of each of these as it asks for
 abbrev pub DrawsSeconds : Drawn → Type 0
@@ -73,7 +65,8 @@ DrawsSeconds drawn =
     → slice_get (parts drawn.plan).strata h ≡ Some s → slice_get s.units k ≡ Some u
     → drawn.plan.design.second ≡ Some asked
     → first_selected (parts drawn.plan) drawn.leaf.states h k ≡ true
-    → rows_drawn drawn h k u ≡ asked.n
+    → count_by (second_selected (parts drawn.plan) drawn.leaf.states h k) (range_with_len 0 (length u.rows))
+    ≡ asked.n
 
 -- ---- balance
 
@@ -106,21 +99,15 @@ pub record KeepsBalance (drawn : Drawn) : Type 0 where
 
 -- ---- what is drawn by a plan
 
--- what a row counts for in the weighted total of some values: its value over its probability
-abbrev pub counted : Plan → (ℕ → ℤ) → ℕ → Fraction
-counted plan x row = weighted (row_probability plan row) (x row)
-
--- its value, and 0 where its probability is 0
-abbrev pub to_estimate : Plan → (ℕ → ℤ) → ℕ → Fraction
-to_estimate plan x row = integer (known (row_probability plan row) (x row))
-
 -- In the draw tree each row's probability of selection, over draws that are uniform below each asked bound, is exactly the one that is
 -- asked for it; and the mean of the weighted total of any values is their sum over the rows that can be selected.
 pub record HasProbabilities (plan : Plan) : Type 0 where
   pub probability : (row : ℕ) → row < length plan.units
       → Same (inclusion_probability (tree_of plan) (start_of plan) row) (row_probability plan row)
-  pub unbiased : (x : ℕ → ℤ) → Same (mean (tree_of plan) (counted plan x) (start_of plan))
-      (sum_below (length plan.units) (to_estimate plan x))
+  -- A row counts for its value over its probability there, and for its value here, or for 0 where its probability is 0.
+  pub unbiased : (x : ℕ → ℤ)
+      → Same (mean (tree_of plan) (λ row. weighted (row_probability plan row) (x row)) (start_of plan))
+      (sum_below (length plan.units) (λ row. integer (known (row_probability plan row) (x row))))
 
 -- what is drawn of all strata
 pub record IsDrawnBy (plan : Plan) (drawn : Drawn) : Type 0 where
@@ -161,23 +148,15 @@ pub record IsDrawFrom (plan : Plan) (source : Source) (fs : Files) : Type 0 wher
   pub is_drawn : drawn_stage plan source fs ≡ Ok drawn
   pub by_plan : IsDrawnOf drawn.only plan drawn
 
--- what it draws by the plan of a job
-pub record IsDraw (job : Job) (source : Source) (fs : Files) : Type 0 where
-  pub plan : Plan
-  pub planned : plan_stage job.design job.frame fs ≡ Ok plan
-  pub from_plan : IsDrawFrom plan source fs
-
 abbrev pub IsExactFrom : Plan → Work → Files → Type 0
 IsExactFrom plan (Lists text) fs = Unit {0}
 IsExactFrom plan (Draws source files put) fs = IsDrawFrom plan source fs
 
-abbrev pub IsExactWork : Job → Work → Files → Type 0
-IsExactWork job (Lists text) fs = Unit {0}
-IsExactWork job (Draws source files put) fs = IsDraw job source fs
-
--- what a job draws is drawn with the requested probabilities
-abbrev pub IsExact : Job → Files → Type 0
-IsExact job fs = IsExactWork job job.work fs
+-- what a job draws by its plan is drawn with the requested probabilities
+pub record IsExact (job : Job) (fs : Files) : Type 0 where
+  pub plan : Plan
+  pub planned : plan_stage job.design job.frame fs ≡ Ok plan
+  pub from_plan : IsExactFrom plan job.work fs
 
 -- ---- a log that is refused
 
@@ -217,29 +196,24 @@ IsRefusedAt plan other fs line = Unit {0}
 abbrev pub IsRefusedBy : Plan → Source → Files → Status → Type 0
 IsRefusedBy plan source fs refusal = IfLine refusal (IsRefusedAt plan source fs)
 
--- what a job's source refuses by the plan of the job
-pub record IsRefused (job : Job) (source : Source) (line : ℕ) (fs : Files) : Type 0 where
-  pub plan : Plan
-  pub planned : plan_stage job.design job.frame fs ≡ Ok plan
-  pub by_plan : IsRefusedAt plan source fs line
-
 -- ---- what a job ends with: what is drawn, or a refusal
 
-abbrev pub IsRefusedFrom : Plan → Work → Status → Files → Type 0
-IsRefusedFrom plan (Lists text) refusal fs = Unit {0}
-IsRefusedFrom plan (Draws source files put) refusal fs = IsRefusedBy plan source fs refusal
+abbrev pub IsRefusedFrom : Plan → Work → Files → ℕ → Type 0
+IsRefusedFrom plan (Lists text) fs = λ line. Unit {0}
+IsRefusedFrom plan (Draws source files put) fs = IsRefusedAt plan source fs
 
-abbrev pub IsRefusedWork : Job → Work → Status → Files → Type 0
-IsRefusedWork job (Lists text) refusal fs = Unit {0}
-IsRefusedWork job (Draws source files put) refusal fs =
-    IfLine refusal (λ line. IsRefused job source line fs)
+-- what a job refuses at a line, by its plan
+pub record IsRefused (job : Job) (fs : Files) (line : ℕ) : Type 0 where
+  pub plan : Plan
+  pub planned : plan_stage job.design job.frame fs ≡ Ok plan
+  pub by_plan : IsRefusedFrom plan job.work fs line
 
 abbrev pub IsExactRefusal : Job → Status → Files → Type 0
-IsExactRefusal job refusal fs = IsRefusedWork job job.work refusal fs
+IsExactRefusal job refusal fs = IfLine refusal (IsRefused job fs)
 
 abbrev pub EndsExactFrom : {A : Type 0} → Plan → Work → Files → Result A Status → Type 0
 EndsExactFrom plan work fs (Ok outputs) = IsExactFrom plan work fs
-EndsExactFrom plan work fs (Err refusal) = IsRefusedFrom plan work refusal fs
+EndsExactFrom plan work fs (Err refusal) = IfLine refusal (IsRefusedFrom plan work fs)
 
 abbrev pub EndsExact : {A : Type 0} → Job → Files → Result A Status → Type 0
 EndsExact job fs (Ok outputs) = IsExact job fs

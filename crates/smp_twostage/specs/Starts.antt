@@ -111,8 +111,8 @@ pub record StartsWhole (plan : Parts) (start : Progress AnyState) : Type 0 where
   pub seconds : (h k n : ℕ) (s : stratum.Stratum) (u : unit.FirstUnit) (request : Request)
       → slice_get plan.strata h ≡ Some s → slice_get s.units k ≡ Some u → u.second ≡ Some request
       → IsFor request (length u.rows) n → SecondSelects plan start h k u n
-  -- By every method that doesn't balance, as many of a stratum's first stage units are selected as their probabilities add up to, and where these
-  -- have no whole sum, one of the two whole numbers around it.
+  -- By every method that doesn't balance, as many of a stratum's first stage units are selected as their probabilities add up to,
+  -- and where these have no whole sum, one of the two whole numbers around it.
   pub around : balances plan.method ≡ false → (h : ℕ) (s : stratum.Stratum) → slice_get plan.strata h ≡ Some s
       → FirstSelectsAround plan start h s
   -- A path to a leaf is made of the stages' own paths, one after another.

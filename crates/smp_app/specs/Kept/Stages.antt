@@ -1,5 +1,6 @@
 -- What the functions of the crate owe each other: they read, and hand on a result that is a stage of the verdict.
-use Rattle.std.specs.Prelude.{◌≡◌, ◌+◌, ◌<◌, ◌≤◌, ◌^◌, ℕ, List, length, map, Option, Some, None, IfSome, true, Result, Ok, Err}
+use Rattle.std.specs.Prelude.{◌≡◌, ◌+◌, ◌<◌, ◌≤◌, ◌^◌, ℕ, List, length, map, Option, Some, None, IfSome, true}
+use Rattle.std.specs.Prelude.{Result, Ok, Err}
 use Rattle.smp_log.specs.declared.fault.ReplayFault.{ReplayFault}
 use Rattle.smp_log.specs.declared.fault.ReplayFault.TheVariants as replays
 use Rattle.smp_tape.specs.declared.draws.DrawFault.{DrawFault}

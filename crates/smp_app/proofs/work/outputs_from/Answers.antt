@@ -1,4 +1,4 @@
-use Rattle.std.proofs.Common.{◌≡◌, Err, refl, rules, ◌∙◌}
+use Rattle.std.proofs.Common.{◌≡◌, Err, rules, ◌∙◌}
 use Rattle.smp_plan.specs.Inputs.{input_names, plan_stage}
 use Rattle.smp_plan.specs.Planned.{plan_view}
 use Rattle.smp_plan.proofs.Inputs.{plan_ignores}
@@ -25,14 +25,14 @@ pub returns-clause-exact : goal.returns-clause-exact
 returns-clause-exact g c fs held =
     let job = job_view c.args.job.now in
     let reads = c.in_ok-plan.ensures.reads in
-    exact_end job job.work (plan_view c.in_ok-plan.plan) fs c.work_outputs.result (reads.follows fs held) refl (c.work_outputs.ensures.exact fs (reads.same ∙ held))
+    exact_end job (plan_view c.in_ok-plan.plan) fs c.work_outputs.result (reads.follows fs held) (c.work_outputs.ensures.exact fs (reads.same ∙ held))
 
 pub returns-in_err-plan-clause-exact : goal.returns-in_err-plan-clause-exact
 returns-in_err-plan-clause-exact g c fs held =
     let job = job_view c.args.job.now in
     let error = c.in_err-plan.field-0.0 in
     let ends : c.from_residual.result ≡ Err error = search (rules, c.from_residual.ensures) in
-    rw ends (plan_refused job job.work fs error (c.in_err-plan.ensures.reads.follows fs held))
+    rw ends (plan_refused job fs error (c.in_err-plan.ensures.reads.follows fs held))
 
 pub returns-clause-idle : goal.returns-clause-idle
 returns-clause-idle g c none =
