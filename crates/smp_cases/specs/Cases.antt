@@ -1,6 +1,5 @@
 -- What a case comes to: n units, with probabilities in proportion to size, drawn by a method with the values of a tape.
-use Rattle.std.specs.Prelude.{◌≡◌, ℕ, ◌^◌, Bool, not, nat_lt, if◌then◌else◌, List, [], length, map, sum_by, Result, Ok}
-use Rattle.std.specs.Prelude.{Err, ⊤}
+use Rattle.std.specs.Prelude.{◌≡◌, ℕ, ◌^◌, nat_lt, if◌then◌else◌, List, [], length, map, sum_by, Result, Ok, Err, ⊤}
 use Rattle.smp_tape.specs.TapeSources.{tape_source}
 use Rattle.smp_tape.specs.Tapes.{Values, tape_of_values}
 use Rattle.smp_split.specs.Counts.{selected_units}
@@ -11,17 +10,12 @@ use Rattle.smp_prob.specs.declared.orders.Order.TheVariants.{Frame}
 use Rattle.smp_prob.specs.declared.requests.Request.{Request}
 use Rattle.smp_rows.specs.Rows.{rows_tree}
 use Rattle.smp_design.specs.declared.method.Method.{Method}
-use Rattle.smp_design.specs.Words.{takes_columns}
 use Rattle.smp_methods.specs.declared.any.AnyDesign.{AnyDesign}
 use Rattle.smp_methods.specs.declared.any.AnyState.{AnyState}
 use Rattle.smp_methods.specs.Designs.{design_of, first_state, method_of}
 use Rattle.smp_methods.specs.Procedures.{procedure}
 use Rattle.smp_cases.specs.declared.fault.CaseFault.{CaseFault}
 use Rattle.smp_cases.specs.declared.fault.CaseFault.TheVariants.{TooMany, Draw, Long, NoMemory}
-
--- whether a method needs columns of a frame, as coordinates or as balancing values
-abbrev pub needs_columns : Method → Bool
-needs_columns method = not (takes_columns method 0)
 
 -- ---- the draw tree
 

@@ -1,8 +1,8 @@
 //! How a case is run.
 
 ghost use Rattle.std.specs.Prelude.{◌≡◌, ◌^◌, ◌<◌, ◌≤◌, true, false, length, map, slice_index, EachIndex, IfOk, []};
-ghost use Rattle.smp_cases.specs.Cases as Cases;
 ghost use Rattle.smp_cases.specs.Cases.{Answers, drawn, mask, verdict};
+ghost use Rattle.smp_design.specs.Words.{needs_columns};
 ghost use Rattle.smp_methods.specs.Designs.{method_of};
 ghost use Rattle.smp_methods.specs.Procedures.{procedure};
 ghost use Rattle.smp_methods.specs.Starts.{IsStarted};
@@ -25,14 +25,15 @@ use std::alloc::Global;
 
 /// Whether a method needs columns of a frame, as the coordinates of the units or as their balancing values.
 pub fn needs_columns(method: Method) -> bool
-    ensures { result ≡ Cases.needs_columns method }
+    ensures { result ≡ needs_columns method }
 {
-    !method.takes_columns(0)
+    method.needs_columns()
 }
 
 // How a method without columns draws, in frame order.
+#[tactic(auto, using(smp_design::proofs::Rows::takes_unless_needed))]
 fn procedure(method: Method) -> Procedure
-    requires { Cases.needs_columns method ≡ false }
+    requires { needs_columns method ≡ false }
     ensures { result ≡ procedure method Frame 0 }
 {
     match Procedure::of_method(method, Order::Frame, 0) {
@@ -54,7 +55,7 @@ fn no_values(alloc: Global, request: &Request) -> Result<Vec<Numbers>, NoMemory>
 
 // Starts to draw the free units of a request by a method.
 fn start(alloc: Global, method: Method, request: &Request) -> Result<Started, NoMemory>
-    requires method { Cases.needs_columns method ≡ false }
+    requires method { needs_columns method ≡ false }
     requires request { IsRequest request.now }
     requires whole { IsWhole request.now }
     ensures { IfOk result
@@ -147,7 +148,7 @@ pub fn run_case(
     n: u32,
     tape: &[u128],
 ) -> Result<u64, CaseFault>
-    requires method { Cases.needs_columns method ≡ false }
+    requires method { needs_columns method ≡ false }
     requires few { length sizes.now ≤ 64 }
     requires small { EachIndex sizes.now (λ i. slice_index sizes.now i < 2 ^ 31) }
     requires some { 1 ≤ n }

@@ -1,5 +1,5 @@
 -- The table of the methods, and the words of a design for methods and orders.
-use Rattle.std.specs.Prelude.{ℕ, nat_le, ◌&&◌, List, [], ◌∷◌, Bool, true, false, Option, codes, find}
+use Rattle.std.specs.Prelude.{ℕ, nat_le, ◌&&◌, not, List, [], ◌∷◌, Bool, true, false, Option, codes, find}
 use Rattle.std.specs.Str.{bytes_eq}
 use Rattle.smp_prob.specs.declared.orders.Order.{Order}
 use Rattle.smp_prob.specs.declared.orders.Order.TheVariants.{Frame, Random}
@@ -41,6 +41,11 @@ meaning word_of things word = find (λ thing. bytes_eq word (word_of thing)) thi
 abbrev pub method_of : List ℕ → Option Method
 method_of word = meaning (λ m. (row m).word) methods word
 
+-- no columns
+abbrev pub is_nothing : Needs → Bool
+is_nothing Nothing = true
+is_nothing other = false
+
 -- the columns of `balance` alone
 abbrev pub is_balance : Needs → Bool
 is_balance Balance = true
@@ -61,16 +66,20 @@ most_near = 4
 -- so many columns are what is needed: where nothing is, any columns are left alone
 abbrev pub fits_columns : Needs → ℕ → Bool
 fits_columns Nothing columns = true
-fits_columns Balance columns = nat_le 1 columns && nat_le columns most_balance
+fits_columns Balance columns = nat_le columns most_balance
 fits_columns Near columns = nat_le 1 columns && nat_le columns most_near
 
 -- whether a method can be used with so many columns of values
 abbrev pub takes_columns : Method → ℕ → Bool
 takes_columns method columns = fits_columns (row method).needs columns
 
+-- whether the method needs columns of values
+abbrev pub needs_columns : Method → Bool
+needs_columns method = not (is_nothing (row method).needs)
+
 -- whether a second stage may have the method: its units are rows, which have no values
 abbrev pub in_second : Method → Bool
-in_second method = takes_columns method 0
+in_second method = is_nothing (row method).needs
 
 -- whether the method balances the sample
 abbrev pub balances : Method → Bool

@@ -75,6 +75,12 @@ pub(crate) enum Needs {
 }
 
 impl Needs {
+    pub(crate) fn is_nothing(self) -> bool
+        ensures { result ≡ Words.is_nothing self }
+    {
+        matches!(self, Needs::Nothing)
+    }
+
     pub(crate) fn is_balance(self) -> bool
         ensures { result ≡ Words.is_balance self }
     {
@@ -93,7 +99,7 @@ impl Needs {
     {
         match self {
             Needs::Nothing => true,
-            Needs::Balance => 1 <= columns && columns <= MAX_BALANCE,
+            Needs::Balance => columns <= MAX_BALANCE,
             Needs::Near => 1 <= columns && columns <= MAX_NEAR,
         }
     }
@@ -152,6 +158,13 @@ impl Method {
         ensures { result ≡ Words.takes_columns self columns }
     {
         self.row().needs.fits(columns)
+    }
+
+    /// Whether the method needs columns of values.
+    pub fn needs_columns(self) -> bool
+        ensures { result ≡ Words.needs_columns self }
+    {
+        !self.row().needs.is_nothing()
     }
 
     /// Whether the method balances the sample.

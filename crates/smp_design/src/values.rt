@@ -63,7 +63,7 @@ pub(crate) fn method(value: &Value) -> Option<Method>
 pub(crate) fn second_method(value: &Value) -> Option<Method>
     ensures { result ≡ Values.second_method (view value.now) }
 {
-    method(value).filter(|method| method.takes_columns(0))
+    method(value).filter(|method| !method.needs_columns())
 }
 
 pub(crate) fn order(value: &Value) -> Option<Order>

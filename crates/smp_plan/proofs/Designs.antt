@@ -7,7 +7,7 @@ use Rattle.std.specs.List.Sorted.{IsStrictlySortedBy}
 use Rattle.smp_fractions.specs.Limits.{most_rows}
 use Rattle.smp_design.specs.Bounds.{Ascend, IsDesign, least_values, most_values}
 use Rattle.smp_design.specs.Words.{row, in_second}
-use Rattle.smp_design.proofs.Rows.{takes_own}
+use Rattle.smp_design.proofs.Rows.{takes_nothing, takes_own}
 use Rattle.smp_design.specs.declared.design.Design.{Design}
 use Rattle.smp_design.specs.declared.design.Second.{Second}
 use Rattle.smp_design.specs.declared.method.Method.{Method}
@@ -21,7 +21,7 @@ takes : (m : Method) (order : Order) (columns : ℕ) → least_values (row m).ne
 takes m order columns some few = rw (takes_own m columns some few) refl
 
 takes_rows : (m : Method) → in_second m ≡ true → TakesRows m
-takes_rows m second = rw second refl
+takes_rows m second = rw (takes_nothing m second) refl
 
 second_takes : (second : Option Second) → IfSome second (λ s. in_second s.method ≡ true) → IfSome (option_map (λ s. s.method) second) TakesRows
 second_takes (Some second) h = takes_rows second.method h
