@@ -1,0 +1,586 @@
+#!/usr/bin/env python3
+"""Writes the pages of the main statement from the definitions in the folders `specs` of the crates.
+
+    docs/statement/write.py            writes them
+    docs/statement/write.py --check    ends with 1 where a page isn't as it would be written, and names it
+
+A page has each definition that the statement reaches for one method, once. To add a method, add its row to METHODS. A section that is to have more
+or less names other fields in DRAW, or in REPLAY. A definition that was moved or renamed is found again, unless it is one that this file names.
+"""
+import os
+import re
+import sys
+
+sys.dont_write_bytecode = True
+HERE = os.path.dirname(os.path.abspath(__file__))
+TOP = os.path.dirname(os.path.dirname(HERE))
+sys.path.insert(0, HERE)
+import specs  # noqa: E402
+
+# Each method: its page, its name in words, and the crates and files that are its own.
+METHODS = [
+    ("pivotal", "sequential pivotal selection", ["smp_pivotal"]),
+    ("systematic", "systematic selection", ["smp_systematic"]),
+    ("minimum_support", "minimum support", ["smp_minsup"]),
+    ("brewer", "Brewer's method", ["smp_brewer"]),
+    ("local_pivotal", "local pivotal selection", ["smp_localpiv", "smp_near"]),
+    ("cube", "the cube method", ["smp_landing", "smp_flight", "smp_moves", "smp_kernel", "smp_balance", "smp_twostage.specs.Cubes",
+                                 "smp_twostage.specs.Lines"]),
+]
+# The definitions of the cube alone that stand among those of all methods: on the other pages they are only named.
+CUBE_ALONE = {"KeepsBalance"}
+# What is the same by every method and has a page of its own, by crates, files and names: on the methods' pages it stands in short.
+APART = {
+    "read": ["smp_plan", "smp_strata", "smp_design", "smp_frame", "smp_prob.specs.Requested", "smp_prob.specs.Given", "smp_prob.specs.Shapes",
+             "IsReadPlan", "IsReadFrame", "tape_of"],
+    "written": ["smp_weights", "smp_log.specs.Heads", "smp_log.specs.Logs", "smp_log.specs.SectionLogs", "smp_app.specs.Texts",
+                "smp_balance.specs.Lines", "smp_twostage.specs.Lines"],
+}
+
+# The sections on a method's page: the title, what it is about, and the fields of the records from which its definitions are reached.
+DRAW = [
+    ("What was drawn", "A draw is a leaf of the draw tree of its plan with the path that leads there, by the values of a tape or by the words of a seed.",
+     {"IsExactDraw": ["drawn", "is_drawn"], "IsDrawnBy": ["plan_is", "all", "full"]}),
+    ("The law of the draw tree", "That each split is lawful, in every state to which a path leads from the start.", {"IsDrawnBy": ["lawful"]}),
+    ("Probabilities", "Each row is selected with the probability that is asked for it, and the weighted total has no bias.",
+     {"IsDrawnBy": ["probabilities"]}),
+    ("Numbers", "How many are drawn.", {"IsDrawnBy": ["firsts", "around", "seconds"]}),
+    ("Balance", "What the cube keeps, of whatever stratum it draws from.", {"IsDrawnBy": ["balance"]}),
+    ("What is written", "The sample, the log and the report, to the byte: what they are made of is on the page [written.md](written.md).",
+     {"IsExactDraw": ["", "written", "put"]}),
+]
+LAST = ("What was read", "What the bytes of the design, of the frame and of the tape say is on the page [read.md](read.md).", {"IsExactDraw": ["read"]})
+READ = [
+    ("What was read", "The bytes of the design, of the frame and of the tape, and what they say.", {"IsExactDraw": ["read"], "IsDrawnByTape": ["tape_read"]}),
+    ("The plan, and what is asked", "The strata and the first stage units of a frame, what a design asks of each, and of each row.", None),
+]
+WRITTEN = [
+    ("The log and the sample", "", {"IsExactDraw": ["written"]}),
+    ("The report", "", {"IsExactDraw": ["put"]}),
+    ("What the report tells of balance", "", None),
+]
+REPLAY = [
+    ("A draw whose log is replayed", "", {"Headline": ["draw", "replayed"]}),
+    ("A quick draw", "", {"Headline": ["quick"]}),
+    ("A replay of all strata", "", {"Headline": ["replay"]}),
+    ("A replay of one stratum", "", {"Headline": ["section"]}),
+    ("A migration", "", {"Headline": ["migrate"]}),
+    ("A log that is refused", "", {"Headline": ["replay_differs", "section_differs", "migrate_differs"]}),
+    ("The words of a call", "Which words ask for which command.", {"Ends": ["asked"]}),
+]
+# What the crates' definitions are about, from the ground up: the parts of a long section.
+THEMES = [
+    ("Fractions, divisors, lists", ["smp_faults", "smp_fractions", "smp_places", "smp_lines", "smp_frac"]),
+    ("Draws below a bound, from a tape or a seed", ["smp_tape", "smp_sieve"]),
+    ("Draw trees, paths and means", ["smp_split"]),
+    ("The plan: strata, first stage units, and what is asked of each", ["smp_prob", "smp_frame", "smp_values", "smp_design", "smp_strata", "smp_plan"]),
+    ("The draw tree of a plan: over all rows, in stages", ["smp_rows", "smp_methods", "smp_stages", "smp_twostage"]),
+    ("The draw", []),
+]
+# The same for what is a method's own.
+OWN_THEMES = [
+    ("Values of units, and steps on them", ["smp_faults", "smp_fractions", "smp_places", "smp_lines", "smp_frac", "smp_tape", "smp_split", "smp_prob",
+                                            "smp_frame", "smp_values"]),
+    ("Columns of whole numbers, and their circuits", ["smp_kernel"]),
+    ("Moves along a line, and what a selection keeps", ["smp_moves"]),
+    ("Flight", ["smp_flight"]),
+    ("Landing", ["smp_landing"]),
+    ("A stratum over all of its units, and the lines of the report", ["smp_rows", "smp_balance"]),
+    ("In the draw tree of a plan", []),
+]
+LONG = 250
+WIDE = 140
+
+
+# ---- what a page has
+
+class Page:
+    """What is put on a page one after the other, so that each definition is there once."""
+
+    def __init__(self, modules, elsewhere, apart=(), double=()):
+        """`elsewhere` tells on which other page a definition is, or nothing; those of the pages `apart` stand here in short. The names in
+        `double` stand for more than one thing."""
+        self.modules, self.elsewhere, self.apart, self.double = modules, elsewhere, apart, double
+        self.lines, self.shown, self.left, self.types_at = [], [], [], 0
+
+    def definition(self, at):
+        module = self.modules.get(at[0])
+        return module.definitions.get(at[1]) if module else None
+
+    def is_short(self, at):
+        return self.elsewhere(at) in self.apart
+
+    def lines_of(self, at):
+        definition = self.definition(at)
+        return definition.in_short() if self.is_short(at) else definition.shown()
+
+    def named(self, at):
+        definition = self.definition(at)
+        return specs.named(self.modules, definition, self.lines_of(at)) if definition else []
+
+    def reached(self, starts):
+        """The definitions that these reach and that aren't shown yet, in the order in which they are needed: what one names comes first."""
+        order, seen = [], set()
+
+        def visit(at):
+            if at in seen or at in self.shown:
+                return
+            seen.add(at)
+            if self.definition(at) is None or self.definition(at).is_proof:
+                return
+            if self.elsewhere(at) and not self.is_short(at):
+                self.left.append(at)
+                return
+            for other in self.named(at):
+                visit(other)
+            order.append(at)
+
+        for start in starts:
+            visit(start)
+        return order
+
+    def by_module(self, ats):
+        """The definitions a module after the other: the modules as they are needed, and in each its definitions as they stand there."""
+        groups = {}
+        for at in ats:
+            groups.setdefault(at[0], []).append(at)
+        order = []
+
+        def visit(module, around):
+            if module in order or module in around:
+                return
+            for at in groups[module]:
+                for other in self.named(at):
+                    if other[0] in groups:
+                        visit(other[0], around | {module})
+            order.append(module)
+
+        for module in groups:
+            visit(module, frozenset())
+        return [sorted(groups[module], key=lambda at: self.definition(at).line) for module in order]
+
+    def put(self, *lines):
+        self.lines.extend(lines)
+
+    def which(self, at):
+        """Of which file the names in a definition are that stand for more than one thing on the page, and aren't of its own crate."""
+        told, crate = [], at[0].split(".")[0]
+        for module, name in self.named(at):
+            if name in self.double and crate != module.split(".")[0] and not module.endswith(".TheVariants"):
+                told.append((name, place_of(module)))
+        names = [name for name, _ in told]
+        told = [f"{name}: {place}" for name, place in told if names.count(name) <= 2]
+        return f" ({', '.join(told)})" if told else ""
+
+    def put_definitions(self, ats):
+        """A block with these definitions, a file after the other."""
+        if not ats:
+            return
+        self.put("```agda")
+        for number, group in enumerate(self.by_module(ats)):
+            if number:
+                self.put("")
+            around = []
+            for at in group:
+                definition = self.definition(at)
+                for depth, above in enumerate(definition.around):
+                    if around[:depth + 1] != definition.around[:depth + 1]:
+                        self.put(*above)
+                around = definition.around
+                short = f", in short: {self.elsewhere(at)}.md" if self.is_short(at) else ""
+                self.put(*with_place(definition, self.lines_of(at), short + self.which(at)))
+                self.shown.append(at)
+        self.put("```", "")
+
+    def put_section(self, title, about, ats, themes=THEMES):
+        """A section; a long one is put in parts."""
+        if not ats:
+            return
+        self.put(f"## {title}", "")
+        if about:
+            self.put(about, "")
+        if sum(len(self.lines_of(at)) for at in ats) <= LONG:
+            self.put_definitions(ats)
+            return
+        for theme, crates in themes:
+            rest = not crates
+            among = [at for at in ats if at not in self.shown and (rest or at[0].split(".")[0] in crates)]
+            if among:
+                self.put(f"### {theme}", "")
+                self.put_definitions(among)
+
+
+    def put_left_over(self):
+        """A section with what the definitions name, is on no page, and no section has come to."""
+        named = [other for at in self.shown for other in self.named(at)]
+        self.put_section("What else is named", "", self.reached(at for at in named if self.definition(at) and not self.elsewhere(at)))
+
+
+def place_of(module):
+    """A file in short: its crate and its name."""
+    crate, _, rest = module.partition(".specs.")
+    if rest.startswith("declared."):
+        return f"{crate}/src/{'/'.join(rest.split('.')[1:-1])}"
+    return f"{crate}/{rest.replace('.', '/')}"
+
+
+def with_place(definition, lines, more):
+    """The lines of a definition, with its place behind the first that isn't comment."""
+    lines = list(lines)
+    at = len(definition.comment)
+    place = f"-- {place_of(definition.module)}:{definition.line}{more}"
+    lines[at] = lines[at] + " " * max(2, WIDE - 40 - len(lines[at])) + place
+    return lines
+
+
+def find(modules, name):
+    """The definition of this name; where there are more, that of the highest crate."""
+    found = [(module, name) for module in modules if name in modules[module].definitions]
+    if not found:
+        sys.exit(f"docs/statement/write.py: no definition has the name {name}")
+    return next((at for at in found if at[0].startswith("smp_app.")), found[-1])
+
+
+def fields(definition):
+    """The lines of each field of a record, by name."""
+    found, current = {}, []
+    for line in definition.lines:
+        start = specs.FIELD.match(line)
+        if start:
+            current = found.setdefault(start[1], [])
+        current.append(line)
+    return found
+
+
+def starts_of(modules, told):
+    """The definitions that some fields of records name; those of its parameters where the name of the field is empty."""
+    found = []
+    for name, wanted in told.items():
+        at = find(modules, name)
+        definition = modules[at[0]].definitions[name]
+        for field in wanted:
+            lines = fields(definition).get(field, []) if field else definition.head()
+            found += [other for other in specs.named(modules, definition, lines) if other not in found]
+    return found
+
+
+def with_fields(about, told):
+    """What a section is about, and of which fields its definitions are."""
+    told = {record: [f"`{field}`" for field in wanted if field] for record, wanted in (told or {}).items()}
+    named = [f"{', '.join(wanted)} of `{record}`" for record, wanted in told.items() if wanted]
+    return " ".join(filter(None, [about, f"Fields: {'; '.join(named)}." if named else ""]))
+
+
+def is_of(at, own):
+    """Whether a definition is one of these crates, files and names."""
+    return any(at[1] == name or at[0] == name or at[0].startswith(name + ".") for name in own)
+
+
+def owner(at):
+    """The page of the method whose own a definition is, or nothing."""
+    return next((page for page, _, own in METHODS if is_of(at, own)), None)
+
+
+def page_apart(at):
+    """The page of what is the same by every method where a definition is, or nothing."""
+    return next((page for page, own in APART.items() if is_of(at, own)), None)
+
+
+# ---- the words around them
+
+READING = """How to read them, by three examples:
+
+```agda
+-- how many of these numbers are below a limit
+abbrev pub count_below : ℕ → List ℕ → ℕ
+count_below limit [] = 0
+count_below limit (n ∷ ns) = (if nat_lt n limit then 1 else 0) + count_below limit ns
+-- half is the half of n, and no other number is
+pub record IsHalf (n half : ℕ) : Type 0 where
+  pub twice : half + half ≡ n
+  pub only : (m : ℕ) → m + m ≡ n → m ≡ half
+-- what a search finds
+data Found : Type 0 where
+  nothing : Found
+  at : ℕ → Found
+```
+
+A definition tells its type behind `:`, here that of a function of a number and a list, and then what it is, by cases; `f x y` is f of x and y. A
+record has fields; where it is a statement (its type ends in `Type 0`) it holds where each of its fields does. A value of a `data` is one of its forms.
+`≡` says that two things are equal; `(m : ℕ) →` is read "for each m", and `A → B` "from A follows B", or a function from A to B; `×` is "and", `⊎` "or", `⊥`
+what never holds, and `Unit {0}` what always does. `λ x. e` is the function that gives e for x, `{A : Type 0}` a parameter that isn't written where the
+function is used, `◌` in a name the place of what it is used on (`◌+◌` is `+`), `s.done` a field of s, `record { .. }` a record with these fields,
+`[]` the empty list and `n ∷ ns` a list with its first; `Some x` is there and `None` isn't. A place in a list is counted from 0. What is indented under
+`module _ (tree : ..) where` has the tree as its first parameter, which isn't written there. Behind the first line of a definition stands its place.
+A name that stands for more than one thing here is that of the definition's own crate, unless the file stands there too."""
+
+ABOUT_METHOD = """`sampler` proves the record `IsExactDraw` of each call of `draw` that answers Done, over a store that tells its files and a sink that tells what was put
+(clause `headline` in [call.rt](../../crates/smp_app/src/call.rt)). This page has what one has to believe to know what that says where the design's method is
+`{method}`: the definitions that the record reaches, each once, with its comment, its file and its line. The prover reads those files; `docs/statement/write.py`
+makes the page from them. The record stands first, and then what its fields name, from the ground up. Of another method it has nothing. What
+is the same by every method stands in short, by its comment and its type, and has pages of its own: what was read and what is asked
+([read.md](read.md)), and what is written ([written.md](written.md)). What a replay adds is in [replay.md](replay.md)."""
+
+ABOUT_READ = """What the field `read` of `IsExactDraw` says, and of a draw by a tape the field `tape_read` of `IsDrawnByTape`: that the plan and the tape are what the bytes in
+the files say. And what a plan is, and what it asks: which strata and first stage units a frame has, how many of each are drawn, and with which
+probability a row. It is the same by every method. [formats.md](../formats.md) has it in words. All of it is here, so that the page can be read alone."""
+
+ABOUT_WRITTEN = """What the fields `written` and `put` of `IsExactDraw` name: the log, the sample and the report, to the byte. They are the same by every method, but that
+only the cube tells of balance. [formats.md](../formats.md) has them in words. Definitions that stand on the page of each method
+([pivotal.md](pivotal.md), say) or on [read.md](read.md) aren't here again."""
+
+ABOUT_REPLAY = """`sampler` proves the record `Headline` of each call over a store that tells its files and a sink that tells what was put (clause `headline` in
+[call.rt](../../crates/smp_app/src/call.rt)). A `draw` has a page for each method:
+{methods}.
+This page has what the record says besides: of what `replay`, `migrate` and `quick` have done, and where a log differs that is refused. Definitions that stand
+on the page of each method, on [read.md](read.md) or on [written.md](written.md) aren't here again."""
+
+
+def in_lines(text):
+    """The text, cut where it is wider than a page."""
+    lines = []
+    for line in text.split("\n"):
+        while len(line) > WIDE:
+            cut = line.rfind(" ", 0, WIDE)
+            cut = cut if cut > 2 else len(line)
+            lines.append(line[:cut])
+            line = "  " + line[cut + 1:] if text.startswith("- ") else line[cut + 1:]
+        lines.append(line)
+    return lines
+
+
+def type_of(module):
+    """The file and the name of a type of the code, from the module that has it for the definitions."""
+    crate, _, rest = module.partition(".specs.declared.")
+    parts = [part for part in rest.split(".") if part != "TheVariants"]
+    return f"crates/{crate}/src/{'/'.join(parts[:-1])}.rt", parts[-1]
+
+
+def split_members(text):
+    """The members between the braces of a type of the code."""
+    members, depth, current = [], 0, ""
+    for line in text.split("\n"):
+        if line.strip().startswith(("//", "#[")):
+            current += line + "\n"
+            continue
+        for letter in line + "\n":
+            depth += (letter in "({[<") - (letter in ")}]>")
+            if letter == "," and depth == 0:
+                members.append(current)
+                current = ""
+            else:
+                current += letter
+    return [member for member in members + [current] if any(not line.strip().startswith("//") for line in member.split("\n") if line.strip())]
+
+
+def doc_above(lines):
+    """The doc comment at the end of these lines, above attributes, in one line."""
+    at = len(lines)
+    while at and (lines[at - 1].strip().startswith(("#[", "///")) or not lines[at - 1].strip()) and not (
+            not lines[at - 1].strip() and any(line.strip() for line in lines[at:])):
+        at -= 1
+    words = [line.strip()[3:].strip() for line in lines[at:] if line.strip().startswith("///")]
+    text = " ".join(word for word in words)
+    return re.sub(r"\[(`[^`]*`)\](\([^)]*\))?", r"\1", text)
+
+
+def told_member(text):
+    """A field or a form of a type, with its doc comment."""
+    lines = text.split("\n")
+    body = " ".join(line.strip() for line in lines if not line.strip().startswith(("///", "//", "#[")))
+    doc = doc_above([line for line in lines if line.strip().startswith("///")])
+    body = re.sub(r"^(pub(\([a-z]+\))?|ghost) ", "", " ".join(body.split()))
+    body = re.sub(r"\b(?:[a-z_0-9]+::)+", "", body)
+    return f"`{body}`" + (f" ({doc[0].lower() + doc[1:].rstrip('.')})" if doc and doc.count(". ") == 0 else "")
+
+
+def told_type(path, name):
+    """A type of the code in one line: where it stands, what it is, and its fields or its forms."""
+    try:
+        with open(os.path.join(TOP, path), encoding="utf-8") as file:
+            text = file.read()
+    except OSError:
+        return f"- `{name}` ({path})"
+    found = re.search(r"\b(struct|enum)\s+" + name + r"\b[^{;(]*(\{|;|\()", text)
+    if not found:
+        return f"- `{name}` ({path})"
+    line = text[:found.start()].count("\n") + 1
+    doc = doc_above(text.split("\n")[:line - 1])
+    told = f"- `{name}` ([{path[len('crates/'):]}:{line}](../../{path}))" + (f": {doc}" if doc else "")
+    if found[2] == ";":
+        return told
+    closing, depth, end = {"{": "}", "(": ")"}[found[2]], 1, found.end()
+    while depth and end < len(text):
+        depth += (text[end] == found[2]) - (text[end] == closing)
+        end += 1
+    members = [told_member(member) for member in split_members(text[found.end():end - 1])]
+    return told.rstrip() + (" One of " if found[1] == "enum" else " Of ") + ", ".join(members) + "."
+
+
+def put_rest(page):
+    """What the definitions on a page name that isn't there: of other pages, types of the code, of the kit, and laws."""
+    pages, types, kit, laws, made = {}, [], {}, [], []
+    shown = set(page.shown)
+    for at in page.shown:
+        for module, name in page.named(at):
+            if (module, name) in shown:
+                continue
+            if ".declared." in module:
+                if module.startswith("smp_") and type_of(module) not in types:
+                    types.append(type_of(module))
+                elif not module.startswith("smp_"):
+                    crate, type_name = module.split(".")[0], type_of(module)[1]
+                    kit.setdefault(f"{crate}, the type", []).append(type_name)
+            elif not module.startswith("smp_"):
+                kit.setdefault(module.replace(".", "/") + ".antt", []).append(name)
+            elif page.definition((module, name)) is None or page.definition((module, name)).is_proof:
+                of = made if page.definition(at).kind == "said" else laws
+                of.append(f"`{name}` ({module.split('.')[0]})")
+            else:
+                pages.setdefault(page.elsewhere((module, name)), []).append(name)
+    if types:
+        told = ["## Types of the code", "", "A definition sees a number as ℕ or ℤ, a list or a text as the list of what is in it, and a type with private fields as what its",
+                "`impl Model` says.", ""]
+        page.lines[page.types_at:page.types_at] = told + [told_type(*of) for of in sorted(types, key=lambda of: of[1])] + [""]
+    page.put("## Named above, and not shown", "")
+    if pages:
+        page.put(*in_lines("- On other pages: " + "; ".join(
+            f"[{where}.md]({where}.md) " + ", ".join(f"`{name}`" for name in sorted(set(pages[where])))
+            for where in sorted(pages, key=str) if where) + "."))
+    if laws:
+        page.put(*in_lines("- Laws with their proofs, which say that something holds and not what it is: " + ", ".join(sorted(set(laws))) + "."))
+    if made:
+        page.put(*in_lines("- Made by a proof; what the name is that stands for it, its type or the law below it says (`.._is`): " + ", ".join(sorted(set(made))) + "."))
+    for path in sorted(kit):
+        page.put(*in_lines(f"- Of the kit, in `{path}` of its folder `rattle`: " + ", ".join(f"`{name}`" for name in sorted(set(kit[path]))) + "."))
+    page.put("")
+
+
+def ended(page, title, about):
+    """The page as a text, with its head."""
+    put_rest(page)
+    told = [page.definition(at) for at in page.shown if not page.is_short(at)]
+    comments = sum(len(definition.comment) for definition in told)
+    lines = sum(len(definition.shown()) for definition in told) - comments
+    files = len({definition.module for definition in told})
+    short = len(page.shown) - len(told)
+    count = f"{len(told)} definitions from {files} files follow, in {lines} lines, with {comments} lines of comment" + (
+        f"; and {short} in short." if short else ".")
+    head = [f"# {title}", "", *about.split("\n"), count, "", *READING.split("\n"), ""]
+    return "\n".join(head + page.lines).rstrip("\n") + "\n"
+
+
+# ---- the pages
+
+def doubles(page):
+    """The names that stand for more than one definition or type on a page."""
+    found = {}
+    for at in page.shown:
+        for module, name in page.named(at) + [at]:
+            if not module.endswith(".TheVariants") and ((module, name) in page.shown or ".declared." in module):
+                found.setdefault(name, set()).add(module)
+    return {name for name in found if len(found[name]) > 1}
+
+
+def method_page(modules, method, words, double=None):
+    """The page of a method."""
+    state = {"own": False}
+
+    def elsewhere(at):
+        of = owner(at)
+        if of not in (None, method):
+            return of
+        if method != "cube" and at[1] in CUBE_ALONE:
+            return "cube"
+        return page_apart(at) or (method if of == method and not state["own"] else None)
+
+    page = Page(modules, elsewhere, tuple(APART), double or ())
+    page.put("## The statement", "")
+    for name in ("IsExactDraw", "IsDrawnBy"):
+        page.put_definitions([find(modules, name)])
+    page.types_at = len(page.lines)
+    tree = None
+    for title, about, told in DRAW:
+        if title == "Balance" and method != "cube":
+            continue
+        page.put_section(title, with_fields(about, told), page.reached(starts_of(modules, told)))
+        tree = list(page.left) if tree is None else tree
+    state["own"] = True
+    own = [at for at in tree if owner(at) == method]
+    page.put_section(f"The draw tree of {words}", "", page.reached(own), OWN_THEMES)
+    rest = [at for at in page.left if owner(at) == method]
+    page.put_section("What balance is", "", page.reached(rest), OWN_THEMES)
+    title, about, told = LAST
+    page.put_section(title, with_fields(about, told), page.reached(starts_of(modules, told)))
+    page.put_left_over()
+    if double is None:
+        return method_page(modules, method, words, doubles(page))
+    return page, ended(page, f"What is proved of a draw by {words}", ABOUT_METHOD.format(method=method))
+
+
+def other_page(modules, name, known, title, about, first, sections, double=None):
+    """A page of what isn't on those that are known, which tells the name of the page for what is there."""
+
+    def elsewhere(at):
+        if page_apart(at) == name:
+            return None
+        return owner(at) or ("cube" if at[1] in CUBE_ALONE else known.get(at))
+
+    page = Page(modules, elsewhere, (), double or ())
+    if first:
+        page.put("## The statement", "")
+        page.put_definitions([find(modules, told) for told in first])
+    page.types_at = len(page.lines)
+    for heading, words, starts in sections:
+        page.put_section(heading, words, page.reached(starts))
+    page.put_left_over()
+    if double is None:
+        return other_page(modules, name, known, title, about, first, sections, doubles(page))
+    return page, ended(page, title, about)
+
+
+def pages():
+    """Each page by its name."""
+    modules = specs.read_all(os.path.join(TOP, "crates"))
+    found, common, short = {}, None, []
+    for method, words, _ in METHODS:
+        page, found[method] = method_page(modules, method, words)
+        shown = {at for at in page.shown if not page.is_short(at)}
+        common = shown if common is None else common & shown
+        short += [at for at in page.shown if page.is_short(at) and at not in short]
+    known = {}
+    for name, title, about, sections in [("read", "What was read, and what is asked", ABOUT_READ, READ),
+                                         ("written", "What is written", ABOUT_WRITTEN, WRITTEN)]:
+        starts = [at for at in short if page_apart(at) == name]
+        sections = [(heading, with_fields(words, told), starts if told is None else starts_of(modules, told)) for heading, words, told in sections]
+        page, found[name] = other_page(modules, name, known, title, about, [], sections)
+        known.update({at: name for at in page.shown if at not in common})
+        known.update({at: METHODS[0][0] for at in common})
+    names = ", ".join(f"[{method}.md]({method}.md)" for method, _, _ in METHODS)
+    sections = [(heading, with_fields(words, told), starts_of(modules, told)) for heading, words, told in REPLAY]
+    _, found["replay"] = other_page(modules, "replay", known, "What is proved of a replay", ABOUT_REPLAY.format(methods=names), ["Ends", "Headline"], sections)
+    return found
+
+
+def main():
+    stale = []
+    for name, text in pages().items():
+        path = os.path.join(HERE, name + ".md")
+        if "--check" in sys.argv[1:]:
+            try:
+                with open(path, encoding="utf-8") as file:
+                    same = file.read() == text
+            except OSError:
+                same = False
+            if not same:
+                stale.append(f"{name}.md")
+        else:
+            with open(path, "w", encoding="utf-8") as file:
+                file.write(text)
+    if stale:
+        print("not as docs/statement/write.py would write them: " + ", ".join(stale), file=sys.stderr)
+    return 1 if stale else 0
+
+
+if __name__ == "__main__":
+    sys.exit(main())
