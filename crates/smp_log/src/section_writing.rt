@@ -38,7 +38,7 @@ pub fn log_bytes<S: Sections>(
         let mut own = 0;
         while run.section(state) == section {
             let step = steps[next];
-            push_step(alloc, &mut text, &step)?;
+            push_step(&mut text, &step)?;
             run.advance(state, step.2);
             next += 1;
             own += 1;
