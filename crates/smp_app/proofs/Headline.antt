@@ -1,13 +1,13 @@
 -- A call that ended well has drawn by the design, the frame and the draws that were read, and a log that was refused differs at its line.
 use Rattle.std.proofs.Common.{◌≡◌, ℕ, zero, suc, ◌+◌, ◌-◌, ◌^◌, ◌<◌, ◌≤◌, Bool, true, false, ◌&&◌, List, [], ◌∷◌, ◌++◌, map, length, Option, Some, None, Result, Ok, Err, refl, sym, ap, subst, ◌∙◌, inl, inr, arith, length-append}
-use Rattle.std.specs.Prelude.{◌==◌, if◌then◌else◌, nat_le, option_map}
+use Rattle.std.specs.Prelude.{◌==◌, option_map}
 use Rattle.std.specs.List.{filter, flat_map, range_with_len}
 use Rattle.std.proofs.lemmas.Bool.{cases_Bool, eqb-true}
 use Rattle.smp_io.specs.Sink.{with_bytes}
 use Rattle.smp_io.specs.Store.{Files}
 use Rattle.smp_tape.specs.TapeText.{tape_of}
 use Rattle.smp_tape.specs.Sources.{Source}
-use Rattle.smp_tape.specs.Tapes.{Values, tape_of_values}
+use Rattle.smp_tape.specs.Tapes.{tape_of_values}
 use Rattle.smp_tape.specs.TapeSources.{tape_source}
 use Rattle.smp_sieve.specs.Keys.{words_of_seed}
 use Rattle.smp_sieve.specs.SieveSources.{key_stream, sieve_source}
@@ -55,7 +55,7 @@ use Rattle.smp_log.proofs.Telling.{genuine_told}
 use Rattle.smp_log.proofs.TwoVersions.{any_told, exact_any}
 use Rattle.smp_status.specs.declared.status.Status.{Status}
 use Rattle.smp_status.specs.declared.status.Status.TheVariants as status
-use Rattle.smp_status.specs.declared.status.Status.TheVariants.{NoStratum, TapeLong}
+use Rattle.smp_status.specs.declared.status.Status.TheVariants.{TapeLong}
 use Rattle.smp_status.specs.Codes.{class_of, design_status, frame_status, tape_status}
 use Rattle.smp_plan.specs.Plans.{Plan, parts, quick_design}
 use Rattle.smp_app.specs.Drawn.{Drawn, tree_of, start_of, sections_of, covered, drawn_rows}
@@ -67,9 +67,9 @@ use Rattle.smp_faults.specs.Steps.{◌>>=◌}
 use Rattle.smp_plan.specs.Stops.{Stop, Refused, content, or_fault}
 use Rattle.smp_app.specs.Verdict.{values_taken, values_left, no_words, drawn_at, drawn_of, drawn_by_tape, drawn_by_seed, alone, stratum_at, told_by, drawn_by_log, drawn_by_old_log, drawn_by_section, drawn_stage, outputs_stage}
 use Rattle.smp_app.specs.Deliveries.{Outputs, with_files}
-use Rattle.smp_app.specs.Draws.{IsDrawFrom, IsDrawnAlone, IsDrawnBy, IsDrawnOf, IsExactFrom, IsExactRefusal, IsRefused, IsRefusedFrom, OldDiffers, RefusesLog, StratumDiffers, WholeDiffers}
+use Rattle.smp_app.specs.Draws.{IsDrawFrom, IsDrawnAlone, IsDrawnBy, IsDrawnOf, IsDrawnWhole, IsExactFrom, IsExactRefusal, IsRefused, IsRefusedFrom, OldDiffers, RefusesLog, StratumDiffers, WholeDiffers}
 use Rattle.smp_app.specs.Answers.{Outside, Says, IsWork, Done, Refuses}
-use Rattle.smp_app.specs.Headline.{IsDrawnByTape, IsDrawnBySeed, IsDrawnByChance, IsReadFrame, IsReadPlan, IsExactDraw, IsReplayed, IsExactQuick, IsExactReplay, IsExactSection, IsExactMigration, IsRefusedLog, Ends, Headline}
+use Rattle.smp_app.specs.Headline.{IsDrawnBySeed, IsDrawnByChance, IsReadFrame, IsReadPlan, IsExactDraw, IsReplayed, IsExactQuick, IsExactReplay, IsExactSection, IsExactMigration, IsRefusedLog, Ends, Headline}
 use Rattle.smp_app.proofs.Alone.{seats_long}
 use Rattle.smp_app.proofs.Ends.{verdict_of}
 use Rattle.smp_app.proofs.Refusals.{stratum_is}
@@ -427,6 +427,27 @@ read_plan design_name frame_name fs plan from =
     ok_design : Design → Result Design DesignFault
     ok_design d = Ok d
 
+-- the same files are read as one plan
+read_once : (design frame : List ℕ) (fs : Files) (p q : Plan) → IsReadPlan design frame fs p → IsReadPlan design frame fs q → p ≡ q
+read_once design frame fs p q first again =
+    let bytes : first.design_bytes ≡ again.design_bytes = held_once (sym first.design_held ∙ again.design_held) in
+    let held : first.frame_is.frame_bytes ≡ again.frame_is.frame_bytes = held_once (sym first.frame_is.frame_held ∙ again.frame_is.frame_held) in
+    let designs : p.design ≡ q.design = ok_once (sym first.design_read ∙ ap design_of bytes ∙ again.design_read) in
+    let units : p.units ≡ q.units = ok_once (sym first.frame_is.frame_read ∙ ap (λ (d : Design). frame_of d.columns first.frame_is.frame_bytes) designs ∙ ap (frame_of q.design.columns) held ∙ again.frame_is.frame_read) in
+    let heads : p.head ≡ q.head = first.frame_is.head ∙ ap (λ bs. head_of bs first.frame_is.frame_bytes) bytes ∙ ap (head_of again.design_bytes) held ∙ sym again.frame_is.head in
+    plans_same p q designs units heads
+  where
+    held_once : {x y : List ℕ} → Some x ≡ Some y → x ≡ y
+    held_once {x} {y} same = let one : ◌≡◌ {A = Option (List ℕ)} (Some x) (Some y) = same in cc
+
+    ok_once : {A E : Type 0} {x y : A} → ◌≡◌ {A = Result A E} (Ok x) (Ok y) → x ≡ y
+    ok_once same = cc
+
+    plans_same : (p q : Plan) → p.design ≡ q.design → p.units ≡ q.units → p.head ≡ q.head → p ≡ q
+    plans_same p q designs units heads =
+        let of : Design → List unit.Unit → List ℕ → Plan = λ d us h. record { design = d; units = us; head = h } in
+        ap (λ (d : Design). of d p.units p.head) designs ∙ ap (λ (us : List unit.Unit). of q.design us p.head) units ∙ ap (of q.design q.units) heads
+
 ok_same : (x y : Outputs) → ◌≡◌ {A = Result Outputs Stop} (Ok x) (Ok y) → x ≡ y
 ok_same x y h = cc
 
@@ -470,7 +491,7 @@ drew words job fs before now source files put asked work_is done told =
     }
 
 -- what is drawn of all strata
-by_whole : (plan : Plan) (drawn : Drawn) → drawn.only ≡ None → IsDrawnOf drawn.only plan drawn → IsDrawnBy plan drawn
+by_whole : (plan : Plan) (drawn : Drawn) → drawn.only ≡ None → IsDrawnOf drawn.only plan drawn → IsDrawnWhole plan drawn
 by_whole plan drawn all by = subst (λ (o : Option ℕ). IsDrawnOf o plan drawn) all by
 
 -- the log that is written of it is genuine, of version 2
@@ -509,7 +530,7 @@ abbrev ok_drawn : Drawn → Result Drawn Stop
 ok_drawn drawn = Ok drawn
 
 -- the log that is written of it tells it again
-module _ (drawn : Drawn) (by : IsDrawnBy drawn.plan drawn) (is_head : IsHead drawn.plan.head) where
+module _ (drawn : Drawn) (by : IsDrawnBy drawn.plan drawn) (is_head : IsHead drawn.plan.head) (member : BelongsToWhole (parts drawn.plan) (start_of drawn.plan)) where
   abbrev own_log : List ℕ
   own_log = log_text drawn
 
@@ -520,11 +541,11 @@ module _ (drawn : Drawn) (by : IsDrawnBy drawn.plan drawn) (is_head : IsHead dra
   own_any = record { path = own_genuine.path; full = own_genuine.full; text = inr own_genuine.text }
 
   read_back : any_reading (tree_of drawn.plan) (sections_of drawn.plan) (start_of drawn.plan) drawn.plan.head own_log ≡ Ok drawn.leaf
-  read_back = sym ((exact_any (tree_of drawn.plan) (BelongsToWhole (parts drawn.plan)) (whole_lawful (parts drawn.plan)) (sections_of drawn.plan) (strata_sectioned (all_of (parts drawn.plan))) (start_of drawn.plan) by.start drawn.plan.head is_head own_log).alone (Ok drawn.leaf) own_any)
+  read_back = sym ((exact_any (tree_of drawn.plan) (BelongsToWhole (parts drawn.plan)) (whole_lawful (parts drawn.plan)) (sections_of drawn.plan) (strata_sectioned (all_of (parts drawn.plan))) (start_of drawn.plan) member drawn.plan.head is_head own_log).alone (Ok drawn.leaf) own_any)
 
   told_back : path_told (tree_of drawn.plan) (start_of drawn.plan) own_log ≡ drawn.path
   unfolding log_genuine own_genuine own_any
-  told_back = any_told (tree_of drawn.plan) (BelongsToWhole (parts drawn.plan)) (whole_lawful (parts drawn.plan)) (sections_of drawn.plan) (strata_sectioned (all_of (parts drawn.plan))) (start_of drawn.plan) by.start drawn.plan.head is_head own_log drawn.leaf own_any
+  told_back = any_told (tree_of drawn.plan) (BelongsToWhole (parts drawn.plan)) (whole_lawful (parts drawn.plan)) (sections_of drawn.plan) (strata_sectioned (all_of (parts drawn.plan))) (start_of drawn.plan) member drawn.plan.head is_head own_log drawn.leaf own_any
 
   read_again : drawn_by_log drawn.plan own_log ≡ Ok drawn
   read_again =
@@ -546,19 +567,24 @@ module _ (a : DrawArguments) (fs : Files) (before now : Outside) (words : List (
   exact_draw done told =
       let d = drew words draw_job fs before now (source_of a.chance) draw_files report_text draw_asked refl done told in
       let same = chance_same d.plan a.chance fs d.drawn d.staged in
-      let by = by_whole d.plan d.drawn same.only_so d.by_plan in
+      let whole = by_whole d.plan d.drawn same.only_so d.by_plan in
       record {
         drawn = d.drawn;
-        is_drawn = by_chance d.plan by.start a.chance fs d.drawn same.by_plan d.staged;
-        by_plan = own_plan d.plan d.drawn by;
+        is_drawn = by_chance d.plan whole.member a.chance fs d.drawn same.by_plan d.staged;
+        by_plan = own_plan d.plan d.drawn whole.by_plan;
         written = d.written;
         put = d.shown;
         read = subst (IsReadPlan a.design a.frame fs) (sym same.by_plan) (read_plan a.design a.frame fs d.plan (read a.design a.frame fs d.plan d.planned));
       }
 
   -- what it wrote is accepted
-  pub is_replayed : (exact : IsExactDraw a fs before now) → IsReplayed exact.drawn
-  is_replayed exact = record { same = read_again exact.drawn exact.by_plan (head_so a.design a.frame fs exact.drawn.plan exact.read) }
+  pub is_replayed : Done words before now → before.files ≡ Some fs → (exact : IsExactDraw a fs before now) → IsReplayed exact.drawn
+  is_replayed done told exact =
+      let d = drew words draw_job fs before now (source_of a.chance) draw_files report_text draw_asked refl done told in
+      let same = chance_same d.plan a.chance fs d.drawn d.staged in
+      let whole = by_whole d.plan d.drawn same.only_so d.by_plan in
+      let one : d.plan ≡ exact.drawn.plan = read_once a.design a.frame fs d.plan exact.drawn.plan (read_plan a.design a.frame fs d.plan (read a.design a.frame fs d.plan d.planned)) exact.read in
+      record { same = read_again exact.drawn exact.by_plan (head_so a.design a.frame fs exact.drawn.plan exact.read) (subst (λ (p : Plan). BelongsToWhole (parts p) (start_of p)) one whole.member) }
 
 -- ---- a quick draw that ended well
 
@@ -584,11 +610,11 @@ module _ (a : QuickArguments) (fs : Files) (before now : Outside) (words : List 
       let d = drew words quick_job fs before now (ByTape a.tape) quick_files steps_text quick_asked refl done told in
       let from = frame_plan quick_read a.frame fs d.plan (quick_planned d.plan d.planned) in
       let same = chance_same d.plan (Tape a.tape) fs d.drawn d.staged in
-      let by = by_whole d.plan d.drawn same.only_so d.by_plan in
+      let whole = by_whole d.plan d.drawn same.only_so d.by_plan in
       record {
         drawn = d.drawn;
-        is_drawn = by_chance d.plan by.start (Tape a.tape) fs d.drawn same.by_plan d.staged;
-        by_plan = own_plan d.plan d.drawn by;
+        is_drawn = by_chance d.plan whole.member (Tape a.tape) fs d.drawn same.by_plan d.staged;
+        by_plan = own_plan d.plan d.drawn whole.by_plan;
         written = d.written;
         put = d.shown;
         design = ap (λ (p : Plan). p.design) same.by_plan ∙ from.0;
@@ -619,8 +645,8 @@ module _ (a : ReplayArguments) (fs : Files) (before now : Outside) (words : List
       let from = read_plan a.design a.frame fs plan (read a.design a.frame fs plan d.planned) in
       let logged = by_log plan a.log fs drawn d.staged in
       let told = told_so plan None (path_told (tree_of plan) (start_of plan) logged.log) (any_reading (tree_of plan) (sections_of plan) (start_of plan) plan.head logged.log) drawn logged.tells in
-      let by = by_whole plan drawn told.same.only_so d.by_plan in
-      let any = any_log plan by.start (head_so a.design a.frame fs plan from) logged.log drawn logged.tells in
+      let whole = by_whole plan drawn told.same.only_so d.by_plan in
+      let any = any_log plan whole.member (head_so a.design a.frame fs plan from) logged.log drawn logged.tells in
       record {
         drawn = drawn;
         log = logged.log;
@@ -631,7 +657,7 @@ module _ (a : ReplayArguments) (fs : Files) (before now : Outside) (words : List
           text = subst (λ (p : Plan). IsAnyText (tree_of p) (sections_of p) (start_of p) p.head any.genuine.path logged.log) (sym any.same.by_plan) any.genuine.text;
         };
         path_is = any.path_is;
-        by_plan = own_plan plan drawn by;
+        by_plan = own_plan plan drawn whole.by_plan;
         written = d.written;
         put = d.shown;
         read = subst (IsReadPlan a.design a.frame fs) (sym any.same.by_plan) from;
@@ -698,8 +724,8 @@ module _ (a : MigrateArguments) (fs : Files) (before now : Outside) (words : Lis
       let from = read_plan a.design a.frame fs plan (read a.design a.frame fs plan d.planned) in
       let logged = by_old_log plan a.log fs drawn d.staged in
       let told = told_so plan None (path_told (tree_of plan) (start_of plan) logged.log) (log_reading (tree_of plan) (start_of plan) plan.head logged.log) drawn logged.tells in
-      let by = by_whole plan drawn told.same.only_so d.by_plan in
-      let old = old_log plan by.start (head_so a.design a.frame fs plan from) logged.log drawn logged.tells in
+      let whole = by_whole plan drawn told.same.only_so d.by_plan in
+      let old = old_log plan whole.member (head_so a.design a.frame fs plan from) logged.log drawn logged.tells in
       record {
         drawn = drawn;
         log = logged.log;
@@ -710,10 +736,10 @@ module _ (a : MigrateArguments) (fs : Files) (before now : Outside) (words : Lis
           text = old.genuine.text ∙ ap (λ (p : Plan). logs.log_text p.head old.genuine.path) (sym old.same.by_plan);
         };
         path_is = old.path_is;
-        by_plan = own_plan plan drawn by;
+        by_plan = own_plan plan drawn whole.by_plan;
         written = d.written;
-        genuine = (written_genuine plan drawn by).0;
-        same_path = (written_genuine plan drawn by).1 ∙ old.path_is;
+        genuine = (written_genuine plan drawn whole.by_plan).0;
+        same_path = (written_genuine plan drawn whole.by_plan).1 ∙ old.path_is;
         put = d.shown;
         read = subst (IsReadPlan a.design a.frame fs) (sym old.same.by_plan) from;
       }
@@ -767,7 +793,7 @@ module _ (answer : Status) (words : List (List ℕ)) (before now : Outside) (fs 
 pub headline : (answer : Status) (words : List (List ℕ)) (before now : Outside) → Says (class_of answer) answer words before now → Headline answer words before now
 headline answer words before now says = record {
   draw = λ a fs ends. exact_draw a fs before now words ends.asked (done ends.answered) ends.told;
-  replayed = λ a fs ends exact. is_replayed a fs before now words ends.asked exact;
+  replayed = λ a fs ends exact. is_replayed a fs before now words ends.asked (done ends.answered) ends.told exact;
   quick = λ a fs ends. exact_quick a fs before now words ends.asked (done ends.answered) ends.told;
   replay = λ a fs ends none. exact_replay a fs before now words ends.asked none (done ends.answered) ends.told;
   section = λ a h fs ends number. exact_section_replay a fs before now words ends.asked h number (done ends.answered) ends.told;

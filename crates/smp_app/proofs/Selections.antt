@@ -24,6 +24,7 @@ use Rattle.smp_log.specs.declared.fault.LogFault.TheVariants.{Differs}
 use Rattle.smp_split.specs.Paths.{Entry, Leads}
 use Rattle.smp_split.specs.Runs.{Outcome, run, leaf, stopped, IsLeaf, IsStop, IsOutcome}
 use Rattle.smp_split.proofs.Runs.{run_is}
+use Rattle.smp_split.proofs.Steps.{reached_lawful}
 use Rattle.smp_split.specs.Trees.{Tree, weight_sum}
 use Rattle.smp_split.specs.Sectioning.{Sectioning}
 use Rattle.smp_design.specs.declared.design.Second as second
@@ -46,7 +47,7 @@ use Rattle.smp_twostage.specs.declared.whole.StartedWhole.{StartedWhole}
 use Rattle.smp_app.specs.declared.selection.Taken.{Taken}
 use Rattle.smp_app.specs.declared.selection.Taken.TheVariants as takes
 use Rattle.smp_app.specs.Kept.Stages.{EndsAsTold, HasStratum, IsStart, IsWalked, RefusedAt, StartsOf, drawn_by_taken, end_told, only_of, path_by, reading_by}
-use Rattle.smp_app.specs.Draws.{IsDrawnBy, IsDrawnOf, HasProbabilities}
+use Rattle.smp_app.specs.Draws.{IsDrawnBy, IsDrawnOf, IsDrawnWhole, HasProbabilities}
 use Rattle.smp_plan.specs.Plans.{Plan, parts, row_probability}
 use Rattle.smp_app.specs.Drawn.{tree_of, start_of, Drawn, covered}
 use Rattle.smp_app.specs.Texts.{log_text}
@@ -265,12 +266,11 @@ module _ (plan : FramePlan) (planned : IsPlanned plan) where
           seconds_by h k s u asked is_s is_u u.second refl (seconds_in plan.plan planned.drawable asked.method method h s is_s k u is_u)
           (subst (λ (o : Option second.Second). SecondDraws o (length u.rows) u.second) is_second draws) first
 
-      drawn_by : IsDrawnBy (plan_view plan) here
-      drawn_by = record {
+      drawn_so : IsDrawnBy (plan_view plan) here
+      drawn_so = record {
         plan_is = refl;
         all = refl;
-        lawful = whole_lawful (parts (plan_view plan));
-        start = start_member;
+        lawful = reached_lawful (tree_of (plan_view plan)) (BelongsToWhole all) (whole_lawful all) (start_of (plan_view plan)) start_member;
         full = subst (λ (s : Progress AnyState). IsFullPath (tree_of (plan_view plan)) s path to) state_is
             (subst (λ (t : Tree (Progress AnyState)). IsFullPath t state path to) (tree_is (all_of plan.plan) refl)
             (record { leads = leads; done = done }));
@@ -280,6 +280,9 @@ module _ (plan : FramePlan) (planned : IsPlanned plan) where
         probabilities = probabilities_own;
         balance = keeps_balance plan planned path to (starts.paths path to leads done) starts.cubes;
       }
+
+      drawn_by : IsDrawnWhole (plan_view plan) here
+      drawn_by = record { member = start_member; by_plan = drawn_so }
 
   abbrev view : Plan
   view = plan_view plan
@@ -312,6 +315,7 @@ module _ (plan : FramePlan) (planned : IsPlanned plan) where
       let from : start ≡ covered_start (one_of plan.plan h) = begun.state in
       let seen : own ≡ alone view h = is ∙ ap (λ (p : Parts). one_of p h) planned.parts_are in
       let begins : start ≡ covered_start (alone view h) = from ∙ ap (λ (p : Parts). covered_start (one_of p h)) planned.parts_are in
+      let own_starts : StartsAlone (parts view) h (covered_start (alone view h)) = subst (λ (p : Parts). StartsAlone p h (covered_start (one_of p h))) planned.parts_are (subst (StartsAlone plan.plan h) from starts) in
       subst (λ (p : List Entry). IsWalked view own (record { plan = view; only = Some h; leaf = to; path = p })) (sym same)
       (record {
         whole = seen;
@@ -321,8 +325,8 @@ module _ (plan : FramePlan) (planned : IsPlanned plan) where
           plan_is = refl;
           only = refl;
           there = omega (arith, within, ap (λ (p : Parts). length p.strata) planned.parts_are);
-          lawful = covered_lawful (alone view h);
-          starts = subst (λ (p : Parts). StartsAlone p h (covered_start (one_of p h))) planned.parts_are (subst (StartsAlone plan.plan h) from starts);
+          lawful = reached_lawful (covered_tree (alone view h)) (BelongsToCovered (alone view h)) (covered_lawful (alone view h)) (covered_start (alone view h)) own_starts.member;
+          starts = own_starts;
           full = subst (λ (s : Progress AnyState). IsFullPath (covered_tree (alone view h)) s path to) begins (subst (λ (c : Coverage). IsFullPath (covered_tree c) start path to) seen full);
         };
       })
@@ -341,7 +345,7 @@ module _ (plan : Plan) (leaf : Progress AnyState) (path : List Entry) where
   drawn_of_only only = record { plan = plan; only = only; leaf = leaf; path = path }
 
   full_of : (only : Option ℕ) → IsDrawnOf only plan (drawn_of_only only) → IsFullPath (covered_tree (covered (drawn_of_only only))) (covered_start (covered (drawn_of_only only))) path leaf
-  full_of None by = by.full
+  full_of None by = by.by_plan.full
   full_of (Some h) by = by.full
 
   there_of : (only : Option ℕ) → IsDrawnOf only plan (drawn_of_only only) → IfSome only (λ h. h < length (parts plan).strata)

@@ -14,6 +14,7 @@ use Rattle.smp_design.specs.Words.{balances}
 use Rattle.smp_log.specs.Genuine.{DiffersAt, IsFullPath, IsGenuine}
 use Rattle.smp_log.specs.LoneSections.{SectionDiffers}
 use Rattle.smp_log.specs.SectionLogs.{IsAnyGenuine}
+use Rattle.smp_split.specs.Paths.{IsReached}
 use Rattle.smp_split.specs.Trees.{Lawful}
 use Rattle.smp_status.specs.declared.status.Status.{Status}
 use Rattle.smp_status.specs.declared.status.Status.TheVariants as status
@@ -24,7 +25,7 @@ use Rattle.smp_strata.specs.declared.strata.Stratum.{Stratum}
 use Rattle.smp_stages.specs.Paths.{GoesByStages}
 use Rattle.smp_twostage.specs.Cubes.{IsDrawnByCube, balancing}
 use Rattle.smp_twostage.specs.Covered.{StartsAlone}
-use Rattle.smp_twostage.specs.Selections.{BelongsToCovered, BelongsToWhole, covered_start, covered_tree, tree_of as stage_tree}
+use Rattle.smp_twostage.specs.Selections.{BelongsToWhole, covered_start, covered_tree, tree_of as stage_tree}
 use Rattle.smp_twostage.specs.Selections.{first_number, stages_of, states_of}
 use Rattle.smp_twostage.specs.Starts.{first_selected, known, second_selected, weighted}
 use Rattle.smp_plan.specs.Plans.{Plan, parts, row_probability}
@@ -113,12 +114,11 @@ pub record HasProbabilities (plan : Plan) : Type 0 where
 pub record IsDrawnBy (plan : Plan) (drawn : Drawn) : Type 0 where
   pub plan_is : drawn.plan ≡ plan
   pub all : drawn.only ≡ None
-  -- The draw tree splits lawfully: in each state that isn't done the weights are at least 1, each part's rank is lower, and each
-  -- row's value is the weighted mean of its values in the parts; at a done state it is 1 for the rows that are selected, and 0 for
-  -- the others.
-  pub lawful : Lawful (tree_of plan) (BelongsToWhole (parts plan))
-  -- The draw starts from a state of the tree, and its path leads from there to a leaf, which is done.
-  pub start : BelongsToWhole (parts plan) (start_of plan)
+  -- The draw tree splits lawfully in each state to which a path leads from the start: where it isn't done the weights are at least 1,
+  -- each part's rank is lower, and each row's value is the weighted mean of its values in the parts; where it is done, that is 1 for
+  -- the rows that are selected, and 0 for the others.
+  pub lawful : Lawful (tree_of plan) (IsReached (tree_of plan) (start_of plan))
+  -- The path of the draw leads from the start to a leaf, which is done.
   pub full : IsFullPath (tree_of plan) (start_of plan) drawn.path drawn.leaf
   pub probabilities : HasProbabilities plan
   pub firsts : DrawsFirsts drawn
@@ -133,13 +133,19 @@ pub record IsDrawnAlone (plan : Plan) (h : ℕ) (drawn : Drawn) : Type 0 where
   pub plan_is : drawn.plan ≡ plan
   pub only : drawn.only ≡ Some h
   pub there : h < length (parts plan).strata
-  pub lawful : Lawful (covered_tree (alone plan h)) (BelongsToCovered (alone plan h))
+  pub lawful : Lawful (covered_tree (alone plan h))
+      (IsReached (covered_tree (alone plan h)) (covered_start (alone plan h)))
   pub starts : StartsAlone (parts plan) h (covered_start (alone plan h))
   pub full : IsFullPath (covered_tree (alone plan h)) (covered_start (alone plan h)) drawn.path
       drawn.leaf
 
+-- what is drawn of all strata, from a state of the selection by the plan
+pub record IsDrawnWhole (plan : Plan) (drawn : Drawn) : Type 0 where
+  pub member : BelongsToWhole (parts plan) (start_of plan)
+  pub by_plan : IsDrawnBy plan drawn
+
 abbrev pub IsDrawnOf : Option ℕ → Plan → Drawn → Type 0
-IsDrawnOf None plan drawn = IsDrawnBy plan drawn
+IsDrawnOf None plan drawn = IsDrawnWhole plan drawn
 IsDrawnOf (Some h) plan drawn = IsDrawnAlone plan h drawn
 
 -- what a source draws by a plan

@@ -1,10 +1,10 @@
 -- Paths that go on by one step, and walks that do.
-use Rattle.std.proofs.Common.{◌≡◌, ℕ, ◌-◌, ◌<◌, false, nat_lt, List, [], ◌∷◌, ◌++◌, Option, Some, None, Ok, arith, refl, sym, ap, ◌∙◌, subst, append_assoc, inl, inr}
-use Rattle.std.proofs.lemmas.Bool.{cases_Bool, ltb-false}
+use Rattle.std.proofs.Common.{◌≡◌, ℕ, ◌+◌, ◌-◌, ◌<◌, ◌≤◌, true, false, nat_lt, List, [], ◌∷◌, ◌++◌, Option, Some, None, Ok, arith, refl, sym, ap, ◌∙◌, subst, append_assoc, inl, inr}
+use Rattle.std.proofs.lemmas.Bool.{cases_Bool, ltb-true, ltb-false, lt-ltb}
 use Rattle.std.proofs.lemmas.List.{append-nil}
 use Rattle.smp_tape.specs.Sources.{Source}
 use Rattle.smp_split.specs.Trees.{Part, Tree, EachPart, IsPart, Lawful, weight_sum, picked}
-use Rattle.smp_split.specs.Paths.{Entry, IsStep, Leads}
+use Rattle.smp_split.specs.Paths.{Entry, IsReached, IsStep, Leads, entry_at}
 use Rattle.smp_split.specs.Runs.{Gives, Position, and_then}
 
 module _ {State : Type 0} where
@@ -85,3 +85,43 @@ module _ {State : Type 0} (tree : Tree State) (belongs : State → Type 0) (lawf
   leads_belong (entry ∷ path) from to leads b =
       let within : entry.2 < weight_sum (tree.parts from) = value_within from entry leads.0 in
       leads_belong path (picked from (tree.parts from) entry.2) to leads.1 (picked_belongs from (picked from (tree.parts from) entry.2) entry.2 b leads.0.going within refl)
+
+  -- where each part of a state can be reached
+  reached_parts : (s default : State) (Reached : State → Type 0) (parts : List (Part State)) → EachPart (IsPart tree belongs s) parts → ((draw : ℕ) → draw < weight_sum parts → Reached (picked default parts draw))
+      → EachPart (IsPart tree Reached s) parts
+  reached_parts s default Reached [] each reach = tt
+  reached_parts s default Reached (p ∷ ps) each reach =
+      let heavy = each.0.heavy in (
+        record { heavy = heavy; falls = each.0.falls; member = subst Reached (picked_first default p ps heavy) (reach 0 (omega (arith, heavy))) },
+        reached_parts s default Reached ps each.1 (λ draw h. subst Reached (picked_later default p ps draw) (reach (p.weight + draw) (omega (arith, h)))),
+      )
+    where
+      picked_first : (default : State) (p : Part State) (ps : List (Part State)) → 1 ≤ p.weight → picked default (p ∷ ps) 0 ≡ p.state
+      picked_first default p ps heavy = let first : nat_lt 0 p.weight ≡ true = lt-ltb 0 p.weight (omega (arith, heavy)) in rw first refl
+
+      picked_later : (default : State) (p : Part State) (ps : List (Part State)) (draw : ℕ) → picked default (p ∷ ps) (p.weight + draw) ≡ picked default ps draw
+      picked_later default p ps draw =
+          elim (cases_Bool (nat_lt (p.weight + draw) p.weight)) [
+            | inl e ↦ absurd (omega (arith, ltb-true (p.weight + draw) p.weight e))
+            | inr e ↦ (let rest : p.weight + draw - p.weight ≡ draw = omega arith in rw (e, rest) refl)
+          ]
+
+  -- a tree that splits lawfully does so in the states that are reached from one of them
+  pub reached_lawful : (start : State) → belongs start → Lawful tree (IsReached tree start)
+  reached_lawful start b = record {
+    split = λ s reached going.
+        (let split = lawful.split s (leads_belong reached.path start s reached.leads b) going in
+        record {
+          some = split.some;
+          narrow = split.narrow;
+          each = reached_parts s s (IsReached tree start) (tree.parts s) split.each (λ draw h. next start s reached going draw h);
+          even = split.even;
+        });
+    end = λ s reached done. lawful.end s (leads_belong reached.path start s reached.leads b) done;
+  }
+    where
+      next : (start s : State) → IsReached tree start s → tree.done s ≡ false → (draw : ℕ) → draw < weight_sum (tree.parts s) → IsReached tree start (picked s (tree.parts s) draw)
+      next start s reached going draw h = record {
+        path = reached.path ++ entry_at tree s draw ∷ [];
+        leads = Leads-push tree start s reached.path (entry_at tree s draw) reached.leads (record { going = going; kind = refl; bound = refl; value = h });
+      }

@@ -25,6 +25,11 @@ Leads tree from [] to = to ≡ from
 Leads tree from (entry ∷ path) to =
     IsStep tree from entry × Leads tree (picked from (tree.parts from) entry.2) path to
 
+-- a state to which a path leads from the start
+pub record IsReached {State : Type 0} (tree : Tree State) (start state : State) : Type 0 where
+  pub path : List Entry
+  pub leads : Leads tree start path state
+
 -- ---- leaves: the done states below a state
 
 -- P holds of each leaf below a state, and of the path to it
