@@ -1,10 +1,10 @@
 -- The fields of a record, by their places, and as texts.
-use Rattle.std.proofs.Common.{◌≡◌, ℕ, zero, suc, ◌+◌, ◌<◌, true, false, List, [], ◌∷◌, Option, Some, None, length, drop, drop-cons, refl, sym, ap, ◌∙◌, inl, inr, arith}
+use Rattle.std.proofs.Common.{◌≡◌, ℕ, zero, suc, ◌+◌, ◌<◌, true, false, List, [], ◌∷◌, Option, Some, None, length, nat_lt, drop, drop-cons, refl, sym, ap, ◌∙◌, inl, inr, arith}
 use Rattle.std.specs.List.{list_all}
 use Rattle.std.specs.Str.{IsUtf8, is_utf8}
-use Rattle.std.proofs.lemmas.Bool.{cases_Bool}
+use Rattle.std.proofs.lemmas.Bool.{cases_Bool, ltb-true}
 use Rattle.std.proofs.lemmas.Str.{IsUtf8-nil, IsUtf8-from_is_utf8, is_utf8-from_IsUtf8}
-use Rattle.smp_lines.proofs.Ascii.{both}
+use Rattle.smp_lines.proofs.Ascii.{IsUtf8-from_test, both}
 use Rattle.csv.specs.Records.{field_at}
 use Rattle.smp_frame.specs.Records.{field}
 
@@ -29,6 +29,10 @@ pub field_is_text : (row : List (List ℕ)) (place : ℕ) → list_all is_utf8 r
 field_is_text [] place all = IsUtf8-nil
 field_is_text (text ∷ row) zero all = IsUtf8-from_is_utf8 text (both (is_utf8 text) (list_all is_utf8 row) all).0
 field_is_text (text ∷ row) (suc place) all = field_is_text row place (both (is_utf8 text) (list_all is_utf8 row) all).1
+
+-- ASCII is text
+pub ascii_is_text : (text : List ℕ) → list_all (λ byte. nat_lt byte 128) text ≡ true → IsUtf8 text
+ascii_is_text text h = IsUtf8-from_test (λ byte. nat_lt byte 128) (λ b below. ltb-true b 128 below) text h
 
 pub not_text : (text : List ℕ) → ¬ (IsUtf8 text) → false ≡ is_utf8 text
 not_text text h = elim (cases_Bool (is_utf8 text)) [ inl is ↦ absurd (h (IsUtf8-from_is_utf8 text is)) | inr not ↦ sym not ]

@@ -1,6 +1,6 @@
 //! The records of a text, one after another, and their fields.
 
-ghost use Rattle.std.specs.Prelude.{◌≡◌, IfOk, true};
+ghost use Rattle.std.specs.Prelude.{◌≡◌, IfOk, nat_lt, true};
 ghost use Rattle.std.specs.List.{list_all};
 ghost use Rattle.std.specs.Str;
 ghost use Rattle.std.specs.Str.{is_utf8};
@@ -78,13 +78,28 @@ pub(crate) fn is_text(row: &ByteRecord) -> bool
     true
 }
 
+// Most fields are short and of ASCII, which takes less than to look at characters.
 fn is_utf8(text: &[u8]) -> bool
     ensures { result ≡ Str.is_utf8 text.now }
 {
+    if is_ascii(text) {
+        return true;
+    }
     match str::from_utf8(text) {
         Ok(_) => true,
         Err(_) => false,
     }
+}
+
+fn is_ascii(text: &[u8]) -> bool
+    ensures { result ≡ list_all (λ byte. nat_lt byte 128) text.now }
+{
+    for &byte in text {
+        if byte >= 128 {
+            return false;
+        }
+    }
+    true
 }
 
 /// A copy of the field at a place of a record of text.
@@ -92,8 +107,7 @@ pub(crate) fn text(alloc: Global, row: &ByteRecord, place: usize) -> Result<Text
     requires { list_all is_utf8 (fields_of row.now) ≡ true }
     ensures { IfOk result (λ text. text ≡ Records.field (fields_of row.now) place) }
 {
-    match str::from_utf8(field(row, place)) {
-        Ok(text) => Text::from_str(alloc, text),
-        Err(_) => unreachable!(),
-    }
+    // The fields were looked at, and aren't looked at again.
+    let text = unsafe { str::from_utf8_unchecked(field(row, place)) };
+    Text::from_str(alloc, text)
 }
