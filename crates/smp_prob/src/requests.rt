@@ -128,6 +128,10 @@ fn place_of(units: &[usize], unit: usize) -> Option<usize>
     requires { Rises units.now }
     ensures { result ≡ position (nat_eq unit) units.now }
 {
+    // Where each unit is in the list, it stands at its own place.
+    if unit < units.len() && units[unit] == unit {
+        return Some(unit);
+    }
     match units.binary_search(&unit) {
         Ok(place) => Some(place),
         Err(_) => None,
