@@ -1,12 +1,13 @@
 -- Decimal digits, and the number that they write.
-use Rattle.std.proofs.Common.{◌≡◌, ℕ, ◌^◌, ◌<◌, ◌&&◌, cond, List, Some, None, Err, length, nat_lt, sym, ap, ◌∙◌, true, rules, arith, inl, inr}
+use Rattle.std.proofs.Common.{◌≡◌, ℕ, zero, suc, ◌+◌, ◌-◌, ◌*◌, ◌^◌, ◌<◌, ◌≤◌, ◌&&◌, Bool, cond, List, [], ◌∷◌, Some, None, Err, length, get_or, take, nat_lt, sym, ap, ◌∙◌, true, rules, arith, inl, inr}
 use Rattle.std.specs.List.{list_all}
-use Rattle.std.specs.Char.{is_ascii_digit}
+use Rattle.std.specs.Char.{is_ascii_digit, digit_value}
 use Rattle.std.specs.Str.{IsUtf8}
 use Rattle.std.specs.Str.Parse.{digits_value, ParsesUnsigned}
 use Rattle.std.proofs.lemmas.Bool.{cases_Bool}
 use Rattle.std.proofs.lemmas.Bool.Decides.{nat_tests}
-use Rattle.std.proofs.lemmas.Str.Parse.{IsNumeralModel, numerals_by_value, parse_digits}
+use Rattle.std.proofs.lemmas.Int.Digits.{digits_value_more}
+use Rattle.std.proofs.lemmas.Str.Parse.{IsNumeralModel, numerals_by_value, parse_digits, digits_value_short, digits_value-take-le}
 use Rattle.smp_lines.specs.Decimals.{is_decimal, number_below}
 use Rattle.smp_lines.proofs.Ascii.{both, IsUtf8-from_test}
 
@@ -34,3 +35,28 @@ digit_is_ascii b h = grind (arith, nat_tests)
 -- decimal digits are text
 pub IsUtf8-from_decimal : (bs : List ℕ) → is_decimal bs ≡ true → IsUtf8 bs
 IsUtf8-from_decimal bs is = IsUtf8-from_test is_ascii_digit digit_is_ascii bs (both (nat_lt 0 (length bs)) (list_all is_ascii_digit bs) is).1
+
+passes_at : (test : ℕ → Bool) (bs : List ℕ) (i : ℕ) → list_all test bs ≡ true → i < length bs → test (get_or bs i 0) ≡ true
+passes_at test [] i h l = absurd (omega (arith, l))
+passes_at test (b ∷ bs) zero h l = (both (test b) (list_all test bs) h).0
+passes_at test (b ∷ bs) (suc i) h l = passes_at test bs i (both (test b) (list_all test bs) h).1 (omega (arith, l))
+
+digit_is : (b : ℕ) → is_ascii_digit b ≡ true → digit_value b ≡ b - 48
+digit_is b h = grind (arith, nat_tests)
+
+-- at most 19 digits, of which one more is read at a time
+module _ (bs : List ℕ) (is : is_decimal bs ≡ true) (short : length bs ≤ 19) where
+  are_digits : AreDigits bs
+  are_digits = (both (nat_lt 0 (length bs)) (list_all is_ascii_digit bs) is).1
+
+  pub few_below : digits_value 10 bs < 10 ^ 19
+  few_below = digits_value_short numerals bs 19 are_digits short
+
+  module _ (i : ℕ) (here : i < length bs) where
+    pub next_digit : digits_value 10 (take (i + 1) bs) ≡ digits_value 10 (take i bs) * 10 + (get_or bs i 0 - 48)
+    next_digit = digits_value_more 10 bs i here ∙ ap (λ d. digits_value 10 (take i bs) * 10 + d) (digit_is (get_or bs i 0) (passes_at is_ascii_digit bs i are_digits here))
+
+    pub next_fits : digits_value 10 (take i bs) * 10 + (get_or bs i 0 - 48) < 2 ^ 64
+    next_fits =
+        let up : digits_value 10 (take (i + 1) bs) ≤ digits_value 10 bs = digits_value-take-le 10 bs (i + 1) (omega arith) in
+        omega (arith, up, next_digit, few_below)

@@ -1,8 +1,12 @@
-ghost use Rattle.std.specs.Prelude.{◌≡◌, ◌^◌, true};
+ghost use Rattle.std.specs.Prelude.{◌≡◌, ◌^◌, ◌≤◌, length, true};
 ghost use Rattle.std.specs.List.{list_all};
 ghost use Rattle.std.specs.Char.{is_ascii_digit};
+ghost use Rattle.std.specs.Str.Parse.{digits_value};
 ghost use Rattle.smp_lines.specs.Decimals;
 ghost use Rattle.smp_lines.specs.Decimals.{number_below};
+
+/// So many digits write a number below 2^64, whatever they are.
+const SHORT: usize = 19;
 
 /// Whether a text is one or more ASCII digits.
 pub fn is_decimal(text: &[u8]) -> bool
@@ -30,10 +34,26 @@ pub fn number(text: &[u8]) -> Option<u128>
     if !is_decimal(text) {
         return None;
     }
+    if text.len() <= SHORT {
+        return Some(short_number(text) as u128);
+    }
     match str::from_utf8(text) {
         Ok(text) => parsed(text),
         Err(_) => unreachable!(),
     }
+}
+
+// The number that digits write which are few enough for 64 bits.
+fn short_number(text: &[u8]) -> u64
+    requires decimal { Decimals.is_decimal text.now ≡ true }
+    requires short { length text.now ≤ 19 }
+    ensures { result ≡ digits_value 10 text.now }
+{
+    let mut value = 0;
+    for &byte in text {
+        value = value * 10 + (byte - b'0') as u64;
+    }
+    value
 }
 
 fn parsed(text: &str) -> Option<u128>
