@@ -50,9 +50,4 @@ impl Bytes {
     {
         self.bytes.as_slice()
     }
-
-    /// The allocator of the bytes, for texts that are put together before they are appended.
-    pub(crate) fn allocator(&self) -> Global {
-        *self.bytes.allocator()
-    }
 }

@@ -1,10 +1,12 @@
-ghost use Rattle.std.specs.Prelude.{◌≡◌, ◌≢◌, ◌*◌, ◌/◌, ◌^◌, ◌<◌, ◌≤◌, ◌↔◌, IsNone, IfSome, IfOk, OnOk, OnErr, OkIff, ◌++◌};
+ghost use Rattle.std.specs.Prelude.{◌≡◌, ◌≢◌, ◌*◌, ◌/◌, ◌^◌, ◌<◌, ◌≤◌, ◌↔◌, IsNone, IfSome, IfOk, OnOk, OnErr, OkIff, ◌+◌, ◌++◌, codes, length, take};
+ghost use Rattle.std.specs.Fmt.{decimal};
 ghost use Prim.Native.Nat.{◌∣◌};
 ghost use Rattle.std.specs.Int.{IsGcd};
 ghost use Rattle.smp_frac.specs.Divisors.{greatest_common_divisor};
 ghost use Rattle.smp_fractions.specs.Fractions.{Same, AtMost, over, plus, times, inverse};
 
 use crate::{Bytes, NoMemory, gcd};
+use itoa::Buffer;
 use std::cmp::Ordering;
 
 /// A result needs a number of 2^126 or more.
@@ -24,6 +26,28 @@ pub struct Frac {
     pub den: u128,
     pub ghost positive: { 1 ≤ den },
     pub ghost lowest: { greatest_common_divisor num den ≡ 1 },
+}
+
+// Puts a piece at a place. What stands before it stays.
+fn put(text: &mut [u8], at: usize, piece: &[u8])
+    requires { at + length piece.now ≤ length text.old }
+    ensures { take (at + length piece.now) text.new ≡ take at text.old ++ piece.now }
+{
+    text[at..at + piece.len()].copy_from_slice(piece);
+}
+
+// Puts a numerator, a slash and a denominator at the front of a text, and says how many bytes they take.
+fn put_terms(text: &mut [u8; 81], num: u128, den: u128) -> usize
+    ensures within { result ≤ 81 }
+    ensures terms { take result text.new ≡ decimal num ++ codes "/" ++ decimal den }
+{
+    let (mut above, mut below) = (Buffer::new(), Buffer::new());
+    let num = above.format(num).as_bytes();
+    let den = below.format(den).as_bytes();
+    put(text, 0, num);
+    put(text, num.len(), b"/");
+    put(text, num.len() + 1, den);
+    num.len() + 1 + den.len()
 }
 
 impl Frac {
@@ -135,8 +159,9 @@ impl Frac {
         ensures ok { OnOk result (into.new ≡ into.old ++ fraction_text (fraction self)) }
         ensures err { OnErr result (into.new ≡ into.old) }
     {
-        let text = format!(in into.allocator(); "{}/{}", self.num, self.den)?;
-        into.push_all(text.as_bytes())
+        let mut text = [0; 81];
+        let length = put_terms(&mut text, self.num, self.den);
+        into.push_all(&text[..length])
     }
 
     /// The fraction `num / (part * den)` in lowest terms, where `num` has no divisor in common
