@@ -7,7 +7,7 @@ use Rattle.smp_flight.specs.States.{Units, Flight, IsFlight}
 use Rattle.smp_moves.specs.Moves.{Line, Move, IsLine, IsMoved, turned, chosen_line, chosen_extent}
 use Rattle.smp_moves.specs.Ends.{end_of}
 use Rattle.smp_moves.proofs.Entries.{turned_line}
-use Rattle.smp_flight.proofs.Nexts.{IsKnown, flight_over}
+use Rattle.smp_flight.specs.Laws.Nexts.{IsKnown, flight_over}
 use Rattle.smp_moves.proofs.Moved.{end_settles, end_values, end_multiple, keeps_fractional}
 use Rattle.smp_flight.specs.Steps.{chosen, end_at_is}
 

@@ -20,12 +20,13 @@ use Rattle.smp_flight.specs.States.{Units, Flight, IsFlight, columns_of}
 use Rattle.smp_moves.specs.Moves.{independent, Line, Move, IsOrder, IsLine, IsGreatest, MakesWhole, IsMoved, Fits, fraction_of, turned, Next, move, wide}
 use Rattle.smp_flight.specs.Moves.{IsDirection, IsMove, sized}
 use Rattle.smp_moves.specs.Ends.{extent}
-use Rattle.smp_flight.specs.Statements.{Finds, IsFlown, IsWide, IsNext, GoesBothWays}
+use Rattle.smp_flight.specs.Statements.{GoesBothWays}
+use Rattle.smp_flight.specs.Moves.{Finds, IsFlown, IsWide, IsNext}
 use Rattle.smp_moves.specs.Kept.Ends.{IsOver}
 use Rattle.smp_fractions.proofs.Differences.{over_cross}
 use Rattle.smp_moves.proofs.Entries.{turned_line}
 use Rattle.smp_moves.proofs.LineEnds.{greatest, extent_some}
-use Rattle.smp_flight.proofs.Nexts.{direction_line, flight_over}
+use Rattle.smp_flight.specs.Laws.Nexts.{direction_line, flight_over}
 
 -- ---- fractions in lowest terms
 

@@ -11,7 +11,7 @@ use Rattle.smp_flight.specs.States.{Units, size, column, columns_of}
 use Rattle.smp_flight.specs.Moves.{sized}
 use Rattle.smp_moves.specs.Ends.{entries_fit}
 use Rattle.smp_flight.specs.Kept.Steps.{direction}
-use Rattle.smp_flight.proofs.Entries.{length-sized, entry-sized}
+use Rattle.smp_flight.specs.Laws.Entries.{length-sized, entry-sized}
 use Rattle.smp_moves.proofs.Weights.{within_from}
 
 -- ---- arrays as lists

@@ -5,7 +5,7 @@ use Rattle.std.proofs.lemmas.List.{take-take}
 use Rattle.std.specs.Int.RustNames.{unsigned_abs}
 use Rattle.smp_kernel.specs.Vectors.{entry, IsZero, Within}
 use Rattle.smp_kernel.specs.Searches.{found}
-use Rattle.smp_flight.specs.Searches.{search, search_is}
+use Rattle.smp_flight.specs.Kept.Searches.{search, search_is}
 use Rattle.smp_values.specs.Values.{fractional_units}
 use Rattle.smp_values.proofs.Units.{fractional_units_length}
 use Rattle.smp_flight.specs.States.{AreFirst, Flight, IsFlight, Tracked, Units, columns_of}
@@ -14,7 +14,7 @@ use Rattle.smp_flight.specs.Moves.{sized}
 use Rattle.smp_moves.specs.Ends.{entries_fit}
 use Rattle.smp_flight.specs.Steps.{next_on, next}
 use Rattle.smp_flight.specs.Kept.Steps.{direction, next_along, next_of, next_by}
-use Rattle.smp_flight.specs.Statements.{Finds}
+use Rattle.smp_flight.specs.Moves.{Finds}
 use Rattle.smp_flight.specs.Answers.{Allows, AreSearched, IsFirstMove, IsMoveOf, answer_of, move_of}
 use Rattle.smp_flight.specs.Kept.Lines.{IsPaddedIn}
 use Rattle.smp_flight.specs.declared.steps.Next.{Next as Answer}
@@ -23,7 +23,8 @@ use Rattle.smp_moves.proofs.Entries.{frame_order, order_front}
 use Rattle.smp_flight.proofs.Firsts.{from_each}
 use Rattle.smp_flight.proofs.Fitting.{moves_within}
 use Rattle.smp_flight.proofs.Reordered.{independent_in_frame}
-use Rattle.smp_flight.proofs.Nexts.{circuit_within, direction_line, independent_columns, is_direction, known, next_on_front, some_sized}
+use Rattle.smp_flight.proofs.Nexts.{independent_columns, known, next_on_front}
+use Rattle.smp_flight.specs.Laws.Nexts.{circuit_within, direction_line, is_direction, some_sized}
 
 module _ (units : Units) (s : Flight) (is_flight : IsFlight units s) (us : List ℕ) (number : ℕ) (lu : number ≤ length us) (ok : IsOrder s.shares (take number us)) (w : List ℤ) (n : ℕ) (lw : n ≤ length w) (e : found (take n w) ≡ search s.rows (columns_of units (take number us))) (past : (i : ℕ) → n ≤ i → entry w i ≡ pos 0) where
   pub finds : Finds units s (take number us) (found (take n w))

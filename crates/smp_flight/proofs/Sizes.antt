@@ -8,11 +8,13 @@ use Rattle.smp_moves.specs.declared.reaches.Reach.{Reach}
 use Rattle.smp_flight.specs.declared.ends.End.{End}
 use Rattle.smp_moves.specs.Ends.{reach, advanced_numbers, common_factor}
 use Rattle.smp_flight.specs.Steps.{next_on}
-use Rattle.smp_flight.specs.Statements.{EachEnds, IsFlown, GoesBothWays}
+use Rattle.smp_flight.specs.Statements.{EachEnds, GoesBothWays}
+use Rattle.smp_flight.specs.Moves.{IsFlown}
 use Rattle.smp_moves.specs.Kept.Ends.{IsOver}
 use Rattle.smp_flight.specs.Kept.Ends.{IsEndOf}
 use Rattle.smp_moves.proofs.LineEnds.{reached, full_positive, common_some}
-use Rattle.smp_flight.proofs.Nexts.{known, next_is, flight_over}
+use Rattle.smp_flight.proofs.Nexts.{known, next_is}
+use Rattle.smp_flight.specs.Laws.Nexts.{flight_over}
 use Rattle.smp_flight.proofs.Moved.{chosen_there}
 use Rattle.smp_flight.proofs.OneMove.{one_next, goes_both_ways}
 use Rattle.smp_moves.proofs.Sizes.{can_advance, reach_small, weights_small}

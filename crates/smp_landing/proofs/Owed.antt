@@ -17,7 +17,7 @@ use Rattle.smp_moves.proofs.Entries.{frame_order}
 use Rattle.smp_flight.specs.States as flights
 use Rattle.smp_flight.specs.States.{Units, Flight, IsFlight, column, size}
 use Rattle.smp_flight.specs.Steps.{next}
-use Rattle.smp_flight.specs.Statements.{IsNext}
+use Rattle.smp_flight.specs.Moves.{IsNext}
 use Rattle.smp_flight.specs.Totals.{expanded, addend}
 use Rattle.smp_flight.proofs.Nexts.{independent_columns, next_is}
 use Rattle.smp_landing.specs.Cube.{Balancing, flying, pairing, values_in, rows_in, left_in, IsBalancing, cube_kind, cube_parts, flight_kind, flight_parts, landed}
@@ -84,7 +84,7 @@ drop_few units (pairing s left) ok k = absurd (no_landing (fractional_units s) (
 
 lands_there : (units : Units) (s : Balancing) → IsBalancing units s → Begins (cube_kind units s) → IsStuck units s
 lands_there units (flying f left) ok (inl drops) =
-    inl (subst (IsNext units f (fractional_units f.shares)) (is_independent (next units f) drops) (next_is units f (fractional_units f.shares) ok (frame_order f.shares)))
+    inl (drop_independent units (flying f left) drops)
 lands_there units (flying f left) ok (inr wides) =
     inr (subst (IsNext units f (fractional_units f.shares)) (is_wide (next units f) wides) (next_is units f (fractional_units f.shares) ok (frame_order f.shares)))
 lands_there units (pairing s left) ok begins = absurd (no_landing (fractional_units s) begins)

@@ -2,18 +2,23 @@
 -- Tillé 2004).
 use Rattle.std.specs.Prelude.{◌⊎◌, slice_index}
 use Rattle.smp_kernel.specs.Elimination.{cut, AreIndependent}
-use Rattle.smp_kernel.specs.Searches.{none}
 use Rattle.smp_values.specs.Values.{fractional_count, fractional_units}
 use Rattle.smp_moves.specs.Balances as moves
 use Rattle.smp_moves.specs.Owed.{Weighed, balance_of}
 use Rattle.smp_flight.specs.States.{Units, columns_of, row_count}
-use Rattle.smp_flight.specs.Statements.{Finds, IsWide}
+use Rattle.smp_flight.specs.Moves.{IsWide}
 use Rattle.smp_flight.specs.Totals.{expanded, target}
 use Rattle.smp_landing.specs.Cube.{Balancing, flying, pairing, values_in, rows_in, left_in, cube_tree}
 
--- no direction is left: the search through the columns of the fractional units found none
+-- the columns of the fractional units are independent in the rows in force
+abbrev pub HasIndependentColumns : Units → Balancing → Type 0
+HasIndependentColumns units s =
+    AreIndependent (rows_in s)
+    (cut (rows_in s) (columns_of units (fractional_units (values_in s))))
+
+-- no direction is left in the flight: no move keeps the totals of the rows in force
 abbrev pub NoDirectionLeft : Units → Balancing → Type 0
-NoDirectionLeft units (flying f left) = Finds units f (fractional_units f.shares) none
+NoDirectionLeft units (flying f left) = HasIndependentColumns units (flying f left)
 NoDirectionLeft units (pairing s left) = ⊥
 
 -- the next step doesn't fit: a number of the search, or of the move that it found, passes its gate
@@ -23,12 +28,6 @@ NextDoesNotFit units (pairing s left) = ⊥
 
 abbrev pub IsStuck : Units → Balancing → Type 0
 IsStuck units s = NoDirectionLeft units s ⊎ NextDoesNotFit units s
-
--- the columns of the fractional units are independent in the rows in force
-abbrev pub HasIndependentColumns : Units → Balancing → Type 0
-HasIndependentColumns units s =
-    AreIndependent (rows_in s)
-    (cut (rows_in s) (columns_of units (fractional_units (values_in s))))
 
 -- The total of a row at a state is the sum of what each unit counts for, times its value; in the first row it is the sum of the values.
 abbrev pub weighed_of : Units → Weighed Balancing

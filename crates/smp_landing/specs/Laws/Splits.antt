@@ -18,9 +18,11 @@ use Rattle.smp_flight.specs.States.{Units, Flight, IsFlight, columns_of, column}
 use Rattle.smp_moves.specs.Moves.{Move, fraction_of, entry_of, independent, Next, move, wide, chosen_line, chosen_extent}
 use Rattle.smp_flight.specs.Steps.{next, chosen}
 use Rattle.smp_kernel.specs.Searches.{none}
-use Rattle.smp_flight.specs.Statements.{Finds, GoesBothWays, IsNext}
+use Rattle.smp_flight.specs.Statements.{GoesBothWays}
+use Rattle.smp_flight.specs.Moves.{Finds, IsNext}
 use Rattle.smp_moves.proofs.Entries.{frame_order}
-use Rattle.smp_flight.proofs.Nexts.{IsKnown, known, next_is}
+use Rattle.smp_flight.proofs.Nexts.{known, next_is}
+use Rattle.smp_flight.specs.Laws.Nexts.{IsKnown}
 use Rattle.smp_flight.proofs.Moved.{IsChosen, chosen_there}
 use Rattle.smp_flight.proofs.Sizes.{flown_both_ways}
 use Rattle.smp_flight.proofs.MoveTotals.{end_total}
