@@ -185,10 +185,10 @@ module _ (s : StratumUnits) (ok : AreStratumUnits s) where
       first_none [] h = refl
       first_none (x ∷ xs) h = absurd (omega arith)
 
-  few_are_left : (before : List Entry) (at : Balancing) → LandsAt (balance_of s) (start_of s) before at → (tree_of s).kind at ≡ kind.Drop → fractional_count (values_in at) ≤ row_count s
+  few_are_left : (before : List Entry) (at : Balancing) → LandsAt (balance_of s) (start_of s) before at → (tree_of s).kind at ≡ kind.Drop → (fractional_count (values_in at) ≤ rows_in at) × (rows_in at ≤ row_count s)
   few_are_left before at lands drops =
-      let few : fractional_count (values_in at) ≤ flights.row_count (free_units s) = of_cube.few before at (of_landing before at lands) drops in
-      omega (arith, few, fewer_rows)
+      let few : (fractional_count (values_in at) ≤ rows_in at) × (rows_in at ≤ flights.row_count (free_units s)) = of_cube.few before at (of_landing before at lands) drops in
+      (few.0, omega (arith, few.1, fewer_rows))
 
   error_is_bounded : (before after : List Entry) (at leaf : Balancing) → LandsAt (balance_of s) (start_of s) before at → Leads (tree_of s) at after leaf → (tree_of s).done leaf ≡ true → (row : ℕ) → row < row_count s →
       DifferByAtMost (error_bound s at row) (estimate s leaf row) (known s row)

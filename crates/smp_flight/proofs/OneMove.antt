@@ -3,12 +3,11 @@ use Rattle.std.proofs.Common.{◌≡◌, ℕ, ◌+◌, ◌*◌, ◌^◌, ◌<◌
 use Rattle.std.proofs.lemmas.Int.{ints}
 use Rattle.std.proofs.lemmas.List.{ext_get_or}
 use Rattle.std.proofs.Math.Nat.{dvd-mul_left, dvd-zero, le_of_dvd}
-use Rattle.std.proofs.lemmas.Nat.Gcd.{IsGcd-swap, dvd_antisymm}
+use Rattle.std.proofs.lemmas.Nat.Gcd.{IsGcd-swap}
 use Rattle.std.specs.Int.{IsGcd}
 use Prim.Native.Nat.{◌∣◌}
 use Rattle.smp_fractions.specs.Fractions.{Same, AtMost, whole, times}
 use Rattle.smp_fractions.proofs.Fractions.{cancel, same_sym, same_trans}
-use Rattle.smp_frac.specs.Laws.Coprime.{dvd_of_coprime}
 use Rattle.smp_kernel.specs.Elimination.{cut}
 use Rattle.smp_kernel.specs.Reduced.{IsReduced}
 use Rattle.smp_kernel.specs.Searches.{Search, found, none, too_wide}
@@ -26,18 +25,10 @@ use Rattle.smp_moves.specs.Kept.Ends.{IsOver}
 use Rattle.smp_fractions.proofs.Differences.{over_cross}
 use Rattle.smp_moves.proofs.Entries.{turned_line}
 use Rattle.smp_moves.proofs.LineEnds.{greatest, extent_some}
+use Rattle.smp_moves.proofs.LowestTerms.{same_coprime}
 use Rattle.smp_flight.specs.Laws.Nexts.{direction_line, flight_over}
 
--- ---- fractions in lowest terms
-
-same_coprime : (p q m n : ℕ) → IsGcd p q 1 → IsGcd m n 1 → 1 ≤ q → p * n ≡ m * q → (p ≡ m) × (q ≡ n)
-same_coprime p q m n r s pq h =
-    let P : ℕ → Type 0 = λ x. q ∣ x in
-    let Q : ℕ → Type 0 = λ x. n ∣ x in
-    let a : q ∣ n = dvd_of_coprime q p n (IsGcd-swap p q 1 r) (subst P (sym h) (dvd-mul_left q m)) in
-    let b : n ∣ q = dvd_of_coprime n m q (IsGcd-swap m n 1 s) (subst Q h (dvd-mul_left n p)) in
-    let e : q ≡ n = dvd_antisymm a b in
-    (cancel p m q pq (ap (λ x. p * x) e ∙ h), e)
+-- ---- the greatest fraction
 
 cross_at_most : (r t : Ratio) → 1 ≤ r.den → 1 ≤ t.den → AtMost (fraction_of r) (fraction_of t) → r.num * t.den ≤ t.num * r.den
 cross_at_most r t pr pt h =
@@ -45,8 +36,6 @@ cross_at_most r t pr pt h =
     let et : max 1 t.den ≡ t.den = omega arith in
     let k : r.num * max 1 t.den ≤ t.num * max 1 r.den = omega (arith, ints, h.cross) in
     omega (arith, k, ap (λ x. t.num * x) er, ap (λ x. r.num * x) et)
-
--- ---- the greatest fraction
 
 one_greatest : (s : Shares) (line : Line) (r t : Ratio) → IsGreatest s line r → IsGreatest s line t → r ≡ t
 one_greatest s line r t g h =

@@ -163,8 +163,7 @@ module _ {State : Type 0} (b : Weighed State) (belongs flying : State → Type 0
       drops = λ path s leads going drops. owes.drops s (leads_belong b.tree belongs owes.lawful path from s leads start.member) drops;
       few = λ before s lands drops.
           (let u = at_landing before s lands in
-          let few : b.undecided s ≤ b.rows s = owes.few s u.member drops in
-          omega (arith, few, u.rows));
+          (owes.few s u.member drops, omega (arith, u.rows)));
       error = λ before after s leaf lands leads done row l.
           (let u = at_landing before s lands in
           differ_by_same (estimate_is s leaf after u.member leads done row) (same_sym (u.totals row l)) (total_error s leaf after u.member leads row));

@@ -46,7 +46,7 @@ module _ (first : ℕ) (s : Shares) (is_over : IsOver first s) (line : Line) (ok
   back : IsLine s (turned line)
   back = turned_line s line ok
 
-  lowest_weights : IsLowest ((reach s (turned line)).left * (reach s line).size) ((reach s line).left * (reach s (turned line)).size) (weights (reach s line) (reach s (turned line)))
+  pub lowest_weights : IsLowest ((reach s (turned line)).left * (reach s line).size) ((reach s line).left * (reach s (turned line)).size) (weights (reach s line) (reach s (turned line)))
   lowest_weights =
       lowest_is ((reach s (turned line)).left * (reach s line).size) ((reach s line).left * (reach s (turned line)).size)
       (mul-pos (reached first s is_over line ok).some (reached first s is_over (turned line) back).some_size)

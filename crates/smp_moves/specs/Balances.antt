@@ -75,9 +75,9 @@ module _ {State : Type 0} (b : Balance State) where
     -- a row is dropped only where the columns of the fractional units are independent in the rows in force
     pub drops : (path : List Entry) (s : State) → Leads b.tree from path s
         → b.tree.done s ≡ false → b.tree.kind s ≡ kind.Drop → b.independent s
-    -- where the landing begins as no direction is left, no more units are fractional than there are rows
+    -- where the landing begins as no direction is left, no more units are fractional than there are rows in force
     pub few : (before : List Entry) (s : State) → LandsAt from before s
-        → b.tree.kind s ≡ kind.Drop → b.undecided s ≤ b.all_rows
+        → b.tree.kind s ≡ kind.Drop → (b.undecided s ≤ b.rows s) × (b.rows s ≤ b.all_rows)
     -- the units that are fractional where the landing begins bound the error of each estimate, also after pivotal steps
     pub error : (before after : List Entry) (s leaf : State) → LandsAt from before s
         → Leads b.tree s after leaf → b.tree.done leaf ≡ true → (row : ℕ) → row < b.all_rows

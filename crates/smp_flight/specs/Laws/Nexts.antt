@@ -1,6 +1,6 @@
 -- There is a step with the properties of a search and of a move.
-use Rattle.std.proofs.Common.{◌≡◌, ℕ, ◌*◌, ◌<◌, ◌≤◌, ◌^◌, ◌&&◌, Bool, true, false, nat_le, List, ℤ, pos}
-use Rattle.std.proofs.Common.{◌*ℤ◌, take, length, get_or, arith, refl, sym, ◌∙◌, subst, inl, inr, mul-pos}
+use Rattle.std.proofs.Common.{◌≡◌, ℕ, ◌<◌, ◌≤◌, ◌^◌, ◌&&◌, Bool, true, false, nat_le, List, ℤ, pos}
+use Rattle.std.proofs.Common.{◌*ℤ◌, take, length, get_or, arith, refl, sym, ◌∙◌, subst, inl, inr}
 use Rattle.std.proofs.lemmas.Bool.{cases_Bool, and_parts, and_from, leb-true, le-leb, true≢false}
 use Rattle.std.proofs.lemmas.Int.{ints}
 use Rattle.std.proofs.lemmas.List.{length-map, length-take-le}
@@ -16,13 +16,13 @@ use Rattle.smp_prob.specs.Shares.{Shares}
 use Rattle.smp_flight.specs.States.{Units, Flight, IsFlight, size, column, columns_of}
 use Rattle.smp_moves.specs.Moves.{independent, Line, Move, IsOrder, IsLine, IsMoved, Fits, turned, move, wide, chosen_line, chosen_extent}
 use Rattle.smp_flight.specs.Moves.{Finds, IsDirection, IsMove, IsWide, IsNext, Stepping, sized}
-use Rattle.smp_moves.specs.Ends.{reach, extent, weights, end_of, move_along, entries_fit}
+use Rattle.smp_moves.specs.Ends.{end_of, move_along, entries_fit}
 use Rattle.smp_flight.specs.Kept.Steps.{direction, fits, next_of, next_by}
 use Rattle.smp_moves.specs.Kept.Ends.{IsOver}
 use Rattle.smp_moves.proofs.Entries.{order_within, order_front, turned_line}
 use Rattle.smp_flight.specs.Laws.Entries.{length-sized, entry-sized}
-use Rattle.smp_moves.proofs.LineEnds.{IsLowest, lowest_is, reached, greatest, moved, extent_is}
-use Rattle.smp_moves.proofs.Weights.{weights_at, weights_same, within_from, within_to}
+use Rattle.smp_moves.proofs.LineEnds.{greatest, moved}
+use Rattle.smp_moves.proofs.Weights.{ends_weighed, lowest_weights, within_from, within_to}
 
 -- ---- the line of the circuit that is found
 
@@ -80,28 +80,16 @@ module _ (units : Units) (s : Shares) (is_over : IsOver units.requested.den s) (
   back : IsLine s back_line
   back = turned_line s line ok
 
-  weights_lowest : IsLowest ((reach s back_line).left * (reach s line).size)
-      ((reach s line).left * (reach s back_line).size) (weights (reach s line) (reach s back_line))
-  weights_lowest =
-      lowest_is ((reach s back_line).left * (reach s line).size) ((reach s line).left * (reach s back_line).size)
-      (mul-pos (reached first s is_over line ok).some (reached first s is_over back_line back).some_size)
-
   pub is_move : IsMove units s order w (move_along s line) (end_of units.requested.den s line) (end_of units.requested.den s (turned line))
   is_move =
-      let up = extent_is first s is_over line ok in
-      let down = extent_is first s is_over back_line back in
       record {
         direction = is_dir;
         up = greatest first s is_over line ok;
         down = greatest first s is_over back_line back;
         plus_moved = moved first s is_over line ok;
         minus_moved = moved first s is_over back_line back;
-        weights = weights_same _ _ (extent s line) (extent s back_line) up.some down.some
-            (weights_at s.den (extent s line).num (extent s line).den (extent s back_line).num (extent s back_line).den
-            (reach s line).left (reach s line).size (reach s back_line).left (reach s back_line).size _ _
-            is_over.values.positive (reached first s is_over line ok).some_size (reached first s is_over back_line back).some_size
-            up.same down.same weights_lowest.same);
-        coprime = weights_lowest.reduced;
+        weights = ends_weighed first s is_over line ok;
+        coprime = (lowest_weights first s is_over line ok).reduced;
       }
 
 -- ---- the gates
