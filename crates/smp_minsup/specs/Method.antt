@@ -3,6 +3,7 @@ use Rattle.std.specs.Prelude.{length}
 use Rattle.smp_prob.specs.declared.requests.Request.{Request}
 use Rattle.smp_prob.specs.Shares.{Shares, shares_of}
 use Rattle.smp_split.specs.Methods.{Method}
+use Rattle.smp_split.specs.Trees.{Tree}
 use Rattle.smp_minsup.specs.Support.{IsSupport, support_tree}
 use Rattle.smp_minsup.specs.Laws.Splits.{support_lawful}
 
@@ -10,10 +11,13 @@ use Rattle.smp_minsup.specs.Laws.Splits.{support_lawful}
 abbrev pub started : Request → Shares
 started request = shares_of request
 
--- the method over as many units as the design has
+-- the draw tree over as many units as the design has, and the method
+abbrev pub tree_of : Shares → Tree Shares
+tree_of design = support_tree (length design.numer)
+
 abbrev pub method_of : Shares → Method Shares
 method_of design = record {
-  tree = support_tree (length design.numer);
+  tree = tree_of design;
   belongs = IsSupport (length design.numer);
   lawful = support_lawful (length design.numer);
 }

@@ -1,51 +1,31 @@
 -- The tree of a design whose states are some of those of a larger type: a variant of an enum of designs.
-use Rattle.std.specs.Prelude.{ℕ, Bool, true, false, List, [], Option, Some, None}
-use Rattle.smp_fractions.specs.Fractions.{Fraction, whole}
-use Rattle.smp_split.specs.Trees.{Part, Tree}
+use Rattle.std.specs.Prelude.{true, false, [], Option, Some, None}
+use Rattle.smp_fractions.specs.Fractions.{whole}
+use Rattle.smp_split.specs.Trees.{Tree}
 use Rattle.smp_split.specs.Parts.{moved}
-use Rattle.smp_split.specs.declared.kind.Kind.{Kind}
 use Rattle.smp_split.specs.declared.kind.Kind.TheVariants.{Pivot}
+
+-- what is said of a state of the larger type: this of one that is such, and else that
+abbrev pub said_of : {Inner Said : Type 0} → Said → (Inner → Said) → Option Inner → Said
+said_of other say None = other
+said_of other say (Some state) = say state
+
+abbrev pub belongs_at : {Inner : Type 0} → (Inner → Type 0) → Option Inner → Type 0
+belongs_at belongs None = ⊥
+belongs_at belongs (Some state) = belongs state
 
 -- `into` makes a state of the larger type, and `out` gives it back; of a state that isn't such nothing is told, and it is done
 module _ {Inner Outer : Type 0} (into : Inner → Outer) (out : Outer → Option Inner)
     (inner : Tree Inner) where
-  abbrev ended_at : Option Inner → Bool
-  ended_at None = true
-  ended_at (Some state) = inner.done state
-
-  abbrev kind_at : Option Inner → Kind
-  kind_at None = Pivot
-  kind_at (Some state) = inner.kind state
-
-  abbrev parts_at : Option Inner → List (Part Outer)
-  parts_at None = []
-  parts_at (Some state) = moved into (inner.parts state)
-
-  abbrev rank_at : Option Inner → ℕ
-  rank_at None = 0
-  rank_at (Some state) = inner.rank state
-
-  abbrev value_at : Option Inner → ℕ → Fraction
-  value_at None unit = whole 0
-  value_at (Some state) unit = inner.value state unit
-
-  abbrev belongs_at : (Inner → Type 0) → Option Inner → Type 0
-  belongs_at belongs None = ⊥
-  belongs_at belongs (Some state) = belongs state
-
-  abbrev selected_at : Option Inner → ℕ → Bool
-  selected_at None unit = false
-  selected_at (Some state) unit = inner.selected state unit
-
   abbrev pub embedded : Tree Outer
   embedded = record {
     units = inner.units;
-    done = λ state. ended_at (out state);
-    kind = λ state. kind_at (out state);
-    parts = λ state. parts_at (out state);
-    rank = λ state. rank_at (out state);
-    value = λ state unit. value_at (out state) unit;
-    selected = λ state unit. selected_at (out state) unit;
+    done = λ state. said_of true inner.done (out state);
+    kind = λ state. said_of Pivot inner.kind (out state);
+    parts = λ state. said_of [] (λ own. moved into (inner.parts own)) (out state);
+    rank = λ state. said_of 0 inner.rank (out state);
+    value = λ state unit. said_of (whole 0) (λ own. inner.value own unit) (out state);
+    selected = λ state unit. said_of false (λ own. inner.selected own unit) (out state);
   }
 
   -- the states that are such

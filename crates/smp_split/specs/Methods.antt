@@ -11,6 +11,18 @@ pub record Method (State : Type 0) : Type 1 where
   pub belongs : State → Type 0
   pub lawful : Lawful tree belongs
 
+-- What is owed of a draw tree: which states are the method's own, and the law that each split of these is lawful.
+pub record Owes {State : Type 0} (tree : Tree State) : Type 1 where
+  pub belongs : State → Type 0
+  pub lawful : Lawful tree belongs
+
+-- what a method owes of its tree, and the method that owes this
+abbrev pub owed : {State : Type 0} → (method : Method State) → Owes method.tree
+owed method = record { belongs = method.belongs; lawful = method.lawful }
+
+abbrev pub owing : {State : Type 0} → (tree : Tree State) → Owes tree → Method State
+owing tree owes = record { tree = tree; belongs = owes.belongs; lawful = owes.lawful }
+
 -- What holds of a state from which a selection starts. Over all draws, the mean of the sum of any numbers c over the selected units is the
 -- sum of c times the value; so each unit's probability of selection is its value; and where the values add up to a whole number, each leaf
 -- selects that many units.

@@ -69,7 +69,7 @@ LawfulEnd tree state =
 
 pub record Lawful {State : Type 0} (tree : Tree State) (belongs : State → Type 0) : Type 0 where
   pub split : (state : State) → belongs state → tree.done state ≡ false
-      → LawfulSplit tree belongs state
+      → LawfulParts tree belongs state (tree.parts state)
   pub end : (state : State) → belongs state → tree.done state ≡ true → LawfulEnd tree state
 
 -- the sum of weight times a number of the part's state

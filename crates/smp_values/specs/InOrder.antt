@@ -43,10 +43,13 @@ pub record LawfulRule (rule : StepRule) : Type 0 where
 abbrev pub started : Request → Order → Ordered Shares
 started request order = ordered_values order (shares_of request)
 
--- the method over as many units as the design has
+-- the draw tree over as many units as the design has, and the method
+abbrev pub design_tree : StepRule → Ordered Shares → Tree (Ordered Shares)
+design_tree rule design = placed_tree rule (length design.state.numer)
+
 abbrev pub placed_method : (rule : StepRule) → LawfulRule rule → Ordered Shares → Method (Ordered Shares)
 placed_method rule law design = record {
-  tree = placed_tree rule (length design.state.numer);
+  tree = design_tree rule design;
   belongs = IsPlacedBy rule (length design.state.numer);
   lawful = law.lawful (length design.state.numer);
 }
