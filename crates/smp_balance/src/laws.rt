@@ -3,15 +3,15 @@
 ghost use Rattle.smp_balance.specs.Totals.{EachIsBalanced};
 ghost use Rattle.smp_balance.specs.Reports.{EachLineTells};
 
-/// The law that every selection from a stratum by the cube is balanced: its flight keeps each total in force exactly, its landing begins only
-/// where no direction is left or the next step doesn't fit, and the units that are undecided there bound the error of each estimate. It runs
-/// nothing: its contract is the theorem.
+/// The law that every selection from a stratum by the cube is balanced: its flight keeps each total in force exactly, its landing
+/// begins only where no direction is left or the next step doesn't fit, and the units that are undecided there bound the error of each
+/// estimate. It runs nothing: its contract is the theorem.
 pub fn balance_law()
     ensures { EachIsBalanced }
 {}
 
-/// The law that the lines of the report tell the totals of this statement in exact fractions: the estimate of a column at the leaf, unless it is
-/// wide, and what is known of it.
+/// The law that the lines of the report tell the totals of this statement in exact fractions: the estimate of a column at the leaf,
+/// unless it is wide, and what is known of it.
 pub fn report_law()
     ensures { EachLineTells }
 {}

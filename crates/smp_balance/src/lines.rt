@@ -32,9 +32,10 @@ pub struct DrawnStratum<'a> {
     pub units: &'a [usize],
 }
 
-/// The lines of the report for a stratum: `left H L`, with L the number of units that were undecided where the landing began, and then for
-/// each balancing column `balance H J E T`: E is the weighted total of the drawn units, a fraction, or `wide` where it needs a number of 2^126
-/// or more; and T the sum over the units that can be selected. H and J are counted from 1. Each line ends with a line feed.
+/// The lines of the report for a stratum: `left H L`, with L the number of units that were undecided where the landing began, and then
+/// for each balancing column `balance H J E T`: E is the weighted total of the drawn units, a fraction, or `wide` where it needs a
+/// number of 2^126 or more; and T the sum over the units that can be selected. H and J are counted from 1. Each line ends with a line
+/// feed.
 ///
 /// Where there is too little memory, the answer is [`NoMemory`], the only error.
 pub fn balance_lines(alloc: Global, drawn: &DrawnStratum) -> Result<String, NoMemory>

@@ -38,8 +38,8 @@ impl Model for Cube {
 }
 
 impl Cube {
-    /// The design of a request: its units are the request's free units, with a list of balancing values for each of them, and each has the value
-    /// that is requested of it.
+    /// The design of a request: its units are the request's free units, with a list of balancing values for each of them, and each has
+    /// the value that is requested of it.
     pub fn new(alloc: Global, request: &Request, xs: &[Numbers]) -> Result<Cube, NoMemory>
         requires request { IsRequest request.now }
         requires one_each { length xs.now ≡ length request.now.free }
@@ -54,9 +54,9 @@ impl Cube {
         })
     }
 
-    /// The state before the first step. Over all draws, each unit is selected with the probability that is its value, and where the values
-    /// add up to a whole number, that many units are. The flight keeps each balancing total, and the units that are fractional where the landing
-    /// begins bound the error of each estimate.
+    /// The state before the first step. Over all draws, each unit is selected with the probability that is its value, and where the
+    /// values add up to a whole number, that many units are. The flight keeps each balancing total, and the units that are fractional
+    /// where the landing begins bound the error of each estimate.
     pub fn start(&self, alloc: Global) -> Result<CubeState, NoMemory>
         ensures state { IfOk result (λ state. state ≡ started self.now) }
         ensures starts { IfOk result (Starts (method_of self.now)) }
