@@ -1,4 +1,4 @@
-ghost use Rattle.std.specs.Prelude.{◌≡◌, ℕ, ◌≤◌, ◌<◌, IfSome, IfNone};
+ghost use Rattle.std.specs.Prelude.{◌≡◌, ℕ, ◌≤◌, ◌<◌, ◌/◌, ◌%◌, IfSome, IfNone};
 ghost use Rattle.std.specs.Int.{IsGcd};
 ghost use Rattle.smp_frac.specs.Divisors.{greatest_common_divisor, IsCommonMultiple, IsLeastMultiple, IsContent};
 
@@ -19,7 +19,34 @@ pub fn gcd(a: u128, b: u128) -> u128
     if y == 0 {
         return x;
     }
-    small_gcd(y as u64, (x % y) as u64) as u128
+    small_gcd(y as u64, remainder(x, y as u64)) as u128
+}
+
+/// What is left of a division by a number of 64 bits.
+fn remainder(a: u128, b: u64) -> u64
+    requires { 1 ≤ b }
+    ensures { result ≡ a % b }
+{
+    if a <= u64::MAX as u128 {
+        a as u64 % b
+    } else {
+        (a % b as u128) as u64
+    }
+}
+
+/// The quotient, rounded down. Numbers of 64 bits are divided as such, and nothing is divided by 1.
+pub fn quotient(a: u128, b: u128) -> u128
+    requires { 1 ≤ b }
+    ensures { result ≡ a / b }
+{
+    if b == 1 {
+        return a;
+    }
+    if a <= u64::MAX as u128 && b <= u64::MAX as u128 {
+        (a as u64 / b as u64) as u128
+    } else {
+        a / b
+    }
 }
 
 // The same of numbers of 64 bits.
@@ -44,7 +71,7 @@ pub fn lcm_within(a: u128, b: u128, cap: u128) -> Option<u128>
     ensures within { IfSome result (λ m. m ≤ cap) }
     ensures passes { IfNone result ((m : ℕ) → IsCommonMultiple a b m → cap < m) }
 {
-    let multiple = (a / gcd(a, b)).checked_mul(b)?;
+    let multiple = quotient(a, gcd(a, b)).checked_mul(b)?;
     if multiple <= cap {
         Some(multiple)
     } else {

@@ -16,7 +16,7 @@ mod text;
 
 pub use bytes::Bytes;
 pub use differences::difference;
-pub use divisors::{content, gcd, lcm_within};
+pub use divisors::{content, gcd, lcm_within, quotient};
 pub use fractions::{Frac, Wide};
 pub use items::Items;
 pub use memory::NoMemory;

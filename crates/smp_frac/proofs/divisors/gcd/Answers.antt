@@ -1,3 +1,5 @@
+use Rattle.std.proofs.Common.{ℕ, ◌%◌, subst}
+use Rattle.std.specs.Int.{IsGcd}
 use Rattle.std.proofs.lemmas.Nat.Gcd.{IsGcd-from_zero, IsGcd-from_mod}
 use Rattle.smp_frac.specs.Laws.Gcds.{greatest_from_IsGcd}
 use Rattle.smp_frac.proofs.divisors.gcd.Goals as goal
@@ -12,5 +14,5 @@ returns-then-y-eq0 c =
 
 pub returns : goal.returns
 returns c =
-    let found = c.loop-y.invariant _ (IsGcd-from_mod _ _ _ c.small_gcd.ensures) in
+    let found = c.loop-y.invariant _ (IsGcd-from_mod _ _ _ (subst (λ (rest : ℕ). IsGcd c.loop-y.y rest c.small_gcd.result) c.remainder.ensures c.small_gcd.ensures)) in
     record { divides = found; greatest = greatest_from_IsGcd _ _ _ found }
