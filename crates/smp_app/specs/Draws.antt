@@ -110,7 +110,7 @@ pub record HasProbabilities (plan : Plan) : Type 0 where
       → Same (mean (tree_of plan) (λ row. weighted (row_probability plan row) (x row)) (start_of plan))
       (sum_below (length plan.units) (λ row. integer (known (row_probability plan row) (x row))))
 
--- what is drawn of all strata
+-- What holds of what is drawn of all strata by a plan.
 pub record IsDrawnBy (plan : Plan) (drawn : Drawn) : Type 0 where
   pub plan_is : drawn.plan ≡ plan
   pub all : drawn.only ≡ None

@@ -41,6 +41,7 @@ accepted_text plan =
 abbrev pub id_row : Plan → ℕ → List ℕ
 id_row plan r = row (row_id plan r ∷ [])
 
+-- all of them, behind a header
 abbrev pub ids_text : Drawn → List ℕ
 ids_text drawn = row (codes "id" ∷ []) ++ flat_map (id_row drawn.plan) (drawn_rows drawn)
 
@@ -55,10 +56,11 @@ log_text drawn =
     sectioned_log_text (covered_tree own) (strata_sections own) (covered_start own)
     drawn.plan.head drawn.path
 
--- the sample: the drawn units with their design weights
+-- the id of a row and its probability, whose inverse is its weight
 abbrev pub weighted_row : Plan → ℕ → List ℕ × Fraction
 weighted_row plan r = (row_id plan r, row_probability plan r)
 
+-- the sample: the drawn units with their design weights
 abbrev pub sample_text : Drawn → List ℕ
 sample_text drawn = sample_file (map (weighted_row drawn.plan) (drawn_rows drawn))
 
@@ -66,7 +68,7 @@ sample_text drawn = sample_file (map (weighted_row drawn.plan) (drawn_rows drawn
 abbrev pub migrated_text : Drawn → List ℕ
 migrated_text drawn = codes "migrated " ++ (decimal (length drawn.path) ++ codes " steps\n")
 
--- the report: how many units were drawn, of how many in the strata that are covered, and in how many steps
+-- the summary: how many units were drawn, of how many in the strata that are covered, and in how many steps
 abbrev pub summary_text : Drawn → List ℕ
 summary_text drawn =
     codes "selected " ++ (decimal (length (drawn_rows drawn))
@@ -77,7 +79,7 @@ summary_text drawn =
 abbrev pub drawn_stratum : Drawn → ℕ → Stratum → balance.Drawn
 drawn_stratum drawn h s = lines.drawn_stratum (covered drawn) drawn.leaf.states h s
 
--- and where they were drawn by the cube, what it kept and gave up in each stratum
+-- the report: the summary, and where they were drawn by the cube, what it kept and gave up in each stratum
 abbrev pub report_text : Drawn → List ℕ
 report_text drawn = summary_text drawn ++ balance_lines (covered drawn) drawn.leaf.states
 

@@ -59,10 +59,12 @@ abbrev pub estimate_text : Result Signed Wide → List ℕ
 estimate_text (Ok a) = if a.minus then codes "-" ++ size_text a.size else size_text a.size
 estimate_text (Err wide) = codes "wide"
 
+-- the line `left` of a stratum: its number, and how many units were undecided where its landing began
 abbrev pub left_line : Drawn → List ℕ
 left_line drawn =
     codes "left " ++ (decimal drawn.number ++ (codes " " ++ (decimal drawn.left ++ codes "\n")))
 
+-- the line `balance` of a column: the numbers of the stratum and of the column, the estimate of its sum, and the known sum
 abbrev pub balance_line : Drawn → ℕ → List ℕ
 balance_line drawn column =
     codes "balance " ++ (decimal drawn.number ++ (codes " " ++ (decimal (column + 1)
@@ -70,6 +72,7 @@ balance_line drawn column =
     ++ (codes " " ++ (signed_decimal (known_total drawn.stratum column (length drawn.stratum.values))
     ++ codes "\n")))))))
 
+-- the lines of a stratum
 abbrev pub balance_lines : Drawn → List ℕ
 balance_lines drawn =
     left_line drawn ++ flat_map (balance_line drawn) (range_with_len 0 drawn.columns)

@@ -3,11 +3,13 @@ use Rattle.std.specs.Prelude.{◌≡◌, ℕ, zero, suc, ◌*◌, ◌≤◌, max
 use Rattle.std.specs.Prelude.{◌≤ℤ◌, ◌<ℤ◌}
 use Rattle.std.proofs.Common.{arith}
 
+-- a whole number over a positive one
 pub record Fraction : Type 0 where
   pub num : ℤ
   pub den : ℕ
   pub positive : 1 ≤ den
 
+-- both are the same number
 pub record Same (a b : Fraction) : Type 0 where
   pub cross : a.num *ℤ pos b.den ≡ b.num *ℤ pos a.den
 
@@ -40,6 +42,7 @@ integer z = record { num = z; den = 1; positive = positive_one }
 abbrev pub negated : Fraction → Fraction
 negated a = record { num = neg_ℤ a.num; den = a.den; positive = a.positive }
 
+-- the sum of two fractions
 abbrev pub plus : Fraction → Fraction → Fraction
 plus a b = record {
   num = a.num *ℤ pos b.den +ℤ b.num *ℤ pos a.den;
@@ -51,6 +54,7 @@ plus a b = record {
 abbrev pub minus : Fraction → Fraction → Fraction
 minus a b = plus a (negated b)
 
+-- the product of two fractions
 abbrev pub times : Fraction → Fraction → Fraction
 times a b = record { num = a.num *ℤ b.num; den = a.den * b.den; positive = positive_product a.den b.den a.positive b.positive }
 

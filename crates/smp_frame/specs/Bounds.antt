@@ -4,6 +4,7 @@ use Rattle.smp_fractions.specs.Limits.{most_rows, number_limit}
 use Rattle.smp_frac.specs.declared.fractions.Frac.{Frac}
 use Rattle.smp_frame.specs.declared.frame.Unit as unit
 
+-- the sizes of the units, their sizes in the second stage, and their probabilities
 abbrev pub sizes_of : List unit.Unit → List ℕ
 sizes_of units = map (λ u. u.size) units
 

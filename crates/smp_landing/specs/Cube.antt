@@ -19,6 +19,7 @@ pub data Balancing : Type 0 where
   flying : Flight → ℕ → Balancing
   pairing : Shares → ℕ → Balancing
 
+-- the values of a state
 abbrev pub values_in : Balancing → Shares
 values_in (flying f left) = f.shares
 values_in (pairing s left) = s
@@ -28,6 +29,7 @@ abbrev pub rows_in : Balancing → ℕ
 rows_in (flying f left) = f.rows
 rows_in (pairing s left) = 0
 
+-- how many units were fractional where the landing began, or 0
 abbrev pub left_in : Balancing → ℕ
 left_in (flying f left) = left
 left_in (pairing s left) = left
@@ -52,6 +54,7 @@ flight_parts units f left independent =
 flight_parts units f left wide =
     record { weight = 1; state = pairing f.shares (landed f left) } ∷ []
 
+-- the kind of this step
 abbrev pub flight_kind : Next → Kind
 flight_kind (move m) = kind.Flight
 flight_kind independent = kind.Drop
@@ -59,6 +62,7 @@ flight_kind wide = kind.Wide
 
 -- ---- the design
 
+-- the kind of the next step of a state, and its parts
 abbrev pub cube_kind : Units → Balancing → Kind
 cube_kind units (flying f left) = flight_kind (next units f)
 cube_kind units (pairing s left) = pivotal_kind s
@@ -72,6 +76,7 @@ abbrev pub cube_rank : Balancing → ℕ
 cube_rank (flying f left) = fractional_count f.shares + f.rows + 1
 cube_rank (pairing s left) = fractional_count s
 
+-- the draw tree of the cube method, which is done where no unit is fractional
 abbrev pub cube_tree : Units → Tree Balancing
 cube_tree units = record {
   units = length units.sizes;

@@ -26,6 +26,7 @@ abbrev pub NextDoesNotFit : Units → Balancing → Type 0
 NextDoesNotFit units (flying f left) = IsWide units f (fractional_units f.shares)
 NextDoesNotFit units (pairing s left) = ⊥
 
+-- no direction is left, or the next step doesn't fit
 abbrev pub IsStuck : Units → Balancing → Type 0
 IsStuck units s = NoDirectionLeft units s ⊎ NextDoesNotFit units s
 

@@ -62,11 +62,13 @@ lowered s = record {
   den = s.den - lambda s;
 }
 
+-- the two parts of a step: the r largest are taken, or their values are lowered
 abbrev pub support_parts : Shares → List (Part Shares)
 support_parts s =
     record { weight = lambda s; state = settled s }
     ∷ record { weight = s.den - lambda s; state = lowered s } ∷ []
 
+-- the draw tree of minimum support, which is done where no unit is fractional
 abbrev pub support_tree : ℕ → Tree Shares
 support_tree units = values_tree units (λ _. Support) support_parts (λ fractional. fractional)
 

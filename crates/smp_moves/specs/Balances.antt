@@ -54,6 +54,7 @@ module _ {State : Type 0} (b : Balance State) where
     pub goes_on : Leads b.tree at (entry ∷ after) to
     pub is : path ≡ before ++ entry ∷ after
 
+  -- What holds on every path from a state.
   pub record IsBalanced (from : State) : Type 0 where
     -- each flight step keeps the total of each row in force exactly, before rows were dropped and after
     pub flights : (path : List Entry) (s : State) (entry : Entry) → Leads b.tree from path s

@@ -18,6 +18,7 @@ pub record Line : Type 0 where
   pub units : List ℕ
   pub entries : List ℤ
 
+-- the entry at unit k, where these units have these entries
 abbrev pub entry_at : List ℕ → List ℤ → ℕ → ℤ
 entry_at [] entries k = pos 0
 entry_at (u ∷ units) [] k = pos 0
@@ -33,6 +34,7 @@ turned line = record { units = line.units; entries = map neg_ℤ line.entries }
 
 -- ---- along a line
 
+-- a ratio as a fraction
 abbrev pub fraction_of : Ratio → Fraction
 fraction_of r = over r.num r.den
 

@@ -21,6 +21,7 @@ is_certain n sizes z = nat_lt 0 z && nat_le (rest sizes z) ((n - larger sizes z)
 abbrev pub is_free : ℕ → List ℕ → ℕ → Bool
 is_free n sizes z = nat_lt 0 z && not (is_certain n sizes z)
 
+-- how many sizes are above 0
 abbrev pub positive_units : List ℕ → ℕ
 positive_units sizes = count_by (nat_lt 0) sizes
 
@@ -28,6 +29,7 @@ positive_units sizes = count_by (nat_lt 0) sizes
 abbrev pub certain_units : ℕ → List ℕ → ℕ
 certain_units n sizes = count_by (is_certain n sizes) sizes
 
+-- the sum of the sizes of the units that aren't certain
 abbrev pub open_total : ℕ → List ℕ → ℕ
 open_total n sizes = sum_by (λ x. if is_certain n sizes x then 0 else x) sizes
 

@@ -3,7 +3,7 @@ use Rattle.std.specs.Prelude.{ℕ, ◌*◌, ◌/◌, ◌==◌, List, length, map
 use Rattle.smp_frac.specs.Divisors.{greatest_common_divisor}
 use Rattle.smp_prob.specs.declared.requests.Request.{Request}
 
--- numerators over one denominator
+-- values of units, as numerators over one denominator
 pub record Shares : Type 0 where
   pub numer : List ℕ
   pub den : ℕ
@@ -12,13 +12,14 @@ pub record Shares : Type 0 where
 abbrev pub common_divisor : Request → ℕ
 common_divisor request = greatest_common_divisor request.total request.r
 
--- the denominator, 1 where no unit is free
+-- the common denominator of the probabilities of the free units, 1 where no unit is free
 abbrev pub common_denominator : Request → ℕ
 common_denominator request = if length request.free == 0 then 1 else request.total / common_divisor request
 
--- the numerators of the free units, in order
+-- their numerators over it, in order
 abbrev pub numerators : Request → List ℕ
 numerators request = map (λ shape. shape * (request.r / common_divisor request)) request.shape
 
+-- the requested probabilities of the free units, so
 abbrev pub shares_of : Request → Shares
 shares_of request = record { numer = numerators request; den = common_denominator request }

@@ -15,6 +15,7 @@ words_of_seed seed = record { key = key_of seed; next = 0 }
 abbrev pub key_word : List ℕ → ℕ → ℕ
 key_word key place = word_at 10 key 0 (place % 2 ^ 68)
 
+-- the next word of a key, and the place behind it
 abbrev pub key_first : Place → ℕ
 key_first at = key_word at.key at.next
 

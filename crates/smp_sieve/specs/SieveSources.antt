@@ -9,6 +9,7 @@ use Rattle.smp_tape.specs.Sources.{Source}
 abbrev pub key_stream : Stream Place
 key_stream = record { first = key_first; next = key_next; small = small_word }
 
+-- a source whose draws are made of the words of a stream
 abbrev pub sieve_source : {Words : Type 0} → Stream Words → Source Words
 sieve_source stream = record {
   next = sieve_next stream;

@@ -11,6 +11,7 @@ use Rattle.smp_split.specs.Paths.{AtEachLeaf}
 abbrev pub selected_units : {State : Type 0} → Tree State → State → List ℕ
 selected_units tree state = filter (tree.selected state) (range_with_len 0 tree.units)
 
+-- how many units are selected
 abbrev pub selected_count : {State : Type 0} → Tree State → State → ℕ
 selected_count tree state = count_by (tree.selected state) (range_with_len 0 tree.units)
 

@@ -17,6 +17,7 @@ belongs_at belongs (Some state) = belongs state
 -- `into` makes a state of the larger type, and `out` gives it back; of a state that isn't such nothing is told, and it is done
 module _ {Inner Outer : Type 0} (into : Inner → Outer) (out : Outer → Option Inner)
     (inner : Tree Inner) where
+  -- the same tree, over the larger type
   abbrev pub embedded : Tree Outer
   embedded = record {
     units = inner.units;

@@ -18,6 +18,7 @@ mean_of_within (suc steps) tree f state =
     (divided (weighted (mean_of_within steps tree f) (tree.parts state))
     (weight_sum (tree.parts state)))
 
+-- the mean below a state, within as many steps as its rank
 abbrev pub mean_of : {State : Type 0} → Tree State → (State → Fraction) → State → Fraction
 mean_of tree f state = mean_of_within (tree.rank state) tree f state
 

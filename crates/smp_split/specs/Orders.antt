@@ -78,6 +78,7 @@ pub record IsPlacing (units : ℕ) (order : Placing) : Type 0 where
   pub few : units < 2 ^ 64
   pub fewer : order.left ≤ units - 1
 
+-- and what stands at the places is a state of the design over places
 pub record IsInOrder {State : Type 0} (units : ℕ) (belongs : State → Type 0)
     (s : Ordered State) : Type 0 where
   pub order : IsPlacing units s.order

@@ -20,6 +20,7 @@ pub record Tree (State : Type 0) : Type 0 where
   pub value : State → ℕ → Fraction
   pub selected : State → ℕ → Bool
 
+-- the sum of the weights, which is the bound of a draw
 abbrev pub weight_sum : {State : Type 0} → List (Part State) → ℕ
 weight_sum [] = 0
 weight_sum (p ∷ ps) = p.weight + weight_sum ps
@@ -67,6 +68,7 @@ abbrev pub LawfulEnd : {State : Type 0} → Tree State → State → Type 0
 LawfulEnd tree state =
     (unit : ℕ) → unit < tree.units → Same (tree.value state unit) (whole (cond (tree.selected state unit) 1 0))
 
+-- A tree is lawful in the states that belong to it: each that isn't done is split so, and each that is done ends so.
 pub record Lawful {State : Type 0} (tree : Tree State) (belongs : State → Type 0) : Type 0 where
   pub split : (state : State) → belongs state → tree.done state ≡ false
       → LawfulParts tree belongs state (tree.parts state)

@@ -59,6 +59,7 @@ module _ {Design State : Type 0} (tree_of : Design → Tree State) where
   rank_sum stages states = 0
 
   module _ (stages : List (Stage Design)) where
+    -- whether a stage is done, the kind of its next step, and the parts of this step
     abbrev pub stage_done : List State → ℕ → Bool
     stage_done states i = read true (λ tree state. tree.done state) (slice_get stages i) (slice_get states i)
 
@@ -105,6 +106,7 @@ module _ {Design State : Type 0} (tree_of : Design → Tree State) where
 
   -- ---- the whole selection, whose units are the rows that have these seats
 
+  -- The draw tree of the selection. Its units are the rows, by their seats, and its next step is that of the stage that is under way.
   abbrev pub staged_tree : List (Stage Design) → List Seat → Tree (Progress State)
   staged_tree stages seats = record {
     units = length seats;

@@ -30,6 +30,7 @@ first_row rows = slice_index rows 0
 
 -- ---- the strata by their numbers
 
+-- the numbers of the strata, counted from 0, and the name of one
 abbrev pub strata_numbers : List unit.Unit → List ℕ
 strata_numbers units = range_with_len 0 (length (stratum_names units))
 

@@ -34,6 +34,7 @@ AreAskedBy None design units number n = n ≡ sample_size design units number
 AreAskedBy (Some column) design units number n =
     Same (expected_size (first_probs design units number)) (whole n)
 
+-- the same, as the design has a column of probabilities or not
 abbrev pub AreAsked : Design → List unit.Unit → ℕ → ℕ → Type 0
 AreAsked design units number n = AreAskedBy design.columns.prob design units number n
 

@@ -24,6 +24,7 @@ abbrev pub first_found : {A B : Type 0} → (A → Option B) → List A → Opti
 first_found find [] = None
 first_found find (x ∷ xs) = or_else (find x) (first_found find xs)
 
+-- a misfit, where a test holds
 abbrev pub when : {A : Type 0} → Bool → A → Option A
 when holds misfit = if holds then Some misfit else None
 
@@ -41,6 +42,7 @@ abbrev pub first_apart : List unit.Unit → Option Misfit
 first_apart units =
     first_found (λ row. when (is_apart units row) (UnitInTwo (psu_at units row))) (rows_of units)
 
+-- with a second stage, the first psu that is in two strata
 abbrev pub unit_in_two : Option second.Second → List unit.Unit → Option Misfit
 unit_in_two None units = None
 unit_in_two (Some second) units = first_apart units

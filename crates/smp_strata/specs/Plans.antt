@@ -17,7 +17,8 @@ use Rattle.smp_strata.specs.Rows.{prob_at, size_of, second_size_at, values_of}
 use Rattle.smp_strata.specs.declared.strata.FirstUnit as first
 use Rattle.smp_strata.specs.declared.strata.Stratum as stratum
 
--- what a plan says
+-- What a plan says: by which method and in which order the first stage units of each stratum are drawn; by which method the rows within
+-- them, where there is a second stage; how many rows the frame has; and the strata.
 pub record Parts : Type 0 where
   pub method : Method
   pub order : Order
@@ -42,6 +43,7 @@ abbrev pub sizes_by : Option ℕ → List quota.Quota → List (List ℕ) → Li
 sizes_by (Some n) quotas names counts = allocation n counts
 sizes_by None quotas names counts = map (quota_of quotas) names
 
+-- how many first stage units are drawn from each stratum, and from one
 abbrev pub sample_sizes : Design → List unit.Unit → List ℕ
 sample_sizes design units =
     sizes_by design.n design.sizes (stratum_names units) (cluster_counts design units)
@@ -66,9 +68,11 @@ request_by None design units stratum =
     requested_of (first_sizes design units stratum) (sample_size design units stratum)
 request_by (Some column) design units stratum = given_of (first_probs design units stratum)
 
+-- the same, as the design has such a column or not
 abbrev pub first_request : Design → List unit.Unit → ℕ → Request
 first_request design units stratum = request_by design.columns.prob design units stratum
 
+-- the sizes of some rows in the second stage
 abbrev pub second_sizes : List unit.Unit → List ℕ → List ℕ
 second_sizes units rows = map (second_size_at units) rows
 

@@ -38,6 +38,7 @@ value_at units row column =
 
 -- ---- some rows
 
+-- the sum of the sizes of some rows
 abbrev pub size_of : List unit.Unit → List ℕ → ℕ
 size_of units rows = sum_by (size_at units) rows
 

@@ -37,6 +37,7 @@ pub record Selecting : Type 0 where
 abbrev pub tree_of : Selecting → Tree AnyState
 tree_of s = rows_tree s.units s.request (method_of s.design).tree
 
+-- which states belong to that tree
 abbrev pub belongs_to : Selecting → AnyState → Type 0
 belongs_to s = BelongsToRows s.request (method_of s.design).tree (method_of s.design).belongs
 
@@ -81,6 +82,7 @@ stage_by (Some method) (Some request) rows at k = second_stage method request ro
 stage_by (Some method) None rows at k = []
 stage_by None request rows at k = []
 
+-- the same within a first stage unit, where there is one
 abbrev pub stage_within : Option Method → ℕ → ℕ → Option unit.FirstUnit → List (Stage Selecting)
 stage_within method at k (Some u) = stage_by method u.second (length u.rows) at k
 stage_within method at k None = []
@@ -149,6 +151,7 @@ place_of strata row =
       place = position_or_len (nat_eq row) (rows_at (slice_get units k));
     }
 
+-- the seats of all rows, in frame order
 abbrev pub seats_of : Parts → List Seat
 seats_of plan = map (λ row. seat_of plan (place_of plan.strata row)) (range_with_len 0 plan.rows)
 
@@ -163,6 +166,7 @@ pub record Coverage : Type 0 where
   pub plan : Parts
   pub only : Option ℕ
 
+-- all strata, and stratum h alone
 abbrev pub all_of : Parts → Coverage
 all_of plan = record { plan = plan; only = None }
 
@@ -177,6 +181,7 @@ is_only (Some only) h = nat_eq h only
 abbrev pub covers : Coverage → ℕ → Bool
 covers c h = nat_lt h (length c.plan.strata) && is_only c.only h
 
+-- how many strata are drawn, of so many
 abbrev pub count_by : Option ℕ → ℕ → ℕ
 count_by None n = n
 count_by (Some h) n = 1
@@ -237,5 +242,6 @@ whole_tree plan = covered_tree (all_of plan)
 abbrev pub BelongsToWhole : Parts → Progress AnyState → Type 0
 BelongsToWhole plan = BelongsToCovered (all_of plan)
 
+-- the state before the first step
 abbrev pub start_of : Parts → Progress AnyState
 start_of plan = covered_start (all_of plan)

@@ -30,6 +30,7 @@ parts_on s [] = []
 parts_on s (i ∷ []) = lone_parts s i
 parts_on s (i ∷ j ∷ others) = pair_parts s i j
 
+-- the kind of such a step
 abbrev pub kind_on : List ℕ → Kind
 kind_on (i ∷ j ∷ others) = Pivot
 kind_on others = Lone
@@ -41,5 +42,6 @@ pivotal_parts s = parts_on s (fractional_units s)
 abbrev pub pivotal_kind : Shares → Kind
 pivotal_kind s = kind_on (fractional_units s)
 
+-- the draw tree of pivotal steps on the values of so many units
 abbrev pub steps_tree : ℕ → Tree Shares
 steps_tree units = values_tree units pivotal_kind pivotal_parts (λ fractional. fractional)

@@ -23,6 +23,7 @@ fractional_units s = filter (is_fractional s) (range_with_len 0 (length s.numer)
 abbrev pub fractional_at : Shares → ℕ → ℕ
 fractional_at s place = slice_index (fractional_units s) place
 
+-- how many units are fractional
 abbrev pub fractional_count : Shares → ℕ
 fractional_count s = count_by (fractional s.den) s.numer
 
@@ -48,6 +49,7 @@ with_one s i new = record { numer = slice_set s.numer i new; den = s.den }
 abbrev pub with_pair : Shares → ℕ → ℕ → ℕ × ℕ → Shares
 with_pair s i j new = record { numer = slice_set (slice_set s.numer i new.0) j new.1; den = s.den }
 
+-- the values with those of two units exchanged
 abbrev pub exchanged_values : ℕ → ℕ → Shares → Shares
 exchanged_values i j s = record { numer = swap s.numer i j; den = s.den }
 
