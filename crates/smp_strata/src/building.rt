@@ -30,7 +30,7 @@ use crate::{FirstUnit, Plan, Seat, Stratum, Units};
 use smp_design::{Design, Method, Second};
 use smp_frac::{Frac, NoMemory};
 use smp_frame::{Numbers, Unit};
-use smp_prob::{GivenFault, Places, ProbFault, Request, given, requested};
+use smp_prob::{GivenFault, ProbFault, Request, given, requested};
 use std::alloc::Global;
 
 // The request for n of the units with these sizes, which has that many positive ones.
@@ -96,7 +96,7 @@ fn first_of(
     let values = values_of(alloc, units, design.columns.values.as_slice().len(), rows)?;
     let second = second_request(alloc, units, design.second, rows)?;
     Ok(FirstUnit {
-        rows: Places::from_slice(alloc, rows)?,
+        rows: Group::from_slice(alloc, rows)?,
         values: Numbers::from_slice(alloc, &values)?,
         second,
     })

@@ -9,9 +9,9 @@ use std::alloc::Global;
 use std::marker::Model;
 use std::slice;
 
-/// Numbers in a list that can grow. A single number takes no memory.
+/// Numbers in a list, seen as that list. A single number takes no memory.
 #[derive(Drop)]
-pub(crate) struct Group {
+pub struct Group {
     single: Option<usize>,
     items: Vec<usize>,
 }
@@ -51,7 +51,24 @@ impl Group {
         Ok(())
     }
 
-    pub(crate) fn as_slice(&self) -> &[usize]
+    /// A copy of numbers.
+    pub(crate) fn from_slice(alloc: Global, numbers: &[usize]) -> Result<Group, NoMemory>
+        ensures { IfOk result (λ group. group ≡ numbers.now) }
+    {
+        match numbers {
+            [number] => Ok(Group {
+                single: Some(*number),
+                items: Vec::new(alloc),
+            }),
+            _ => Ok(Group {
+                single: None,
+                items: Vec::from_slice(alloc, numbers)?,
+            }),
+        }
+    }
+
+    /// The numbers in their order.
+    pub fn as_slice(&self) -> &[usize]
         ensures { result.now ≡ self.now }
     {
         match &self.single {

@@ -19,6 +19,7 @@ mod strata;
 mod sums;
 
 pub use acceptance::accept;
+pub use groups::Group;
 pub use misfit::Misfit;
 pub use plan::{Plan, asked, first_asked};
 pub use strata::{FirstUnit, Seat, Stratum, Units};

@@ -1,14 +1,15 @@
 //! The strata of a plan, and their first stage units.
 
+use crate::Group;
 use smp_frac::{Items, Text};
 use smp_frame::Numbers;
-use smp_prob::{Places, Request};
+use smp_prob::Request;
 
 /// A first stage unit: a row of the frame, or all rows of a psu.
 #[derive(Drop)]
 pub struct FirstUnit {
     /// Its rows in frame order, the first of the frame being row 0.
-    pub rows: Places,
+    pub rows: Group,
     /// Its balancing values or coordinates, in the order of their columns: the sums over its rows.
     pub values: Numbers,
     /// The request of its second stage, whose units are places in `rows`; `None` without a second stage.
