@@ -29,7 +29,7 @@ pub record Drawn : Type 0 where
   pub leaf : Progress AnyState
   pub path : List Entry
 
--- the strata that it covers
+-- the strata that it is drawn from
 abbrev pub covered : Drawn → Coverage
 covered drawn = record { plan = parts drawn.plan; only = drawn.only }
 

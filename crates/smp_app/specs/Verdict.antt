@@ -103,7 +103,7 @@ stratum_at plan number =
     let strata = length (parts plan).strata in
     if nat_le number strata then Ok (number - 1) else Err (Refused (NoStratum number strata))
 
--- the section of stratum h in a log of version 2
+-- stratum h of a plan alone
 abbrev pub alone : Plan → ℕ → Coverage
 alone plan h = one_of (parts plan) h
 

@@ -35,6 +35,7 @@ opening_words number = codes "stratum " ++ (decimal number ++ 32 ∷ [])
 abbrev pub opens : ℕ → List ℕ → Bool
 opens number line = is_some (behind (opening_words number) line)
 
+-- none of these lines begins so
 abbrev pub NoneOpens : ℕ → List (List ℕ) → Type 0
 NoneOpens number [] = Unit {0}
 NoneOpens number (line ∷ lines) = (opens number line ≡ false) × NoneOpens number lines

@@ -14,6 +14,7 @@ use Rattle.smp_split.specs.Paths.{Entry}
 abbrev pub step_line : Entry → List ℕ
 step_line line = kind_word line.0 ++ 32 ∷ (decimal line.1 ++ 32 ∷ decimal line.2)
 
+-- the last line of a log of so many steps, without its line feed
 abbrev pub end_line : ℕ → List ℕ
 end_line steps = codes "end " ++ decimal steps
 

@@ -84,7 +84,7 @@ abbrev pub IsSectionedText : {State : Type 0} → Tree State → Sectioning Stat
 IsSectionedText tree sections from head path log =
     log ≡ sectioned_log_text tree sections from head path
 
--- they are its log of version 1 or of version 2
+-- the bytes are the log of a path, of version 1 or of version 2
 abbrev pub IsAnyText : {State : Type 0} → Tree State → Sectioning State → State → List ℕ
     → List Entry → List ℕ → Type 0
 IsAnyText tree sections from head path log =
@@ -96,7 +96,7 @@ abbrev pub IsSectionedGenuine : {State : Type 0} → Tree State → Sectioning S
 IsSectionedGenuine tree sections from head log leaf =
     IsLogOf (IsSectionedText tree sections from head) tree from log leaf
 
--- they are its log of version 1 or of version 2
+-- the bytes are the log of the path of a full tape, of version 1 or of version 2
 abbrev pub IsAnyGenuine : {State : Type 0} → Tree State → Sectioning State → State → List ℕ
     → List ℕ → State → Type 0
 IsAnyGenuine tree sections from head log leaf =

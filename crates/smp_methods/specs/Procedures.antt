@@ -12,7 +12,7 @@ use Rattle.smp_methods.specs.declared.procedure.Procedure.{Procedure}
 abbrev pub procedure : Method → Order → ℕ → Procedure
 procedure method order columns = record { method = method; order = order; columns = columns }
 
--- the same, and none where the method can't be used with so many
+-- the procedure, and none where the method can't be used with so many columns
 abbrev pub procedure_of : Method → Order → ℕ → Option Procedure
 procedure_of method order columns =
     if takes_columns method columns then Some (procedure method order columns) else None

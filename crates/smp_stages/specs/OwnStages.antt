@@ -39,7 +39,7 @@ pub record AreTheirOwn {Design : Type 0} (stages : List (Stage Design)) (seats :
   pub others : (row : ℕ) → row < length seats → own row ≡ false
       → slice_get part_seats row ≡ Some Nowhere
 
--- their state in a state of the whole
+-- the state of these stages in a state of the whole, in which so many stages stand before them
 abbrev pub own_progress : {Design State : Type 0} → (Design → Tree State) → ℕ
     → List (Stage Design) → Progress State → Progress State
 own_progress tree_of before part s =

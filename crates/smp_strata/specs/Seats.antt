@@ -28,7 +28,7 @@ pub record Seated (strata : List stratum.Stratum) (row : ℕ) : Type 0 where
 
 -- ---- probabilities
 
--- that of a first stage unit in its stratum
+-- the probability of a first stage unit in its stratum
 abbrev pub unit_fraction : Option stratum.Stratum → ℕ → Fraction
 unit_fraction None unit = whole 0
 unit_fraction (Some stratum) unit = asked_fraction stratum.request unit

@@ -38,6 +38,7 @@ alone_fraction plan h row = if is_of_stratum plan h row then row_fraction plan r
 abbrev pub state_alone : Parts → ℕ → Progress AnyState → Progress AnyState
 state_alone plan h s = own_progress tree_of (first_number plan h) (covered_stages (one_of plan h)) s
 
+-- What holds of the start of a selection of stratum h alone.
 pub record StartsAlone (plan : Parts) (h : ℕ) (start : Progress AnyState) : Type 0 where
   pub member : BelongsToCovered (one_of plan h) start
   -- Each row of the stratum has the value that the plan gives it, and exactly that probability of selection. Each other row has 0.

@@ -166,10 +166,11 @@ pub record Coverage : Type 0 where
   pub plan : Parts
   pub only : Option ℕ
 
--- all strata, and stratum h alone
+-- all strata
 abbrev pub all_of : Parts → Coverage
 all_of plan = record { plan = plan; only = None }
 
+-- stratum h alone
 abbrev pub one_of : Parts → ℕ → Coverage
 one_of plan h = record { plan = plan; only = Some h }
 
