@@ -4,7 +4,7 @@ use Rattle.std.specs.List.{sum}
 use Rattle.std.proofs.lemmas.Bool.{cases_Bool, eqb-true, ltb-false, le-ltb}
 use Rattle.smp_split.specs.Trees.{weight_sum, picked}
 use Rattle.smp_brewer.specs.declared.offers.Offers.{Offers}
-use Rattle.smp_brewer.specs.Brewer.{Brewing, offering, offered, total, offer_parts, brewing_parts, is_spent}
+use Rattle.smp_brewer.specs.Brewer.{Brewing, offering, offered, total, offer_parts, is_spent, brewing_tree}
 use Rattle.smp_brewer.specs.Kept.Sizes.{passing}
 use Rattle.smp_brewer.specs.Laws.Sums.{sum-cons}
 use Rattle.smp_brewer.specs.Laws.Offers.{offers_from, offers_are, weight_sum-offers}
@@ -35,5 +35,5 @@ module _ (o : Offers) where
       let here : 0 + passing o.sizes draw ≡ passing o.sizes draw = omega arith in
       sym (rw (offers_are o) (picked-offers default o 0 o.sizes draw (omega (arith, within, weight_sum-offers o)) ∙ ap (λ x. offered o x) here))
 
-  pub offer_bound : (units : ℕ) → is_spent units o ≡ false → weight_sum (brewing_parts units (offering o)) ≡ total o
+  pub offer_bound : (units : ℕ) → is_spent units o ≡ false → weight_sum ((brewing_tree units).parts (offering o)) ≡ total o
   offer_bound units left = rw left (weight_sum-offers o)

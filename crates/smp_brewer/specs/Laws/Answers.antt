@@ -13,7 +13,7 @@ use Rattle.smp_split.proofs.Over.{cancel_weight}
 use Rattle.smp_split.proofs.Parts.{plus-whole, weighted-part, weight_sum-part, each_part, weight_sum-moved, weighted-moved, each_moved}
 use Rattle.smp_brewer.specs.declared.offers.Offers.{Offers}
 use Rattle.smp_brewer.specs.Brewer.{offering, offered, total, largest, size_of, is_taken, allowed, offering_value, offered_value}
-use Rattle.smp_brewer.specs.Brewer.{take_bound, take_weight, after_taken, after_refused, take_parts, brewing_value, brewing_tree, IsOffers}
+use Rattle.smp_brewer.specs.Brewer.{take_bound, take_weight, after_taken, after_refused, take_parts, brewing_tree, IsOffers}
 use Rattle.smp_brewer.specs.Brewer.{IsBrewing}
 use Rattle.smp_values.proofs.Largest.{largest-at, largest-within}
 use Rattle.smp_brewer.specs.Laws.Sums.{sum-taken}
@@ -165,10 +165,10 @@ module _ (units : ℕ) (o : Offers) (ok : IsOffers units o) (going : 1 ≤ o.dra
     pub bound_is : weight_sum (moved offering (take_parts o j)) ≡ take_bound o j
     bound_is = weight_sum-moved offering (take_parts o j) ∙ weight_sum-take
 
-    take_even : (k : ℕ) → Same (weighted (λ s. brewing_value units s k) (moved offering (take_parts o j)))
+    take_even : (k : ℕ) → Same (weighted (λ s. (brewing_tree units).value s k) (moved offering (take_parts o j)))
         (times (whole (weight_sum (moved offering (take_parts o j)))) (offered_value o j k))
     take_even k =
-        rw (weighted-moved offering (λ s. brewing_value units s k) (take_parts o j), bound_is)
+        rw (weighted-moved offering (λ s. (brewing_tree units).value s k) (take_parts o j), bound_is)
         (same_sym (times-back (take_bound o j) (weighted (λ after. offering_value after k) (take_parts o j)) some_bound))
 
     take_each : o.refused < allowed units

@@ -20,7 +20,7 @@ use Rattle.smp_values.specs.Values.{IsValues, fractional}
 use Rattle.smp_values.proofs.Pivotal.{steps_lawful}
 use Rattle.smp_brewer.specs.declared.offers.Offers.{Offers}
 use Rattle.smp_brewer.specs.Brewer.{Brewing, offering, offered, spent, total, largest, size_of, is_taken, allowed, offer_parts, share_of}
-use Rattle.smp_brewer.specs.Brewer.{shares_left, brewing_value, brewing_ended, brewing_tree, IsOffers, IsBrewing}
+use Rattle.smp_brewer.specs.Brewer.{shares_left, brewing_tree, IsOffers, IsBrewing}
 use Rattle.smp_brewer.specs.Laws.Sums.{sum-cons}
 use Rattle.smp_brewer.specs.Laws.Identities.{in_parts, offers_keep}
 use Rattle.smp_brewer.specs.Laws.Offers.{offers_from, offers_are, weight_sum-offers, each_offer}
@@ -29,14 +29,14 @@ use Rattle.smp_brewer.specs.Laws.Answers.{offered_number, offered_over, some_lef
 -- ---- the value of each unit, as one numerator over one denominator
 
 abbrev pub value_over : ℕ → Brewing → ℕ → Fraction
-value_over units (offering o) unit = brewing_value units (offering o) unit
+value_over units (offering o) unit = (brewing_tree units).value (offering o) unit
 value_over units (offered o j) unit = offered_over o j unit
-value_over units (spent s) unit = brewing_value units (spent s) unit
+value_over units (spent s) unit = (brewing_tree units).value (spent s) unit
 
-value_is : (units : ℕ) (b : Brewing) → IsBrewing units b → (k : ℕ) → Same (brewing_value units b k) (value_over units b k)
-value_is units (offering o) ok k = same_refl (brewing_value units (offering o) k)
+value_is : (units : ℕ) (b : Brewing) → IsBrewing units b → (k : ℕ) → Same ((brewing_tree units).value b k) (value_over units b k)
+value_is units (offering o) ok k = same_refl ((brewing_tree units).value (offering o) k)
 value_is units (offered o j) ok k = offered_is units o ok.offers ok.going j (omega (arith, ok.unit, ok.offers.count)) ok.has_size k
-value_is units (spent s) ok k = same_refl (brewing_value units (spent s) k)
+value_is units (spent s) ok k = same_refl ((brewing_tree units).value (spent s) k)
 
 -- ---- over the offers, the mean value is the value
 
@@ -111,7 +111,7 @@ keeps_open all draws m z p l =
 
 module _ (units : ℕ) (o : Offers) (ok : IsOffers units o) (going : 1 ≤ o.draws) where
   offers_over : (k : ℕ) → Same (weighted (λ s. value_over units s k) (offers_from o 0 o.sizes))
-      (times (whole (total o)) (brewing_value units (offering o) k))
+      (times (whole (total o)) ((brewing_tree units).value (offering o) k))
   offers_over k =
       elim (cases_Bool (is_taken o k)) [
         | inl e ↦ same_trans (offers_even_taken units o k 0 o.sizes e) (rw e (same_sym (times-one (whole (total o)))))
@@ -142,11 +142,11 @@ module _ (units : ℕ) (o : Offers) (ok : IsOffers units o) (going : 1 ≤ o.dra
       })
 
   offers_even : o.refused < allowed units → (k : ℕ)
-      → Same (weighted (λ s. brewing_value units s k) (offer_parts o))
-      (times (whole (total o)) (brewing_value units (offering o) k))
+      → Same (weighted (λ s. (brewing_tree units).value s k) (offer_parts o))
+      (times (whole (total o)) ((brewing_tree units).value (offering o) k))
   offers_even left k =
       same_trans
-      (weighted_same (IsPart (brewing_tree units) (IsBrewing units) (offering o)) (λ s. brewing_value units s k)
+      (weighted_same (IsPart (brewing_tree units) (IsBrewing units) (offering o)) (λ s. (brewing_tree units).value s k)
       (λ s. value_over units s k) (λ p part. value_is units p.state part.member k)
       (offer_parts o) (offers_each left))
       (rw (offers_are o) (offers_over k))
@@ -184,7 +184,8 @@ module _ (units : ℕ) (o : Offers) (ok : IsOffers units o) (going : 1 ≤ o.dra
     each = shares_each;
   }
 
-  spent_value : (k : ℕ) → k < units → Same (over (get_or (shares_left o).numer k 0) (total o)) (brewing_value units (offering o) k)
+  spent_value : (k : ℕ) → k < units → Same (over (get_or (shares_left o).numer k 0) (total o))
+      ((brewing_tree units).value (offering o) k)
   spent_value k l =
       rw (get_or-map (share_of (total o) o.draws) o.sizes k 0 0 (omega (arith, l, ok.count))) (elim (cases_Bool (nat_eq (size_of o k) 0)) [
         | inl e ↦ rw e (over_one (total o) (some_left units o ok going))
@@ -227,7 +228,7 @@ module _ (units : ℕ) where
 
 -- ---- all states
 
-brewing_split : (units : ℕ) (b : Brewing) → IsBrewing units b → brewing_ended units b ≡ false
+brewing_split : (units : ℕ) (b : Brewing) → IsBrewing units b → (brewing_tree units).done b ≡ false
     → LawfulSplit (brewing_tree units) (IsBrewing units) b
 brewing_split units (offering o) ok going =
     let ne : o.draws ≢ 0 = eqb-false o.draws 0 going in
@@ -239,7 +240,8 @@ brewing_split units (offered o j) ok going =
     take_split units o ok.offers ok.going j (omega (arith, ok.unit, ok.offers.count)) ok.has_size ok.left
 brewing_split units (spent s) ok going = steps_through units s ok going
 
-brewing_end : (units : ℕ) (b : Brewing) → IsBrewing units b → brewing_ended units b ≡ true → LawfulEnd (brewing_tree units) b
+brewing_end : (units : ℕ) (b : Brewing) → IsBrewing units b → (brewing_tree units).done b ≡ true
+    → LawfulEnd (brewing_tree units) b
 brewing_end units (offering o) ok done unit l =
     let none : o.draws ≡ 0 = eqb-true o.draws 0 done in
     let nothing : size_of o unit * 0 ≡ 0 = omega arith in

@@ -1,6 +1,6 @@
 use Rattle.std.proofs.Common.{◌≡◌, ◌≢◌, false, arith, refl}
 use Rattle.std.proofs.lemmas.Bool.{eqb-false}
-use Rattle.smp_brewer.specs.Brewer.{offering, brewing_ended, IsOffers, IsOffered, units_of}
+use Rattle.smp_brewer.specs.Brewer.{offering, IsOffers, IsOffered, units_of, brewing_tree}
 use Rattle.smp_brewer.specs.Kept.States.{IsReady}
 use Rattle.smp_brewer.specs.Laws.Splits.{spent_belongs}
 use Rattle.smp_brewer.proofs.design.BrewerSplitting.advance.Goals as goal
@@ -8,7 +8,7 @@ use Rattle.smp_brewer.proofs.design.BrewerSplitting.advance.Goals as goal
 pub set-requires : goal.set-requires
 set-requires c =
     let ok : IsOffers (units_of c.args.self.now) c.state.inside.offers = rw (← c.state.view_is, c.in-Offering.is) at c.requires.state in
-    let going : brewing_ended (units_of c.args.self.now) (offering c.state.inside.offers) ≡ false = rw (← c.state.view_is, c.in-Offering.is) at c.requires.going in
+    let going : (brewing_tree (units_of c.args.self.now)).done (offering c.state.inside.offers) ≡ false = rw (← c.state.view_is, c.in-Offering.is) at c.requires.going in
     let some : c.state.inside.offers.draws ≢ 0 = eqb-false c.state.inside.offers.draws 0 going in
     let is = spent_belongs (units_of c.args.self.now) c.state.inside.offers ok (omega (arith, some)) in
     rw c.fill.ensures (record { count = refl; positive = is.positive; narrow = is.narrow; each = is.each })
