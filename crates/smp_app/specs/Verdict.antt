@@ -107,6 +107,7 @@ stratum_at plan number =
 abbrev pub alone : Plan → ℕ → Coverage
 alone plan h = one_of (parts plan) h
 
+-- the section of stratum h in a log of version 2
 abbrev pub drawn_by_section : Plan → ℕ → List ℕ → Result Drawn Stop
 drawn_by_section plan h log =
     let tree = covered_tree (alone plan h) in
