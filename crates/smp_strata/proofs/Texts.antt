@@ -1,5 +1,5 @@
 -- Keys that are references to texts, as the texts.
-use Rattle.std.proofs.Common.{◌≡◌, ℕ, ◌+◌, Bool, true, false, cond, not, ◌||◌, List, [], ◌∷◌, ◌++◌, map, refl, ◌∙◌, ap, sym, ◌<◌, length, get_or, take, drop, Bor}
+use Rattle.std.proofs.Common.{◌≡◌, ℕ, ◌+◌, Bool, true, false, cond, not, ◌||◌, List, [], ◌∷◌, ◌++◌, map, refl, ◌∙◌, ap, sym, ◌<◌, length, get_or, take, drop, Option, Some, slice_get, Bor}
 use Rattle.std.specs.List.{list_any, position_or_len}
 use Rattle.std.specs.Str.{bytes_eq}
 use Rattle.std.proofs.lemmas.List.{map-append, drop_more, map_more}
@@ -44,3 +44,17 @@ module _ (rs : List Ref) (i : ℕ) (d : Ref) (here : i < length rs) (keys new al
       ap (position_or_len (bytes_eq x)) (sym taken ∙ ap (λ ks. with_new ks (texts (drop (i + 1) rs))) new_is)
       ∙ place_kept keys x (texts (drop (i + 1) rs)) ∙ sym number_is in
       rw (list_is, ← place) (sym (map_more (λ (t : Ref). position_or_len (bytes_eq t.now) all) rs i d here))
+
+-- a text that is the first of those that were seen is seen, and its place is the first one
+pub record IsFirst (ks : List Ref) (text : List ℕ) : Type 0 where
+  pub seen : with_text (texts ks) text ≡ texts ks
+  pub place : position_or_len (bytes_eq text) (texts ks) ≡ 0
+
+pub first_of_seen : (ks : List Ref) (text : List ℕ) (first : Ref) → Some first ≡ slice_get ks 0 → bytes_eq text first.now ≡ true → IsFirst ks text
+first_of_seen [] text first is same = absurd (cc is)
+first_of_seen (k ∷ ks) text first is same =
+    let here : bytes_eq text k.now ≡ true = ap (λ (r : Ref). bytes_eq text r.now) (sym (some_is first k is)) ∙ same in
+    record { seen = rw here refl; place = rw here refl }
+  where
+    some_is : (x y : Ref) → Some x ≡ Some y → x ≡ y
+    some_is x y h = cc h

@@ -25,6 +25,12 @@ fn number_of<'a>(seen: &mut IndexSet<&'a str>, text: &'a str) -> Result<usize, N
     ensures number { IfOk result (λ number.
         number ≡ position_or_len (bytes_eq text.entry.now) (map (λ n. n.now) seen.old.keys)) }
 {
+    // Where there is one text alone, as without a column, it is found without a look at the table.
+    if let Some(first) = seen.first() {
+        if text == *first {
+            return Ok(0);
+        }
+    }
     let (number, _) = seen.insert_full(text)?;
     Ok(number)
 }
