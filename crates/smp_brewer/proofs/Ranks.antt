@@ -7,7 +7,7 @@ use Rattle.std.proofs.lemmas.List.{get_or-set_same, get_or-set_other, get_or_pas
 use Rattle.smp_brewer.specs.Kept.Orders.{IsRanked}
 use Rattle.smp_values.specs.Largest.{largest_of}
 use Rattle.smp_values.proofs.Largest.{largest-at}
-use Rattle.smp_brewer.proofs.Numbers.{order_below, order_reaches}
+use Rattle.smp_places.proofs.Orders.{order_below, order_reaches}
 
 -- what is taken is 0, and the others stay
 taken_at : (sizes : List ℕ) (unit k : ℕ) → 1 ≤ get_or (set sizes unit 0) k 0 → (k ≢ unit) × (get_or (set sizes unit 0) k 0 ≡ get_or sizes k 0)

@@ -1,12 +1,13 @@
 -- An order of the points, and the place of each of them in it.
 use Rattle.std.proofs.Common.{◌≡◌, ◌≢◌, ℕ, ◌+◌, ◌<◌, List, length, get_or, set, ◌∙◌, sym, refl, inl, inr, arith}
-use Rattle.std.specs.List.{Contains, range_with_len, swap}
+use Rattle.std.specs.List.{range_with_len, swap}
 use Rattle.std.specs.List.Sorted.{IsPermutation}
 use Rattle.std.proofs.lemmas.Bool.{cases_eq, cases_lt}
-use Rattle.std.proofs.lemmas.List.{get_or-set_same, get_or-set_other, get_or_default}
+use Rattle.std.proofs.lemmas.List.{get_or-set_same, get_or-set_other}
 use Rattle.std.proofs.lemmas.List.Edits.{Swapped, swapped_from_swap, length-swap}
 use Rattle.std.proofs.lemmas.List.FromFn.{length-range_with_len, get_or-range_with_len}
-use Rattle.std.proofs.lemmas.List.Sorted.{All-permutation, Contains-permutation, IsPermutation-keeps, length_permutation}
+use Rattle.std.proofs.lemmas.List.Sorted.{IsPermutation-keeps}
+use Rattle.smp_places.proofs.Orders.{order_below, order_long, order_reaches}
 use Rattle.smp_near.specs.Kept.Trees.{IsMirrored}
 
 -- no two places have one number
@@ -63,29 +64,13 @@ distinct_range n i j in_i in_j same =
     omega arith
 
 module _ (n : ℕ) (order : List ℕ) (is : IsPermutation (range_with_len 0 n) order) where
-  pub order_long : length order ≡ n
-  order_long = length_permutation (range_with_len 0 n) order is ∙ length-range_with_len 0 n
-
-  pub order_below : (place : ℕ) → place < length order → get_or order place 0 < n
-  order_below place here =
-      All-permutation (λ (x : ℕ). x < n) (range_with_len 0 n) order is
-      (λ k d within.
-      (let in_n : k < n = (let long = length-range_with_len 0 n in omega arith) in
-      let at : get_or (range_with_len 0 n) k d ≡ 0 + k = get_or-range_with_len 0 n k d in_n in
-      omega arith)) place 0 here
-
   pub order_distinct : (i j : ℕ) → i < length order → j < length order → get_or order i 0 ≡ get_or order j 0 → i ≡ j
   unfolding AreDistinct
   order_distinct = IsPermutation-keeps (range_with_len 0 n) AreDistinct (distinct_range n) (λ xs a b in_a in_b distinct. distinct_swap xs a b in_a in_b distinct) order is
 
-  order_reaches : (unit : ℕ) → unit < n → Contains order unit
-  order_reaches unit here =
-      let long : length (range_with_len 0 n) ≡ n = length-range_with_len 0 n in
-      Contains-permutation (range_with_len 0 n) order unit is (unit, omega arith, get_or-range_with_len 0 n unit unit here ∙ (let none : 0 + unit ≡ unit = omega arith in none))
-
-  place_found : (places : List ℕ) → length places ≡ length order → ((k : ℕ) → k < length order → get_or places (get_or order k 0) 0 ≡ k) → (unit : ℕ) → Contains order unit → (get_or places unit 0 < length places) × (get_or order (get_or places unit 0) 0 ≡ unit)
+  place_found : (places : List ℕ) → length places ≡ length order → ((k : ℕ) → k < length order → get_or places (get_or order k 0) 0 ≡ k) → (unit : ℕ) → (place : ℕ) × (place < length order) × (get_or order place 0 ≡ unit) → (get_or places unit 0 < length places) × (get_or order (get_or places unit 0) 0 ≡ unit)
   place_found places long each unit found =
-      let at : get_or order found.0 0 ≡ unit = get_or_default order found.0 0 unit found.1 ∙ found.2 in
+      let at : get_or order found.0 0 ≡ unit = found.2 in
       let place : get_or places unit 0 ≡ found.0 = rw at at (each found.0 found.1) in
       (omega (arith, found.1), rw place at)
 
@@ -93,8 +78,8 @@ module _ (n : ℕ) (order : List ℕ) (is : IsPermutation (range_with_len 0 n) o
   pub mirrored : (places : List ℕ) → length places ≡ length order → ((k : ℕ) → k < length order → get_or places (get_or order k 0) 0 ≡ k) → IsMirrored order places
   mirrored places long each = record {
     same = sym long;
-    unit_at = λ place here. (let below = order_below place (omega arith) in let count = order_long in omega arith, each place (omega arith));
-    place_of = λ unit here. place_found places long each unit (order_reaches unit (let count = order_long in omega arith));
+    unit_at = λ place here. (let below = order_below n order is place (omega arith) in let count = order_long n order is in omega arith, each place (omega arith));
+    place_of = λ unit here. place_found places long each unit (order_reaches n order is unit (let count = order_long n order is in omega arith));
   }
 
   -- one more place is written
@@ -106,6 +91,6 @@ module _ (n : ℕ) (order : List ℕ) (is : IsPermutation (range_with_len 0 n) o
             get_or-set_other places (get_or order place 0) (get_or order k 0) place 0 other ∙ each k earlier)
         | inr last ↦
             (let is_last : k ≡ place = omega arith in
-            let within : get_or order place 0 < length places = (let below = order_below place here in let count = order_long in omega arith) in
+            let within : get_or order place 0 < length places = (let below = order_below n order is place here in let count = order_long n order is in omega arith) in
             rw is_last (get_or-set_same places (get_or order place 0) place 0 within))
       ]

@@ -2,7 +2,7 @@ use Rattle.std.proofs.Common.{◌≡◌, ◌<◌, ◌∙◌, ℕ, length, get_or
 use Rattle.std.proofs.lemmas.List.{length-replicate}
 use Rattle.smp_near.specs.Kept.Trees.{IsCounted, IsEnclosed}
 use Rattle.smp_places.specs.Trees.{EachRoot}
-use Rattle.smp_near.proofs.Mirrors.{order_long, order_below}
+use Rattle.smp_places.proofs.Orders.{order_long, order_below}
 use Rattle.smp_near.proofs.tree.tree_of.Goals as goal
 
 pub regions_of-requires : goal.regions_of-requires
