@@ -1,4 +1,5 @@
-ghost use Rattle.std.specs.Prelude.{◌^◌, ◌<◌, ◌≤◌};
+ghost use Rattle.std.specs.Prelude.{◌<◌, ◌≤◌};
+ghost use Rattle.smp_fractions.specs.Limits.{wide_limit};
 
 use smp_sieve::{ChaChaWords, Sieve, Words};
 use smp_tape::{DrawFault, Draws, Tape};
@@ -42,7 +43,7 @@ const WIDE: u128 = 4294967297;
 // and 3.
 fn two_draws(alloc: Global, pairs: u32, bound: u128) -> Result<[Result<u128, DrawFault>; 2], Fail>
     requires positive { 1 ≤ bound }
-    requires narrow { bound < 2 ^ 126 }
+    requires narrow { bound < wide_limit }
 {
     let mut words = Vec::new(alloc);
     for _ in 0..pairs {

@@ -1,5 +1,6 @@
-ghost use Rattle.std.specs.Prelude.{◌≡◌, ◌↔◌, ℕ, ◌^◌, ◌<◌, ◌≤◌, length, slice_index};
+ghost use Rattle.std.specs.Prelude.{◌≡◌, ◌↔◌, ℕ, ◌<◌, ◌≤◌, length, slice_index};
 ghost use Rattle.std.specs.Prelude.{EachIndex, OnOk, IfOk, Err};
+ghost use Rattle.smp_fractions.specs.Limits.{most_rows, number_limit};
 ghost use Rattle.smp_fractions.specs.Fractions.{Same};
 ghost use Rattle.smp_prob.specs.Requested.{positive_units, requested_fraction};
 ghost use Rattle.smp_tape.specs.declared.draws.DrawFault.{DrawFault};
@@ -21,8 +22,8 @@ use std::alloc::Global;
 /// `TooMany` comes exactly where `n` passes the number of sizes above 0. Else `Draw` comes exactly where the tape leads to
 /// a state whose draw it refuses, unless memory runs out: it is too short, or its next value isn't below the bound.
 pub fn draw(alloc: Global, sizes: &[u32], n: u32, tape: &[u128]) -> Result<Vec<usize>, Fault>
-    requires few { length sizes.now ≤ 200000 }
-    requires small { EachIndex sizes.now (λ i. slice_index sizes.now i < 2 ^ 31) }
+    requires few { length sizes.now ≤ most_rows }
+    requires small { EachIndex sizes.now (λ i. slice_index sizes.now i < number_limit) }
     requires some { 1 ≤ n }
     // Over draws that are uniform below each asked bound, each row is selected with exactly the probability that is
     // requested of its size.

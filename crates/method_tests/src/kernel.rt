@@ -1,6 +1,7 @@
 //! Tables of columns, and searches through columns: rows worked by hand, and answers at each gate.
 
-ghost use Rattle.std.specs.Prelude.{◌-◌, ◌≤◌, ◌^◌, ◌≤ℤ◌, pos};
+ghost use Rattle.std.specs.Prelude.{◌-◌, ◌≤◌, ◌≤ℤ◌, pos};
+ghost use Rattle.smp_fractions.specs.Limits.{number_limit};
 ghost use Rattle.smp_kernel.specs.Vectors.{Within};
 
 use smp_kernel::*;
@@ -17,7 +18,7 @@ const GATE: i64 = 1 << 44;
 
 /// These numbers, of which each past the limit of an entry is brought to it.
 fn limited<const Q: usize>(numbers: &[i64; Q]) -> [i64; Q]
-    ensures { Within (2 ^ 31 - 1) result }
+    ensures { Within (number_limit - 1) result }
 {
     let mut limited = [0; Q];
     for place in 0..Q {
@@ -145,7 +146,7 @@ fn column(first: i32, second: i32, third: i32) -> [i32; 16]
     requires first { pos 0 ≤ℤ first }
     requires second { pos 0 ≤ℤ second }
     requires third { pos 0 ≤ℤ third }
-    ensures { Within (2 ^ 31 - 1) result }
+    ensures { Within (number_limit - 1) result }
 {
     let mut column = [0; 16];
     column[0] = first;

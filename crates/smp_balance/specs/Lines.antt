@@ -3,6 +3,7 @@ use Rattle.std.specs.Prelude.{◌≡◌, ℕ, zero, suc, ◌+◌, ◌<◌, ◌�
 use Rattle.std.specs.Prelude.{◌+ℤ◌, length, map, All, codes, Result, Ok, Err}
 use Rattle.std.specs.List.{flat_map, range_with_len}
 use Rattle.std.specs.Fmt.{decimal, signed_decimal}
+use Rattle.smp_fractions.specs.Limits.{most_rows}
 use Rattle.smp_prob.specs.Inclusions.{inclusion, asked_fraction}
 use Rattle.smp_frac.specs.declared.signed.Signed.{Signed}
 use Rattle.smp_frac.specs.declared.fractions.Frac.{Frac}
@@ -80,7 +81,7 @@ balance_lines drawn =
 -- what is told can be told: the units have a value in each column, and those that are drawn can be selected
 pub record IsTold (drawn : Drawn) : Type 0 where
   pub stratum : AreStratumUnits drawn.stratum
-  pub few : length drawn.stratum.values ≤ 200000
+  pub few : length drawn.stratum.values ≤ most_rows
   pub columns : drawn.columns ≡ column_count drawn.stratum
   pub units : All (λ k. can_be_selected (inclusion drawn.stratum.request k) ≡ true) drawn.units
   pub within : All (λ k. k < length drawn.stratum.values) drawn.units

@@ -1,6 +1,7 @@
 //! How a case is run.
 
-ghost use Rattle.std.specs.Prelude.{◌≡◌, ◌^◌, ◌<◌, ◌≤◌, true, false, length, map, slice_index, EachIndex, IfOk, []};
+ghost use Rattle.std.specs.Prelude.{◌≡◌, ◌<◌, ◌≤◌, true, false, length, map, slice_index, EachIndex, IfOk, []};
+ghost use Rattle.smp_fractions.specs.Limits.{number_limit};
 ghost use Rattle.smp_cases.specs.Cases.{Answers, drawn, mask, verdict};
 ghost use Rattle.smp_design.specs.Words.{needs_columns};
 ghost use Rattle.smp_methods.specs.Designs.{method_of};
@@ -150,7 +151,7 @@ pub fn run_case(
 ) -> Result<u64, CaseFault>
     requires method { needs_columns method ≡ false }
     requires few { length sizes.now ≤ 64 }
-    requires small { EachIndex sizes.now (λ i. slice_index sizes.now i < 2 ^ 31) }
+    requires small { EachIndex sizes.now (λ i. slice_index sizes.now i < number_limit) }
     requires some { 1 ≤ n }
     ensures { Answers result (verdict method sizes.now n tape.now) }
 {

@@ -1,5 +1,6 @@
-ghost use Rattle.std.specs.Prelude.{◌^◌, ◌<◌, ◌≤◌, IfOk, OnOk, OnErr};
+ghost use Rattle.std.specs.Prelude.{◌<◌, ◌≤◌, IfOk, OnOk, OnErr};
 ghost use Rattle.smp_frac.specs.Fractions.{fraction, signed_fraction, difference_size};
+ghost use Rattle.smp_fractions.specs.Limits.{wide_limit};
 ghost use Rattle.smp_fractions.specs.Fractions.{Same, minus};
 
 use crate::fractions::narrow_product;
@@ -10,8 +11,8 @@ use crate::{Frac, Signed, Wide, gcd};
 pub fn difference(left: Frac, right: Frac) -> Result<Signed, Wide>
     ensures value { IfOk result (λ d.
         Same (signed_fraction d) (minus (fraction left) (fraction right))) }
-    ensures fits { OnOk result (difference_size left right < 2 ^ 126) }
-    ensures wide { OnErr result (2 ^ 126 ≤ difference_size left right) }
+    ensures fits { OnOk result (difference_size left right < wide_limit) }
+    ensures wide { OnErr result (wide_limit ≤ difference_size left right) }
 {
     let common = gcd(left.den, right.den);
     let first = narrow_product(left.num, right.den / common)?;

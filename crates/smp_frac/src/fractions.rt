@@ -1,8 +1,9 @@
-ghost use Rattle.std.specs.Prelude.{◌≡◌, ◌≢◌, ◌*◌, ◌/◌, ◌^◌, ◌<◌, ◌≤◌, ◌↔◌, IsNone, IfSome, IfOk, OnOk, OnErr, OkIff, ◌+◌, ◌++◌, codes, length, take};
+ghost use Rattle.std.specs.Prelude.{◌≡◌, ◌≢◌, ◌*◌, ◌/◌, ◌<◌, ◌≤◌, ◌↔◌, IsNone, IfSome, IfOk, OnOk, OnErr, OkIff, ◌+◌, ◌++◌, codes, length, take};
 ghost use Rattle.std.specs.Fmt.{decimal};
 ghost use Prim.Native.Nat.{◌∣◌};
 ghost use Rattle.std.specs.Int.{IsGcd};
 ghost use Rattle.smp_frac.specs.Divisors.{greatest_common_divisor};
+ghost use Rattle.smp_fractions.specs.Limits.{wide_limit};
 ghost use Rattle.smp_fractions.specs.Fractions.{Same, AtMost, over, plus, times, inverse};
 
 use crate::{Bytes, NoMemory, gcd};
@@ -127,8 +128,8 @@ impl Frac {
     pub fn add(self, other: Frac) -> Result<Frac, Wide>
         ensures value { IfOk result (λ sum.
             Same (fraction sum) (plus (fraction self) (fraction other))) }
-        ensures fits { OnOk result (sum_size self other < 2 ^ 126) }
-        ensures wide { OnErr result (2 ^ 126 ≤ sum_size self other) }
+        ensures fits { OnOk result (sum_size self other < wide_limit) }
+        ensures wide { OnErr result (wide_limit ≤ sum_size self other) }
     {
         let common = gcd(self.den, other.den);
         let first = narrow_product(self.num, other.den / common)?;
@@ -143,8 +144,8 @@ impl Frac {
     pub fn mul(self, other: Frac) -> Result<Frac, Wide>
         ensures value { IfOk result (λ product.
             Same (fraction product) (times (fraction self) (fraction other))) }
-        ensures fits { OnOk result (product_size self other < 2 ^ 126) }
-        ensures wide { OnErr result (2 ^ 126 ≤ product_size self other) }
+        ensures fits { OnOk result (product_size self other < wide_limit) }
+        ensures wide { OnErr result (wide_limit ≤ product_size self other) }
     {
         let falling = gcd(self.num, other.den);
         let rising = gcd(other.num, self.den);
@@ -173,8 +174,8 @@ impl Frac {
         requires apart { IsGcd num part 1 }
         requires rest_apart { IsGcd num (den / common) 1 }
         ensures value { IfOk result (λ f. Same (fraction f) (over num (part * den))) }
-        ensures fits { OnOk result (part * (den / greatest_common_divisor num common) < 2 ^ 126) }
-        ensures wide { OnErr result (2 ^ 126 ≤ part * (den / greatest_common_divisor num common)) }
+        ensures fits { OnOk result (part * (den / greatest_common_divisor num common) < wide_limit) }
+        ensures wide { OnErr result (wide_limit ≤ part * (den / greatest_common_divisor num common)) }
     {
         let divisor = gcd(num, common);
         let den = narrow_product(part, den / divisor)?;
@@ -187,7 +188,7 @@ impl Frac {
 
 /// The product of two numbers, where it is below the limit.
 pub(crate) fn narrow_product(a: u128, b: u128) -> Result<u128, Wide>
-    ensures { OkIff result (a * b < 2 ^ 126) (a * b) }
+    ensures { OkIff result (a * b < wide_limit) (a * b) }
 {
     match a.checked_mul(b) {
         Some(product) if product < LIMIT => Ok(product),

@@ -1,6 +1,7 @@
 -- A row of whole numbers divided by what its entries have in common.
-use Rattle.std.specs.Prelude.{◌≡◌, ℕ, zero, suc, ◌^◌, List, ℤ, pos, ◌<ℤ◌, ◌*ℤ◌, length, map}
+use Rattle.std.specs.Prelude.{◌≡◌, ℕ, zero, suc, List, ℤ, pos, ◌<ℤ◌, ◌*ℤ◌, length, map}
 use Rattle.std.specs.Int.RustNames.{unsigned_abs, int_div}
+use Rattle.smp_fractions.specs.Limits.{most_entry}
 use Rattle.smp_frac.specs.Divisors.{greatest_common_divisor}
 use Rattle.smp_kernel.specs.Vectors.{entry, IsPrimitive, Within}
 
@@ -15,7 +16,7 @@ pub record IsReduced (row e : List ℤ) : Type 0 where
 pub record IsTooLong (row : List ℤ) : Type 0 where
   pub reduced : List ℤ
   pub is : IsReduced row reduced
-  pub long : Within (2 ^ 44) reduced → ⊥
+  pub long : Within most_entry reduced → ⊥
 
 -- ---- by division
 

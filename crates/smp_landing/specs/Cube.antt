@@ -1,7 +1,8 @@
 -- The cube method (Deville and Tillé 2004). In its flight, moves keep the balancing totals as long as there is a direction for them.
 -- Then the landing begins. Where no direction is left, the last row in force is dropped, and the flight goes on without it. Where a
 -- number would pass its gate, sequential pivotal steps finish the selection.
-use Rattle.std.specs.Prelude.{ℕ, ◌+◌, ◌-◌, ◌^◌, true, false, nat_eq, if◌then◌else◌, List, [], ◌∷◌, length}
+use Rattle.std.specs.Prelude.{ℕ, ◌+◌, ◌-◌, true, false, nat_eq, if◌then◌else◌, List, [], ◌∷◌, length}
+use Rattle.smp_fractions.specs.Limits.{most_denominator}
 use Rattle.smp_prob.specs.Shares.{Shares}
 use Rattle.smp_split.specs.Trees.{Part, Tree}
 use Rattle.smp_split.specs.Parts.{moved}
@@ -91,4 +92,4 @@ cube_tree units = record {
 -- a state of the cube over these units
 abbrev pub IsBalancing : Units → Balancing → Type 0
 IsBalancing units (flying f left) = IsFlight units f
-IsBalancing units (pairing s left) = IsValues (length units.sizes) (2 ^ 80) s
+IsBalancing units (pairing s left) = IsValues (length units.sizes) most_denominator s

@@ -1,6 +1,7 @@
 //! The states of a selection by the cube.
 
 ghost use Rattle.std.specs.Prelude.{◌≡◌, ◌<◌, ◌≤◌, false, length};
+ghost use Rattle.smp_fractions.specs.Limits.{most_rows};
 ghost use Rattle.smp_split.specs.Trees.{picked, weight_sum};
 ghost use Rattle.smp_values.specs.Values.{is_one, is_settled};
 ghost use Rattle.smp_flight.specs.States.{AreFirst, IsFlight};
@@ -58,7 +59,7 @@ fn fill(flight: &FlightState, values: &mut Values)
 
 /// How many units were fractional where the landing began: here, unless it began before.
 fn landed(flight: &FlightState, left: u32) -> u32
-    requires { length flight.now.flight.shares.numer ≤ 200000 }
+    requires { length flight.now.flight.shares.numer ≤ most_rows }
     ensures { result ≡ landed flight.now.flight left }
 {
     if left == 0 {

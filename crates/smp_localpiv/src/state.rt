@@ -1,6 +1,7 @@
 //! A state of a local pivotal selection, and its steps.
 
-ghost use Rattle.std.specs.Prelude.{◌≡◌, ◌^◌, ◌<◌, ◌≤◌, true, length, None};
+ghost use Rattle.std.specs.Prelude.{◌≡◌, ◌<◌, ◌≤◌, true, length, None};
+ghost use Rattle.smp_fractions.specs.Limits.{most_denominator};
 ghost use Rattle.smp_split.specs.Trees.{weight_sum, picked};
 ghost use Rattle.smp_values.specs.Values.{fractional_at, fractional_count, is_fractional, with_one};
 ghost use Rattle.smp_localpiv.specs.Local.{IsLocal, Local, MayMeet, local_tree, located_values};
@@ -97,7 +98,7 @@ impl<const K: usize> LocalState<K> {
     fn meet(&mut self, unit: usize, other: usize, draw: u128)
         requires met { IsMet self.old unit }
         requires other { other ≡ neighbour self.old unit }
-        requires narrow { self.old.state.den ≤ 2 ^ 80 }
+        requires narrow { self.old.state.den ≤ most_denominator }
         requires within { draw < weight_sum (meeting self.old unit) }
         ensures { self.new ≡ picked self.old (meeting self.old unit) draw }
     {

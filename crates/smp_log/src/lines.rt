@@ -1,6 +1,7 @@
-ghost use Rattle.std.specs.Prelude.{◌≡◌, ◌^◌, ◌<◌, ◌++◌, ◌∷◌, option_map};
+ghost use Rattle.std.specs.Prelude.{◌≡◌, ◌<◌, ◌++◌, ◌∷◌, option_map};
 ghost use Rattle.std.specs.Fmt.{decimal};
 ghost use Rattle.std.specs.Str.{bytes_eq};
+ghost use Rattle.smp_fractions.specs.Limits.{wide_limit};
 ghost use Rattle.smp_log.specs.Reading as Reading;
 
 use smp_lines::{cut_before, number};
@@ -27,7 +28,7 @@ pub(crate) fn behind<'a>(text: &'a [u8], front: &[u8]) -> Option<&'a [u8]>
 // The value of a line, where it is the line of a step of this kind with this bound.
 #[tactic(auto, unfolding(crate::specs::Reading::step_value))]
 fn step_value(line: &[u8], kind: Kind, bound: u128) -> Option<u128>
-    requires { bound < 2 ^ 126 }
+    requires { bound < wide_limit }
     ensures { result ≡ Reading.step_value kind bound line.now }
 {
     let rest = behind(line, kind.word().as_bytes())?;
@@ -83,7 +84,7 @@ pub(crate) fn after_numbers<'a>(
 
 // The value of a first line that is the line of a step, and what stands behind it.
 pub(crate) fn step_first<'a>(text: &'a [u8], kind: Kind, bound: u128) -> Option<(u128, &'a [u8])>
-    requires { bound < 2 ^ 126 }
+    requires { bound < wide_limit }
     ensures { option_map (λ p. (p.0, p.1.now)) result ≡ Reading.step_first kind bound text.now }
 {
     let (line, after) = cut_before(text, b'\n')?;

@@ -1,9 +1,10 @@
 -- The minimum support design (Deville and Tillé 1998). The values of the units are numerators over one denominator, and they
 -- add up to a whole number r. In a step the r largest units are selected and the design ends, or it goes on without what
 -- this took of their values.
-use Rattle.std.specs.Prelude.{ℕ, ◌-◌, ◌/◌, ◌^◌, min, Bool, nat_lt, nat_eq, ◌&&◌, ◌||◌, if◌then◌else◌, List, []}
+use Rattle.std.specs.Prelude.{ℕ, ◌-◌, ◌/◌, min, Bool, nat_lt, nat_eq, ◌&&◌, ◌||◌, if◌then◌else◌, List, []}
 use Rattle.std.specs.Prelude.{◌∷◌, length, map, slice_index}
 use Rattle.std.specs.List.{sum, count_by, range_with_len}
+use Rattle.smp_fractions.specs.Limits.{wide_limit}
 use Rattle.smp_prob.specs.Shares.{Shares}
 use Rattle.smp_split.specs.Trees.{Part, Tree}
 use Rattle.smp_split.specs.declared.kind.Kind.TheVariants.{Support}
@@ -74,5 +75,5 @@ support_tree units = values_tree units (λ _. Support) support_parts (λ fractio
 
 -- values of so many units, which add up to a whole number
 pub record IsSupport (units : ℕ) (s : Shares) : Type 0 where
-  pub values : IsValues units (2 ^ 126 - 1) s
+  pub values : IsValues units (wide_limit - 1) s
   pub whole : AddTo (draws_of s) s

@@ -1,9 +1,10 @@
 //! Units in two groups, the large ones and the small ones.
 
-ghost use Rattle.std.specs.Prelude.{◌≡◌, ℕ, ◌+◌, ◌-◌, ◌*◌, ◌^◌, ◌<◌, ◌≤◌, true, false, length};
+ghost use Rattle.std.specs.Prelude.{◌≡◌, ℕ, ◌+◌, ◌-◌, ◌*◌, ◌<◌, ◌≤◌, true, false, length};
 ghost use Rattle.std.specs.Prelude.{slice_index, IfOk, IfSome, IfNone};
 ghost use Rattle.std.specs.Bool.{OnTrue, OnFalse};
 ghost use Rattle.std.specs.BinaryHeap.{heap_items, heap_len, heap_capacity};
+ghost use Rattle.smp_fractions.specs.Limits.{wide_limit};
 ghost use Rattle.smp_values.specs.Values.{is_settled};
 ghost use Rattle.smp_minsup.specs.Support.{IsSupport, lambda};
 ghost use Rattle.smp_minsup.specs.Kept.Ranked.{RankedUnits, IsMostSmall, IsLeastLarge, IsParted};
@@ -165,7 +166,7 @@ impl Ranked {
     /// Makes the largest small unit a large one. Answers which it is.
     fn promote(&mut self) -> usize
         requires some { large_count self.old < length self.old.numer }
-        requires narrow { (unit : ℕ) → slice_index self.old.numer unit < 2 ^ 126 }
+        requires narrow { (unit : ℕ) → slice_index self.old.numer unit < wide_limit }
         ensures most { IsMostSmall self.old result }
         ensures placed { self.new ≡ placed self.old result true }
     {
@@ -200,7 +201,7 @@ impl Ranked {
         requires paired { length self.old.large ≡ length self.old.numer }
         requires none { large_count self.old ≡ 0 }
         requires within { count ≤ length self.old.numer }
-        requires narrow { (unit : ℕ) → slice_index self.old.numer unit < 2 ^ 126 }
+        requires narrow { (unit : ℕ) → slice_index self.old.numer unit < wide_limit }
         ensures numer { self.new.numer ≡ self.old.numer }
         ensures lowered { self.new.lowered ≡ self.old.lowered }
         ensures paired { length self.new.large ≡ length self.new.numer }
@@ -215,7 +216,7 @@ impl Ranked {
     /// Exchanges units until each large one counts as larger than each small one.
     pub(crate) fn part(&mut self)
         requires paired { length self.old.large ≡ length self.old.numer }
-        requires narrow { (unit : ℕ) → slice_index self.old.numer unit < 2 ^ 126 }
+        requires narrow { (unit : ℕ) → slice_index self.old.numer unit < wide_limit }
         ensures numer { self.new.numer ≡ self.old.numer }
         ensures lowered { self.new.lowered ≡ self.old.lowered }
         ensures paired { length self.new.large ≡ length self.new.numer }
@@ -230,7 +231,7 @@ impl Ranked {
 
     /// Lowers all large units.
     pub(crate) fn lower(&mut self, by: u128)
-        requires low { self.old.lowered + by < 2 ^ 126 }
+        requires low { self.old.lowered + by < wide_limit }
         requires above { (unit : ℕ) → unit < length self.old.numer
             → is_in self.old.large unit ≡ true → by ≤ slice_index self.old.numer unit }
         ensures { self.new ≡ lowered_by self.old by }

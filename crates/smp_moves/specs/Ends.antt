@@ -1,8 +1,9 @@
 -- How far a line can be followed, the values at its end, and the weights of both ends, as functions of the values.
-use Rattle.std.specs.Prelude.{ℕ, suc, ◌+◌, ◌-◌, ◌*◌, ◌/◌, ◌^◌, nat_le, nat_lt, Bool, cond, if◌then◌else◌, List}
+use Rattle.std.specs.Prelude.{ℕ, suc, ◌+◌, ◌-◌, ◌*◌, ◌/◌, nat_le, nat_lt, Bool, cond, if◌then◌else◌, List}
 use Rattle.std.specs.Prelude.{[], ◌∷◌, ℤ, pos, negsuc, fold, length, map, slice_index}
 use Rattle.std.specs.List.{range_with_len, list_all}
 use Rattle.std.specs.Int.RustNames.{unsigned_abs}
+use Rattle.smp_fractions.specs.Limits.{most_entry}
 use Rattle.smp_frac.specs.Divisors.{greatest_common_divisor}
 use Rattle.smp_prob.specs.Shares.{Shares}
 use Rattle.smp_moves.specs.declared.lines.Ratio.{Ratio}
@@ -75,4 +76,4 @@ move_along s line =
     record { plus_weight = w.num; minus_weight = w.den; up = extent s line; down = extent s (turned line); direction = line }
 
 abbrev pub entries_fit : Line → Bool
-entries_fit line = list_all (λ e. nat_le (unsigned_abs e) (2 ^ 44)) line.entries
+entries_fit line = list_all (λ e. nat_le (unsigned_abs e) most_entry) line.entries

@@ -1,10 +1,11 @@
 -- A move of values along a line, by its properties: how far the values can follow the line and its opposite before one of them would
 -- leave 0 or 1, the states at both ends, and the weights that keep each value in the mean (Deville and Tillé 2004).
-use Rattle.std.specs.Prelude.{◌≡◌, ◌≢◌, ℕ, ◌*◌, ◌≤◌, ◌^◌, true, Bool, cond, nat_eq, List, [], ◌∷◌, ℤ}
+use Rattle.std.specs.Prelude.{◌≡◌, ◌≢◌, ℕ, ◌*◌, ◌≤◌, true, Bool, cond, nat_eq, List, [], ◌∷◌, ℤ}
 use Rattle.std.specs.Prelude.{pos, neg_ℤ, length, map, slice_index}
 use Rattle.std.specs.List.{All, AllPairs}
 use Rattle.std.specs.Int.{IsGcd}
 use Prim.Native.Nat.{◌∣◌}
+use Rattle.smp_fractions.specs.Limits.{most_entry, most_denominator}
 use Rattle.smp_fractions.specs.Fractions.{Fraction, Same, AtMost, whole, integer, plus, times, over}
 use Rattle.smp_kernel.specs.Vectors.{IsZero, Within}
 use Rattle.smp_prob.specs.Shares.{Shares}
@@ -79,9 +80,9 @@ pub record Move : Type 0 where
 
 -- no entry of the direction, and neither denominator, passes its gate
 pub record Fits (m : Move) (plus_end minus_end : Shares) : Type 0 where
-  pub entries : Within (2 ^ 44) m.direction.entries
-  pub plus_den : plus_end.den ≤ 2 ^ 80
-  pub minus_den : minus_end.den ≤ 2 ^ 80
+  pub entries : Within most_entry m.direction.entries
+  pub plus_den : plus_end.den ≤ most_denominator
+  pub minus_den : minus_end.den ≤ most_denominator
 
 -- ---- what a search goes through
 

@@ -1,5 +1,6 @@
 -- Sequential pivotal selection (Deville and Tillé 1998), in the order of the frame or in an order that is drawn first.
-use Rattle.std.specs.Prelude.{ℕ, ◌^◌}
+use Rattle.std.specs.Prelude.{ℕ}
+use Rattle.smp_fractions.specs.Limits.{most_denominator}
 use Rattle.smp_prob.specs.Shares.{Shares}
 use Rattle.smp_split.specs.Trees.{Tree}
 use Rattle.smp_split.specs.Orders.{Ordered}
@@ -9,7 +10,7 @@ use Rattle.smp_values.specs.Steps.{pivotal_kind, pivotal_parts}
 -- pivotal steps, of which each settles a value at least
 abbrev pub pivotal_rule : StepRule
 pivotal_rule = record {
-  most = 2 ^ 80;
+  most = most_denominator;
   kind = pivotal_kind;
   parts = pivotal_parts;
   rank = λ fractional. fractional;

@@ -1,4 +1,5 @@
 ghost use Rattle.std.specs.Prelude.{◌≡◌, ◌*◌, ◌^◌, ◌<◌, ◌≤◌, IfOk, IfErr};
+ghost use Rattle.smp_fractions.specs.Limits.{wide_limit};
 ghost use Rattle.smp_sieve.specs.Fair.{IsFair};
 ghost use Rattle.smp_sieve.specs.SieveSources.{sieve_source};
 ghost use Rattle.smp_sieve.specs.Streams.{ahead, behind};
@@ -36,7 +37,7 @@ impl<W: Words + Drop> Draws for Sieve<W> {
     /// of the candidates that were looked at are taken, also then. A bound of 1 takes no word.
     fn below(&mut self, bound: u128) -> Result<u128, DrawFault>
         requires positive { 1 ≤ bound }
-        requires narrow { bound < 2 ^ 126 }
+        requires narrow { bound < wide_limit }
         ensures drawn { sieve_next W.stream self.old bound
             ≡ record { answer = result; rest = self.new } }
         ensures below { IfOk result (λ value. value < bound) }
@@ -60,7 +61,7 @@ impl<W: Words + Drop> Draws for Sieve<W> {
 // The first candidate below the bound, of the 256 that come next, or that there is none.
 fn first_below<W: Words>(words: &mut W, bound: u128) -> Result<u128, DrawFault>
     requires some { 2 ≤ bound }
-    requires narrow { bound < 2 ^ 126 }
+    requires narrow { bound < wide_limit }
     ensures exact { result ≡ (first_below 256 (ahead W.stream words.old) 0 bound).0 }
     ensures rest { words.new
         ≡ behind W.stream (first_below 256 (ahead W.stream words.old) 0 bound).1 words.old }

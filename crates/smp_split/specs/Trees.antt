@@ -1,6 +1,7 @@
 -- A selection design as a tree of weighted parts, and its lawful splits (Deville and Tillé 1998).
-use Rattle.std.specs.Prelude.{◌≡◌, ℕ, ◌+◌, ◌-◌, ◌*◌, ◌^◌, ◌≤◌, ◌<◌, Bool, true, false, cond, nat_lt, List}
+use Rattle.std.specs.Prelude.{◌≡◌, ℕ, ◌+◌, ◌-◌, ◌*◌, ◌≤◌, ◌<◌, Bool, true, false, cond, nat_lt, List}
 use Rattle.std.specs.Prelude.{[], ◌∷◌}
+use Rattle.smp_fractions.specs.Limits.{wide_limit}
 use Rattle.smp_fractions.specs.Fractions.{Fraction, Same, whole, plus, times}
 use Rattle.smp_split.specs.declared.kind.Kind.{Kind}
 
@@ -53,7 +54,7 @@ pub record IsPart {State : Type 0} (tree : Tree State) (belongs : State → Type
 pub record LawfulParts {State : Type 0} (tree : Tree State) (belongs : State → Type 0)
     (state : State) (parts : List (Part State)) : Type 0 where
   pub some : 1 ≤ weight_sum parts
-  pub narrow : weight_sum parts < 2 ^ 126
+  pub narrow : weight_sum parts < wide_limit
   pub each : EachPart (IsPart tree belongs state) parts
   pub even : (unit : ℕ) → unit < tree.units
       → Same (weighted (λ s. tree.value s unit) parts)

@@ -1,7 +1,8 @@
 -- The rows of a frame by their numbers, of which the first is 0: what stands in a row, and the sums over some rows.
-use Rattle.std.specs.Prelude.{ℕ, ◌^◌, ℤ, pos, ◌+ℤ◌, nat_abs, nat_le, ◌||◌, Bool, List, [], length, map, fold, sum_by}
+use Rattle.std.specs.Prelude.{ℕ, ℤ, pos, ◌+ℤ◌, nat_abs, nat_le, ◌||◌, Bool, List, [], length, map, fold, sum_by}
 use Rattle.std.specs.Prelude.{slice_index, slice_index_or}
 use Rattle.std.specs.List.{list_any, range_with_len}
+use Rattle.smp_fractions.specs.Limits.{number_limit}
 use Rattle.smp_fractions.specs.Fractions.{whole}
 use Rattle.smp_frac.specs.LowestTerms.{lowest_terms}
 use Rattle.smp_frac.specs.declared.fractions.Frac.{Frac}
@@ -53,5 +54,5 @@ values_of units columns rows = map (value_of units rows) (range_with_len 0 colum
 -- a sum of sizes, or the absolute value of a sum of values, is above 2,147,483,647
 abbrev pub is_large : List unit.Unit → ℕ → List ℕ → Bool
 is_large units columns rows =
-    nat_le (2 ^ 31) (size_of units rows)
-    || list_any (λ value. nat_le (2 ^ 31) (nat_abs value)) (values_of units columns rows)
+    nat_le number_limit (size_of units rows)
+    || list_any (λ value. nat_le number_limit (nat_abs value)) (values_of units columns rows)

@@ -3,6 +3,7 @@
 ghost use Rattle.std.specs.Prelude.{◌≡◌, ℕ, ◌+◌, ◌-◌, ◌*◌, ◌^◌, ◌<◌, ◌≤◌, List, length, map, nat_eq, nat_le, nat_lt, slice_index, sum, sum_by, count_by, EachIndex, IfOk, OnOk, if◌then◌else◌};
 ghost use Rattle.std.specs.List.{range_with_len};
 ghost use Rattle.std.specs.List.Sorted.{IsPermutation};
+ghost use Rattle.smp_fractions.specs.Limits.{most_rows};
 ghost use Rattle.smp_strata.specs.Allocations;
 ghost use Rattle.smp_strata.specs.Allocations.{IsAllocation, allocation, comes_before, left_over};
 ghost use Rattle.smp_strata.specs.Kept.Keys;
@@ -13,9 +14,9 @@ use std::alloc::Global;
 
 /// What each stratum gets of n units, by the numbers of first stage units of the strata.
 pub(crate) fn allocation(alloc: Global, n: u32, counts: &[u32]) -> Result<Vec<u32>, NoMemory>
-    requires few { length counts.now ≤ 200000 }
-    requires small { n ≤ 200000 }
-    requires total { sum counts.now ≤ 200000 }
+    requires few { length counts.now ≤ most_rows }
+    requires small { n ≤ most_rows }
+    requires total { sum counts.now ≤ most_rows }
     requires some { 1 ≤ sum counts.now }
     ensures value { IfOk result (λ sizes. sizes.items ≡ allocation n counts.now) }
     ensures rule { IfOk result (λ sizes. IsAllocation n counts.now sizes.items) }
@@ -25,9 +26,9 @@ pub(crate) fn allocation(alloc: Global, n: u32, counts: &[u32]) -> Result<Vec<u3
 }
 
 fn shares(alloc: Global, n: u32, counts: &[u32]) -> Result<Vec<u32>, NoMemory>
-    requires few { length counts.now ≤ 200000 }
-    requires small { n ≤ 200000 }
-    requires total { sum counts.now ≤ 200000 }
+    requires few { length counts.now ≤ most_rows }
+    requires small { n ≤ most_rows }
+    requires total { sum counts.now ≤ most_rows }
     requires some { 1 ≤ sum counts.now }
     ensures value { IfOk result (λ sizes. sizes.items ≡ allocation n counts.now) }
     ensures given { OnOk result (sum (allocation n counts.now) ≡ n) }
@@ -45,7 +46,7 @@ fn shares(alloc: Global, n: u32, counts: &[u32]) -> Result<Vec<u32>, NoMemory>
 }
 
 fn sum_of(counts: &[u32]) -> u32
-    requires { sum counts.now ≤ 200000 }
+    requires { sum counts.now ≤ most_rows }
     ensures { result ≡ sum counts.now }
 {
     counts.iter().map(|&count| count as u64).sum::<u64>() as u32
@@ -64,7 +65,7 @@ fn whole(n: u32, all: u32, count: u32) -> u32
 fn share(n: u32, all: u32, count: u32, more: bool) -> u32
     requires some { 1 ≤ all }
     requires within { count ≤ all }
-    requires small { n ≤ 200000 }
+    requires small { n ≤ most_rows }
     ensures { result ≡ Allocations.whole n all count + (if more then 1 else 0) }
 {
     if more {
@@ -76,8 +77,8 @@ fn share(n: u32, all: u32, count: u32, more: bool) -> u32
 
 // How many units are left over after the whole parts.
 fn left_over(n: u32, all: u32, counts: &[u32]) -> u32
-    requires few { length counts.now ≤ 200000 }
-    requires small { n ≤ 200000 }
+    requires few { length counts.now ≤ most_rows }
+    requires small { n ≤ most_rows }
     requires total { all ≡ sum counts.now }
     requires some { 1 ≤ all }
     ensures { result ≡ left_over n counts.now }
@@ -92,8 +93,8 @@ fn left_over(n: u32, all: u32, counts: &[u32]) -> u32
 // A number that is larger for a stratum the earlier it gets one more.
 fn key(n: u32, all: u32, count: u32, place: usize) -> u64
     requires some { 1 ≤ all }
-    requires small { all ≤ 200000 }
-    requires few { place < 200000 }
+    requires small { all ≤ most_rows }
+    requires few { place < most_rows }
     ensures value { result ≡ Keys.key n all count place }
     ensures within { result < 2 ^ 40 }
 {
@@ -102,9 +103,9 @@ fn key(n: u32, all: u32, count: u32, place: usize) -> u64
 }
 
 fn keys(alloc: Global, n: u32, all: u32, counts: &[u32]) -> Result<Vec<u64>, NoMemory>
-    requires few { length counts.now ≤ 200000 }
+    requires few { length counts.now ≤ most_rows }
     requires some { 1 ≤ all }
-    requires small { all ≤ 200000 }
+    requires small { all ≤ most_rows }
     ensures value { IfOk result (λ list. list.items ≡ Keys.keys n all counts.now) }
 {
     let mut list = Vec::new(alloc);

@@ -1,7 +1,7 @@
 //! The parts of a plan, where the frame serves the design.
 
-ghost use Rattle.std.specs.Prelude.{◌≡◌, ◌^◌, ◌<◌, ◌≤◌, ℕ, None, false, [], All, EachIndex, IfOk, IfSome, length, map, option_map, slice_index, slice_index_or, IsSome};
-ghost use Rattle.smp_fractions.specs.Limits.{most_rows};
+ghost use Rattle.std.specs.Prelude.{◌≡◌, ◌<◌, ◌≤◌, ℕ, None, false, [], All, EachIndex, IfOk, IfSome, length, map, option_map, slice_index, slice_index_or, IsSome};
+ghost use Rattle.smp_fractions.specs.Limits.{most_rows, number_limit};
 ghost use Rattle.smp_frame.specs.Bounds.{HaveValues, IsFrame};
 ghost use Rattle.smp_design.specs.Bounds.{IsDesign};
 ghost use Rattle.smp_prob.specs.Given.{AreGiven, common_multiple, largest_multiple};
@@ -36,7 +36,7 @@ use std::alloc::Global;
 // The request for n of the units with these sizes, which has that many positive ones.
 fn request_for(alloc: Global, sizes: &[u32], n: u32) -> Result<Request, NoMemory>
     requires few { length sizes.now ≤ most_rows }
-    requires small { EachIndex sizes.now (λ i. slice_index sizes.now i < 2 ^ 31) }
+    requires small { EachIndex sizes.now (λ i. slice_index sizes.now i < number_limit) }
     requires some { 1 ≤ n }
     requires enough { n ≤ positive_units sizes.now }
     ensures value { IfOk result (λ request. request ≡ requested_of sizes.now n) }

@@ -1,9 +1,9 @@
 //! Sizes of first stage units, and how many of these are drawn from each stratum.
 
-ghost use Rattle.std.specs.Prelude.{◌≡◌, ◌^◌, ◌<◌, ◌≤◌, All, IfOk, IfSome, length, map, slice_index, sum};
+ghost use Rattle.std.specs.Prelude.{◌≡◌, ◌<◌, ◌≤◌, All, IfOk, IfSome, length, map, slice_index, sum};
 ghost use Rattle.std.specs.Ordering.{nat_cmp};
 ghost use Rattle.std.specs.Cmp.Lexicographic.{slice_cmp};
-ghost use Rattle.smp_fractions.specs.Limits.{most_rows};
+ghost use Rattle.smp_fractions.specs.Limits.{most_rows, number_limit};
 ghost use Rattle.smp_frame.specs.Bounds.{IsFrame};
 ghost use Rattle.smp_design.specs.Bounds.{Ascend, IsDesign};
 ghost use Rattle.smp_prob.specs.Requested as Requested;
@@ -30,7 +30,7 @@ pub(crate) fn cluster_sizes(
 ) -> Result<Vec<u32>, NoMemory>
     requires frame { IsFrame units.now }
     requires rows { All (AreRows (length units.now)) clusters.now }
-    requires small { All (λ rows. Rows.size_of units.now rows < 2 ^ 31) clusters.now }
+    requires small { All (λ rows. Rows.size_of units.now rows < number_limit) clusters.now }
     ensures { IfOk result (λ sizes. sizes.items ≡ map (Rows.size_of units.now) clusters.now) }
 {
     let mut sizes = Vec::with_capacity(alloc, clusters.len())?;

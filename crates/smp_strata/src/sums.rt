@@ -1,6 +1,7 @@
 //! Sums over the rows of a first stage unit.
 
-ghost use Rattle.std.specs.Prelude.{◌≡◌, ◌*◌, ◌+◌, ◌-◌, ◌^◌, ◌<◌, ◌≤◌, ℕ, IfOk, false, length, nat_abs, nat_le};
+ghost use Rattle.std.specs.Prelude.{◌≡◌, ◌*◌, ◌+◌, ◌-◌, ◌<◌, ◌≤◌, ℕ, IfOk, false, length, nat_abs, nat_le};
+ghost use Rattle.smp_fractions.specs.Limits.{number_limit};
 ghost use Rattle.smp_frame.specs.Bounds.{HaveValues, IsFrame};
 ghost use Rattle.smp_strata.specs.Kept.Layouts.{AreRows};
 ghost use Rattle.smp_strata.specs.Rows.{is_large, size_of, value_of, values_of};
@@ -40,7 +41,7 @@ fn value_of(units: &[Unit], columns: usize, rows: &[usize], column: usize) -> i6
 
 // Whether the absolute value of a sum is above the limit.
 fn is_above(value: i64) -> bool
-    ensures { result ≡ nat_le (2 ^ 31) (nat_abs value) }
+    ensures { result ≡ nat_le number_limit (nat_abs value) }
 {
     value.unsigned_abs() > MAX_SUM
 }

@@ -1,9 +1,10 @@
 -- Systematic selection with unequal probabilities (Madow 1949). The probabilities are numerators over one denominator, and
 -- they are laid end to end in the order of the units. One draw below the denominator picks a point and all points that are
 -- whole multiples of the denominator further on; the units whose lengths hold such a point are selected.
-use Rattle.std.specs.Prelude.{ℕ, ◌+◌, ◌-◌, ◌*◌, ◌^◌, ◌≤◌, ◌<◌, Bool, nat_lt, nat_le, nat_eq, ◌&&◌}
+use Rattle.std.specs.Prelude.{ℕ, ◌+◌, ◌-◌, ◌*◌, ◌≤◌, ◌<◌, Bool, nat_lt, nat_le, nat_eq, ◌&&◌}
 use Rattle.std.specs.Prelude.{if◌then◌else◌, List, length, map, take, sum, slice_index}
 use Rattle.std.specs.List.{list_any, range_with_len}
+use Rattle.smp_fractions.specs.Limits.{wide_limit}
 use Rattle.smp_prob.specs.Shares.{Shares}
 use Rattle.smp_split.specs.Trees.{Tree}
 use Rattle.smp_split.specs.Parts.{equal_parts}
@@ -42,7 +43,7 @@ sampled s draw = record {
 -- one step, in which each draw below the denominator is a part of weight 1
 abbrev pub systematic_rule : StepRule
 systematic_rule = record {
-  most = 2 ^ 126 - 1;
+  most = wide_limit - 1;
   kind = λ _. System;
   parts = λ s. equal_parts s.den (sampled s);
   rank = λ fractional. if nat_eq fractional 0 then 0 else 1;

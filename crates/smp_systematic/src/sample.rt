@@ -1,6 +1,7 @@
 //! One systematic draw.
 
-ghost use Rattle.std.specs.Prelude.{◌≡◌, ◌-◌, ◌^◌, ◌<◌, length};
+ghost use Rattle.std.specs.Prelude.{◌≡◌, ◌-◌, ◌<◌, length};
+ghost use Rattle.smp_fractions.specs.Limits.{wide_limit};
 ghost use Rattle.smp_values.specs.Values.{IsValues};
 ghost use Rattle.smp_systematic.specs.Systematic.{sampled};
 
@@ -10,7 +11,7 @@ use smp_values::Values;
 ///
 /// It goes over the values once, and keeps how far the next point lies from where the present piece starts.
 pub(crate) fn take_sample(values: &mut Values, draw: u128)
-    requires values { IsValues (length values.old.numer) (2 ^ 126 - 1) values.old }
+    requires values { IsValues (length values.old.numer) (wide_limit - 1) values.old }
     requires within { draw < values.old.den }
     ensures { values.new ≡ sampled values.old draw }
 {

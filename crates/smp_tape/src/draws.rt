@@ -1,4 +1,5 @@
-ghost use Rattle.std.specs.Prelude.{◌≡◌, ◌^◌, ◌<◌, ◌≤◌, IfOk};
+ghost use Rattle.std.specs.Prelude.{◌≡◌, ◌<◌, ◌≤◌, IfOk};
+ghost use Rattle.smp_fractions.specs.Limits.{wide_limit};
 ghost use Rattle.smp_tape.specs.Sources.{Source, Drawn};
 
 /// Why a draw was refused.
@@ -20,7 +21,7 @@ pub trait Draws {
     /// A whole number below the bound. One that is below 1 is 0, and leaves the source as it is.
     fn below(&mut self, bound: u128) -> Result<u128, DrawFault>
         requires positive { 1 ≤ bound }
-        requires narrow { bound < 2 ^ 126 }
+        requires narrow { bound < wide_limit }
         ensures drawn { source.next self.old bound ≡ record { answer = result; rest = self.new } }
         ensures below { IfOk result (λ value. value < bound) };
 }

@@ -1,5 +1,6 @@
 -- Designs over units that stand in an order, by steps on the values at their places.
-use Rattle.std.specs.Prelude.{ℕ, ◌^◌, ◌≤◌, List, length}
+use Rattle.std.specs.Prelude.{ℕ, ◌≤◌, List, length}
+use Rattle.smp_fractions.specs.Limits.{most_denominator}
 use Rattle.smp_prob.specs.declared.orders.Order.{Order}
 use Rattle.smp_prob.specs.declared.requests.Request.{Request}
 use Rattle.smp_prob.specs.Shares.{Shares, shares_of}
@@ -34,7 +35,7 @@ IsPlacedBy rule units s = IsInOrder units (IsValues units rule.most) s
 -- What such steps owe: they take every request, each split is lawful, and each leaf selects one of the whole numbers of units around
 -- the sum of the values.
 pub record LawfulRule (rule : StepRule) : Type 0 where
-  pub wide : 2 ^ 80 ≤ rule.most
+  pub wide : most_denominator ≤ rule.most
   pub lawful : (units : ℕ) → Lawful (placed_tree rule units) (IsPlacedBy rule units)
   pub around : (units : ℕ) (s : Ordered Shares) → IsPlacedBy rule units s
       → LeavesSelectAround (placed_tree rule units) s

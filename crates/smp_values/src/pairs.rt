@@ -1,6 +1,7 @@
 //! The pivotal step on a pair of units.
 
-ghost use Rattle.std.specs.Prelude.{◌≡◌, ℕ, ◌+◌, ◌^◌, ◌<◌, ◌≤◌};
+ghost use Rattle.std.specs.Prelude.{◌≡◌, ℕ, ◌+◌, ◌<◌, ◌≤◌};
+ghost use Rattle.smp_fractions.specs.Limits.{most_denominator};
 ghost use Rattle.smp_values.specs.Pairs.{pair_weights, pair_bound, pair_at};
 
 /// The weights of the two parts of a step on a pair. They are not reduced.
@@ -16,7 +17,7 @@ pub struct TwoWeights {
 pub fn pair(a: u128, b: u128, den: u128) -> TwoWeights
     requires a_in { (1 ≤ a) × (a < den) }
     requires b_in { (1 ≤ b) × (b < den) }
-    requires narrow { den ≤ 2 ^ 80 }
+    requires narrow { den ≤ most_denominator }
     ensures { result ≡ pair_weights a b den }
 {
     if a + b <= den {
@@ -36,7 +37,7 @@ pub fn pair(a: u128, b: u128, den: u128) -> TwoWeights
 pub fn pair_bound(a: u128, b: u128, den: u128) -> u128
     requires a_in { (1 ≤ a) × (a < den) }
     requires b_in { (1 ≤ b) × (b < den) }
-    requires narrow { den ≤ 2 ^ 80 }
+    requires narrow { den ≤ most_denominator }
     ensures { result ≡ pair_bound a b den }
 {
     let weights = pair(a, b, den);
@@ -47,7 +48,7 @@ pub fn pair_bound(a: u128, b: u128, den: u128) -> u128
 pub fn pair_apply(a: u128, b: u128, den: u128, draw: u128) -> (u128, u128)
     requires a_in { (1 ≤ a) × (a < den) }
     requires b_in { (1 ≤ b) × (b < den) }
-    requires narrow { den ≤ 2 ^ 80 }
+    requires narrow { den ≤ most_denominator }
     requires within { draw < pair_bound a b den }
     ensures { result ≡ pair_at a b den draw }
 {

@@ -1,6 +1,7 @@
 //! Sequential pivotal steps.
 
-ghost use Rattle.std.specs.Prelude.{◌≡◌, ℕ, ◌^◌, ◌<◌, false, length};
+ghost use Rattle.std.specs.Prelude.{◌≡◌, ℕ, ◌<◌, false, length};
+ghost use Rattle.smp_fractions.specs.Limits.{most_denominator};
 ghost use Rattle.smp_split.specs.Trees.{weight_sum, picked};
 ghost use Rattle.smp_prob.specs.Shares.{Shares};
 ghost use Rattle.smp_values.specs.Values.{IsValues, exchanged_values, is_one, is_settled};
@@ -34,7 +35,7 @@ impl Model for PivotalSteps {
 impl PivotalSteps {
     /// The steps on these values.
     pub fn from_values(values: Values) -> PivotalSteps
-        requires { IsValues (length values.numer) (2 ^ 80) values }
+        requires { IsValues (length values.numer) most_denominator values }
         ensures { result ≡ values }
     {
         let first = values.next_fractional(0);
@@ -48,7 +49,7 @@ impl PivotalSteps {
 
     /// Goes on with these values, and gives back in their place those that it had. No memory is taken.
     pub fn set(&mut self, values: &mut Values)
-        requires { IsValues (length values.old.numer) (2 ^ 80) values.old }
+        requires { IsValues (length values.old.numer) most_denominator values.old }
         ensures set { self.new ≡ values.old }
         ensures given_back { values.new ≡ self.old }
     {

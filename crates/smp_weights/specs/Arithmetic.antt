@@ -1,6 +1,7 @@
 -- Exact arithmetic on fractions in lowest terms.
-use Rattle.std.specs.Prelude.{ℕ, ◌^◌, nat_lt, if◌then◌else◌, Result, Ok, Err}
+use Rattle.std.specs.Prelude.{ℕ, nat_lt, if◌then◌else◌, Result, Ok, Err}
 use Rattle.std.specs.Int.{is_negative}
+use Rattle.smp_fractions.specs.Limits.{wide_limit}
 use Rattle.smp_fractions.specs.Fractions.{Fraction, plus, minus, times}
 use Rattle.smp_frac.specs.declared.fractions.Frac.{Frac}
 use Rattle.smp_frac.specs.declared.fractions.Wide.{Wide}
@@ -19,7 +20,7 @@ signed_lowest_terms a = record {
 
 -- a result, where the greatest number that it needs is below 2^126, and else `Wide`
 abbrev pub within_limit : {A : Type 0} → ℕ → A → Result A Wide
-within_limit needed result = if nat_lt needed (2 ^ 126) then Ok result else Err (record {})
+within_limit needed result = if nat_lt needed wide_limit then Ok result else Err (record {})
 
 -- the product of two fractions
 abbrev pub product_of : Frac → Frac → Result Frac Wide

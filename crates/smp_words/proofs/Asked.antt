@@ -7,7 +7,8 @@ use Rattle.smp_lines.specs.Decimals.{number_below}
 use Rattle.smp_words.specs.declared.command.DesignArguments.{DesignArguments}
 use Rattle.smp_words.specs.declared.command.Command.TheVariants.{Migrate, Probs, Check}
 use Rattle.smp_words.specs.declared.command.Chance.TheVariants.{Seed}
-use Rattle.smp_words.specs.Words.{Given, DrawFiles, IsAsked, ◌>>=◌, when, in_range, number_from, all_distinct, is_empty, has_only, options_for, seed_from, have_own_names, most_quick_units, least_demo_units, most_demo_units, most_strata, stratum_from, draw_command, replay_command, quick_words, demo_words, design_arguments, draw_files, draw_by, draw, replay, migrate, by_name, command_given}
+use Rattle.smp_fractions.specs.Limits.{most_rows}
+use Rattle.smp_words.specs.Words.{Given, DrawFiles, IsAsked, ◌>>=◌, when, in_range, number_from, all_distinct, is_empty, has_only, options_for, seed_from, have_own_names, least_demo_units, most_demo_units, stratum_from, draw_command, replay_command, quick_words, demo_words, design_arguments, draw_files, draw_by, draw, replay, migrate, by_name, command_given}
 
 -- ---- what holds of something that may not be there
 
@@ -57,7 +58,7 @@ quick_asked (frame ∷ n ∷ []) = tt
 quick_asked (frame ∷ n ∷ tape ∷ []) = tt
 quick_asked (frame ∷ n ∷ tape ∷ out ∷ []) =
     when_some IsAsked (all_distinct (frame ∷ tape ∷ out ∷ [])) _ (λ apart.
-    some_after IsAsked (Between 1 most_quick_units) (number_from 1 most_quick_units n) _ (number_ranged 1 most_quick_units n) (λ size within. record { distinct = apart; sized = within }))
+    some_after IsAsked (Between 1 most_rows) (number_from 1 most_rows n) _ (number_ranged 1 most_rows n) (λ size within. record { distinct = apart; sized = within }))
 quick_asked (frame ∷ n ∷ tape ∷ out ∷ fifth ∷ more) = tt
 
 demo_asked : (words : List (List ℕ)) → IfSome (demo_words words) IsAsked
@@ -77,10 +78,10 @@ draw_asked files None None = tt
 draw_asked files (Some tape) (Some seed) = tt
 
 abbrev WithinStrata : Option ℕ → Type 0
-WithinStrata stratum = IfSome stratum (Between 1 most_strata)
+WithinStrata stratum = IfSome stratum (Between 1 most_rows)
 
 stratum_ranged : (number : Option (List ℕ)) → IfSome (stratum_from number) WithinStrata
-stratum_ranged (Some number) = some_map WithinStrata Some (number_from 1 most_strata number) (number_ranged 1 most_strata number)
+stratum_ranged (Some number) = some_map WithinStrata Some (number_from 1 most_rows number) (number_ranged 1 most_rows number)
 stratum_ranged None = tt
 
 replay_asked : (files : DrawFiles) (number : Option (List ℕ)) → IfSome (when (have_own_names files) (option_map (replay_command files) (stratum_from number))) IsAsked

@@ -3,6 +3,7 @@ use Rattle.std.specs.Prelude.{◌≡◌, ℕ, ◌^◌, ◌≤◌, List, [], ◌�
 use Rattle.std.specs.Prelude.{Option, Some, None, Result, Ok, Err, option_map, unwrap_or, if◌then◌else◌, IfSome, codes}
 use Rattle.std.specs.List.{list_any, list_all}
 use Rattle.std.specs.Str.{bytes_eq}
+use Rattle.smp_fractions.specs.Limits.{most_rows}
 use Rattle.clap.specs.Words.{Row, first_of, all_of}
 use Rattle.hex.specs.Hex.{decode_sized}
 use Rattle.hex.specs.declared.error.FromHexError.{FromHexError}
@@ -95,15 +96,11 @@ seed_from text = seed_of (decode_sized text 32)
 
 -- ---- the table of the commands
 
--- the most units that `quick` draws
-abbrev pub most_quick_units : ℕ
-most_quick_units = 200000
-
 -- FRAME N TAPE OUT, with N from 1 to 200,000
 abbrev pub quick_words : List (List ℕ) → Option Command
 quick_words (frame ∷ n ∷ tape ∷ out ∷ []) =
     when (all_distinct (frame ∷ tape ∷ out ∷ []))
-    (number_from 1 most_quick_units n >>= λ size. Some
+    (number_from 1 most_rows n >>= λ size. Some
     (Quick (record { frame = frame; n = size; tape = tape; out = out })))
 quick_words other = None
 
@@ -170,13 +167,9 @@ draw_by files (Some tape) (Some seed) = None
 abbrev pub draw : Given → Option Command
 draw g = draw_files g >>= λ files. draw_by files g.tape g.seed
 
--- the most strata, and so the greatest number of one
-abbrev pub most_strata : ℕ
-most_strata = 200000
-
 -- the number of a stratum, from 1 to 200,000, where one is given
 abbrev pub stratum_from : Option (List ℕ) → Option (Option ℕ)
-stratum_from (Some number) = option_map Some (number_from 1 most_strata number)
+stratum_from (Some number) = option_map Some (number_from 1 most_rows number)
 stratum_from None = Some None
 
 abbrev pub replay_command : DrawFiles → Option ℕ → Command
@@ -252,8 +245,8 @@ names_of (Demo a) = []
 
 -- the units that a command itself asks for, or its stratum
 abbrev pub IsSized : Command → Type 0
-IsSized (Quick arguments) = (1 ≤ arguments.n) × (arguments.n ≤ most_quick_units)
-IsSized (Replay arguments) = IfSome arguments.stratum (λ number. (1 ≤ number) × (number ≤ most_strata))
+IsSized (Quick arguments) = (1 ≤ arguments.n) × (arguments.n ≤ most_rows)
+IsSized (Replay arguments) = IfSome arguments.stratum (λ number. (1 ≤ number) × (number ≤ most_rows))
 IsSized (Demo arguments) = (least_demo_units ≤ arguments.n) × (arguments.n ≤ most_demo_units)
 IsSized other = Unit {0}
 

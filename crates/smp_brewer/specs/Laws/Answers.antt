@@ -5,6 +5,7 @@ use Rattle.std.proofs.Common.{set, arith, refl, ap, ◌∙◌, inl, inr, length-
 use Rattle.std.proofs.Math.Nat.{mul-le-mul_left, one-le-mul}
 use Rattle.std.proofs.lemmas.Bool.{cases_Bool, cases_eq, eq-eqb, ne_eqb}
 use Rattle.std.proofs.lemmas.List.{get_or-set_same, get_or-set_other}
+use Rattle.smp_fractions.specs.Limits.{wide_limit}
 use Rattle.smp_fractions.specs.Fractions.{Fraction, Same, whole, plus, times, over}
 use Rattle.smp_fractions.proofs.Fractions.{same_refl, same_sym, same_trans, plus_same, times-one, divided_same, divided-times, times-back}
 use Rattle.smp_split.specs.Parts.{moved}
@@ -67,7 +68,7 @@ taken_taken : (a b w : ℕ) → a + b ≡ w → Same (plus (times (whole a) (who
 taken_taken a b w h =
     same_trans (plus_same (times-one (whole a)) (times-one (whole b))) (same_trans (plus-whole a b) (rw h (same_sym (times-one (whole w)))))
 
-square_below : (x y n : ℕ) → x ≤ n → y ≤ n → n < 2 ^ 49 → x * y < 2 ^ 126
+square_below : (x y n : ℕ) → x ≤ n → y ≤ n → n < 2 ^ 49 → x * y < wide_limit
 square_below x y n a b c =
     let one : x * y ≤ x * (2 ^ 49) = mul-le-mul_left x (omega arith) in
     omega (arith, one)

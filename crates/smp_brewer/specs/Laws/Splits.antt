@@ -1,10 +1,11 @@
 -- The splits of Brewer's method by offers are lawful.
-use Rattle.std.proofs.Common.{◌≡◌, ◌≢◌, ℕ, zero, suc, ◌+◌, ◌-◌, ◌*◌, ◌^◌, ◌<◌, ◌≤◌, true, false}
+use Rattle.std.proofs.Common.{◌≡◌, ◌≢◌, ℕ, zero, suc, ◌+◌, ◌-◌, ◌*◌, ◌<◌, ◌≤◌, true, false}
 use Rattle.std.proofs.Common.{nat_eq, List, [], ◌∷◌, length, get_or, arith, rules, refl, ◌∙◌, inl, inr}
 use Rattle.std.specs.List.{sum, count_by}
 use Rattle.std.proofs.lemmas.Bool.{cases_Bool, cases_lt, cases_eq, eqb-true, eqb-false, eq-eqb, ne_eqb}
 use Rattle.std.proofs.lemmas.List.{get_or_past, get_or-map, length-map}
 use Rattle.std.proofs.lemmas.List.Sums.{count_by-le-length}
+use Rattle.smp_fractions.specs.Limits.{most_denominator}
 use Rattle.smp_fractions.specs.Fractions.{Fraction, Same, whole, times, over}
 use Rattle.smp_fractions.proofs.Fractions.{same_refl, same_sym, same_trans, plus_same, times_same, times-one, plus-zero}
 use Rattle.smp_fractions.proofs.Over.{over_zero, over_one, over_plus}
@@ -176,7 +177,7 @@ module _ (units : ℕ) (o : Offers) (ok : IsOffers units o) (going : 1 ≤ o.dra
         | inr l ↦ rw (get_or_past (shares_left o).numer k 0 (simp length-map l)) (omega arith)
       ]
 
-  pub spent_belongs : IsValues units (2 ^ 80) (shares_left o)
+  pub spent_belongs : IsValues units most_denominator (shares_left o)
   spent_belongs = record {
     count = simp length-map ok.count;
     positive = some_left units o ok going;
@@ -209,7 +210,7 @@ module _ (units : ℕ) (o : Offers) (ok : IsOffers units o) (going : 1 ≤ o.dra
 -- ---- the pivotal steps
 
 module _ (units : ℕ) where
-  spent_lens : Lens (steps_tree units) (IsValues units (2 ^ 80)) (brewing_tree units) spent as_unit
+  spent_lens : Lens (steps_tree units) (IsValues units most_denominator) (brewing_tree units) spent as_unit
   spent_lens = record {
     within = λ k h. h;
     going = λ i e. e;
@@ -219,10 +220,10 @@ module _ (units : ℕ) where
     value = λ i here k h. same_refl ((steps_tree units).value i k);
   }
 
-  steps_through : (s : Shares) → IsValues units (2 ^ 80) s → (steps_tree units).done s ≡ false
+  steps_through : (s : Shares) → IsValues units most_denominator s → (steps_tree units).done s ≡ false
       → LawfulSplit (brewing_tree units) (IsBrewing units) (spent s)
   steps_through s ok going =
-      split_through (steps_tree units) (IsValues units (2 ^ 80)) (brewing_tree units) spent as_unit spent_lens
+      split_through (steps_tree units) (IsValues units most_denominator) (brewing_tree units) spent as_unit spent_lens
       (IsBrewing units) (λ i m. m) s ok going
       ((steps_lawful units).split s ok going)
 

@@ -1,5 +1,6 @@
 -- What the code keeps of the end of a line.
-use Rattle.std.specs.Prelude.{◌≡◌, ℕ, ◌*◌, ◌/◌, ◌≤◌, ◌^◌}
+use Rattle.std.specs.Prelude.{◌≡◌, ℕ, ◌*◌, ◌/◌, ◌≤◌}
+use Rattle.smp_fractions.specs.Limits.{most_entry, most_denominator}
 use Rattle.smp_prob.specs.Shares.{Shares}
 use Rattle.smp_moves.specs.Moves.{Line}
 use Rattle.smp_moves.specs.Ends.{reach, advanced_numbers, common_factor}
@@ -14,7 +15,7 @@ pub record IsEndOf (first : ℕ) (s : Shares) (line : Line) (end : End) : Type 0
   pub can : CanAdvance s.numer line end.reach
   pub some_left : 1 ≤ end.reach.left
   pub some_size : 1 ≤ end.reach.size
-  pub left : end.reach.left ≤ 2 ^ 80
-  pub size : end.reach.size ≤ 2 ^ 44
+  pub left : end.reach.left ≤ most_denominator
+  pub size : end.reach.size ≤ most_entry
   pub some_full : 1 ≤ end.full
   pub some_common : 1 ≤ end.common

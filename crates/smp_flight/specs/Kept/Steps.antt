@@ -1,5 +1,6 @@
 -- One step of the flight phase as the code goes: along the circuit that a search finds.
-use Rattle.std.specs.Prelude.{ℕ, ◌^◌, nat_le, ◌&&◌, Bool, if◌then◌else◌, List, ℤ, length, take}
+use Rattle.std.specs.Prelude.{ℕ, nat_le, ◌&&◌, Bool, if◌then◌else◌, List, ℤ, length, take}
+use Rattle.smp_fractions.specs.Limits.{most_denominator}
 use Rattle.smp_kernel.specs.Searches.{Search, found, none, too_wide}
 use Rattle.smp_kernel.specs.Reduced.{primitive_part}
 use Rattle.smp_prob.specs.Shares.{Shares}
@@ -18,7 +19,9 @@ direction units order w = record {
 
 abbrev pub fits : ℕ → Shares → Line → Bool
 fits requested_den s line =
-    entries_fit line && (nat_le (end_of requested_den s line).den (2 ^ 80) && nat_le (end_of requested_den s (turned line)).den (2 ^ 80))
+    entries_fit line
+    && (nat_le (end_of requested_den s line).den most_denominator
+    && nat_le (end_of requested_den s (turned line)).den most_denominator)
 
 abbrev pub next_along : ℕ → Shares → Line → Next
 next_along requested_den s line = if fits requested_den s line then move (move_along s line) else wide

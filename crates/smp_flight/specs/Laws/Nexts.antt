@@ -1,9 +1,10 @@
 -- There is a step with the properties of a search and of a move.
-use Rattle.std.proofs.Common.{◌≡◌, ℕ, ◌<◌, ◌≤◌, ◌^◌, ◌&&◌, Bool, true, false, nat_le, List, ℤ, pos}
+use Rattle.std.proofs.Common.{◌≡◌, ℕ, ◌<◌, ◌≤◌, ◌&&◌, Bool, true, false, nat_le, List, ℤ, pos}
 use Rattle.std.proofs.Common.{◌*ℤ◌, take, length, get_or, arith, refl, sym, ◌∙◌, subst, inl, inr}
 use Rattle.std.proofs.lemmas.Bool.{cases_Bool, and_parts, and_from, leb-true, le-leb, true≢false}
 use Rattle.std.proofs.lemmas.Int.{ints}
 use Rattle.std.proofs.lemmas.List.{length-map, length-take-le}
+use Rattle.smp_fractions.specs.Limits.{most_entry, most_denominator}
 use Rattle.smp_kernel.specs.Vectors.{entry, IsZero, Within}
 use Rattle.smp_kernel.specs.Elimination.{cut}
 use Rattle.smp_kernel.specs.Searches.{Search, found, none, too_wide}
@@ -102,23 +103,24 @@ module _ (first : ℕ) (s : Shares) (line : Line) where
   minus_end = end_of first s (turned line)
 
   abbrev dens_fit : Bool
-  dens_fit = nat_le plus_end.den (2 ^ 80) && nat_le minus_end.den (2 ^ 80)
+  dens_fit = nat_le plus_end.den most_denominator && nat_le minus_end.den most_denominator
 
   pub is_fit : fits first s line ≡ true → Fits (move_along s line) plus_end minus_end
   is_fit h =
       let a = and_parts (entries_fit line) dens_fit h in
-      let b = and_parts (nat_le plus_end.den (2 ^ 80)) (nat_le minus_end.den (2 ^ 80)) a.1 in
+      let b = and_parts (nat_le plus_end.den most_denominator) (nat_le minus_end.den most_denominator) a.1 in
       record {
-        entries = within_from (2 ^ 44) line.entries a.0;
-        plus_den = leb-true plus_end.den (2 ^ 80) b.0;
-        minus_den = leb-true minus_end.den (2 ^ 80) b.1;
+        entries = within_from most_entry line.entries a.0;
+        plus_den = leb-true plus_end.den most_denominator b.0;
+        minus_den = leb-true minus_end.den most_denominator b.1;
       }
 
-  pub fit_is : Within (2 ^ 44) line.entries → plus_end.den ≤ 2 ^ 80 → minus_end.den ≤ 2 ^ 80 → fits first s line ≡ true
+  pub fit_is : Within most_entry line.entries → plus_end.den ≤ most_denominator → minus_end.den ≤ most_denominator
+      → fits first s line ≡ true
   fit_is w a b =
-      and_from (entries_fit line) dens_fit (within_to (2 ^ 44) line.entries w)
-      (and_from (nat_le plus_end.den (2 ^ 80)) (nat_le minus_end.den (2 ^ 80)) (le-leb plus_end.den (2 ^ 80) a)
-      (le-leb minus_end.den (2 ^ 80) b))
+      and_from (entries_fit line) dens_fit (within_to most_entry line.entries w)
+      (and_from (nat_le plus_end.den most_denominator) (nat_le minus_end.den most_denominator) (le-leb plus_end.den most_denominator a)
+      (le-leb minus_end.den most_denominator b))
 
   pub no_fit : fits first s line ≡ false → Fits (move_along s line) plus_end minus_end → ⊥
   no_fit h f = true≢false (sym (fit_is f.entries f.plus_den f.minus_den) ∙ h)

@@ -1,6 +1,7 @@
 -- One step of elimination.
-use Rattle.std.specs.Prelude.{◌≡◌, ◌≢◌, ℕ, ◌<◌, ◌^◌, List, ℤ, pos, neg_ℤ, Bool, false, slice_index_or}
+use Rattle.std.specs.Prelude.{◌≡◌, ◌≢◌, ℕ, ◌<◌, List, ℤ, pos, neg_ℤ, Bool, false, slice_index_or}
 use Rattle.std.specs.List.{All}
+use Rattle.smp_fractions.specs.Limits.{most_entry}
 use Rattle.smp_kernel.specs.Vectors.{entry, plus, times, Within}
 use Rattle.smp_kernel.specs.Reduced.{IsReduced, IsTooLong}
 use Rattle.smp_kernel.specs.Kept.Tables.{at_place}
@@ -20,7 +21,7 @@ cleared_row rows product pivot k = plus (times (product pivot) (rows k)) (times 
 pub record AreNextRows (n : ℕ) (rows : List (List ℤ)) (products : List ℤ) (pivot : ℕ) (next : List (List ℤ)) : Type 0 where
   pub same : at_place next pivot ≡ at_place rows pivot
   pub others : (k : ℕ) → k < n → k ≢ pivot → IsReduced (cleared_row (at_place rows) (entry products) pivot k) (at_place next k)
-  pub within : All (Within (2 ^ 44)) next
+  pub within : All (Within most_entry) next
 
 -- some row of the next table doesn't fit
 pub record HasTooLong (q : ℕ) (rows : List (List ℤ)) (products : List ℤ) (pivot : ℕ) : Type 0 where

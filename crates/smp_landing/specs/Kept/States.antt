@@ -1,5 +1,6 @@
 -- What the code keeps of a state.
 use Rattle.std.specs.Prelude.{◌≡◌, ℕ, ◌≤◌, length}
+use Rattle.smp_fractions.specs.Limits.{most_rows}
 use Rattle.smp_prob.specs.Shares.{Shares}
 use Rattle.smp_flight.specs.States.{AreFirst, Flight, Tracked}
 use Rattle.smp_landing.specs.Cube.{Balancing, flying, pairing}
@@ -15,7 +16,7 @@ balancing_of Pairing f s left = pairing s left
 -- fractional units.
 pub record IsReady (f : Tracked) (room : Shares) : Type 0 where
   pub fits : length room.numer ≡ length f.flight.shares.numer
-  pub few : length f.flight.shares.numer ≤ 200000
+  pub few : length f.flight.shares.numer ≤ most_rows
   pub first : AreFirst f.flight f.window
 
 abbrev pub IsKept : Phase → Tracked → Shares → Type 0

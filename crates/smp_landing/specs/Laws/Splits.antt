@@ -1,8 +1,9 @@
 -- The splits of the cube are lawful.
-use Rattle.std.proofs.Common.{◌≡◌, ◌≢◌, ℕ, ◌+◌, ◌<◌, ◌≤◌, ◌^◌, ℤ, Bool, true, false, List, [], ◌∷◌}
+use Rattle.std.proofs.Common.{◌≡◌, ◌≢◌, ℕ, ◌+◌, ◌<◌, ◌≤◌, ℤ, Bool, true, false, List, [], ◌∷◌}
 use Rattle.std.proofs.Common.{length, arith, refl, subst}
 use Rattle.std.proofs.lemmas.Bool.{eqb-false}
 use Rattle.std.proofs.lemmas.List.{length-map}
+use Rattle.smp_fractions.specs.Limits.{most_denominator}
 use Rattle.smp_fractions.specs.Fractions.{Same, whole, integer, plus, times}
 use Rattle.smp_fractions.proofs.Fractions.{same_refl, plus-zero}
 use Rattle.smp_kernel.proofs.SearchLaw.{none_is_few}
@@ -127,7 +128,7 @@ module _ (units : Units) (f : Flight) (left : ℕ) (ok : IsFlight units f) where
 -- ---- the pivotal steps
 
 module _ (units : Units) (left : ℕ) where
-  pub pairing_lens : Lens (steps_tree (length units.sizes)) (IsValues (length units.sizes) (2 ^ 80))
+  pub pairing_lens : Lens (steps_tree (length units.sizes)) (IsValues (length units.sizes) most_denominator)
       (cube_tree units) (λ t. pairing t left) as_unit
   pairing_lens = record {
     within = λ k h. h;
@@ -138,10 +139,10 @@ module _ (units : Units) (left : ℕ) where
     value = λ i here k h. same_refl (value_at i k);
   }
 
-  steps_through : (s : Shares) → IsValues (length units.sizes) (2 ^ 80) s → is_settled s ≡ false
+  steps_through : (s : Shares) → IsValues (length units.sizes) most_denominator s → is_settled s ≡ false
       → LawfulSplit (cube_tree units) (IsBalancing units) (pairing s left)
   steps_through s ok going =
-      split_through (steps_tree (length units.sizes)) (IsValues (length units.sizes) (2 ^ 80)) (cube_tree units)
+      split_through (steps_tree (length units.sizes)) (IsValues (length units.sizes) most_denominator) (cube_tree units)
       (λ t. pairing t left) as_unit pairing_lens (IsBalancing units) (λ i m. m) s ok going
       ((steps_lawful (length units.sizes)).split s ok going)
 
@@ -152,7 +153,7 @@ cube_split : (units : Units) (s : Balancing) → IsBalancing units s → is_sett
 cube_split units (flying f left) ok going = split_by units f left ok going (next units f) refl
 cube_split units (pairing s left) ok going = steps_through units left s ok going
 
-pub values_ok : (units : Units) (s : Balancing) → IsBalancing units s → IsValues (length units.sizes) (2 ^ 80) (values_in s)
+pub values_ok : (units : Units) (s : Balancing) → IsBalancing units s → IsValues (length units.sizes) most_denominator (values_in s)
 values_ok units (flying f left) ok = ok.values
 values_ok units (pairing s left) ok = ok
 

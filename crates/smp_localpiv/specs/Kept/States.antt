@@ -1,6 +1,7 @@
 -- What the code keeps of a state, and of a design.
 use Rattle.std.specs.Prelude.{◌≡◌, ℕ, ◌≤◌, ◌<◌, ◌^◌, Bool, if◌then◌else◌, List, ℤ, Option, Some, None, length}
 use Rattle.std.specs.Prelude.{map}
+use Rattle.smp_fractions.specs.Limits.{most_denominator}
 use Rattle.smp_near.specs.Nearest.{LivingPoints}
 use Rattle.smp_prob.specs.Shares.{Shares}
 use Rattle.smp_values.specs.Values.{AllFractional, IsValues, fractional}
@@ -34,7 +35,7 @@ pub record IsKept (points : LivingPoints) (values : Shares) (weights : List ℕ)
 -- in a design: each value is fractional, and each unit has a point
 pub record IsOpen (dimensions : ℕ) (coords : List (List ℤ)) (s : Shares) : Type 0 where
   pub few : (1 ≤ dimensions) × (dimensions ≤ 4)
-  pub values : IsValues (length s.numer) (2 ^ 80) s
+  pub values : IsValues (length s.numer) most_denominator s
   pub narrow : length s.numer < 2 ^ 64
   pub placed : length coords ≡ length s.numer
   pub open_at : AllFractional s

@@ -1,8 +1,9 @@
 -- The splits of a local pivotal selection are lawful.
-use Rattle.std.proofs.Common.{◌≡◌, ◌≢◌, ℕ, ◌^◌, ◌<◌, ◌≤◌, true, false, nat_lt, List, Option, Some, None, length}
+use Rattle.std.proofs.Common.{◌≡◌, ◌≢◌, ℕ, ◌<◌, ◌≤◌, true, false, nat_lt, List, Option, Some, None, length}
 use Rattle.std.proofs.Common.{get_or, refl, arith, inl, inr}
 use Rattle.std.proofs.lemmas.Bool.{cases_Bool, eqb-false, ltb-true}
 use Rattle.std.proofs.lemmas.List.Sums.{count_by-le-length}
+use Rattle.smp_fractions.specs.Limits.{most_denominator}
 use Rattle.smp_fractions.proofs.Fractions.{same_refl}
 use Rattle.smp_prob.specs.Shares.{Shares}
 use Rattle.smp_split.specs.Lenses.{as_unit}
@@ -25,10 +26,10 @@ module _ (units : ℕ) (s : Local) (ok : IsLocal units s) where
   IsSplit parts = LawfulParts (local_tree units) (IsLocal units) s parts
 
   -- the parts of a step on the values, after which no unit is chosen
-  stepped : (parts : List (Part Shares)) → LawfulParts (steps_tree units) (IsValues units (2 ^ 80)) s.state parts
+  stepped : (parts : List (Part Shares)) → LawfulParts (steps_tree units) (IsValues units most_denominator) s.state parts
       → IsSplit (moved (unchosen s) parts)
   stepped =
-      parts_through (steps_tree units) (IsValues units (2 ^ 80)) (local_tree units) (IsLocal units) (unchosen s) as_unit s.state s
+      parts_through (steps_tree units) (IsValues units most_denominator) (local_tree units) (IsLocal units) (unchosen s) as_unit s.state s
       (record {
         within = λ k h. h;
         part = λ p is. (let fewer : fractional_count p.state < fractional_count s.state = is.falls in
@@ -87,7 +88,7 @@ module _ (units : ℕ) (s : Local) (ok : IsLocal units s) where
 
   local_end : is_settled s.state ≡ true → LawfulEnd (local_tree units) s
   local_end done k h = over_settled s.state.den (get_or s.state.numer k 0) ok.values.positive
-      (each_settled units (2 ^ 80) s.state ok.values done k)
+      (each_settled units most_denominator s.state ok.values done k)
 
 pub local_lawful : (units : ℕ) → Lawful (local_tree units) (IsLocal units)
 local_lawful units = record {

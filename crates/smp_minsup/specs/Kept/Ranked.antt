@@ -1,11 +1,12 @@
 -- Units in two groups, the large ones and the small ones.
-use Rattle.std.specs.Prelude.{◌≡◌, ℕ, ◌+◌, ◌-◌, ◌<◌, ◌≤◌, ◌^◌, Bool, true, false, not, nat_eq}
+use Rattle.std.specs.Prelude.{◌≡◌, ℕ, ◌+◌, ◌-◌, ◌<◌, ◌≤◌, Bool, true, false, not, nat_eq}
 use Rattle.std.specs.Prelude.{if◌then◌else◌, List, length, map, slice_index, slice_index_or, slice_set}
 use Rattle.std.specs.List.{All, count_by, range_with_len}
 use Rattle.std.specs.BinaryHeap.{IsHeap}
 use Rattle.std.specs.Ordering.{nat_cmp, ordering_then}
 use Rattle.std.specs.declared.cmp.Ordering.{Ordering}
 use Rattle.std.specs.declared.cmp.Reverse.{Reverse}
+use Rattle.smp_fractions.specs.Limits.{wide_limit}
 use Rattle.smp_prob.specs.Shares.{Shares}
 use Rattle.smp_values.specs.Largest.{largest_of}
 use Rattle.smp_minsup.specs.Support.{is_larger, least, draws_of}
@@ -89,7 +90,7 @@ pub record IsCut (den : ℕ) (v : RankedUnits) : Type 0 where
   pub paired : length v.large ≡ length v.numer
   pub parted : IsParted v
   pub count : large_count v ≡ draws_of (shares_over den v)
-  pub low : v.lowered + den < 2 ^ 126
+  pub low : v.lowered + den < wide_limit
 
 -- the state that is kept: after its end, the large units have the value 1 and the small ones 0
 abbrev pub shares_kept : Bool → ℕ → RankedUnits → Shares
@@ -132,7 +133,7 @@ by_numer_reversed a b = by_numer b.0 a.0
 pub record IsKept (raw : List ℕ) (large : List Bool) (offset : ℕ) (smalls : List (ℕ × ℕ))
     (larges : List (Reverse (ℕ × ℕ))) (small_capacity large_capacity : ℕ) : Type 0 where
   pub paired : length large ≡ length raw
-  pub low : offset < 2 ^ 126
+  pub low : offset < wide_limit
   pub above : (unit : ℕ) → unit < length raw → is_in large unit ≡ true
       → offset ≤ slice_index raw unit
   pub small_queue : IsQueue (λ e. e.1) (small_entry raw) (λ unit. not (is_in large unit))

@@ -1,5 +1,5 @@
 -- The splits of the minimum support design are lawful, and keep a whole sum of the values.
-use Rattle.std.proofs.Common.{◌≡◌, ◌≢◌, ℕ, zero, suc, ◌+◌, ◌-◌, ◌*◌, ◌/◌, ◌^◌, ◌<◌, ◌≤◌, Bool}
+use Rattle.std.proofs.Common.{◌≡◌, ◌≢◌, ℕ, zero, suc, ◌+◌, ◌-◌, ◌*◌, ◌/◌, ◌<◌, ◌≤◌, Bool}
 use Rattle.std.proofs.Common.{true, false, cond, length, get_or, arith, refl, sym, ap, ◌∙◌, inl, inr}
 use Rattle.std.specs.List.{sum}
 use Rattle.std.proofs.Math.Nat.{mul-le-mul_right, mul-div_cancel}
@@ -7,6 +7,7 @@ use Rattle.std.proofs.lemmas.Bool.{cases_Bool, cases_lt, ltb-true, ltb-false, eq
 use Rattle.std.proofs.lemmas.List.{get_or_past}
 use Rattle.std.proofs.lemmas.List.FromFn.{length-map-range_with_len, get_or-map-range_with_len}
 use Rattle.smp_prob.specs.Shares.{Shares}
+use Rattle.smp_fractions.specs.Limits.{wide_limit}
 use Rattle.smp_fractions.specs.Fractions.{Same, whole, plus, times, over}
 use Rattle.smp_fractions.proofs.Fractions.{same_refl, same_sym, same_trans, plus_same, times_same, times-zero, times-one}
 use Rattle.smp_fractions.proofs.Over.{over_zero, over_one}
@@ -374,13 +375,13 @@ still_going s going = let some : fractional_count s ≢ 0 = eqb-false (fractiona
 
 pub support_lawful : (units : ℕ) → Lawful (support_tree units) (IsSupport units)
 support_lawful units =
-    values_lawful units (2 ^ 126 - 1) (λ _. Support) support_parts (λ fractional. fractional) (IsSupport units) (λ s ok. ok.values)
+    values_lawful units (wide_limit - 1) (λ _. Support) support_parts (λ fractional. fractional) (IsSupport units) (λ s ok. ok.values)
     (λ s ok going. support_split units s ok (still_going s going))
 
 -- where the values add up to n, each leaf selects n units
 pub leaf_count : (units n : ℕ) (s : Shares) → IsSupport units s → AddsUp (support_tree units) n s
     → LeavesSelect (support_tree units) n s
 leaf_count units n s ok adds =
-    values_count units (2 ^ 126 - 1) (λ _. Support) support_parts (λ fractional. fractional) (IsSupport units)
+    values_count units (wide_limit - 1) (λ _. Support) support_parts (λ fractional. fractional) (IsSupport units)
     (λ t here. here.values) (support_lawful units) n
     (λ t here going whole. support_keep units t here (still_going t going) n whole) s ok adds

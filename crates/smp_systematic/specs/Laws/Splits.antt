@@ -1,5 +1,5 @@
 -- The law of systematic selection: its split is lawful, and leaves a sum of the values that is one of the whole numbers around theirs.
-use Rattle.std.proofs.Common.{◌≡◌, ℕ, zero, suc, ◌+◌, ◌-◌, ◌*◌, ◌^◌, ◌<◌, ◌≤◌, Bool, true, false, cond}
+use Rattle.std.proofs.Common.{◌≡◌, ℕ, zero, suc, ◌+◌, ◌-◌, ◌*◌, ◌<◌, ◌≤◌, Bool, true, false, cond}
 use Rattle.std.proofs.Common.{nat_eq, List, length, get_or, arith, refl, sym, ap, ◌∙◌, inl, inr}
 use Rattle.std.specs.List.{sum}
 use Rattle.std.proofs.Math.Seq.{take-length}
@@ -7,6 +7,7 @@ use Rattle.std.proofs.lemmas.Bool.{cases_lt, eq-eqb}
 use Rattle.std.proofs.lemmas.List.{get_or_past}
 use Rattle.std.proofs.lemmas.List.FromFn.{get_or-map-range_with_len, length-map-range_with_len}
 use Rattle.std.proofs.lemmas.List.Sums.{sum_by_more}
+use Rattle.smp_fractions.specs.Limits.{wide_limit}
 use Rattle.smp_fractions.specs.Fractions.{Same, whole, times, over}
 use Rattle.smp_prob.specs.Shares.{Shares}
 use Rattle.smp_split.specs.Counts.{LeavesSelectAround}
@@ -50,7 +51,7 @@ sampled_done s draw =
     ∙ sums-none (length s.numer) _ (λ k _. weight_false (settled_either s.den (takes s draw k))) in
     eq-eqb (fractional_count (sampled s draw)) 0 none
 
-module _ (units : ℕ) (s : Shares) (ok : IsValues units (2 ^ 126 - 1) s) where
+module _ (units : ℕ) (s : Shares) (ok : IsValues units (wide_limit - 1) s) where
   -- ---- the split
 
   -- so many of the draws take what stands at a place
@@ -73,7 +74,7 @@ module _ (units : ℕ) (s : Shares) (ok : IsValues units (2 ^ 126 - 1) s) where
       ]
 
   sampled_part : is_settled s ≡ false → (draw : ℕ)
-      → IsPart (places_tree systematic_rule units) (IsValues units (2 ^ 126 - 1)) s
+      → IsPart (places_tree systematic_rule units) (IsValues units (wide_limit - 1)) s
       (record { weight = 1; state = sampled s draw })
   sampled_part going draw = record {
     heavy = omega arith;
@@ -104,11 +105,11 @@ module _ (units : ℕ) (s : Shares) (ok : IsValues units (2 ^ 126 - 1) s) where
       (each_equal (sampled s) (λ p. p.state.den ≡ s.den) s.den (λ _ _. refl))
       (rw weights (omega (arith, total)))
 
-  pub places_split : is_settled s ≡ false → LawfulSplit (places_tree systematic_rule units) (IsValues units (2 ^ 126 - 1)) s
+  pub places_split : is_settled s ≡ false → LawfulSplit (places_tree systematic_rule units) (IsValues units (wide_limit - 1)) s
   places_split going = record {
     some = rw (weight_sum-equal (sampled s) s.den) ok.positive;
     narrow = rw (weight_sum-equal (sampled s) s.den) (omega (arith, ok.narrow));
-    each = each_equal (sampled s) (IsPart (places_tree systematic_rule units) (IsValues units (2 ^ 126 - 1)) s)
+    each = each_equal (sampled s) (IsPart (places_tree systematic_rule units) (IsValues units (wide_limit - 1)) s)
         s.den (λ draw _. sampled_part going draw);
     even = sampled_even;
   }
@@ -151,12 +152,12 @@ abbrev one_step : ℕ → ℕ
 one_step fractional = cond (nat_eq fractional 0) 0 1
 
 pub systematic_lawful : (units : ℕ) → Lawful (systematic_tree units) (IsSystematic units)
-systematic_lawful units = in_order_lawful units (2 ^ 126 - 1) (λ _. System) (λ s. equal_parts s.den (sampled s))
+systematic_lawful units = in_order_lawful units (wide_limit - 1) (λ _. System) (λ s. equal_parts s.den (sampled s))
     one_step (places_split units)
 
 -- each leaf selects one of the whole numbers of units around the sum of the values
 pub leaf_around : (units : ℕ) (s : Ordered Shares) → IsSystematic units s → LeavesSelectAround (systematic_tree units) s
-leaf_around units = in_order_around units (2 ^ 126 - 1) (λ _. System) (λ t. equal_parts t.den (sampled t)) one_step
+leaf_around units = in_order_around units (wide_limit - 1) (λ _. System) (λ t. equal_parts t.den (sampled t)) one_step
     (places_split units) (λ total den t here going. places_near units t here going total den)
 
 pub systematic_law : LawfulRule systematic_rule

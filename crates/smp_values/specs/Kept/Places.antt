@@ -1,7 +1,8 @@
 -- What the code keeps of a row of values: its first two fractional units.
-use Rattle.std.specs.Prelude.{◌≡◌, ◌≢◌, ℕ, ◌+◌, ◌≤◌, ◌<◌, ◌^◌, min, false, nat_lt, if◌then◌else◌}
+use Rattle.std.specs.Prelude.{◌≡◌, ◌≢◌, ℕ, ◌+◌, ◌≤◌, ◌<◌, min, false, nat_lt, if◌then◌else◌}
 use Rattle.std.specs.Prelude.{List, length, slice_index, drop}
 use Rattle.std.specs.List.{position_or_len}
+use Rattle.smp_fractions.specs.Limits.{most_denominator}
 use Rattle.smp_prob.specs.Shares.{Shares}
 use Rattle.smp_split.specs.Trees.{Part}
 use Rattle.smp_split.specs.declared.kind.Kind.{Kind}
@@ -30,7 +31,7 @@ kind_at s second = if nat_lt second (length s.numer) then Pivot else Lone
 
 -- the values are in range, and these are the first two fractional units
 pub record IsPlaced (s : Shares) (first second : ℕ) : Type 0 where
-  pub values : IsValues (length s.numer) (2 ^ 80) s
+  pub values : IsValues (length s.numer) most_denominator s
   pub first_is : first ≡ first_of s
   pub second_is : second ≡ second_of s
 
@@ -38,7 +39,7 @@ pub record IsPlaced (s : Shares) (first second : ℕ) : Type 0 where
 pub record IsGoing (s : Shares) (first second : ℕ) : Type 0 where
   pub first_is : first ≡ first_of s
   pub second_is : second ≡ second_of s
-  pub narrow : s.den ≤ 2 ^ 80
+  pub narrow : s.den ≤ most_denominator
   pub ordered : first < second
   pub second_in : second ≤ length s.numer
   pub first_passes : (0 < slice_index s.numer first) × (slice_index s.numer first < s.den)
