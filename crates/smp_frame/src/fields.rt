@@ -31,7 +31,7 @@ pub(crate) fn text_in(
 {
     match column {
         Some(column) => text(alloc, row, column.place),
-        None => Text::from_str(alloc, ""),
+        None => Ok(Text::empty(alloc)),
     }
 }
 
