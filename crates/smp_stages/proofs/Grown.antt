@@ -24,6 +24,24 @@ module _ {X : Type 0} where
   old_or_new (z ∷ zs) y (suc i) x is =
       elim (old_or_new zs y i x is) [ inl old ↦ inl old | inr new ↦ inr (omega arith, new.1) ]
 
+-- what holds of each stage and its state holds so with one more of both
+module _ {Design State : Type 0} (P : Design → State → Type 0) where
+  abbrev EachOf : List (Stage Design) → List State → Type 0
+  EachOf stages states = (i : ℕ) (stage : Stage Design) (state : State) → slice_get stages i ≡ Some stage → slice_get states i ≡ Some state → P stage.design state
+
+  pub each_more : (stages : List (Stage Design)) (states : List State) (stage : Stage Design) (state : State) → length states ≡ length stages → EachOf stages states → P stage.design state → EachOf (stages ++ stage ∷ []) (states ++ state ∷ [])
+  each_more stages states stage state paired each holds i other stands at_stage at_state =
+      elim (old_or_new stages stage i other at_stage) [
+        | inl old ↦ elim (old_or_new states state i stands at_state) [
+          | inl old_state ↦ each i other stands old old_state
+          | inr new_state ↦ absurd (omega (arith, new_state.0, paired, slice_get_within stages i other old))
+        ]
+        | inr new ↦ elim (old_or_new states state i stands at_state) [
+          | inl old_state ↦ absurd (omega (arith, new.0, paired, slice_get_within states i stands old_state))
+          | inr new_state ↦ (let Q : Stage Design → Type 0 = λ s. P s.design stands in subst Q new.1 (subst (P stage.design) new_state.1 holds))
+        ]
+      ]
+
 module _ {Design State : Type 0} (tree_of : Design → Tree State) where
   -- a stage that selects within a unit is there
   some_within_of : (at : Option (Stage Design)) (place : Place) → within_of at ≡ Some place → (stage : Stage Design) × (at ≡ Some stage)
@@ -67,17 +85,7 @@ module _ {Design State : Type 0} (tree_of : Design → Tree State) where
     pub one_more_state : (states : List State) (state : State) → EachBelongs tree_of belongs stages states → belongs stage.design state → EachBelongs tree_of belongs (stages ++ stage ∷ []) (states ++ state ∷ [])
     one_more_state states state each member = record {
       paired = omega (arith, each.paired, length-append states (state ∷ []), length-append stages (stage ∷ []));
-      each = λ i other stands at_stage at_state.
-          elim (old_or_new stages stage i other at_stage) [
-            | inl old ↦ elim (old_or_new states state i stands at_state) [
-              | inl old_state ↦ each.each i other stands old old_state
-              | inr new_state ↦ absurd (omega (arith, new_state.0, each.paired, slice_get_within stages i other old))
-            ]
-            | inr new ↦ elim (old_or_new states state i stands at_state) [
-              | inl old_state ↦ absurd (omega (arith, new.0, each.paired, slice_get_within states i stands old_state))
-              | inr new_state ↦ (let P : Stage Design → Type 0 = λ s. belongs s.design stands in subst P new.1 (subst (belongs stage.design) new_state.1 member))
-            ]
-          ];
+      each = each_more belongs stages states stage state each.paired each.each member;
     }
 
   pub none_belongs : (belongs : Design → State → Type 0) → EachBelongs tree_of belongs [] []
