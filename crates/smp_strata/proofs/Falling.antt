@@ -1,13 +1,9 @@
 -- Numbers that fall: how many of them are above a number.
-use Rattle.std.proofs.Common.{◌≡◌, ℕ, zero, suc, ◌+◌, ◌-◌, ◌<◌, ◌≤◌, cond, nat_lt, nat_le, nat_eq, List, [], ◌∷◌, length, get_or, reverse, inl, inr, arith, refl}
+use Rattle.std.proofs.Common.{◌≡◌, ℕ, zero, suc, ◌+◌, ◌-◌, ◌<◌, ◌≤◌, cond, nat_lt, nat_le, nat_eq, List, [], ◌∷◌, length, get_or, inl, inr, arith, refl}
 use Rattle.std.specs.Prelude.{count_by}
-use Rattle.std.specs.List.Sorted.{IsSorted}
-use Rattle.std.specs.Ordering.{nat_cmp}
 use Rattle.std.proofs.lemmas.Bool.{cases_Bool, cases_eq, cases_lt, eq-eqb, ne_eqb, le-leb, lt-leb, ltb-true, ltb-false, lt-ltb, le-ltb}
-use Rattle.std.proofs.lemmas.List.{get_or_past, get_or-reverse, length-reverse}
-use Rattle.std.proofs.lemmas.List.Sorted.{IsNonDecreasingBy-from_sort}
 use Rattle.std.proofs.lemmas.List.Sums.{sum_by-cons}
-use Rattle.smp_strata.specs.Kept.Keys.{IsFalling}
+use Rattle.smp_prob.specs.Requested.{IsFalling}
 
 none_above : (v : ℕ) (zs : List ℕ) → ((k : ℕ) → get_or zs k 0 ≤ v) → count_by (nat_lt v) zs ≡ 0
 none_above v [] h = refl
@@ -37,15 +33,6 @@ above v zs f left some =
     elim (cases_Bool (nat_lt v (get_or zs (left - 1) 0))) [
       | inl e ↦ (let many = many_above v zs f (left - 1) (ltb-true v _ e) in rw (le-ltb (count_by (nat_lt v) zs) left (omega (arith, many, some))) (grind (arith, e)))
       | inr e ↦ (let few = few_above v zs f (left - 1) (ltb-false v _ e) in rw (lt-ltb (count_by (nat_lt v) zs) left (omega (arith, few, some))) (grind (arith, e)))
-    ]
-
-pub falling_reverse : (xs : List ℕ) → IsSorted nat_cmp xs → IsFalling (reverse xs)
-falling_reverse xs sorted i j l =
-    elim (cases_Bool (nat_lt j (length xs))) [
-      | inl e ↦
-          (let m : j < length xs = ltb-true j (length xs) e in
-          rw (get_or-reverse xs j 0 m, get_or-reverse xs i 0 (omega arith)) (IsNonDecreasingBy-from_sort (λ x. x) xs sorted (length xs - 1 - j) (length xs - 1 - i) 0 (omega arith) (omega arith)))
-      | inr e ↦ (let past : length xs ≤ j = ltb-false j (length xs) e in rw (get_or_past (reverse xs) j 0 (omega (arith, past, length-reverse xs))) (omega arith))
     ]
 
 -- ---- the largest numbers, where no two are the same

@@ -93,6 +93,17 @@ unit_within strata row s st is at =
     option_and_then_some (λ (f : first.FirstUnit). slice_get f.rows s.place) _ row is.there
     (λ f chosen place. slice_get_within st.units s.unit f (rw at at chosen))
 
+-- what is asked of a row, by the stratum and the first stage unit that are read where its seat says
+module _ (strata : List stratum.Stratum) (row : ℕ) (s : seat.Seat) (there : IsSeat strata row s) (st : stratum.Stratum) (read : st ≡ get_or strata s.stratum st) (f : first.FirstUnit) (unit_read : f ≡ get_or st.units s.unit f) where
+  in_strata : slice_get strata s.stratum ≡ Some st
+  in_strata = slice_get-get_or strata s.stratum st (seat_within strata row s there) ∙ ap Some (sym read)
+
+  in_units : slice_get st.units s.unit ≡ Some f
+  in_units = slice_get-get_or st.units s.unit f (unit_within strata row s st there in_strata) ∙ ap Some (sym unit_read)
+
+  pub read_fraction : seat_fraction strata s ≡ times (asked_fraction st.request s.unit) (stage_fraction f.second s.place)
+  read_fraction = seat_fraction_is strata s st f in_strata in_units
+
 module _ (design : Design) (units : List unit.Unit) (rows : All (AreRows (length units)) (clusters design.second units))
     (strata : List stratum.Stratum) (strata_are : strata ≡ map (stratum_of design units) (range_with_len 0 (length (stratum_names units)))) where
   abbrev all : List (List ℕ)

@@ -4,10 +4,11 @@ ghost use Rattle.std.specs.Prelude.{◌≡◌, ℕ, ◌+◌, ◌-◌, ◌*◌, �
 ghost use Rattle.std.specs.List.{range_with_len};
 ghost use Rattle.std.specs.List.Sorted.{IsPermutation};
 ghost use Rattle.smp_fractions.specs.Limits.{most_rows};
+ghost use Rattle.smp_prob.specs.Requested.{IsFalling};
 ghost use Rattle.smp_strata.specs.Allocations;
 ghost use Rattle.smp_strata.specs.Allocations.{IsAllocation, allocation, comes_before, left_over};
 ghost use Rattle.smp_strata.specs.Kept.Keys;
-ghost use Rattle.smp_strata.specs.Kept.Keys.{IsFalling, keys};
+ghost use Rattle.smp_strata.specs.Kept.Keys.{keys};
 
 use smp_frac::NoMemory;
 use std::alloc::Global;

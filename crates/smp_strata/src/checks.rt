@@ -1,6 +1,6 @@
 //! Why a frame doesn't serve a design: each kind of misfit is looked for in the whole frame.
 
-ghost use Rattle.std.specs.Prelude.{◌≡◌, ◌<◌, ◌≤◌, None, Some, All, IfOk, length, map, nat_eq, nat_lt, slice_index, slice_index_or, [], ℕ};
+ghost use Rattle.std.specs.Prelude.{◌≡◌, ◌<◌, ◌≤◌, None, Some, true, All, IfOk, length, map, nat_eq, nat_lt, slice_index, slice_index_or, [], ℕ};
 ghost use Rattle.std.specs.List.{range_with_len};
 ghost use Rattle.std.specs.Str.{bytes_eq};
 ghost use Rattle.smp_fractions.specs.Limits.{most_rows};
@@ -12,7 +12,7 @@ ghost use Rattle.smp_strata.specs.Clusters.{clusters as clusters_of, first_row};
 ghost use Rattle.smp_strata.specs.Draws.{IsAllocated};
 ghost use Rattle.smp_strata.specs.Misfits.{Reports, first_apart, first_found, misfit_of, probs_misfit, psu_short, psu_too_large, second_too_many, short, sizes_misfit, sum_of, unit_in_two, unwhole, when};
 ghost use Rattle.smp_strata.specs.declared.misfit.Misfit.TheVariants as misfits;
-ghost use Rattle.smp_strata.specs.Kept.Layouts.{AreRows, IsLaidOut, denominator_at, homes_of, probs_in, short_at, unwhole_at};
+ghost use Rattle.smp_strata.specs.Kept.Layouts.{AreRows, IsLaidOut, homes_of, prob_misfit, prob_misfit_at, probs_in, short_at};
 ghost use Rattle.smp_strata.specs.Kept.Sized.{AreSizes, HasSizes};
 
 use crate::Misfit;
@@ -217,63 +217,31 @@ fn psus_fit(
     }
 }
 
-// The probabilities of a stratum have a common denominator within the limit.
-fn stratum_has_denominator(alloc: Global, name: &Text, probs: &[Frac]) -> Result<(), Misfit>
-    requires { AreGiven probs.now }
-    ensures { Reports result (when (nat_lt largest_multiple (common_multiple probs.now))
-        (misfits.Denominator name.now)) }
+// The probabilities of a stratum have a common denominator within the limit, or, where they have one and a whole sum is asked
+// for, they add up to a whole number.
+fn stratum_passes(alloc: Global, name: &Text, probs: &[Frac], whole: bool) -> Result<(), Misfit>
+    requires given { AreGiven probs.now }
+    requires within { whole ≡ true → common_multiple probs.now ≤ largest_multiple }
+    ensures { Reports result (prob_misfit whole name.now probs.now) }
 {
     match expected_size(probs) {
-        Some(_) => Ok(()),
         None => Err(Misfit::Denominator {
             stratum: name.copy(alloc)?,
         }),
-    }
-}
-
-fn strata_have_denominators(
-    alloc: Global,
-    units: &[Unit],
-    clusters: &[Group],
-    strata: &Strata,
-) -> Result<(), Misfit>
-    requires frame { IsFrame units.now }
-    requires rows { All (AreRows (length units.now)) clusters.now }
-    requires members { length strata.now.members.items ≡ length strata.now.names.items }
-    requires few { All (λ group. length group ≤ most_rows) strata.now.members.items }
-    requires within { All (All (λ member. member < length clusters.now))
-        strata.now.members.items }
-    ensures { Reports result (first_found (denominator_at units.now clusters.now
-        strata.now.names.items strata.now.members.items)
-        (range_with_len 0 (length strata.now.names.items))) }
-{
-    for stratum in 0..strata.names.len() {
-        let probs = probs_at(alloc, units, clusters, strata.members[stratum].as_slice())?;
-        stratum_has_denominator(alloc, &strata.names[stratum], &probs)?;
-    }
-    Ok(())
-}
-
-// The probabilities of a stratum add up to a whole number. They have a common denominator within the limit.
-fn stratum_is_whole(alloc: Global, name: &Text, probs: &[Frac]) -> Result<(), Misfit>
-    requires given { AreGiven probs.now }
-    requires within { common_multiple probs.now ≤ largest_multiple }
-    ensures { Reports result (unwhole name.now (sum_of probs.now)) }
-{
-    match expected_size(probs) {
-        Some(sum) if sum.den() != 1 => Err(Misfit::NotWhole {
+        Some(sum) if whole && sum.den() != 1 => Err(Misfit::NotWhole {
             stratum: name.copy(alloc)?,
             sum,
         }),
-        _ => Ok(()),
+        Some(_) => Ok(()),
     }
 }
 
-fn strata_are_whole(
+fn strata_pass(
     alloc: Global,
     units: &[Unit],
     clusters: &[Group],
     strata: &Strata,
+    whole: bool,
 ) -> Result<(), Misfit>
     requires frame { IsFrame units.now }
     requires rows { All (AreRows (length units.now)) clusters.now }
@@ -281,15 +249,17 @@ fn strata_are_whole(
     requires few { All (λ group. length group ≤ most_rows) strata.now.members.items }
     requires within { All (All (λ member. member < length clusters.now))
         strata.now.members.items }
-    requires denominators { (stratum : ℕ) → stratum < length strata.now.names.items
-        → common_multiple (probs_in units.now clusters.now strata.now.members.items stratum) ≤ largest_multiple }
-    ensures { Reports result (first_found (unwhole_at units.now clusters.now
+    requires denominators { whole ≡ true
+        → (stratum : ℕ) → stratum < length strata.now.names.items
+        → common_multiple (probs_in units.now clusters.now strata.now.members.items stratum)
+        ≤ largest_multiple }
+    ensures { Reports result (first_found (prob_misfit_at whole units.now clusters.now
         strata.now.names.items strata.now.members.items)
         (range_with_len 0 (length strata.now.names.items))) }
 {
     for stratum in 0..strata.names.len() {
         let probs = probs_at(alloc, units, clusters, strata.members[stratum].as_slice())?;
-        stratum_is_whole(alloc, &strata.names[stratum], &probs)?;
+        stratum_passes(alloc, &strata.names[stratum], &probs, whole)?;
     }
     Ok(())
 }
@@ -305,9 +275,9 @@ fn probs_fit(
     requires layout { IsLaidOut design.now units.now clusters.now strata.now }
     ensures { Reports result (probs_misfit design.now units.now) }
 {
-    strata_have_denominators(alloc, units, clusters, strata)?;
+    strata_pass(alloc, units, clusters, strata, false)?;
     if design.method.draws_whole() {
-        strata_are_whole(alloc, units, clusters, strata)?;
+        strata_pass(alloc, units, clusters, strata, true)?;
     }
     Ok(())
 }

@@ -1,5 +1,5 @@
 -- Rows and their first stage units, and these and their strata, by numbers.
-use Rattle.std.specs.Prelude.{ℕ, ◌<◌, ◌≤◌, ◌≡◌, nat_lt, List, [], Option, Some, None, length, map, slice_index}
+use Rattle.std.specs.Prelude.{ℕ, ◌<◌, ◌≤◌, ◌≡◌, nat_lt, Bool, true, false, List, [], Option, Some, None, length, map, slice_index}
 use Rattle.std.specs.Prelude.{slice_index_or, All}
 use Rattle.std.specs.List.{position_or_len, range_with_len}
 use Rattle.std.specs.Str.{bytes_eq}
@@ -74,15 +74,15 @@ abbrev pub probs_in : List unit.Unit → List (List ℕ) → List (List ℕ) →
 probs_in units clustered members k =
     map (prob_of units clustered) (slice_index_or members k [])
 
--- too large a common denominator of these, or a sum of them that isn't whole
-abbrev pub denominator_at : List unit.Unit → List (List ℕ) → List (List ℕ) → List (List ℕ) → ℕ → Option Misfit
-denominator_at units clustered names members k =
-    when (nat_lt largest_multiple (common_multiple (probs_in units clustered members k)))
-    (Denominator (slice_index_or names k []))
+-- too large a common denominator of these; or, where a whole sum is asked for, another sum of them
+abbrev pub prob_misfit : Bool → List ℕ → List Frac → Option Misfit
+prob_misfit false name probs =
+    when (nat_lt largest_multiple (common_multiple probs)) (Denominator name)
+prob_misfit true name probs = unwhole name (sum_of probs)
 
-abbrev pub unwhole_at : List unit.Unit → List (List ℕ) → List (List ℕ) → List (List ℕ) → ℕ → Option Misfit
-unwhole_at units clustered names members k =
-    unwhole (slice_index_or names k []) (sum_of (probs_in units clustered members k))
+abbrev pub prob_misfit_at : Bool → List unit.Unit → List (List ℕ) → List (List ℕ) → List (List ℕ) → ℕ → Option Misfit
+prob_misfit_at whole units clustered names members k =
+    prob_misfit whole (slice_index_or names k []) (probs_in units clustered members k)
 
 -- fewer positive sizes than its number of units
 abbrev pub short_at : List ℕ → List ℕ → List (List ℕ) → List (List ℕ) → ℕ → Option Misfit

@@ -1,32 +1,27 @@
-use Rattle.std.proofs.Common.{◌≡◌, ◌<◌, ◌∙◌, ap, rules, arith, get_or, map, length, [], Err}
+use Rattle.std.proofs.Common.{◌≡◌, ◌∙◌, ap, rules, get_or, map, length, [], Err}
 use Rattle.std.specs.Prelude.{slice_index}
-use Rattle.std.specs.Vec.{vec_len}
 use Rattle.smp_strata.specs.Kept.Layouts.{short_at}
 use Rattle.smp_strata.proofs.Founds.{none_more, found_at}
-use Rattle.smp_strata.proofs.Looked.{group, name}
+use Rattle.smp_strata.proofs.Looked.{group, here, name}
 use Rattle.smp_strata.proofs.MisfitOrder.{passed}
 use Rattle.smp_strata.proofs.checks.strata_fit.Goals as goal
 
 pub returns-in_err-stratum_fits : goal.returns-in_err-stratum_fits
 returns-in_err-stratum_fits c =
-    let long : length c.args.strata.now.names.items ≡ vec_len c.args.strata.now.names = search rules in
-    let here : c.loop-stratum.stratum < length c.args.strata.now.names.items =
-    omega (arith, long, c.loop-stratum-test.true, c.len-stratum-end.ensures) in
+    let there = here c.args.strata.now c.loop-stratum.stratum _ c.loop-stratum-test.true c.len-stratum-end.ensures in
     let are : c.deref.result.now ≡ map (slice_index c.args.cluster_sizes.now) (get_or c.args.strata.now.members.items c.loop-stratum.stratum []) =
     c.deref.ensures.value ∙ c.in_ok-first_sizes.ensures ∙ ap (map (slice_index c.args.cluster_sizes.now))
-    (c.as_slice.ensures ∙ group c.args.strata.now c.requires.members c.loop-stratum.stratum here c.index.result.now c.index.ensures) in
-    let said = rw ((name c.args.strata.now c.requires.members c.loop-stratum.stratum here c.index-in-loop-stratum.result.now c.index-in-loop-stratum.ensures), are) at c.in_err-stratum_fits.ensures in
+    (c.as_slice.ensures ∙ group c.args.strata.now c.requires.members c.loop-stratum.stratum there c.index.result.now c.index.ensures) in
+    let said = rw ((name c.args.strata.now c.requires.members c.loop-stratum.stratum there c.index-in-loop-stratum.result.now c.index-in-loop-stratum.ensures), are) at c.in_err-stratum_fits.ensures in
     let same : c.from_residual-in_err-stratum_fits.result ≡ Err c.in_err-stratum_fits.field-0.0 = search rules in
     rw same (passed (Unit {0}) (Unit {0}) c.in_err-stratum_fits.field-0.0 _ _ said (λ m at.
-    found_at (short_at c.args.cluster_sizes.now c.args.sizes.now c.args.strata.now.names.items c.args.strata.now.members.items) (length c.args.strata.now.names.items) c.loop-stratum.stratum m c.loop-stratum.invariant at here))
+    found_at (short_at c.args.cluster_sizes.now c.args.sizes.now c.args.strata.now.names.items c.args.strata.now.members.items) (length c.args.strata.now.names.items) c.loop-stratum.stratum m c.loop-stratum.invariant at there))
 
 pub loop-stratum-preserved : goal.loop-stratum-preserved
 loop-stratum-preserved c =
-    let long : length c.args.strata.now.names.items ≡ vec_len c.args.strata.now.names = search rules in
-    let here : c.loop-stratum.stratum < length c.args.strata.now.names.items =
-    omega (arith, long, c.loop-stratum-test.true, c.len-stratum-end.ensures) in
+    let there = here c.args.strata.now c.loop-stratum.stratum _ c.loop-stratum-test.true c.len-stratum-end.ensures in
     let are : c.deref.result.now ≡ map (slice_index c.args.cluster_sizes.now) (get_or c.args.strata.now.members.items c.loop-stratum.stratum []) =
     c.deref.ensures.value ∙ c.in_ok-first_sizes.ensures ∙ ap (map (slice_index c.args.cluster_sizes.now))
-    (c.as_slice.ensures ∙ group c.args.strata.now c.requires.members c.loop-stratum.stratum here c.index.result.now c.index.ensures) in
+    (c.as_slice.ensures ∙ group c.args.strata.now c.requires.members c.loop-stratum.stratum there c.index.result.now c.index.ensures) in
     none_more (short_at c.args.cluster_sizes.now c.args.sizes.now c.args.strata.now.names.items c.args.strata.now.members.items) c.loop-stratum.stratum c.loop-stratum.invariant
-    (rw ((name c.args.strata.now c.requires.members c.loop-stratum.stratum here c.index-in-loop-stratum.result.now c.index-in-loop-stratum.ensures), are) at c.in_ok-stratum_fits.ensures)
+    (rw ((name c.args.strata.now c.requires.members c.loop-stratum.stratum there c.index-in-loop-stratum.result.now c.index-in-loop-stratum.ensures), are) at c.in_ok-stratum_fits.ensures)
