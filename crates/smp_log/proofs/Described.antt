@@ -3,7 +3,9 @@ use Rattle.std.proofs.Common.{◌≡◌, ℕ, ◌+◌, ◌<◌, ◌≤◌, true,
 use Rattle.std.proofs.lemmas.List.{append-nil, take_at, length-take-le}
 use Rattle.smp_lines.specs.Cuts.{cut_at}
 use Rattle.smp_log.specs.Lines.{whole_lines, lines_text, AreLines}
-use Rattle.smp_log.specs.Genuine.{IsKept, DiffersAt}
+use Rattle.smp_split.specs.Trees.{Tree}
+use Rattle.smp_split.specs.Paths.{Entry, Leads}
+use Rattle.smp_log.specs.Genuine.{IsKept, DiffersAt, IsLogOf}
 use Rattle.smp_log.specs.Reading.{Script, follows}
 use Rattle.smp_log.proofs.Texts.{whole_lines-text}
 use Rattle.smp_log.proofs.Scripts.{Accepts, Begins, Ends, follows-le, follows-none, accepted_follows, most, begins}
@@ -18,12 +20,32 @@ pub record IsAccepted {Place State : Type 0} (script : Script Place) (start : Pl
   pub whole : log ≡ lines_text (whole_lines log)
   pub accepted : Accepts script start (whole_lines log) (closed leaf)
 
+-- so it is where they are the lines of the log
+pub text_accepted : {Place State : Type 0} (script : Script Place) (start : Place) (closed : State → Place) (log : List ℕ) (all : List (List ℕ)) (leaf : State)
+    → log ≡ lines_text all → AreLines all → Accepts script start all (closed leaf) → IsAccepted script start closed log leaf
+text_accepted script start closed log all leaf text are accepted =
+    let lines : whole_lines log ≡ all = ap whole_lines text ∙ whole_text all are in
+    record {
+      whole = text ∙ ap lines_text (sym lines);
+      accepted = subst (λ ls. Accepts script start ls (closed leaf)) (sym lines) accepted;
+    }
+
 -- lines that the script accepts are those of a genuine log
 pub record IsLog {Place State : Type 0} (closed : State → Place) (Genuine : List ℕ → State → Type 0) (lines : List (List ℕ)) (to : Place) : Type 0 where
   pub leaf : State
   pub genuine : Genuine (lines_text lines) leaf
   pub end : to ≡ closed leaf
   pub are : AreLines lines
+
+-- those that are a text of a full path, where they lead to its leaf
+pub path_log : {Place State : Type 0} (closed : State → Place) (IsText : List Entry → List ℕ → Type 0) (tree : Tree State) (from : State) (lines all : List (List ℕ)) (to : Place) (path : List Entry) (leaf : State)
+    → lines ≡ all → AreLines all → IsText path (lines_text all) → Leads tree from path leaf → tree.done leaf ≡ true → to ≡ closed leaf → IsLog closed (IsLogOf IsText tree from) lines to
+path_log closed IsText tree from lines all to path leaf is are text leads done end = record {
+  leaf = leaf;
+  genuine = record { path = path; full = record { leads = leads; done = done }; text = subst (IsText path) (ap lines_text (sym is)) text };
+  end = end;
+  are = subst AreLines (sym is) are;
+}
 
 -- The script accepts the lines of the genuine logs alone, and from each place that it comes to some lines lead to an end.
 pub record Describes {Place State : Type 0} (script : Script Place) (start : Place) (closed : State → Place) (Genuine : List ℕ → State → Type 0) : Type 1 where

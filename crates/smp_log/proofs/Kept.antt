@@ -1,16 +1,15 @@
 -- What a log's script follows of the whole lines of some bytes is what is kept of them, and it accepts the genuine logs alone.
-use Rattle.std.proofs.Common.{◌≡◌, ℕ, ◌+◌, List, [], ◌∷◌, ◌++◌, length, map, refl, sym, ap, ◌∙◌, subst, arith}
+use Rattle.std.proofs.Common.{◌≡◌, ℕ, ◌+◌, List, [], ◌∷◌, ◌++◌, length, map, refl, sym, ap, ◌∙◌, arith}
 use Rattle.smp_split.specs.Trees.{Tree, Lawful}
 use Rattle.smp_split.specs.Paths.{Entry}
-use Rattle.smp_log.specs.Lines.{whole_lines, lines_text, AreLines}
+use Rattle.smp_log.specs.Lines.{lines_text, AreLines}
 use Rattle.smp_log.specs.Logs.{steps_text, end_text, log_text}
-use Rattle.smp_log.specs.Genuine.{IsGenuine}
+use Rattle.smp_log.specs.Genuine.{IsGenuine, IsLogText}
 use Rattle.smp_log.specs.Reading.{step_line, end_line, Script, LogPlace, before, closed, log_script}
 use Rattle.smp_log.proofs.Texts.{AreLines-append, lines_text-append}
 use Rattle.smp_log.proofs.StepLines.{end_line_lacks}
 use Rattle.smp_log.proofs.LineTexts.{steps_lines, end_text_line, step_lines_are}
-use Rattle.smp_log.proofs.Scripts.{Accepts}
-use Rattle.smp_log.proofs.Described.{Describes, whole_text}
+use Rattle.smp_log.proofs.Described.{Describes, path_log, text_accepted}
 use Rattle.smp_log.proofs.Logs.{lines_after, path_accepted, accepted_path, head_accepted, accepted_head, Good, good_before, keeps, each_ends}
 
 pub lines_after_are : (n : ℕ) (path : List Entry) → AreLines (lines_after end_line n path)
@@ -37,50 +36,17 @@ module _ {State : Type 0} (tree : Tree State) (belongs : State → Type 0) (lawf
   pub log_lines_are : (path : List Entry) → AreLines (hs ++ lines_after end_line 0 path)
   log_lines_are path = AreLines-append hs (lines_after end_line 0 path) hs_are (lines_after_are 0 path)
 
-  -- a genuine log is the text of its whole lines, and the script accepts these
-  pub record IsAccepted (log : List ℕ) (leaf : State) : Type 0 where
-    pub whole : log ≡ lines_text (whole_lines log)
-    pub accepted : Accepts log_script_here (before from hs) (whole_lines log) (closed leaf)
-
-  pub genuine_accepted : (log : List ℕ) (leaf : State) → IsGenuine tree from head log leaf → IsAccepted log leaf
-  genuine_accepted log leaf genuine =
-      let text : log ≡ lines_text (hs ++ lines_after end_line 0 genuine.path) = genuine.text ∙ log_lines genuine.path in
-      let lines : whole_lines log ≡ hs ++ lines_after end_line 0 genuine.path = ap whole_lines text ∙ whole_text (hs ++ lines_after end_line 0 genuine.path) (log_lines_are genuine.path) in
-      record {
-        whole = text ∙ ap lines_text (sym lines);
-        accepted = subst (λ ls. Accepts log_script_here (before from hs) ls (closed leaf)) (sym lines)
-            (head_accepted tree belongs lawful from member end_line hs (lines_after end_line 0 genuine.path) (closed leaf)
-            (path_accepted tree belongs lawful from member end_line genuine.path 0 from leaf member genuine.full.leads genuine.full.done));
-      }
-
-  -- lines that the script accepts are those of a genuine log
-  pub record IsLog (lines : List (List ℕ)) (to : LogPlace State) : Type 0 where
-    pub leaf : State
-    pub genuine : IsGenuine tree from head (lines_text lines) leaf
-    pub end : to ≡ closed leaf
-    pub are : AreLines lines
-
-  pub accepted_genuine : (lines : List (List ℕ)) (to : LogPlace State) → Accepts log_script_here (before from hs) lines to → IsLog lines to
-  accepted_genuine lines to h =
-      let split = accepted_head tree belongs lawful from member end_line hs lines to h in
-      let on = accepted_path tree belongs lawful from member end_line split.rest 0 from to member split.accepted in
-      let lines_are : lines ≡ hs ++ lines_after end_line 0 on.path = split.lines_are ∙ ap (λ ls. hs ++ ls) on.lines_are in
-      record {
-        leaf = on.leaf;
-        genuine = record {
-          path = on.path;
-          full = record { leads = on.leads; done = on.done };
-          text = ap lines_text lines_are ∙ sym (log_lines on.path);
-        };
-        end = on.end;
-        are = subst AreLines (sym lines_are) (log_lines_are on.path);
-      }
-
   -- so the script describes the genuine logs
   pub described : Describes log_script_here (before from hs) closed (IsGenuine tree from head)
   described = record {
-    complete = λ log leaf is. (let a = genuine_accepted log leaf is in record { whole = a.whole; accepted = a.accepted });
-    sound = λ lines to h. (let l = accepted_genuine lines to h in record { leaf = l.leaf; genuine = l.genuine; end = l.end; are = l.are });
+    complete = λ log leaf genuine. text_accepted log_script_here (before from hs) closed log (hs ++ lines_after end_line 0 genuine.path) leaf (genuine.text ∙ log_lines genuine.path) (log_lines_are genuine.path)
+        (head_accepted tree belongs lawful from member end_line hs (lines_after end_line 0 genuine.path) (closed leaf)
+        (path_accepted tree belongs lawful from member end_line genuine.path 0 from leaf member genuine.full.leads genuine.full.done));
+    sound = λ lines to h.
+        (let split = accepted_head tree belongs lawful from member end_line hs lines to h in
+        let on = accepted_path tree belongs lawful from member end_line split.rest 0 from to member split.accepted in
+        path_log closed (IsLogText head) tree from lines (hs ++ lines_after end_line 0 on.path) to on.path on.leaf (split.lines_are ∙ ap (λ ls. hs ++ ls) on.lines_are) (log_lines_are on.path)
+        (sym (log_lines on.path)) on.leads on.done on.end);
     Good = Good tree belongs lawful from member end_line;
     starts = good_before tree belongs lawful from member end_line hs;
     keeps = keeps tree belongs lawful from member end_line;

@@ -1,23 +1,22 @@
 -- The script of logs of version 2 describes the genuine ones.
-use Rattle.std.proofs.Common.{◌≡◌, ℕ, zero, suc, ◌+◌, List, [], ◌∷◌, ◌++◌, length, map, drop, refl, sym, ap, ◌∙◌, subst, arith, append_assoc, codes, inl}
+use Rattle.std.proofs.Common.{◌≡◌, ℕ, zero, suc, ◌+◌, List, [], ◌∷◌, ◌++◌, length, map, drop, refl, sym, ap, ◌∙◌, arith, append_assoc, codes, inl}
 use Rattle.std.specs.List.{flat_map, range_with_len}
 use Rattle.std.specs.Fmt.{decimal}
 use Rattle.std.proofs.lemmas.List.{append-nil}
 use Rattle.smp_split.specs.Trees.{Tree, Lawful}
 use Rattle.smp_split.specs.Paths.{Entry}
-use Rattle.smp_log.specs.Lines.{whole_lines, lines_text, Lacks, AreLines}
+use Rattle.smp_log.specs.Lines.{lines_text, Lacks, AreLines}
 use Rattle.smp_log.specs.Heads.{IsHead}
 use Rattle.smp_log.specs.Logs.{steps_text, end_text}
 use Rattle.smp_log.specs.Reading.{Script, step_line}
 use Rattle.smp_split.specs.Sectioning.{Sectioning, IsSectioned}
-use Rattle.smp_log.specs.SectionLogs.{placed, steps_in, steps_before, tape_place, stratum_text, done_text, lone_text, section_text, sectioned_head, sections_text, IsSectionedGenuine}
+use Rattle.smp_log.specs.SectionLogs.{placed, steps_in, steps_before, tape_place, stratum_text, done_text, lone_text, section_text, sectioned_head, sections_text, IsSectionedGenuine, IsSectionedText}
 use Rattle.smp_log.specs.SectionReading.{stratum_line, done_line, SectionPlace, closed, before, section_script}
 use Rattle.smp_log.proofs.Texts.{cons-Lacks, Lacks-append, AreLines-append, lines_text-append}
 use Rattle.smp_log.proofs.Numbers.{decimal_lacks}
 use Rattle.smp_log.proofs.StepLines.{end_line_lacks}
 use Rattle.smp_log.proofs.LineTexts.{steps_lines, end_text_line, step_lines_are}
-use Rattle.smp_log.proofs.Scripts.{Accepts}
-use Rattle.smp_log.proofs.Described.{Describes, IsAccepted, IsLog, whole_text}
+use Rattle.smp_log.proofs.Described.{Describes, path_log, text_accepted}
 use Rattle.smp_log.proofs.SectionLines.{section_lines, open_lines, open_accepted, accepted_opening, Good, good_before, keeps, each_ends, head_accepted, accepted_head}
 
 -- ---- the texts of sections by their lines
@@ -103,37 +102,16 @@ module _ {State : Type 0} (tree : Tree State) (belongs : State → Type 0) (lawf
   pub log_lines_are : (path : List Entry) → AreLines (hs ++ lines_of path)
   log_lines_are path = AreLines-append hs (lines_of path) (sectioned_head_lines_are is_head) (open_lines_are sections.count 0 0 0 (placed tree sections from path))
 
-  genuine_accepted : (log : List ℕ) (leaf : State) → IsSectionedGenuine tree sections from head log leaf → IsAccepted script (before from hs) closed log leaf
-  genuine_accepted log leaf genuine =
-      let text : log ≡ lines_text (hs ++ lines_of genuine.path) = genuine.text ∙ log_lines genuine.path in
-      let lines : whole_lines log ≡ hs ++ lines_of genuine.path = ap whole_lines text ∙ whole_text (hs ++ lines_of genuine.path) (log_lines_are genuine.path) in
-      record {
-        whole = text ∙ ap lines_text (sym lines);
-        accepted = subst (λ ls. Accepts script (before from hs) ls (closed leaf)) (sym lines)
-            (head_accepted tree belongs lawful sections sectioned from member hs (lines_of genuine.path) (closed leaf)
-            (open_accepted tree belongs lawful sections sectioned from member sections.count 0 0 0 genuine.path from leaf (omega arith) (omega arith) member genuine.full.leads genuine.full.done));
-      }
-
-  accepted_genuine : (lines : List (List ℕ)) (to : SectionPlace State) → Accepts script (before from hs) lines to → IsLog closed (IsSectionedGenuine tree sections from head) lines to
-  accepted_genuine lines to h =
-      let split = accepted_head tree belongs lawful sections sectioned from member hs lines to h in
-      let on = accepted_opening tree belongs lawful sections sectioned from member split.rest sections.count 0 0 0 from to (omega arith) (omega arith) member split.accepted in
-      let lines_are : lines ≡ hs ++ lines_of on.path = split.lines_are ∙ ap (λ ls. hs ++ ls) on.lines_are in
-      record {
-        leaf = on.leaf;
-        genuine = record {
-          path = on.path;
-          full = record { leads = on.leads; done = on.done };
-          text = ap lines_text lines_are ∙ sym (log_lines on.path);
-        };
-        end = on.end;
-        are = subst AreLines (sym lines_are) (log_lines_are on.path);
-      }
-
   pub described : Describes script (before from hs) closed (IsSectionedGenuine tree sections from head)
   described = record {
-    complete = genuine_accepted;
-    sound = accepted_genuine;
+    complete = λ log leaf genuine. text_accepted script (before from hs) closed log (hs ++ lines_of genuine.path) leaf (genuine.text ∙ log_lines genuine.path) (log_lines_are genuine.path)
+        (head_accepted tree belongs lawful sections sectioned from member hs (lines_of genuine.path) (closed leaf)
+        (open_accepted tree belongs lawful sections sectioned from member sections.count 0 0 0 genuine.path from leaf (omega arith) (omega arith) member genuine.full.leads genuine.full.done));
+    sound = λ lines to h.
+        (let split = accepted_head tree belongs lawful sections sectioned from member hs lines to h in
+        let on = accepted_opening tree belongs lawful sections sectioned from member split.rest sections.count 0 0 0 from to (omega arith) (omega arith) member split.accepted in
+        path_log closed (IsSectionedText tree sections from head) tree from lines (hs ++ lines_of on.path) to on.path on.leaf (split.lines_are ∙ ap (λ ls. hs ++ ls) on.lines_are) (log_lines_are on.path)
+        (sym (log_lines on.path)) on.leads on.done on.end);
     Good = Good tree belongs lawful sections sectioned from member;
     starts = good_before tree belongs lawful sections sectioned from member hs;
     keeps = keeps tree belongs lawful sections sectioned from member;

@@ -19,7 +19,7 @@ pub mod Answered
 pub mod StepCounts
 pub mod OnePath
 pub mod Telling
-pub mod NamedLines
+pub mod Replied
 pub mod NumberedLines
 pub mod OpeningLines
 pub mod SectionLines

@@ -9,3 +9,4 @@ pub mod Told
 pub mod SectionLogs
 pub mod SectionReading
 pub mod LoneSections
+pub mod Replayed

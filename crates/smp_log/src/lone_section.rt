@@ -1,17 +1,10 @@
-ghost use Rattle.std.specs.Prelude.{◌≡◌, ◌+◌, ◌-◌, ◌<◌, ◌^◌, ℕ, true, Err, length, option_map};
-ghost use Rattle.std.specs.Prelude.{IfErr, IfOk, OnErr, OnOk};
-ghost use Rattle.smp_split.specs.Runs.{and_then};
-ghost use Rattle.smp_log.specs.Answers.{AnswersAs, answer_at};
+ghost use Rattle.std.specs.Prelude.{◌≡◌, ◌+◌, ◌<◌, ◌^◌, length, option_map};
+ghost use Rattle.std.specs.Prelude.{IfErr, IfOk};
 ghost use Rattle.smp_log.specs.Lines.{whole_lines};
 ghost use Rattle.smp_log.specs.LoneSections as LoneSections;
-ghost use Rattle.smp_log.specs.LoneSections.{HasSection, HasToldSection, NoneOpens};
-ghost use Rattle.smp_log.specs.LoneSections.{IsOpened, SectionDiffers};
-ghost use Rattle.smp_log.specs.LoneSections.{opening_words, section_in_first_lines};
-ghost use Rattle.smp_log.specs.LoneSections.{section_reading, section_told};
-ghost use Rattle.smp_log.specs.Told.{IsToldAlong, IsToldPart};
+ghost use Rattle.smp_log.specs.LoneSections.{IsOpened, NoneOpens, opening_words};
+ghost use Rattle.smp_log.specs.Replayed.{Replays, ReplaysUntold, section_form};
 ghost use Rattle.smp_log.specs.Reading as Reading;
-ghost use Rattle.smp_log.specs.declared.fault.LogFault.TheVariants as LogFault;
-ghost use Rattle.smp_log.specs.declared.fault.ReplayFault.TheVariants as ReplayFault;
 
 use crate::lines::{after_numbers, behind, step_first, written};
 use crate::replaying::after_front;
@@ -36,16 +29,9 @@ pub fn replay_section<S: Sections>(
 ) -> Result<(), LogFault>
     requires state { S.belongs run.now state.old }
     requires one { (S.sectioning run.now).count ≡ 1 }
-    ensures section { OnOk result
-        (HasSection (S.tree run.now) state.old head.now number log.now state.new) }
-    ensures differs { (line : ℕ) → result ≡ Err (LogFault.Differs line)
-        → SectionDiffers (S.tree run.now) state.old head.now number log.now line }
-    ensures done { OnOk result ((S.tree run.now).done state.new ≡ true) }
-    ensures belongs { S.belongs run.now state.new }
-
-    // The same as a function of the bytes.
-    ensures reading { answer_at result state.new
-        ≡ section_reading (S.tree run.now) state.old head.now number log.now }
+    ensures { ReplaysUntold (S.tree run.now) (S.belongs run.now)
+        (section_form (S.tree run.now) state.old head.now number log.now)
+        state.new result }
 {
     match replay_section_into(run, state, head, number, log, &mut NoTrace) {
         Ok(()) => Ok(()),
@@ -68,28 +54,9 @@ pub fn replay_section_into<S: Sections, T: Trace>(
 ) -> Result<(), ReplayFault>
     requires state { S.belongs run.now state.old }
     requires one { (S.sectioning run.now).count ≡ 1 }
-    ensures section { OnOk result (HasToldSection (S.tree run.now) state.old head.now number log.now
-        (section_told (S.tree run.now) state.old number log.now) state.new) }
-    ensures told { OnOk result (T.lines trace.new
-        ≡ and_then (T.lines trace.old) (section_told (S.tree run.now) state.old number log.now)) }
-    ensures differs { (line : ℕ) → result ≡ Err (ReplayFault.Differs line)
-        → SectionDiffers (S.tree run.now) state.old head.now number log.now line }
-    // Before an error the first steps that the section tells were told, up to the state, and no more.
-    ensures stopped { OnErr result (IsToldPart (S.tree run.now)
-        (section_told (S.tree run.now) state.old number log.now)
-        state.old state.new (T.lines trace.old) (T.lines trace.new)) }
-    // Where it differs, they are those of the lines before the one that is named.
-    ensures kept { (line : ℕ) → result ≡ Err (ReplayFault.Differs line)
-        → IsToldAlong (S.tree run.now)
-        (section_in_first_lines (S.tree run.now) state.old number (line - 1) log.now)
-        state.old state.new (T.lines trace.old) (T.lines trace.new) }
-    ensures may_refuse { result ≡ Err ReplayFault.NoMemory → T.may_refuse ≡ true }
-    ensures done { OnOk result ((S.tree run.now).done state.new ≡ true) }
-    ensures belongs { S.belongs run.now state.new }
-
-    // The same as a function of the bytes.
-    ensures reading { AnswersAs result state.new
-        (section_reading (S.tree run.now) state.old head.now number log.now) }
+    ensures { Replays (S.tree run.now) (S.belongs run.now)
+        (section_form (S.tree run.now) state.old head.now number log.now)
+        state.old state.new (T.lines trace.old) (T.lines trace.new) T.may_refuse result }
 {
     let sections = match after_front(log, &head.sectioned()) {
         Ok(rest) => rest,

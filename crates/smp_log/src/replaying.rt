@@ -1,11 +1,6 @@
-ghost use Rattle.std.specs.Prelude.{◌≡◌, ◌-◌, ◌++◌, ℕ, true, Err, IfErr, IfOk, OnErr, OnOk};
-ghost use Rattle.smp_split.specs.Runs.{and_then};
+ghost use Rattle.std.specs.Prelude.{◌≡◌, ◌++◌, IfErr, IfOk};
 ghost use Rattle.smp_log.specs.Fronts.{IsWhole, StopsAt};
-ghost use Rattle.smp_log.specs.Answers.{AnswersAs, answer_at, log_reading};
-ghost use Rattle.smp_log.specs.Genuine.{IsGenuine, IsToldGenuine, DiffersAt};
-ghost use Rattle.smp_log.specs.Told.{IsToldAlong, IsToldPart, path_in_first_lines, path_told};
-ghost use Rattle.smp_log.specs.declared.fault.LogFault.TheVariants as LogFault;
-ghost use Rattle.smp_log.specs.declared.fault.ReplayFault.TheVariants as ReplayFault;
+ghost use Rattle.smp_log.specs.Replayed.{Replays, ReplaysUntold, old_form};
 
 use crate::lines::{after_end, step_first};
 use crate::{Head, LogFault, ReplayFault};
@@ -26,16 +21,9 @@ pub fn old_replay<S: Splitting>(
     log: &[u8],
 ) -> Result<(), LogFault>
     requires { S.belongs run.now state.old }
-    ensures genuine { OnOk result
-        (IsGenuine (S.tree run.now) state.old head.now log.now state.new) }
-    ensures differs { (line : ℕ) → result ≡ Err (LogFault.Differs line)
-        → DiffersAt (IsGenuine (S.tree run.now) state.old head.now) log.now line }
-    ensures done { OnOk result ((S.tree run.now).done state.new ≡ true) }
-    ensures belongs { S.belongs run.now state.new }
-
-    // The same as a function of the bytes.
-    ensures reading { answer_at result state.new
-        ≡ log_reading (S.tree run.now) state.old head.now log.now }
+    ensures { ReplaysUntold (S.tree run.now) (S.belongs run.now)
+        (old_form (S.tree run.now) state.old head.now log.now)
+        state.new result }
 {
     match old_replay_into(run, state, head, log, &mut NoTrace) {
         Ok(()) => Ok(()),
@@ -56,28 +44,9 @@ pub fn old_replay_into<S: Splitting, T: Trace>(
     trace: &mut T,
 ) -> Result<(), ReplayFault>
     requires { S.belongs run.now state.old }
-    ensures genuine { OnOk result
-        (IsToldGenuine (S.tree run.now) state.old head.now log.now state.new) }
-    ensures told { OnOk result (T.lines trace.new
-        ≡ and_then (T.lines trace.old) (path_told (S.tree run.now) state.old log.now)) }
-    ensures differs { (line : ℕ) → result ≡ Err (ReplayFault.Differs line)
-        → DiffersAt (IsGenuine (S.tree run.now) state.old head.now) log.now line }
-    // Before an error the first steps that the log tells were told, up to the state, and no more.
-    ensures stopped { OnErr result (IsToldPart (S.tree run.now)
-        (path_told (S.tree run.now) state.old log.now)
-        state.old state.new (T.lines trace.old) (T.lines trace.new)) }
-    // Where it differs, they are those of the lines before the one that is named.
-    ensures kept { (line : ℕ) → result ≡ Err (ReplayFault.Differs line)
-        → IsToldAlong (S.tree run.now)
-        (path_in_first_lines (S.tree run.now) state.old (line - 1) log.now)
-        state.old state.new (T.lines trace.old) (T.lines trace.new) }
-    ensures may_refuse { result ≡ Err ReplayFault.NoMemory → T.may_refuse ≡ true }
-    ensures done { OnOk result ((S.tree run.now).done state.new ≡ true) }
-    ensures belongs { S.belongs run.now state.new }
-
-    // The same as a function of the bytes.
-    ensures reading { AnswersAs result state.new
-        (log_reading (S.tree run.now) state.old head.now log.now) }
+    ensures { Replays (S.tree run.now) (S.belongs run.now)
+        (old_form (S.tree run.now) state.old head.now log.now)
+        state.old state.new (T.lines trace.old) (T.lines trace.new) T.may_refuse result }
 {
     let mut rest = match after_front(log, head.as_slice()) {
         Ok(rest) => rest,

@@ -1,11 +1,4 @@
-ghost use Rattle.std.specs.Prelude.{◌≡◌, ◌-◌, ℕ, true, Err, OnErr, OnOk};
-ghost use Rattle.smp_split.specs.Runs.{and_then};
-ghost use Rattle.smp_log.specs.Answers.{AnswersAs};
-ghost use Rattle.smp_log.specs.Genuine.{DiffersAt};
-ghost use Rattle.smp_log.specs.SectionLogs.{IsSectionedGenuine, IsToldSectioned};
-ghost use Rattle.smp_log.specs.SectionReading.{sectioned_reading};
-ghost use Rattle.smp_log.specs.Told.{IsToldAlong, IsToldPart, path_in_first_lines, path_told};
-ghost use Rattle.smp_log.specs.declared.fault.ReplayFault.TheVariants as ReplayFault;
+ghost use Rattle.smp_log.specs.Replayed.{Replays, sectioned_form};
 
 use crate::lines::{after_end, after_numbers, step_first};
 use crate::replaying::after_front;
@@ -21,28 +14,9 @@ pub(crate) fn replay_sections_into<S: Sections, T: Trace>(
     trace: &mut T,
 ) -> Result<(), ReplayFault>
     requires { S.belongs run.now state.old }
-    ensures genuine { OnOk result
-        (IsToldSectioned (S.tree run.now) (S.sectioning run.now) state.old head.now
-        log.now state.new) }
-    ensures told { OnOk result (T.lines trace.new
-        ≡ and_then (T.lines trace.old) (path_told (S.tree run.now) state.old log.now)) }
-    ensures differs { (line : ℕ) → result ≡ Err (ReplayFault.Differs line)
-        → DiffersAt (IsSectionedGenuine (S.tree run.now) (S.sectioning run.now) state.old head.now)
-        log.now line }
-    // Before an error the first steps that the log tells were told, up to the state, and no more.
-    ensures stopped { OnErr result (IsToldPart (S.tree run.now)
-        (path_told (S.tree run.now) state.old log.now)
-        state.old state.new (T.lines trace.old) (T.lines trace.new)) }
-    // Where it differs, they are those of the lines before the one that is named.
-    ensures kept { (line : ℕ) → result ≡ Err (ReplayFault.Differs line)
-        → IsToldAlong (S.tree run.now)
-        (path_in_first_lines (S.tree run.now) state.old (line - 1) log.now)
-        state.old state.new (T.lines trace.old) (T.lines trace.new) }
-    ensures may_refuse { result ≡ Err ReplayFault.NoMemory → T.may_refuse ≡ true }
-    ensures done { OnOk result ((S.tree run.now).done state.new ≡ true) }
-    ensures belongs { S.belongs run.now state.new }
-    ensures reading { AnswersAs result state.new
-        (sectioned_reading (S.tree run.now) (S.sectioning run.now) state.old head.now log.now) }
+    ensures { Replays (S.tree run.now) (S.belongs run.now)
+        (sectioned_form (S.tree run.now) (S.sectioning run.now) state.old head.now log.now)
+        state.old state.new (T.lines trace.old) (T.lines trace.new) T.may_refuse result }
 {
     let mut rest = match after_front(log, &head.sectioned()) {
         Ok(rest) => rest,

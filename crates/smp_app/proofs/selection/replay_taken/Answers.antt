@@ -36,4 +36,4 @@ returns-in-Stratum-clause-full c =
     let to = c.replay_section_into.new.state in
     rw c.in-Stratum.is
     (on_more c.replay_section_into.result (HasToldSection (covered_tree own) from c.args.head.now (h + 1) c.args.log.now (section_told (covered_tree own) from (h + 1) c.args.log.now) to) _
-    (λ told. subst (λ (p : List Entry). IsFullPath (covered_tree own) from p to) (sym told.told) told.has.genuine.full) c.replay_section_into.ensures.section)
+    (λ told. subst (λ (p : List Entry). IsFullPath (covered_tree own) from p to) (sym told.told) told.has.genuine.full) c.replay_section_into.ensures.genuine)

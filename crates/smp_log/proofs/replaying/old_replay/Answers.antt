@@ -1,9 +1,8 @@
-use Rattle.std.proofs.Common.{◌≡◌, ap, Err, subst}
-use Rattle.smp_log.specs.Genuine.{IsGenuine, DiffersAt}
+use Rattle.smp_log.proofs.Replied.{refused_untold, taken_untold}
 use Rattle.smp_log.proofs.replaying.old_replay.Goals as goal
 
-pub returns-in-Err-Differs-clause-differs : goal.returns-in-Err-Differs-clause-differs
-returns-in-Err-Differs-clause-differs g c line is =
-    let same : c.in-Err-Differs.line ≡ line = cc in
-    subst (DiffersAt (IsGenuine (g.S.Splitting.tree c.args.run.now) c.args.state.now c.args.head.now) c.args.log.now) same
-    (c.in-Err-Differs.ensures.differs c.in-Err-Differs.line (ap Err c.in-Err-Differs.field-0-is))
+pub returns-in-Ok : goal.returns-in-Ok
+returns-in-Ok g c = taken_untold _ _ _ _ _ _ _ _ _ _ c.in-Ok.ensures
+
+pub returns-in-Err-Differs : goal.returns-in-Err-Differs
+returns-in-Err-Differs g c = refused_untold _ _ _ _ _ _ _ _ c.in-Err-Differs.line _ c.in-Err-Differs.field-0-is c.in-Err-Differs.ensures
