@@ -18,16 +18,16 @@ use Rattle.smp_strata.specs.Plans.{Parts}
 use Rattle.smp_strata.specs.declared.strata.Stratum.{Stratum}
 use Rattle.smp_twostage.specs.Cubes.{IsDrawnByCube, balancing}
 use Rattle.smp_twostage.specs.Selections.{tree_of as stage_tree, first_number, stages_of, states_of}
+use Rattle.smp_twostage.specs.Lines.{drawn_stratum}
 use Rattle.smp_twostage.specs.Plans.{CanBeDrawn}
 use Rattle.smp_twostage.specs.Starts.{first_selected}
 use Rattle.smp_twostage.proofs.Cubes.{cube_selected}
 use Rattle.smp_twostage.proofs.Told.{is_stratum as cube_stratum}
 use Rattle.smp_plan.specs.declared.plan.FramePlan.{FramePlan}
 use Rattle.smp_plan.specs.Plans.{parts}
-use Rattle.smp_app.specs.Drawn.{Drawn}
+use Rattle.smp_app.specs.Drawn.{Drawn, covered}
 use Rattle.smp_plan.specs.Planned.{IsPlanned, plan_view}
 use Rattle.smp_app.specs.Draws.{KeepsBalance}
-use Rattle.smp_app.specs.Texts.{drawn_stratum}
 
 -- ---- the strata of a plan
 
@@ -52,13 +52,13 @@ module _ (plan : FramePlan) (planned : IsPlanned plan) (balance : balances plan.
     abbrev here : Drawn
     here = record { plan = plan_view plan; only = None; leaf = to; path = path }
 
-    units_are : (drawn_stratum here h s).units ≡ filter (is_selected (balancing s) leaf) (range_with_len 0 (length (map (λ u. u.values) s.units)))
+    units_are : (drawn_stratum (covered here) to.states h s).units ≡ filter (is_selected (balancing s) leaf) (range_with_len 0 (length (map (λ u. u.values) s.units)))
     units_are =
         filter_same (first_selected all to.states h) (is_selected (balancing s) leaf) (range_with_len 0 (length s.units)) (cube_selected all drawable balance to.states h s is leaf leaf_is)
         ∙ ap (λ n. filter (is_selected (balancing s) leaf) (range_with_len 0 n)) (sym (length-map s.units (λ u. u.values)))
 
-    pub tells : (column : ℕ) → TellsColumn (drawn_stratum here h s) leaf column
-    tells = each_line_tells (drawn_stratum here h s) leaf is_stratum units_are
+    pub tells : (column : ℕ) → TellsColumn (drawn_stratum (covered here) to.states h s) leaf column
+    tells = each_line_tells (drawn_stratum (covered here) to.states h s) leaf is_stratum units_are
 
 -- ---- the balance of what is drawn
 

@@ -220,7 +220,7 @@ module _ (plan : FramePlan) (planned : IsPlanned plan) where
 
       abbrev FirstsBy : Parts → Type 0
       FirstsBy p =
-          (h n : ℕ) (s : Stratum) → slice_get p.strata h ≡ Some s → AreAsked plan.design plan.frame h n
+          (h n : ℕ) (s : Stratum) → slice_get p.strata h ≡ Some s → AreAsked plan.design.columns.prob plan.design plan.frame h n
           → count_by (first_selected p to.states h) (range_with_len 0 (length s.units)) ≡ n
 
       firsts_own : FirstsBy plan.plan

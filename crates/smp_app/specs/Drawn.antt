@@ -7,16 +7,15 @@ use Rattle.smp_split.specs.Counts.{selected_units}
 use Rattle.smp_split.specs.Sectioning.{Sectioning}
 use Rattle.smp_methods.specs.declared.any.AnyState.{AnyState}
 use Rattle.smp_stages.specs.Stages.{Progress}
-use Rattle.smp_twostage.specs.Selections as selections
-use Rattle.smp_twostage.specs.Selections.{Coverage, all_of, covered_tree, is_of_stratum, strata_sections, whole_tree}
+use Rattle.smp_twostage.specs.Selections.{Coverage, all_of, covered_start, covered_tree, is_of_stratum, strata_sections}
 use Rattle.smp_plan.specs.Plans.{Plan, parts}
 
 -- the draw tree, whose units are the rows of the frame, and the state from which a draw starts
 abbrev pub tree_of : Plan → Tree (Progress AnyState)
-tree_of plan = whole_tree (parts plan)
+tree_of plan = covered_tree (all_of (parts plan))
 
 abbrev pub start_of : Plan → Progress AnyState
-start_of plan = selections.start_of (parts plan)
+start_of plan = covered_start (all_of (parts plan))
 
 -- its sections: the strata
 abbrev pub sections_of : Plan → Sectioning (Progress AnyState)

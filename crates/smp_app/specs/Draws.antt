@@ -25,49 +25,21 @@ use Rattle.smp_strata.specs.declared.strata.Stratum.{Stratum}
 use Rattle.smp_stages.specs.Paths.{GoesByStages}
 use Rattle.smp_twostage.specs.Cubes.{IsDrawnByCube, balancing}
 use Rattle.smp_twostage.specs.Covered.{StartsAlone}
+use Rattle.smp_twostage.specs.Lines.{drawn_stratum}
 use Rattle.smp_twostage.specs.Selections.{BelongsToWhole, covered_start, covered_tree, tree_of as stage_tree}
 use Rattle.smp_twostage.specs.Selections.{first_number, stages_of, states_of}
 use Rattle.smp_twostage.specs.Starts.{first_selected, known, second_selected, weighted}
 use Rattle.smp_plan.specs.Plans.{Plan, parts, row_probability}
-use Rattle.smp_app.specs.Drawn.{tree_of, start_of, sections_of, Drawn}
-use Rattle.smp_app.specs.Texts.{drawn_stratum}
+use Rattle.smp_app.specs.Drawn.{tree_of, start_of, sections_of, Drawn, covered}
 use Rattle.smp_app.specs.Commands.{Source, ByLog, ByOldLog, BySection, Work, Lists, Draws, Job}
 use Rattle.smp_app.specs.Verdict.{alone, drawn_stage}
 use Rattle.smp_plan.specs.Inputs.{plan_stage}
-
--- ---- how many are drawn
 
 -- how many of the first stage units of stratum h are drawn
 abbrev pub firsts_drawn : Drawn → ℕ → Stratum → ℕ
 firsts_drawn drawn h s =
     let selected = first_selected (parts drawn.plan) drawn.leaf.states h in
     count_by selected (range_with_len 0 (length s.units))
-
--- As many first stage units of each stratum are drawn as the design asks for: its sample size, or with given probabilities what they add up
--- to, where that is a whole number.
-abbrev pub DrawsFirsts : Drawn → Type 0
-DrawsFirsts drawn =
-    (h n : ℕ) (s : Stratum) → slice_get (parts drawn.plan).strata h ≡ Some s
-    → AreAsked drawn.plan.design drawn.plan.units h n → firsts_drawn drawn h s ≡ n
-
--- Where the design gives the probabilities, as many are drawn by every method that doesn't balance as these add up to, or, where
--- that isn't a whole number, one of the two whole numbers around it.
-abbrev pub DrawsAround : Drawn → Type 0
-DrawsAround drawn =
-    balances drawn.plan.design.method ≡ false → (h : ℕ) (s : Stratum)
-    → slice_get (parts drawn.plan).strata h ≡ Some s
-    → IfSome drawn.plan.design.columns.prob (λ column. IsAround (firsts_drawn drawn h s)
-    (expected_size (first_probs drawn.plan.design drawn.plan.units h)))
-
--- with a second stage, as many rows of each of these as it asks for
-abbrev pub DrawsSeconds : Drawn → Type 0
-DrawsSeconds drawn =
-    (h k : ℕ) (s : Stratum) (u : first.FirstUnit) (asked : second.Second)
-    → slice_get (parts drawn.plan).strata h ≡ Some s → slice_get s.units k ≡ Some u
-    → drawn.plan.design.second ≡ Some asked
-    → first_selected (parts drawn.plan) drawn.leaf.states h k ≡ true
-    → count_by (second_selected (parts drawn.plan) drawn.leaf.states h k) (range_with_len 0 (length u.rows))
-    ≡ asked.n
 
 -- ---- balance
 
@@ -77,20 +49,17 @@ Goes drawn =
     let plan = parts drawn.plan in
     GoesByStages stage_tree (stages_of plan) (states_of plan) drawn.path drawn.leaf.states
 
--- The part of the path that is drawn in stratum h leads through the cube's tree, from the requested probabilities to a leaf.
-abbrev pub IsPart : (drawn : Drawn) → Goes drawn → ℕ → Stratum → Type 0
-IsPart drawn goes h s =
-    let plan = parts drawn.plan in
-    IsDrawnByCube plan h s (goes.part (first_number plan h)) drawn.leaf.states
-
--- What is drawn of a stratum by the cube. On its part of the path, as on every path of the cube from there, each flight step keeps every
+-- What is drawn of a stratum by the cube. The part of the path that is drawn in it leads through the cube's tree, from the requested
+-- probabilities to a leaf. On this part, as on every path of the cube from there, each flight step keeps every
 -- balancing total in force exactly, and the landing begins only where no direction is left or the next step doesn't fit; `IsBalanced`
 -- says what else holds.
 pub record IsCubeDraw (drawn : Drawn) (goes : Goes drawn) (h : ℕ) (s : Stratum) : Type 0 where
-  pub drawn_so : IsPart drawn goes h s
+  pub drawn_so : IsDrawnByCube (parts drawn.plan) h s
+      (goes.part (first_number (parts drawn.plan) h)) drawn.leaf.states
   pub balanced : IsBalanced (balancing s)
   -- The report tells the estimates at that leaf and the known totals.
-  pub told : (column : ℕ) → TellsColumn (drawn_stratum drawn h s) drawn_so.leaf column
+  pub told : (column : ℕ)
+      → TellsColumn (drawn_stratum (covered drawn) drawn.leaf.states h s) drawn_so.leaf column
 
 -- Where the method balances, each stratum is drawn so.
 pub record KeepsBalance (drawn : Drawn) : Type 0 where
@@ -121,9 +90,24 @@ pub record IsDrawnBy (plan : Plan) (drawn : Drawn) : Type 0 where
   -- The path of the draw leads from the start to a leaf, which is done.
   pub full : IsFullPath (tree_of plan) (start_of plan) drawn.path drawn.leaf
   pub probabilities : HasProbabilities plan
-  pub firsts : DrawsFirsts drawn
-  pub around : DrawsAround drawn
-  pub seconds : DrawsSeconds drawn
+  -- As many first stage units of each stratum are drawn as the design asks for: its sample size, or with given probabilities what they
+  -- add up to, where that is a whole number.
+  pub firsts : (h n : ℕ) (s : Stratum) → slice_get (parts drawn.plan).strata h ≡ Some s
+      → AreAsked drawn.plan.design.columns.prob drawn.plan.design drawn.plan.units h n
+      → firsts_drawn drawn h s ≡ n
+  -- Where the design gives the probabilities, as many are drawn by every method that doesn't balance as these add up to, or, where that
+  -- isn't a whole number, one of the two whole numbers around it.
+  pub around : balances drawn.plan.design.method ≡ false → (h : ℕ) (s : Stratum)
+      → slice_get (parts drawn.plan).strata h ≡ Some s
+      → IfSome drawn.plan.design.columns.prob (λ column. IsAround (firsts_drawn drawn h s)
+      (expected_size (first_probs drawn.plan.design drawn.plan.units h)))
+  -- With a second stage, as many rows of each of these as it asks for.
+  pub seconds : (h k : ℕ) (s : Stratum) (u : first.FirstUnit) (asked : second.Second)
+      → slice_get (parts drawn.plan).strata h ≡ Some s → slice_get s.units k ≡ Some u
+      → drawn.plan.design.second ≡ Some asked
+      → first_selected (parts drawn.plan) drawn.leaf.states h k ≡ true
+      → count_by (second_selected (parts drawn.plan) drawn.leaf.states h k)
+      (range_with_len 0 (length u.rows)) ≡ asked.n
   pub balance : KeepsBalance drawn
 
 -- What is drawn of stratum h alone, by a tree that splits lawfully too. The draw starts from the stratum's state in the start of the whole

@@ -8,10 +8,7 @@ use Rattle.smp_log.specs.Logs as logs
 use Rattle.smp_log.specs.SectionLogs.{sectioned_log_text}
 use Rattle.smp_weights.specs.Rows.{row}
 use Rattle.smp_weights.specs.Sample.{sample_file}
-use Rattle.smp_balance.specs.Lines as balance
-use Rattle.smp_strata.specs.declared.strata.Stratum.{Stratum}
 use Rattle.smp_twostage.specs.Covered.{covered_left}
-use Rattle.smp_twostage.specs.Lines as lines
 use Rattle.smp_twostage.specs.Lines.{balance_lines, covered_strata}
 use Rattle.smp_twostage.specs.Selections.{covered_start, covered_tree, strata_sections}
 use Rattle.smp_plan.specs.Plans.{Plan, parts, row_id, row_probability}
@@ -68,20 +65,14 @@ sample_text drawn = sample_file (map (weighted_row drawn.plan) (drawn_rows drawn
 abbrev pub migrated_text : Drawn → List ℕ
 migrated_text drawn = codes "migrated " ++ (decimal (length drawn.path) ++ codes " steps\n")
 
--- the summary: how many units were drawn, of how many in the strata that are covered, and in how many steps
-abbrev pub summary_text : Drawn → List ℕ
-summary_text drawn =
-    codes "selected " ++ (decimal (length (drawn_rows drawn))
-    ++ (codes " of " ++ (decimal (rows_by drawn.plan drawn.only)
-    ++ (codes "\nsteps " ++ (decimal (length drawn.path) ++ codes "\n")))))
-
--- what was drawn of a stratum of the plan by the cube
-abbrev pub drawn_stratum : Drawn → ℕ → Stratum → balance.Drawn
-drawn_stratum drawn h s = lines.drawn_stratum (covered drawn) drawn.leaf.states h s
-
--- the report: the summary, and where they were drawn by the cube, what it kept and gave up in each stratum
+-- The report: how many units were drawn, of how many in the strata that are covered, and in how many steps; and where they were drawn by
+-- the cube, what it kept and gave up in each stratum.
 abbrev pub report_text : Drawn → List ℕ
-report_text drawn = summary_text drawn ++ balance_lines (covered drawn) drawn.leaf.states
+report_text drawn =
+    (codes "selected " ++ (decimal (length (drawn_rows drawn))
+    ++ (codes " of " ++ (decimal (rows_by drawn.plan drawn.only)
+    ++ (codes "\nsteps " ++ (decimal (length drawn.path) ++ codes "\n"))))))
+    ++ balance_lines (covered drawn) drawn.leaf.states
 
 -- the summary of the demonstration: how many units were drawn of how many, in how many steps, and how many units were fractional in each
 -- stratum where its landing began; and that the log of the draw was replayed

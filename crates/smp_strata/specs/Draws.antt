@@ -29,14 +29,10 @@ IsAllocated design units =
     IfSome design.n (λ n. IsAllocation n (cluster_counts design units) (sample_sizes design units))
 
 -- So many first stage units are asked of a stratum: its sample size, or with given probabilities their sum, where that is a whole number.
-abbrev pub AreAskedBy : Option (List ℕ) → Design → List unit.Unit → ℕ → ℕ → Type 0
-AreAskedBy None design units number n = n ≡ sample_size design units number
-AreAskedBy (Some column) design units number n =
+abbrev pub AreAsked : Option (List ℕ) → Design → List unit.Unit → ℕ → ℕ → Type 0
+AreAsked None design units number n = n ≡ sample_size design units number
+AreAsked (Some column) design units number n =
     Same (expected_size (first_probs design units number)) (whole n)
-
--- the same, as the design has a column of probabilities or not
-abbrev pub AreAsked : Design → List unit.Unit → ℕ → ℕ → Type 0
-AreAsked design units number n = AreAskedBy design.columns.prob design units number n
 
 -- how many first stage units are expected of a stratum: the sum of the probabilities that its request gives them
 abbrev pub expected_firsts : stratum.Stratum → Fraction
@@ -45,7 +41,8 @@ expected_firsts s = sum_below (length s.units) (asked_fraction s.request)
 -- a stratum draws as many of its first stage units as are asked of it, and the second stage draws n of the rows of each of these
 pub record DrawsInStratum (design : Design) (units : List unit.Unit) (number : ℕ)
     (s : stratum.Stratum) : Type 0 where
-  pub firsts : (n : ℕ) → AreAsked design units number n → IsFor s.request (length s.units) n
+  pub firsts : (n : ℕ) → AreAsked design.columns.prob design units number n
+      → IsFor s.request (length s.units) n
   pub rows : All (λ f. SecondDraws design.second (length f.rows) f.second) s.units
   -- with given probabilities, as many of its first stage units are expected as these add up to, whole or not
   pub expected : IfSome design.columns.prob (λ column.

@@ -68,10 +68,6 @@ request_by None design units stratum =
     requested_of (first_sizes design units stratum) (sample_size design units stratum)
 request_by (Some column) design units stratum = given_of (first_probs design units stratum)
 
--- the same, as the design has such a column or not
-abbrev pub first_request : Design → List unit.Unit → ℕ → Request
-first_request design units stratum = request_by design.columns.prob design units stratum
-
 -- the sizes of some rows in the second stage
 abbrev pub second_sizes : List unit.Unit → List ℕ → List ℕ
 second_sizes units rows = map (second_size_at units) rows
@@ -94,7 +90,7 @@ abbrev pub stratum_of : Design → List unit.Unit → ℕ → stratum.Stratum
 stratum_of design units stratum = record {
   name = stratum_name units stratum;
   units = map (first_of design units) (clusters_in design units stratum);
-  request = first_request design units stratum;
+  request = request_by design.columns.prob design units stratum;
 }
 
 -- the plan of a frame that has no misfit

@@ -21,10 +21,7 @@ stratum_at units row = slice_index_or (map (λ u. u.stratum) units) row []
 abbrev pub psu_at : List unit.Unit → ℕ → List ℕ
 psu_at units row = slice_index_or (map (λ u. u.psu) units) row []
 
--- its size, and its size in the second stage
-abbrev pub size_at : List unit.Unit → ℕ → ℕ
-size_at units row = slice_index (sizes_of units) row
-
+-- its size in the second stage
 abbrev pub second_size_at : List unit.Unit → ℕ → ℕ
 second_size_at units row = slice_index (second_sizes_of units) row
 
@@ -41,7 +38,7 @@ value_at units row column =
 
 -- the sum of the sizes of some rows
 abbrev pub size_of : List unit.Unit → List ℕ → ℕ
-size_of units rows = sum_by (size_at units) rows
+size_of units rows = sum_by (λ row. slice_index (sizes_of units) row) rows
 
 -- the sum of a column of values
 abbrev pub value_of : List unit.Unit → List ℕ → ℕ → ℤ

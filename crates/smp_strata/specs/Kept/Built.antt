@@ -16,7 +16,7 @@ use Rattle.smp_values.specs.Starts.{IsWhole}
 use Rattle.smp_strata.specs.Asked.{fraction_by}
 use Rattle.smp_strata.specs.Bounds.{IsFirst, IsOver, IsStratum}
 use Rattle.smp_strata.specs.Draws.{AreAsked, DrawsInStratum, IsFor, SecondDraws}
-use Rattle.smp_strata.specs.Plans.{first_of, first_request, second_request, second_sizes, stratum_of}
+use Rattle.smp_strata.specs.Plans.{first_of, request_by, second_request, second_sizes, stratum_of}
 use Rattle.smp_strata.specs.Clusters.{clusters_in}
 use Rattle.smp_strata.specs.Rows.{is_large}
 use Rattle.smp_strata.specs.Seats.{IsSeat}
@@ -55,11 +55,11 @@ pub record IsGivenRequest (probs : List Frac) (request : Request) : Type 0 where
 pub record IsFirstRequest (design : Design) (units : List unit.Unit) (number : ℕ)
     (request : Request) : Type 0 where
   pub some : 1 ≤ length (clusters_in design units number)
-  pub value : request ≡ first_request design units number
+  pub value : request ≡ request_by design.columns.prob design units number
   pub over : IsOver (length (clusters_in design units number)) request
   pub whole : IsTrue (row design.method).draws_whole → IsWhole request
   pub asks : FirstAsks design units number request
-  pub draws : (n : ℕ) → AreAsked design units number n
+  pub draws : (n : ℕ) → AreAsked design.columns.prob design units number n
       → IsFor request (length (clusters_in design units number)) n
 
 -- the method of a second stage
