@@ -35,8 +35,8 @@ returns-in_ok-bytes-in-Log-clause-differs g c fs held =
     let bytes = c.in_ok-bytes-in-Log.bytes in
     let read : content name (fs name) ≡ Ok bytes = rw c.as_str-in-Log.ensures at (c.in_ok-bytes-in-Log.ensures.follows fs held) in
     rw c.in-Log.is
-    (if_more c.select_by_log-in-Log.result (WholeDiffers view c.as_slice-in-Log.result.now) (IsRefusedAt view (ByLog name) fs)
-    (λ line differs. log_refused (λ b. WholeDiffers view b line) name bytes fs read (subst (λ (b : List ℕ). WholeDiffers view b line) c.as_slice-in-Log.ensures differs)) c.select_by_log-in-Log.ensures.differs)
+    (if_more c.select_by_log.result (WholeDiffers view c.as_slice-in-Log.result.now) (IsRefusedAt view (ByLog name) fs)
+    (λ line differs. log_refused (λ b. WholeDiffers view b line) name bytes fs read (subst (λ (b : List ℕ). WholeDiffers view b line) c.as_slice-in-Log.ensures differs)) c.select_by_log.ensures.differs)
 
 pub returns-in_ok-bytes-in-OldLog-clause-differs : goal.returns-in_ok-bytes-in-OldLog-clause-differs
 returns-in_ok-bytes-in-OldLog-clause-differs g c fs held =
