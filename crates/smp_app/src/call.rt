@@ -19,15 +19,15 @@ use std::alloc::Global;
 /// - `draw --design D --frame F --tape T --log L --sample S` reads the design D, the frame F and the tape T, draws the sample of the design
 ///   with the values of the tape, writes the log, of version 2, to L and the drawn units with their weights to S, and puts a report. With
 ///   `--seed K` in place of `--tape T` it draws with the words of the seed K.
-/// - `replay --design D --frame F --log L --sample S` reads D, F and the log L, of version 1 or 2, and writes to S and puts what the draw wrote
-///   and put whose log L is. With `--stratum H` it goes through the steps of the stratum H alone, for which L has to be of version 2, writes its
-///   drawn units to S and puts the report of the stratum.
-/// - `migrate --design D --frame F --log L --to M` reads D, F and the log L of version 1, writes the log of version 2 of the same steps to M, and
-///   puts how many there are.
+/// - `replay --design D --frame F --log L --sample S` reads D, F and the log L, of version 1 or 2, and writes to S
+///   and puts what the draw wrote and put whose log L is. With `--stratum H` it goes through the steps of the stratum
+///   H alone, for which L has to be of version 2, writes its drawn units to S and puts the report of the stratum.
+/// - `migrate --design D --frame F --log L --to M` reads D, F and the log L of version 1, writes the log of version 2
+///   of the same steps to M, and puts how many there are.
 /// - `probs --design D --frame F` puts the probabilities with which the units of F are to be selected.
 /// - `check --design D --frame F` puts how many units are accepted.
-/// - `demo N SEED` makes a frame of N units and a design for it, draws by a key that is made of SEED, replays its own log and puts a summary. It
-///   reads and writes no file.
+/// - `demo N SEED` makes a frame of N units and a design for it, draws by a key that is made of SEED, replays its own
+///   log and puts a summary. It reads and writes no file.
 /// - `quick FRAME N TAPE OUT` needs no design: it draws N units by sequential pivotal steps, writes their ids to OUT and puts the lines of
 ///   the steps.
 ///

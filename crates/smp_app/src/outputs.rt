@@ -26,7 +26,8 @@ pub struct Outputs {
 }
 
 impl Outputs {
-    /// Writes the files in order and puts the result after them. It stops at the first failure. Where there is no file, the store isn't touched.
+    /// Writes the files in order and puts the result after them. It stops at the first failure. Where there is no
+    /// file, the store isn't touched.
     pub fn deliver<K: Store, S: Sink>(&self, store: &mut K, out: &mut S) -> Result<(), StoreFault>
         ensures files { OnOk result (K.files store.new
             ≡ option_map (with_files (outputs_view self.now).files) (K.files store.old)) }

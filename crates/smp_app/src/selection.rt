@@ -67,8 +67,8 @@ impl Taken {
     }
 }
 
-/// The selection by a plan, of all strata or of the one with this number, the state at which a walk ended, and how it ended: at a leaf, with
-/// the lines of its steps, or before.
+/// The selection by a plan, of all strata or of the one with this number, the state at which a walk ended, and how it
+/// ended: at a leaf, with the lines of its steps, or before.
 #[derive(Drop)]
 pub struct Walked<'a> {
     pub whole: Whole<'a>,
@@ -77,8 +77,8 @@ pub struct Walked<'a> {
     pub end: Result<Lines, Stopped>,
 }
 
-/// What is drawn: the selection, of all strata or of the one with this number, the done state at which a walk ended, the rows that it selects,
-/// in frame order, and the lines of its steps.
+/// What is drawn: the selection, of all strata or of the one with this number, the done state at which a walk ended,
+/// the rows that it selects, in frame order, and the lines of its steps.
 #[derive(Drop)]
 pub struct Selection<'a> {
     pub whole: Whole<'a>,
@@ -365,8 +365,8 @@ fn select_by_log<'a>(
     selection_at(alloc, plan, walked, 0, 0)
 }
 
-/// Selects by a plan, with the values of a tape or by the steps of a log, which is read first, or with the words of a seed. Where one stratum of a
-/// log is asked for that the plan hasn't, that comes before the log is read.
+/// Selects by a plan, with the values of a tape or by the steps of a log, which is read first, or with the words of a
+/// seed. Where one stratum of a log is asked for that the plan hasn't, that comes before the log is read.
 #[tactic(auto, unfolding(crate::specs::Verdict::drawn_stage))]
 pub fn selection_from<'a, K: Store>(
     alloc: Global,

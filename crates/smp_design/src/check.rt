@@ -17,7 +17,8 @@ use toml::Table;
 
 // The version of the design.
 pub(crate) fn version_of(table: &Table) -> Result<u32, DesignFault>
-    ensures { Reads is_memory result (or_fault fault.Version (Keys.version_of (table_view table.now))) }
+    ensures { Reads is_memory result
+        (or_fault fault.Version (Keys.version_of (table_view table.now))) }
 {
     match value_at(table, "version").and_then(version) {
         Some(version) => Ok(version),
@@ -63,7 +64,8 @@ fn name_in_second(alloc: Global, key: &str) -> Result<Text, NoMemory>
 
 // Every key that is needed is there.
 pub(crate) fn check_needed(alloc: Global, table: &Table) -> Result<(), DesignFault>
-    ensures { Reads is_memory result (none_found fault.MissingKey (Keys.missing_key (table_view table.now))) }
+    ensures { Reads is_memory result
+        (none_found fault.MissingKey (Keys.missing_key (table_view table.now))) }
 {
     match missing_key(table) {
         Some(key) => Err(DesignFault::MissingKey {
@@ -109,7 +111,8 @@ fn lacks(table: Option<&Table>, key: &str) -> bool
 
 // The keys of a design with this method go together.
 pub(crate) fn check_clash(alloc: Global, table: &Table, method: Method) -> Result<(), DesignFault>
-    ensures { Reads is_memory result (none_found (λ keys. fault.Clash keys.0 keys.1) (Keys.clash (table_view table.now) method)) }
+    ensures { Reads is_memory result (none_found (λ keys. fault.Clash keys.0 keys.1)
+        (Keys.clash (table_view table.now) method)) }
 {
     match clash(table, method) {
         Some((first, second)) => Err(DesignFault::Clash {
@@ -142,7 +145,8 @@ fn rival_keys(table: &Table) -> Option<(&'static str, &'static str)>
 
 #[tactic(auto, unfolding(crate::specs::Keys::clash))]
 fn clash(table: &Table, method: Method) -> Option<(&'static str, &'static str)>
-    ensures { option_map (λ k. (k.0.now, k.1.now)) result ≡ Keys.clash (table_view table.now) method }
+    ensures { option_map (λ k. (k.0.now, k.1.now)) result
+        ≡ Keys.clash (table_view table.now) method }
 {
     if let Some(keys) = rival_keys(table) {
         return Some(keys);

@@ -18,7 +18,8 @@ use std::alloc::Global;
 use toml::Table;
 
 pub(crate) fn text_at(alloc: Global, table: &Table, key: &str) -> Result<Option<Text>, NoMemory>
-    ensures { IfOk result (λ o. o ≡ option_and_then as_str (get_member key.now (table_view table.now))) }
+    ensures { IfOk result
+        (λ o. o ≡ option_and_then as_str (get_member key.now (table_view table.now))) }
 {
     match value_at(table, key) {
         Some(value) => text(alloc, value),
@@ -62,7 +63,8 @@ pub(crate) fn optional_quotas_at(
     table: &Table,
     key: &str,
 ) -> Result<Option<Option<Quotas>>, NoMemory>
-    ensures value { IfOk result (λ o. o ≡ optional Values.quotas (get_member key.now (table_view table.now))) }
+    ensures value { IfOk result
+        (λ o. o ≡ optional Values.quotas (get_member key.now (table_view table.now))) }
     ensures ascending { IfOk result (λ o. IfSome o (λ quotas. IfSome quotas Ascend)) }
 {
     let Some(value) = value_at(table, key) else {
@@ -77,7 +79,8 @@ pub(crate) fn optional_names_at(
     key: &str,
     most: usize,
 ) -> Result<Option<Option<Names>>, NoMemory>
-    ensures { IfOk result (λ o. o ≡ optional (Values.names most) (get_member key.now (table_view table.now))) }
+    ensures { IfOk result
+        (λ o. o ≡ optional (Values.names most) (get_member key.now (table_view table.now))) }
 {
     let Some(value) = value_at(table, key) else {
         return Ok(Some(None));

@@ -73,14 +73,16 @@ pub(crate) fn needs(table: &Table) -> Needs
 // The first key of a table that isn't among the known ones.
 pub(crate) fn unknown_key<'a>(table: &'a Table, known: &[&str]) -> Option<&'a String>
     ensures { let words = map (λ k. k.now) known.now in
-        option_map (λ k. string_bytes k.now) result ≡ Keys.first_unknown words (table_view table.now) }
+        option_map (λ k. string_bytes k.now) result
+        ≡ Keys.first_unknown words (table_view table.now) }
 {
     find_unknown_key(table, known)
 }
 
 fn find_unknown_key<'a>(table: &'a Table, known: &[&str]) -> Option<&'a String>
     ensures found { let words = map (λ k. k.now) known.now in
-        option_copied result ≡ find (λ k. not (Keys.is_among words (string_bytes k))) (keys table.now) }
+        option_copied result
+        ≡ find (λ k. not (Keys.is_among words (string_bytes k))) (keys table.now) }
     ensures ordered { IsStrictlySortedBy string_cmp (keys table.now) }
 {
     table.keys().find(|key| !is_known(key.as_str(), known))

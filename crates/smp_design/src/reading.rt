@@ -180,7 +180,8 @@ struct SecondStage {
 }
 
 fn second_stage(alloc: Global, table: &Table) -> Result<SecondStage, DesignFault>
-    ensures { Reads is_memory result (Designs.second_stage (get_member (codes "second") (table_view table.now))) }
+    ensures { Reads is_memory result
+        (Designs.second_stage (get_member (codes "second") (table_view table.now))) }
 {
     let Some(value) = value_at(table, "second") else {
         return Ok(SecondStage {

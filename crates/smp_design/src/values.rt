@@ -86,7 +86,8 @@ pub(crate) fn names(alloc: Global, value: &Value, most: usize) -> Result<Option<
 }
 
 fn strings(alloc: Global, values: &[Value]) -> Result<Option<Vec<Text>>, NoMemory>
-    ensures { IfOk result (λ o. option_map (λ v. v.items) o ≡ Values.strings (items_view values.now)) }
+    ensures { IfOk result
+        (λ o. option_map (λ v. v.items) o ≡ Values.strings (items_view values.now)) }
 {
     let mut names = Vec::new(alloc);
     for value in values {

@@ -27,8 +27,8 @@ pub struct ReadDesign {
     pub bytes: Bytes,
 }
 
-/// A design, the frame that it asks of, the plan of both, and the first lines of a log, which name the bytes that design and frame were read
-/// from.
+/// A design, the frame that it asks of, the plan of both, and the first lines of a log, which name the bytes that
+/// design and frame were read from.
 #[derive(Drop)]
 pub struct FramePlan {
     /// The design.
