@@ -21,7 +21,8 @@ use Rattle.smp_strata.specs.declared.strata.FirstUnit.{FirstUnit}
 use Rattle.smp_strata.specs.declared.strata.Stratum.{Stratum}
 use Rattle.smp_twostage.specs.Kept.{IsPlanned}
 use Rattle.smp_twostage.specs.Plans.{CanBeDrawn}
-use Rattle.smp_twostage.specs.Selections.{column_count, free_values, values_at}
+use Rattle.smp_balance.specs.Strata.{column_count, free_values, values_of}
+use Rattle.smp_twostage.specs.Selections.{balancing}
 
 -- a procedure that is there
 given : (way : Option Procedure) (other : Procedure) → is_some way ≡ true → way ≡ Some (unwrap_or way other)
@@ -36,33 +37,33 @@ pub near_within : (values : List ℤ) → AreNear values → Within (2 ^ 31 - 1)
 near_within values near k d l = let h = near k d l in omega (arith, h)
 
 module _ (plan : Parts) (s : Stratum) (planned : IsPlanned plan s) where
-  pub columns_are : column_count s ≡ planned.columns
+  pub columns_are : column_count (balancing s) ≡ planned.columns
   columns_are = first_long s.units planned.columns planned.stratum.some planned.counted
 
-  pub has_procedure : is_some (procedure_of plan.method plan.order (column_count s)) ≡ true
+  pub has_procedure : is_some (procedure_of plan.method plan.order (column_count (balancing s))) ≡ true
   has_procedure = ap (λ n. is_some (procedure_of plan.method plan.order n)) columns_are ∙ planned.method
 
   -- the values of a free unit
-  free_at : (P : List ℤ → Type 0) → ((u : FirstUnit) → IsFirst plan.second u → length u.values ≡ planned.columns → P u.values) → All P (free_values s)
+  free_at : (P : List ℤ → Type 0) → ((u : FirstUnit) → IsFirst plan.second u → length u.values ≡ planned.columns → P u.values) → All P (free_values (balancing s))
   free_at P holds =
-      All-map P (values_at s) s.request.free
-      (All-weaker (λ k. k < length s.units) (λ k. P (values_at s k)) (λ k l. at k l) s.request.free planned.stratum.over.free)
+      All-map P (values_of (balancing s)) s.request.free
+      (All-weaker (λ k. k < length s.units) (λ k. P (values_of (balancing s) k)) (λ k l. at k l) s.request.free planned.stratum.over.free)
     where
-      by_unit : (k : ℕ) (u : Option FirstUnit) → slice_get s.units k ≡ u → k < length s.units → P (values_at s k)
+      by_unit : (k : ℕ) (u : Option FirstUnit) → slice_get s.units k ≡ u → k < length s.units → P (values_of (balancing s) k)
       by_unit k (Some u) is l =
           let here : get_or s.units k u ≡ u = get_or_from_slice_get s.units k u u is in
-          let value : values_at s k ≡ u.values = get_or-map (λ (v : FirstUnit). v.values) s.units k u [] l ∙ ap (λ (v : FirstUnit). v.values) here in
+          let value : values_of (balancing s) k ≡ u.values = get_or-map (λ (v : FirstUnit). v.values) s.units k u [] l ∙ ap (λ (v : FirstUnit). v.values) here in
           let first : IsFirst plan.second u = subst (IsFirst plan.second) here (All-get_or (IsFirst plan.second) s.units k u l planned.stratum.firsts) in
           let counted : length u.values ≡ planned.columns = subst (λ (v : FirstUnit). length v.values ≡ planned.columns) here (All-get_or (λ (v : FirstUnit). length v.values ≡ planned.columns) s.units k u l planned.counted) in
           subst P (sym value) (holds u first counted)
       by_unit k None is l = let some = some_within s.units k l in absurd (let none : None ≡ Some some.0 = sym is ∙ some.1 in cc)
 
-      at : (k : ℕ) → k < length s.units → P (values_at s k)
+      at : (k : ℕ) → k < length s.units → P (values_of (balancing s) k)
       at k l = by_unit k (slice_get s.units k) refl l
 
-  pub takes_free : (way : Procedure) → procedure_of plan.method plan.order (column_count s) ≡ Some way → TakesValues way (free_values s)
+  pub takes_free : (way : Procedure) → procedure_of plan.method plan.order (column_count (balancing s)) ≡ Some way → TakesValues way (free_values (balancing s))
   takes_free way is =
-      procedure_takes planned.columns (free_values s) (free_at (λ v. length v ≡ planned.columns) (λ u first counted. counted)) (free_at (Within (2 ^ 31 - 1)) (λ u first counted. near_within u.values first.near))
+      procedure_takes planned.columns (free_values (balancing s)) (free_at (λ v. length v ≡ planned.columns) (λ u first counted. counted)) (free_at (Within (2 ^ 31 - 1)) (λ u first counted. near_within u.values first.near))
       plan.method plan.order way (ap (procedure_of plan.method plan.order) (sym columns_are) ∙ is)
 
 -- rows have no values

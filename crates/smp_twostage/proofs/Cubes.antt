@@ -30,9 +30,10 @@ use Rattle.smp_strata.specs.Plans.{Parts}
 use Rattle.smp_strata.specs.declared.strata.Stratum.{Stratum}
 use Rattle.smp_balance.specs.Totals.{is_selected}
 use Rattle.smp_twostage.specs.Cubes.{IsDrawnByCube, balancing}
-use Rattle.smp_twostage.specs.Starts.{first_place, first_selected}
+use Rattle.smp_twostage.specs.Starts.{first_selected}
 use Rattle.smp_twostage.specs.Plans.{CanBeDrawn}
-use Rattle.smp_twostage.specs.Selections.{tree_of, column_count, first_number, first_stage, free_values, stages_of, states_of}
+use Rattle.smp_balance.specs.Strata.{column_count, free_values}
+use Rattle.smp_twostage.specs.Selections.{tree_of, first_number, first_stage, stages_of, states_of}
 use Rattle.smp_twostage.specs.Laws.Numbering.{first_there}
 use Rattle.smp_twostage.proofs.Columns.{is_planned}
 
@@ -41,7 +42,7 @@ module _ (plan : Parts) (drawable : CanBeDrawn plan) (balance : balances plan.me
   at = first_number plan h
 
   abbrev inner : Tree Balancing
-  inner = cube_tree (units_of s.request (free_values s))
+  inner = cube_tree (units_of s.request (free_values (balancing s)))
 
   abbrev out : AnyState → Option Balancing
   out = elim [ states.Cube state ↦ Some state | other ↦ None ]
@@ -50,31 +51,31 @@ module _ (plan : Parts) (drawable : CanBeDrawn plan) (balance : balances plan.me
   outer = embedded states.Cube out inner
 
   abbrev tree_by : Procedure → Tree AnyState
-  tree_by way = rows_tree (length s.units) s.request (method_of (design_of way s.request (free_values s))).tree
+  tree_by way = rows_tree (length s.units) s.request (method_of (design_of way s.request (free_values (balancing s)))).tree
 
   abbrev start_by : Procedure → AnyState
-  start_by way = first_state (design_of way s.request (free_values s))
+  start_by way = first_state (design_of way s.request (free_values (balancing s)))
 
   abbrev by_cube : Procedure
-  by_cube = procedure Cube plan.order (column_count s)
+  by_cube = procedure Cube plan.order (column_count (balancing s))
 
-  way_is : procedure plan.method plan.order (column_count s) ≡ by_cube
-  way_is = ap (λ m. procedure m plan.order (column_count s)) (is_cube plan.method balance)
+  way_is : procedure plan.method plan.order (column_count (balancing s)) ≡ by_cube
+  way_is = ap (λ m. procedure m plan.order (column_count (balancing s))) (is_cube plan.method balance)
 
   there : slice_get (stages_of plan) at ≡ Some (first_stage plan s)
   there = first_there plan h s is
 
-  begins : slice_get (states_of plan) at ≡ Some (start_by (procedure plan.method plan.order (column_count s)))
+  begins : slice_get (states_of plan) at ≡ Some (start_by (procedure plan.method plan.order (column_count (balancing s))))
   begins = slice_get-map (λ stage. first_state stage.design.design) (stages_of plan) at ∙ ap (option_map (λ stage. first_state stage.design.design)) there
 
   abbrev last : (state : AnyState) × (slice_get ends at ≡ Some state)
   last = some_within ends at (let within = slice_get_within (stages_of plan) at (first_stage plan s) there in omega (arith, goes.paired, within))
 
-  own : IsStagePath true (tree_of (first_stage plan s).design) (start_by (procedure plan.method plan.order (column_count s))) (goes.part at) last.0
+  own : IsStagePath true (tree_of (first_stage plan s).design) (start_by (procedure plan.method plan.order (column_count (balancing s)))) (goes.part at) last.0
   own =
       let is_first : is_drawn tree_of (stages_of plan) ends at ≡ true = rw there refl in
-      subst (λ drawn. IsStagePath drawn (tree_of (first_stage plan s).design) (start_by (procedure plan.method plan.order (column_count s))) (goes.part at) last.0) is_first
-      (goes.each at (first_stage plan s) (start_by (procedure plan.method plan.order (column_count s))) last.0 there begins last.1)
+      subst (λ drawn. IsStagePath drawn (tree_of (first_stage plan s).design) (start_by (procedure plan.method plan.order (column_count (balancing s)))) (goes.part at) last.0) is_first
+      (goes.each at (first_stage plan s) (start_by (procedure plan.method plan.order (column_count (balancing s)))) last.0 there begins last.1)
 
   pub drawn_by_cube : IsDrawnByCube plan h s (goes.part at) ends
   drawn_by_cube =
@@ -83,10 +84,10 @@ module _ (plan : Parts) (drawable : CanBeDrawn plan) (balance : balances plan.me
       let done : (tree_by by_cube).done last.0 ≡ true = subst (λ (p : Procedure). (tree_by p).done last.0 ≡ true) way_is own.1 in
       let rows = came_whole outer (λ _. Unit {0}) (rows_tree (length s.units) s.request outer) (λ t. t) (λ row. row_view (inclusion s.request row))
       (rows_lens (length s.units) s.request outer (λ _. Unit {0}) (sym request.paired)) (rows_close (length s.units) s.request outer (λ _. Unit {0}))
-      (goes.part at) (states.Cube (started (units_of s.request (free_values s)))) last.0 leads in
+      (goes.part at) (states.Cube (started (units_of s.request (free_values (balancing s))))) last.0 leads in
       let cubes = came_whole inner (λ _. Unit {0}) outer states.Cube (λ k. as_unit k)
       (embedded_lens states.Cube out inner (λ _. refl) (λ _. Unit {0})) (embedded_closes states.Cube out inner (λ _. refl) (λ _. Unit {0}))
-      (goes.part at) (started (units_of s.request (free_values s))) rows.inside rows.leads in
+      (goes.part at) (started (units_of s.request (free_values (balancing s)))) rows.inside rows.leads in
       let same : last.0 ≡ states.Cube cubes.inside = rows.is ∙ cubes.is in
       record {
         leaf = cubes.inside;
@@ -99,12 +100,12 @@ module _ (plan : Parts) (drawable : CanBeDrawn plan) (balance : balances plan.me
 
 module _ (plan : Parts) (drawable : CanBeDrawn plan) (balance : balances plan.method ≡ true) (ends : List AnyState) (h : ℕ) (s : Stratum) (is : slice_get plan.strata h ≡ Some s) (leaf : Balancing) (leaf_is : slice_get ends (first_number plan h) ≡ Some (states.Cube leaf)) where
   abbrev selected_by : Procedure → ℕ → Bool
-  selected_by way k = is_taken ((method_of (design_of way s.request (free_values s))).tree.selected (states.Cube leaf)) (inclusion s.request k)
+  selected_by way k = is_taken ((method_of (design_of way s.request (free_values (balancing s)))).tree.selected (states.Cube leaf)) (inclusion s.request k)
 
-  is_the_cube : procedure plan.method plan.order (column_count s) ≡ procedure Cube plan.order (column_count s)
-  is_the_cube = ap (λ m. procedure m plan.order (column_count s)) (is_cube plan.method balance)
+  is_the_cube : procedure plan.method plan.order (column_count (balancing s)) ≡ procedure Cube plan.order (column_count (balancing s))
+  is_the_cube = ap (λ m. procedure m plan.order (column_count (balancing s))) (is_cube plan.method balance)
 
-  read_there : (k : ℕ) → unit_selected tree_of (stages_of plan) ends (first_place plan h k) ≡ selected_by (procedure plan.method plan.order (column_count s)) k
+  read_there : (k : ℕ) → unit_selected tree_of (stages_of plan) ends (record { stage = first_number plan h; unit = k }) ≡ selected_by (procedure plan.method plan.order (column_count (balancing s))) k
   read_there k =
       ap (λ o. read tree_of false (λ tree t. tree.selected t k) o (slice_get ends (first_number plan h))) (first_there plan h s is)
       ∙ ap (λ o. read tree_of false (λ tree t. tree.selected t k) (Some (first_stage plan s)) o) leaf_is
@@ -115,5 +116,5 @@ module _ (plan : Parts) (drawable : CanBeDrawn plan) (balance : balances plan.me
   -- those that are certain, and those whose value is 1 at the leaf
   pub cube_selected : (k : ℕ) → first_selected plan ends h k ≡ is_selected (balancing s) leaf k
   cube_selected k =
-      ap (λ b. b && unit_selected tree_of (stages_of plan) ends (first_place plan h k)) is_first
+      ap (λ b. b && unit_selected tree_of (stages_of plan) ends (record { stage = first_number plan h; unit = k })) is_first
       ∙ read_there k ∙ ap (λ way. selected_by way k) is_the_cube

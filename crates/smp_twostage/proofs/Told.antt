@@ -31,7 +31,7 @@ use Rattle.smp_twostage.specs.Kept.{IsPlanned}
 use Rattle.smp_twostage.specs.Lines.{drawn_stratum}
 use Rattle.smp_twostage.specs.Plans.{CanBeDrawn}
 use Rattle.smp_twostage.specs.Selections.{Coverage, Selecting, covered_parts, covers, first_number, first_stage, is_only, parts_by, stages_of, tree_of}
-use Rattle.smp_twostage.specs.Starts.{first_place, first_selected}
+use Rattle.smp_twostage.specs.Starts.{first_selected}
 use Rattle.smp_twostage.specs.Laws.Covered.{alone_there}
 use Rattle.smp_twostage.specs.Laws.Numbering.{first_there}
 use Rattle.smp_twostage.proofs.Columns.{is_planned, near_within}
@@ -51,7 +51,7 @@ module _ (parts : Parts) (states : List AnyState) where
 
   first_open : (n : ℕ) (s : Stratum) → slice_get parts.strata n ≡ Some s → (k : ℕ) → first_selected parts states n k ≡ true → can_be_selected (inclusion s.request k) ≡ true
   first_open n s is k selected =
-      let both = and_parts (is_drawn tree_of (stages_of parts) states (first_number parts n)) (unit_selected tree_of (stages_of parts) states (first_place parts n k)) selected in
+      let both = and_parts (is_drawn tree_of (stages_of parts) states (first_number parts n)) (unit_selected tree_of (stages_of parts) states (record { stage = first_number parts n; unit = k })) selected in
       open_at (first_stage parts s) k (slice_get states (first_number parts n))
       (ap (λ o. read tree_of false (λ tree t. tree.selected t k) o (slice_get states (first_number parts n))) (sym (first_there parts n s is)) ∙ both.1)
 

@@ -1,19 +1,15 @@
 -- What the cube draws of a stratum, on the way to a leaf of the whole selection.
-use Rattle.std.specs.Prelude.{◌≡◌, ℕ, true, List, map, Some}
+use Rattle.std.specs.Prelude.{◌≡◌, ℕ, true, List, Some}
 use Rattle.std.specs.List.{slice_get}
 use Rattle.smp_split.specs.Paths.{Entry, Leads}
 use Rattle.smp_landing.specs.Cube.{Balancing}
-use Rattle.smp_balance.specs.Strata as balance
 use Rattle.smp_balance.specs.Strata.{tree_of, start_of}
 use Rattle.smp_methods.specs.declared.any.AnyState.{AnyState}
 use Rattle.smp_methods.specs.declared.any.AnyState.TheVariants.{Cube}
 use Rattle.smp_strata.specs.Plans.{Parts}
 use Rattle.smp_strata.specs.declared.strata.Stratum.{Stratum}
 use Rattle.smp_twostage.specs.Selections.{first_number}
-
--- a stratum as the cube draws from it: its request, and the balancing values of its first stage units
-abbrev pub balancing : Stratum → balance.StratumUnits
-balancing s = record { request = s.request; values = map (λ u. u.values) s.units }
+pub use Rattle.smp_twostage.specs.Selections.{balancing}
 
 -- The stratum's part of a path leads through the cube's tree, from the requested probabilities to a leaf, and it ends the selection in the
 -- stratum.

@@ -1,5 +1,5 @@
 -- What the report tells of the strata that are balanced.
-use Rattle.std.specs.Prelude.{ℕ, ◌+◌, if◌then◌else◌, List, [], length, Option, Some, None}
+use Rattle.std.specs.Prelude.{ℕ, ◌+◌, if◌then◌else◌, List, [], length, option_map, unwrap_or}
 use Rattle.std.specs.List.{filter, flat_map, range_with_len, slice_get}
 use Rattle.smp_balance.specs.Lines as balance
 use Rattle.smp_balance.specs.Strata.{column_count}
@@ -24,12 +24,11 @@ drawn_stratum c states h s = record {
   units = filter (covered_first c states h) (range_with_len 0 (length s.units));
 }
 
-abbrev pub lines_at : Coverage → List AnyState → ℕ → Option Stratum → List ℕ
-lines_at c states h (Some s) = balance.balance_lines (drawn_stratum c states h s)
-lines_at c states h None = []
-
 abbrev pub stratum_lines : Coverage → List AnyState → ℕ → List ℕ
-stratum_lines c states h = lines_at c states h (slice_get c.plan.strata h)
+stratum_lines c states h =
+    unwrap_or
+    (option_map (λ s. balance.balance_lines (drawn_stratum c states h s)) (slice_get c.plan.strata h))
+    []
 
 -- the lines of the strata that are covered, in their order
 abbrev pub all_lines : Coverage → List AnyState → List ℕ

@@ -1,9 +1,10 @@
 -- The whole selection by a plan, in stages. Strata are drawn in order of first appearance. In each its first stage units are drawn,
 -- and then, where there is a second stage, rows within each of those that were drawn, certain ones among them (Särndal, Swensson and
 -- Wretman 1992).
-use Rattle.std.specs.Prelude.{ℕ, zero, Bool, true, suc, ◌+◌, ℤ, nat_eq, nat_lt, ◌&&◌, if◌then◌else◌, List, [], ◌∷◌}
-use Rattle.std.specs.Prelude.{◌++◌, length, map, take, drop, Option, Some, None, slice_index_or}
+use Rattle.std.specs.Prelude.{ℕ, zero, Bool, true, suc, ◌+◌, nat_eq, nat_lt, ◌&&◌, if◌then◌else◌, List, [], ◌∷◌}
+use Rattle.std.specs.Prelude.{◌++◌, length, map, take, drop, Option, Some, None, option_map, unwrap_or}
 use Rattle.std.specs.List.{slice_get, list_any, position_or_len, range_with_len}
+use Rattle.smp_balance.specs.Strata.{StratumUnits, column_count, free_values}
 use Rattle.smp_prob.specs.declared.orders.Order.TheVariants.{Frame}
 use Rattle.smp_prob.specs.declared.requests.Request.{Request}
 use Rattle.smp_split.specs.Sectioning.{Sectioning}
@@ -12,8 +13,7 @@ use Rattle.smp_rows.specs.Rows.{rows_tree, BelongsToRows}
 use Rattle.smp_design.specs.declared.method.Method.{Method}
 use Rattle.smp_methods.specs.declared.any.AnyDesign.{AnyDesign}
 use Rattle.smp_methods.specs.declared.any.AnyState.{AnyState}
-use Rattle.smp_methods.specs.Procedures.{procedure}
-use Rattle.smp_methods.specs.Designs.{design_of, first_state, method_of}
+use Rattle.smp_methods.specs.Designs.{design_by, first_state, method_of}
 use Rattle.smp_strata.specs.Plans.{Parts}
 use Rattle.smp_strata.specs.declared.strata.FirstUnit as unit
 use Rattle.smp_strata.specs.declared.strata.Seat as place
@@ -43,15 +43,9 @@ belongs_to s = BelongsToRows s.request (method_of s.design).tree (method_of s.de
 
 -- ---- the stages
 
--- the values of a first stage unit, how many there are, and those of the free units, in their order
-abbrev pub values_at : stratum.Stratum → ℕ → List ℤ
-values_at s k = slice_index_or (map (λ u. u.values) s.units) k []
-
-abbrev pub column_count : stratum.Stratum → ℕ
-column_count s = length (values_at s 0)
-
-abbrev pub free_values : stratum.Stratum → List (List ℤ)
-free_values s = map (values_at s) s.request.free
+-- a stratum as it is drawn from: its request, and the values of its first stage units
+abbrev pub balancing : stratum.Stratum → StratumUnits
+balancing s = record { request = s.request; values = map (λ u. u.values) s.units }
 
 -- the first stage of a stratum: its first stage units, by the plan's method and in its order
 abbrev pub first_stage : Parts → stratum.Stratum → Stage Selecting
@@ -59,8 +53,8 @@ first_stage plan s = record {
   design = record {
     units = length s.units;
     request = s.request;
-    design = design_of (procedure plan.method plan.order (column_count s)) s.request
-        (free_values s);
+    design = design_by plan.method plan.order (column_count (balancing s)) s.request
+        (free_values (balancing s));
   };
   within = None;
 }
@@ -71,7 +65,7 @@ second_stage method request rows at k = record {
   design = record {
     units = rows;
     request = request;
-    design = design_of (procedure method Frame 0) request (map (λ _. []) request.free);
+    design = design_by method Frame 0 request (map (λ _. []) request.free);
   };
   within = Some (record { stage = at; unit = k });
 }
@@ -136,10 +130,6 @@ abbrev pub units_at : Option stratum.Stratum → List unit.FirstUnit
 units_at (Some s) = s.units
 units_at None = []
 
-abbrev pub rows_at : Option unit.FirstUnit → List ℕ
-rows_at (Some u) = u.rows
-rows_at None = []
-
 abbrev pub place_of : List stratum.Stratum → ℕ → place.Seat
 place_of strata row =
     let h = position_or_len (stratum_has row) strata in
@@ -148,7 +138,7 @@ place_of strata row =
     record {
       stratum = h;
       unit = k;
-      place = position_or_len (nat_eq row) (rows_at (slice_get units k));
+      place = position_or_len (nat_eq row) (unwrap_or (option_map (λ (u : unit.FirstUnit). u.rows) (slice_get units k)) []);
     }
 
 -- the seats of all rows, in frame order

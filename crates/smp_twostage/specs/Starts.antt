@@ -15,7 +15,6 @@ use Rattle.smp_strata.specs.Seats.{seat_fraction}
 use Rattle.smp_strata.specs.declared.strata.FirstUnit as unit
 use Rattle.smp_strata.specs.declared.strata.Stratum as stratum
 use Rattle.smp_methods.specs.Designs.{left_at}
-use Rattle.smp_stages.specs.declared.places.Place.{Place}
 use Rattle.smp_stages.specs.declared.places.Stage.{Stage}
 use Rattle.smp_stages.specs.Stages.{Progress, selected_in}
 use Rattle.smp_stages.specs.Paths.{GoesByStages}
@@ -43,20 +42,16 @@ weighted asked x = times (integer (known asked x)) (inverse asked)
 
 -- ---- units that are selected
 
--- a unit of a stratum's first stage, and a row within it, by its place among the unit's rows
-abbrev pub first_place : Parts → ℕ → ℕ → Place
-first_place plan h k = record { stage = first_number plan h; unit = k }
-
-abbrev pub second_place : Parts → ℕ → ℕ → ℕ → Place
-second_place plan h k row = record { stage = suc (first_number plan h + k); unit = row }
-
--- whether they are selected in their stages, where the stages are in these states
+-- whether a unit of a stratum's first stage, and a row within it, by its place among the unit's rows, are selected in their stages, where
+-- the stages are in these states
 abbrev pub first_selected : Parts → List AnyState → ℕ → ℕ → Bool
-first_selected plan states h k = selected_in tree_of (stages_of plan) states (first_place plan h k)
+first_selected plan states h k =
+    selected_in tree_of (stages_of plan) states (record { stage = first_number plan h; unit = k })
 
 abbrev pub second_selected : Parts → List AnyState → ℕ → ℕ → ℕ → Bool
 second_selected plan states h k row =
-    selected_in tree_of (stages_of plan) states (second_place plan h k row)
+    selected_in tree_of (stages_of plan) states
+    (record { stage = suc (first_number plan h + k); unit = row })
 
 -- how many of the units of stratum h were undecided where the landing of its cube began, and 0 by any other method
 abbrev pub left_by : Option (Stage Selecting) → Option AnyState → ℕ

@@ -8,8 +8,9 @@ ghost use Rattle.smp_methods.specs.Procedures.{NeedsWhole, procedure, procedure_
 ghost use Rattle.smp_strata.specs.Bounds.{IsFirst};
 ghost use Rattle.smp_twostage.specs.Kept.{EachStarts, IsPlanned, StageStarts, first_numbers};
 ghost use Rattle.smp_twostage.specs.Plans.{CanBeDrawn, TakesRows};
-ghost use Rattle.smp_twostage.specs.Selections as Selections;
-ghost use Rattle.smp_twostage.specs.Selections.{all_of, covered_stages, first_stage, one_of, stage_by, stages_in, stages_of, stages_within};
+ghost use Rattle.smp_balance.specs.Strata as Strata;
+ghost use Rattle.smp_twostage.specs.Selections.{all_of, balancing, covered_stages, first_stage, one_of};
+ghost use Rattle.smp_twostage.specs.Selections.{stage_by, stages_in, stages_of, stages_within};
 
 use crate::StageDesign;
 use smp_design::{Method, Order};
@@ -60,7 +61,7 @@ fn values_at(alloc: Global, units: &[FirstUnit], unit: usize) -> Result<Numbers,
 
 // The values of the free units of a stratum, in their order.
 fn free_values(alloc: Global, stratum: &Stratum) -> Result<Vec<Numbers>, NoMemory>
-    ensures { IfOk result (λ values. values.items ≡ Selections.free_values stratum.now) }
+    ensures { IfOk result (λ values. values.items ≡ Strata.free_values (balancing stratum.now)) }
 {
     let mut values = Vec::new(alloc);
     for unit in stratum.request.free.as_slice() {
@@ -82,7 +83,7 @@ fn no_values(alloc: Global, request: &Request) -> Result<Vec<Numbers>, NoMemory>
 
 // How many columns of values the units of a stratum have.
 pub(crate) fn column_count(stratum: &Stratum) -> usize
-    ensures { result ≡ Selections.column_count stratum.now }
+    ensures { result ≡ Strata.column_count (balancing stratum.now) }
 {
     match stratum.units.as_slice().first() {
         Some(first) => first.values.as_slice().len(),

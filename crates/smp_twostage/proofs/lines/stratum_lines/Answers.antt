@@ -1,12 +1,13 @@
-use Rattle.std.proofs.Common.{◌≡◌, ℕ, ◌+◌, List, length, map, Some, IfOk, refl, sym, subst, ◌∙◌, ap}
-use Rattle.std.specs.Prelude.{string_bytes}
+use Rattle.std.proofs.Common.{◌≡◌, ℕ, ◌+◌, List, [], length, map, Option, Some, IfOk, refl, sym, subst, ◌∙◌, ap}
+use Rattle.std.specs.Prelude.{option_map, string_bytes, unwrap_or}
 use Rattle.std.specs.List.{filter, range_with_len, slice_get}
 use Rattle.std.proofs.lemmas.Option.{slice_get_read}
 use Rattle.smp_balance.specs.Lines as balance
 use Rattle.smp_balance.specs.Lines.{IsTold, balance_lines}
 use Rattle.smp_strata.specs.declared.strata.FirstUnit.{FirstUnit}
+use Rattle.smp_strata.specs.declared.strata.Stratum.{Stratum}
 use Rattle.smp_twostage.specs.Covered.{covered_first}
-use Rattle.smp_twostage.specs.Lines.{drawn_stratum, lines_at}
+use Rattle.smp_twostage.specs.Lines.{drawn_stratum}
 use Rattle.smp_twostage.proofs.Told.{drawn_same, is_told}
 use Rattle.smp_twostage.proofs.lines.stratum_lines.Goals.{After-as_slice-2}
 use Rattle.smp_twostage.proofs.lines.stratum_lines.Goals as goal
@@ -36,5 +37,5 @@ balance_lines-requires c =
 pub returns : goal.returns
 returns c =
     let at = (goal.at.returns c).After-as_slice-2 in
-    let told = ap balance_lines (same at) ∙ ap (lines_at c.args.whole.now c.args.state.now.states c.args.number) (sym (there at)) in
+    let told = ap balance_lines (same at) ∙ ap (λ (o : Option Stratum). unwrap_or (option_map (λ (s : Stratum). balance_lines (drawn_stratum c.args.whole.now c.args.state.now.states c.args.number s)) o) []) (sym (there at)) in
     subst (λ (t : List ℕ). IfOk c.balance_lines.result (λ text. string_bytes text ≡ t)) told c.balance_lines.ensures
