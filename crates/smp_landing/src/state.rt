@@ -10,7 +10,7 @@ ghost use Rattle.smp_flight.specs.Answers.{IsFirstMove, move_of};
 ghost use Rattle.smp_landing.specs.Cube.{Balancing, IsBalancing, cube_kind, cube_parts, landed, values_in};
 ghost use Rattle.smp_landing.specs.Kept.States.{IsKept, balancing_of};
 
-use smp_flight::{FlightState, Move, Next, Shape, apply, step};
+use smp_flight::{FlightState, Move, Next, Shape, apply, look, step};
 use smp_kernel::Steps;
 use smp_split::Kind;
 use smp_values::{PivotalSteps, Values};
@@ -69,7 +69,7 @@ fn landed(flight: &FlightState, left: u32) -> u32
     }
 }
 
-/// Goes to an end of a move of the flight, counted on a ledger that nothing was written into.
+/// Goes to an end of a move of the flight, counted on a ledger that nothing was written into, and looks for the step from there.
 fn fly<L: Ledger>(shape: &Shape, flight: &mut FlightState, mv: &Move, plus: bool, blank: Blank)
     requires flight { IsFlight shape.now flight.old.flight }
     requires first { AreFirst flight.old.flight flight.old.window }
@@ -84,6 +84,7 @@ fn fly<L: Ledger>(shape: &Shape, flight: &mut FlightState, mv: &Move, plus: bool
 {
     let mut steps = Steps::<L>::new(blank);
     apply(shape, flight, mv, plus, &mut steps);
+    look(shape, flight);
 }
 
 impl CubeState {
