@@ -38,7 +38,8 @@ use Rattle.smp_app.specs.declared.selection.Taken.{Taken}
 use Rattle.smp_app.specs.declared.selection.Taken.TheVariants as takes
 use Rattle.smp_app.specs.Kept.Stages.{DiffersTaken, drawn_by_taken, only_of}
 use Rattle.smp_app.specs.Drawn.{Drawn, tree_of, start_of, sections_of}
-use Rattle.smp_app.specs.Draws.{IfLine, OldDiffers, RefusesLog, StratumDiffers, WholeDiffers}
+use Rattle.smp_app.specs.Commands.{Source}
+use Rattle.smp_app.specs.Draws.{IfLine, IsRefusedAt, IsRefusedBy, OldDiffers, RefusesLog, StratumDiffers, WholeDiffers}
 use Rattle.smp_app.specs.Verdict.{alone, drawn_by_log, drawn_by_old_log, drawn_by_section, stratum_at, told_by}
 
 -- ---- a refusal that names a line is the stage's
@@ -109,11 +110,11 @@ module _ (plan : Plan) (is_head : IsHead plan.head) (log : List ℕ) (line : ℕ
 
 -- ---- the log in its file
 
-pub held_in : (held : Option (List ℕ)) (name bytes : List ℕ) → content name held ≡ Ok bytes → held ≡ Some bytes
+held_in : (held : Option (List ℕ)) (name bytes : List ℕ) → content name held ≡ Ok bytes → held ≡ Some bytes
 held_in (Some b) name bytes h = let same : ◌≡◌ {A = Result (List ℕ) Stop} (Ok b) (Ok bytes) = h in cc
 held_in None name bytes h = absurd (cc)
 
-pub log_refused : (Differs : List ℕ → Type 0) (name bytes : List ℕ) (fs : Files) → content name (fs name) ≡ Ok bytes → Differs bytes → RefusesLog Differs name fs
+log_refused : (Differs : List ℕ → Type 0) (name bytes : List ℕ) (fs : Files) → content name (fs name) ≡ Ok bytes → Differs bytes → RefusesLog Differs name fs
 log_refused Differs name bytes fs read differs = record { bytes = bytes; held = held_in (fs name) name bytes read; differs = differs }
 
 -- a file that isn't there is no line
@@ -121,8 +122,19 @@ not_refused : (name : List ℕ) (held : Option (List ℕ)) (refusal : Status) �
 not_refused name (Some bytes) refusal h = cc
 not_refused name None refusal h = cc
 
-pub read_line : (name : List ℕ) (held : Option (List ℕ)) (error : Status) (P : ℕ → Type 0) → Follows (Err error) (content name held) → IfLine error P
+read_line : (name : List ℕ) (held : Option (List ℕ)) (error : Status) (P : ℕ → Type 0) → Follows (Err error) (content name held) → IfLine error P
 read_line name held error P follows = line_of error (content name held) P follows (λ line e. absurd (not_refused name held (status.LogDiffers line) e))
+
+-- where the log couldn't be read, no line is named
+pub unread : {A : Type 0} (plan : Plan) (source : Source) (fs : Files) (name : List ℕ) (error : Status) (answer : Result A Status) → answer ≡ Err error → Follows (Err error) (content name (fs name)) → IfErr answer (IsRefusedBy plan source fs)
+unread plan source fs name error answer ends follows = rw ends (read_line name (fs name) error (IsRefusedAt plan source fs) follows)
+
+-- what differs in the bytes that were read differs in the log
+pub in_log : {A : Type 0} (Differs : List ℕ → ℕ → Type 0) (name bytes log : List ℕ) (fs : Files) (answer : Result A Status) → content name (fs name) ≡ Ok bytes → log ≡ bytes → IfErr answer (λ refusal. IfLine refusal (Differs log))
+    → IfErr answer (λ refusal. IfLine refusal (λ line. RefusesLog (λ b. Differs b line) name fs))
+in_log Differs name bytes log fs answer read same =
+    if_more answer (Differs log) (λ line. RefusesLog (λ b. Differs b line) name fs)
+    (λ line differs. log_refused (λ b. Differs b line) name bytes fs read (subst (λ (b : List ℕ). Differs b line) same differs))
 
 -- ---- a stratum by its number
 
