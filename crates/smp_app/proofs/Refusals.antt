@@ -147,18 +147,6 @@ stratum_is plan number h e =
       | inr beyond ↦ absurd (let same : ◌≡◌ {A = Result ℕ Stop} (Err (Refused (status.NoStratum number strata))) (Ok h) = rw beyond at e in cc)
     ]
 
--- a number of no stratum is no line
-not_a_line : (plan : Plan) (number line : ℕ) → ◌≡◌ {A = Result ℕ Stop} (stratum_at plan number) (Err (Refused (status.LogDiffers line))) → ⊥
-not_a_line plan number line e =
-    let strata : ℕ = length (parts plan).strata in
-    elim (cases_Bool (nat_le number strata)) [
-      | inl there ↦ (let same : ◌≡◌ {A = Result ℕ Stop} (Ok (number - 1)) (Err (Refused (status.LogDiffers line))) = rw there at e in cc)
-      | inr beyond ↦ (let same : ◌≡◌ {A = Result ℕ Stop} (Err (Refused (status.NoStratum number strata))) (Err (Refused (status.LogDiffers line))) = rw beyond at e in cc)
-    ]
-
-pub number_line : (plan : Plan) (number : ℕ) (error : Status) (P : ℕ → Type 0) → Follows (Err error) (stratum_at plan number) → IfLine error P
-number_line plan number error P follows = line_of error (stratum_at plan number) P follows (λ line e. absurd (not_a_line plan number line e))
-
 -- ---- no design, no frame and no misfit is a line
 
 bind_out : {A B : Type 0} (first : Result A Stop) (f : A → Result B Stop) (refusal : Status) → (first ≡ Err (Refused refusal) → ⊥) → ((x : A) → f x ≡ Err (Refused refusal) → ⊥) → first >>= f ≡ Err (Refused refusal) → ⊥
