@@ -13,7 +13,8 @@ use Rattle.smp_rows.specs.Rows.{rows_tree, BelongsToRows}
 use Rattle.smp_design.specs.declared.method.Method.{Method}
 use Rattle.smp_methods.specs.declared.any.AnyDesign.{AnyDesign}
 use Rattle.smp_methods.specs.declared.any.AnyState.{AnyState}
-use Rattle.smp_methods.specs.Designs.{design_by, first_state, method_of}
+use Rattle.smp_methods.specs.Procedures.{procedure}
+use Rattle.smp_methods.specs.Designs.{design_of, first_state, method_of}
 use Rattle.smp_strata.specs.Plans.{Parts}
 use Rattle.smp_strata.specs.declared.strata.FirstUnit as unit
 use Rattle.smp_strata.specs.declared.strata.Seat as place
@@ -53,8 +54,8 @@ first_stage plan s = record {
   design = record {
     units = length s.units;
     request = s.request;
-    design = design_by plan.method plan.order (column_count (balancing s)) s.request
-        (free_values (balancing s));
+    design = design_of (procedure plan.method plan.order (column_count (balancing s)))
+        s.request (free_values (balancing s));
   };
   within = None;
 }
@@ -65,7 +66,7 @@ second_stage method request rows at k = record {
   design = record {
     units = rows;
     request = request;
-    design = design_by method Frame 0 request (map (λ _. []) request.free);
+    design = design_of (procedure method Frame 0) request (map (λ _. []) request.free);
   };
   within = Some (record { stage = at; unit = k });
 }
