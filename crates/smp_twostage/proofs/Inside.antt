@@ -1,6 +1,5 @@
 -- What a selection is made of is what its plan says.
 use Rattle.std.proofs.Common.{◌≡◌, ℕ, suc, ◌<◌, ◌≤◌, Bool, true, List, length, get_or, Option, Some, None, ap, arith, refl, subst, sym, ◌∙◌}
-use Rattle.std.specs.Prelude.{if◌then◌else◌, is_some}
 use Rattle.std.specs.List.{slice_get}
 use Rattle.std.proofs.lemmas.Bool.{and_parts, eqb-true, ltb-true}
 use Rattle.std.proofs.lemmas.Option.{slice_get_within, slice_get_read, same_Some}
@@ -13,7 +12,7 @@ use Rattle.smp_stages.specs.Stages.{Progress, IsUnderWay, selected_in, staged_tr
 use Rattle.smp_stages.specs.Laws.Reads.{some_within}
 use Rattle.smp_strata.specs.declared.strata.Stratum.{Stratum}
 use Rattle.smp_strata.specs.Plans.{Parts}
-use Rattle.smp_twostage.specs.Covered.{covered_first, covered_left, covered_number}
+use Rattle.smp_twostage.specs.Covered.{covered_first, covered_left, covered_number, number_by}
 use Rattle.smp_twostage.specs.Starts.{left_by}
 use Rattle.smp_twostage.specs.Laws.Covered.{alone_there}
 use Rattle.smp_twostage.specs.Laws.Numbering.{first_there}
@@ -43,7 +42,7 @@ module _ (c : Coverage) (firsts : List ℕ) (are : firsts ≡ first_numbers c) w
 pub covered_within : (c : Coverage) (h : ℕ) → covers c h ≡ true → h < length c.plan.strata
 covered_within c h covered = ltb-true h (length c.plan.strata) (and_parts _ _ covered).0
 
-there_by : (plan : Parts) (only : Option ℕ) (h : ℕ) → is_only only h ≡ true → (s : Stratum) → slice_get plan.strata h ≡ Some s → slice_get (parts_by plan only).strata (if is_some only then 0 else h) ≡ Some s
+there_by : (plan : Parts) (only : Option ℕ) (h : ℕ) → is_only only h ≡ true → (s : Stratum) → slice_get plan.strata h ≡ Some s → slice_get (parts_by plan only).strata (number_by only h) ≡ Some s
 there_by plan None h is s there = there
 there_by plan (Some only) h is s there = alone_there plan only s (ap (slice_get plan.strata) (sym (eqb-true h only is)) ∙ there)
 

@@ -1,5 +1,5 @@
 -- The strata that a selection covers: what is read of each, and what the selection of one stratum alone starts with.
-use Rattle.std.specs.Prelude.{◌≡◌, ℕ, ◌<◌, Bool, false, if◌then◌else◌, List, is_some}
+use Rattle.std.specs.Prelude.{◌≡◌, ℕ, ◌<◌, Bool, false, if◌then◌else◌, List, Option, Some, None}
 use Rattle.smp_fractions.specs.Fractions.{Fraction, Same, whole}
 use Rattle.smp_split.specs.Means.{inclusion_probability}
 use Rattle.smp_split.specs.Sectioning.{IsPartOf}
@@ -14,8 +14,12 @@ use Rattle.smp_twostage.specs.Starts.{first_selected, left_in, row_fraction}
 -- ---- what is read of a stratum
 
 -- the number of a stratum among those that are covered
+abbrev pub number_by : Option ℕ → ℕ → ℕ
+number_by None h = h
+number_by (Some only) h = 0
+
 abbrev pub covered_number : Coverage → ℕ → ℕ
-covered_number c h = if is_some c.only then 0 else h
+covered_number c h = number_by c.only h
 
 -- whether a first stage unit of a stratum is selected, and how many of them were undecided where the landing of its cube began
 abbrev pub covered_first : Coverage → List AnyState → ℕ → ℕ → Bool
