@@ -1,5 +1,5 @@
 -- What a case comes to: n units, with probabilities in proportion to size, drawn by a method with the values of a tape.
-use Rattle.std.specs.Prelude.{◌≡◌, ℕ, ◌^◌, nat_lt, if◌then◌else◌, List, [], length, map, sum_by, Result, Ok, Err, ⊤}
+use Rattle.std.specs.Prelude.{ℕ, ◌^◌, Bool, true, false, nat_lt, if◌then◌else◌, List, [], length, map, sum_by, Result, Ok, Err}
 use Rattle.smp_tape.specs.TapeSources.{tape_source}
 use Rattle.smp_tape.specs.Tapes.{Values, tape_of_values}
 use Rattle.smp_split.specs.Counts.{selected_units}
@@ -59,8 +59,7 @@ verdict method sizes n values =
     if nat_lt (positive_units sizes) n then Err (TooMany (positive_units sizes))
     else drawn (case_tree method sizes n) (case_start method sizes n) values
 
--- the answer is this one, unless memory ran out
-abbrev pub Answers : Result ℕ CaseFault → Result ℕ CaseFault → Type 0
-Answers (Err NoMemory) owed = ⊤
-Answers (Err fault) owed = owed ≡ Err fault
-Answers (Ok mask) owed = owed ≡ Ok mask
+-- which fault is want of memory
+abbrev pub is_memory : CaseFault → Bool
+is_memory NoMemory = true
+is_memory other = false

@@ -2,8 +2,9 @@
 
 ghost use Rattle.std.specs.Prelude.{◌≡◌, ◌<◌, ◌≤◌, true, false, length, map, slice_index, EachIndex, IfOk, []};
 ghost use Rattle.smp_fractions.specs.Limits.{number_limit};
-ghost use Rattle.smp_cases.specs.Cases.{Answers, drawn, mask, verdict};
+ghost use Rattle.smp_cases.specs.Cases.{drawn, is_memory, mask, verdict};
 ghost use Rattle.smp_design.specs.Words.{needs_columns};
+ghost use Rattle.smp_faults.specs.Memory.{Reads};
 ghost use Rattle.smp_methods.specs.Designs.{method_of};
 ghost use Rattle.smp_methods.specs.Procedures.{procedure};
 ghost use Rattle.smp_methods.specs.Starts.{IsStarted};
@@ -91,7 +92,7 @@ fn draw<S: Splitting>(
 ) -> Result<u64, CaseFault>
     requires few { (S.tree design.now).units ≤ 64 }
     requires belongs { S.belongs design.now state.old }
-    ensures { Answers result (drawn (S.tree design.now) state.old values.now) }
+    ensures { Reads is_memory result (drawn (S.tree design.now) state.old values.now) }
 {
     let Ok(mut tape) = Tape::from_values(alloc, values) else {
         return Err(CaseFault::NoMemory);
@@ -119,7 +120,7 @@ fn draw_all(
     requires few { units ≤ 64 }
     requires belongs { BelongsToRows request.now (method_of started.design).tree
         (method_of started.design).belongs started.state }
-    ensures { Answers result
+    ensures { Reads is_memory result
         (drawn (rows_tree units request.now (method_of started.design).tree)
         started.state values.now) }
 {
@@ -153,7 +154,7 @@ pub fn run_case(
     requires few { length sizes.now ≤ 64 }
     requires small { EachIndex sizes.now (λ i. slice_index sizes.now i < number_limit) }
     requires some { 1 ≤ n }
-    ensures { Answers result (verdict method sizes.now n tape.now) }
+    ensures { Reads is_memory result (verdict method sizes.now n tape.now) }
 {
     let request = match requested(alloc, sizes, n) {
         Ok(request) => request,
