@@ -45,8 +45,8 @@ impl Offers {
         requires light { self.now.draws * size_of self.now unit ≤ total self.now }
         ensures { result ≡ take_bound self.now unit }
     {
-        let rest = self.sizes.total() - self.sizes.largest() as u64;
-        let share = self.draws as u64 * self.sizes.size(unit) as u64;
+        let rest = self.sizes.total() - self.sizes.largest();
+        let share = self.draws as u64 * self.sizes.size(unit);
         rest as u128 * (self.sizes.total() - share) as u128
     }
 
@@ -56,8 +56,8 @@ impl Offers {
         requires light { self.now.draws * largest self.now ≤ total self.now }
         ensures { result ≡ take_weight self.now unit }
     {
-        let rest = self.sizes.total() - self.sizes.size(unit) as u64;
-        let share = self.draws as u64 * self.sizes.largest() as u64;
+        let rest = self.sizes.total() - self.sizes.size(unit);
+        let share = self.draws as u64 * self.sizes.largest();
         rest as u128 * (self.sizes.total() - share) as u128
     }
 

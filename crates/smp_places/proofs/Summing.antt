@@ -1,10 +1,11 @@
 -- The sums of the amounts before each place, at the roots of a tree.
-use Rattle.std.proofs.Common.{◌≡◌, ◌≢◌, ℕ, zero, suc, ◌+◌, ◌-◌, ◌<◌, ◌≤◌, List, [], ◌∷◌, length, get_or, set, refl, inl, inr, ◌⊎◌, arith}
+use Rattle.std.proofs.Common.{◌≡◌, ◌≢◌, ℕ, zero, suc, ◌+◌, ◌-◌, ◌*◌, ◌<◌, ◌≤◌, List, [], ◌∷◌, length, get_or, set, refl, ap, inl, inr, ◌⊎◌, arith}
+use Rattle.std.proofs.Math.Nat.{mul-le-mul_left}
 use Rattle.std.specs.List.{sum}
 use Rattle.std.proofs.lemmas.List.{get_or-set_same, get_or-set_other}
 use Rattle.std.proofs.lemmas.List.Sums.{sum_by-cons}
 use Rattle.smp_places.specs.Kept.{IsSummed}
-use Rattle.smp_places.specs.Amounts.{sum_before}
+use Rattle.smp_places.specs.Amounts.{sum_before, weighted_before}
 use Rattle.smp_places.specs.Trees.{EachRoot, middle}
 use Rattle.smp_places.proofs.Roots.{each_root_as, from_parts, root_of_tree}
 
@@ -36,20 +37,56 @@ before_within [] place = omega arith
 before_within (amount ∷ rest) zero = omega arith
 before_within (amount ∷ rest) (suc place) = omega (arith, sum_by-cons (λ a. a) amount rest, before_within rest place)
 
--- ---- when an amount is taken out
+-- ---- two amounts at each place
 
-taken_before : (amounts : List ℕ) (place other : ℕ) → other ≤ place → sum_before (set amounts place 0) other ≡ sum_before amounts other
-taken_before [] place other h = refl
-taken_before (amount ∷ rest) zero zero h = refl
-taken_before (amount ∷ rest) zero (suc other) h = absurd (omega arith)
-taken_before (amount ∷ rest) (suc place) zero h = refl
-taken_before (amount ∷ rest) (suc place) (suc other) h = omega (arith, taken_before rest place other (omega arith))
+pub weighted_none : (by : ℕ) (amounts : List ℕ) (times : ℕ) (others : List ℕ) → weighted_before by amounts times others 0 ≡ 0
+weighted_none by amounts times others = omega (arith, ap (λ n. by * n) (before_none amounts), ap (λ n. times * n) (before_none others))
 
-taken_behind : (amounts : List ℕ) (place other : ℕ) → place < other → sum_before (set amounts place 0) other + get_or amounts place 0 ≡ sum_before amounts other
-taken_behind [] place other h = refl
-taken_behind (amount ∷ rest) place zero h = absurd (omega arith)
-taken_behind (amount ∷ rest) zero (suc other) h = omega arith
-taken_behind (amount ∷ rest) (suc place) (suc other) h = omega (arith, taken_behind rest place other (omega arith))
+pub weighted_more : (by : ℕ) (amounts : List ℕ) (times : ℕ) (others : List ℕ) (place : ℕ) → weighted_before by amounts times others (place + 1) ≡ weighted_before by amounts times others place + (by * get_or amounts place 0 + times * get_or others place 0)
+weighted_more by amounts times others place = omega (arith, ap (λ n. by * n) (before_more amounts place), ap (λ n. times * n) (before_more others place))
+
+pub weighted_all : (by : ℕ) (amounts : List ℕ) (times : ℕ) (others : List ℕ) (place : ℕ) → length amounts ≤ place → length others ≤ place → weighted_before by amounts times others place ≡ by * sum amounts + times * sum others
+weighted_all by amounts times others place h k = rw (before_all amounts place h, before_all others place k) refl
+
+pub weighted_rises : (by : ℕ) (amounts : List ℕ) (times : ℕ) (others : List ℕ) (low high : ℕ) → low ≤ high → weighted_before by amounts times others low ≤ weighted_before by amounts times others high
+weighted_rises by amounts times others low high h =
+    omega (arith, mul-le-mul_left by (before_rises amounts low high h), mul-le-mul_left times (before_rises others low high h))
+
+pub weighted_within : (by : ℕ) (amounts : List ℕ) (times : ℕ) (others : List ℕ) (place : ℕ) → weighted_before by amounts times others place ≤ by * sum amounts + times * sum others
+weighted_within by amounts times others place =
+    omega (arith, mul-le-mul_left by (before_within amounts place), mul-le-mul_left times (before_within others place))
+
+-- what the sums at a root tell
+pub weighted_half : (by : ℕ) (amounts : List ℕ) (times : ℕ) (others sums more : List ℕ) (low root high : ℕ) → IsSummed amounts sums low root high → IsSummed others more low root high → by * get_or sums root 0 + times * get_or more root 0 + weighted_before by amounts times others low ≡ weighted_before by amounts times others root
+weighted_half by amounts times others sums more low root high is also = omega (arith, ap (λ n. by * n) is, ap (λ n. times * n) also)
+
+-- what a turn of a search has at the root of the tree that is left
+pub record IsAtRoot (by : ℕ) (amounts : List ℕ) (times : ℕ) (others sums more : List ℕ) (low root : ℕ) : Type 0 where
+  pub half : by * get_or sums root 0 + times * get_or more root 0 + weighted_before by amounts times others low ≡ weighted_before by amounts times others root
+  pub own : weighted_before by amounts times others (root + 1) ≡ weighted_before by amounts times others root + (by * get_or amounts root 0 + times * get_or others root 0)
+  pub within : weighted_before by amounts times others (root + 1) ≤ by * sum amounts + times * sum others
+
+pub is_at_root : (by : ℕ) (amounts : List ℕ) (times : ℕ) (others sums more : List ℕ) (low root high : ℕ) → root ≡ middle low high → low < high → EachRoot (IsSummed amounts sums) low high → EachRoot (IsSummed others more) low high → IsAtRoot by amounts times others sums more low root
+is_at_root by amounts times others sums more low root high is here summed also = record {
+  half = weighted_half by amounts times others sums more low root high (root_of_tree (IsSummed amounts sums) low root high is here summed) (root_of_tree (IsSummed others more) low root high is here also);
+  own = weighted_more by amounts times others root;
+  within = weighted_within by amounts times others (root + 1);
+}
+
+-- ---- when an amount is set
+
+set_before : (amounts : List ℕ) (place amount other : ℕ) → other ≤ place → sum_before (set amounts place amount) other ≡ sum_before amounts other
+set_before [] place amount other h = refl
+set_before (first ∷ rest) zero amount zero h = refl
+set_before (first ∷ rest) zero amount (suc other) h = absurd (omega arith)
+set_before (first ∷ rest) (suc place) amount zero h = refl
+set_before (first ∷ rest) (suc place) amount (suc other) h = omega (arith, set_before rest place amount other (omega arith))
+
+set_behind : (amounts : List ℕ) (place amount other : ℕ) → place < other → place < length amounts → sum_before (set amounts place amount) other + get_or amounts place 0 ≡ sum_before amounts other + amount
+set_behind [] place amount other h k = absurd (omega arith)
+set_behind (first ∷ rest) place amount zero h k = absurd (omega arith)
+set_behind (first ∷ rest) zero amount (suc other) h k = omega arith
+set_behind (first ∷ rest) (suc place) amount (suc other) h k = omega (arith, set_behind rest place amount other (omega arith) (omega arith))
 
 -- ---- the sums of a tree
 
@@ -77,35 +114,37 @@ module _ (amounts : List ℕ) where
       (λ k p q. (let other : k ≢ root = omega arith in get_or-set_other sums root k number 0 other))
       (omega arith) first second
 
-  -- a tree that the place does not belong to
-  pub summed_apart : (place : ℕ) (sums : List ℕ) (low high : ℕ) → (high ≤ place) ⊎ (place < low) → EachRoot (IsSummed amounts sums) low high → EachRoot (IsSummed (set amounts place 0) sums) low high
-  summed_apart place sums low high apart is =
-      each_root_as (IsSummed amounts sums) (IsSummed (set amounts place 0) sums) low high
-      (λ l m h p q r s summed.
-      elim apart [
-        | inl behind ↦ (let at_low = taken_before amounts place l (omega arith) in let at_root = taken_before amounts place m (omega arith) in omega (arith, summed, at_low, at_root))
-        | inr before ↦ (let at_low = taken_behind amounts place l (omega arith) in let at_root = taken_behind amounts place m (omega arith) in omega (arith, summed, at_low, at_root))
-      ]) is
+  module _ (place amount : ℕ) (within : place < length amounts) where
+    -- a tree that the place does not belong to
+    pub summed_apart : (sums : List ℕ) (low high : ℕ) → (high ≤ place) ⊎ (place < low) → EachRoot (IsSummed amounts sums) low high → EachRoot (IsSummed (set amounts place amount) sums) low high
+    summed_apart sums low high apart is =
+        each_root_as (IsSummed amounts sums) (IsSummed (set amounts place amount) sums) low high
+        (λ l m h p q r s summed.
+        elim apart [
+          | inl behind ↦ (let at_low = set_before amounts place amount l (omega arith) in let at_root = set_before amounts place amount m (omega arith) in omega (arith, summed, at_low, at_root))
+          | inr before ↦ (let at_low = set_behind amounts place amount l (omega arith) within in let at_root = set_behind amounts place amount m (omega arith) within in omega (arith, summed, at_low, at_root))
+        ]) is
 
-  -- the sum at the root, where the place is in the first half
-  pub some_summed : (place : ℕ) (sums : List ℕ) (low root high : ℕ) → low ≤ place → place < root → IsSummed amounts sums low root high → get_or amounts place 0 ≤ get_or sums root 0
-  some_summed place sums low root high p q summed =
-      let at_low = taken_before amounts place low p in
-      let at_root = taken_behind amounts place root q in
-      let rises = before_rises (set amounts place 0) low root (omega arith) in
-      omega (arith, summed, at_low, at_root, rises)
+    -- the sum at the root, where the place is in the first half
+    pub some_summed : (sums : List ℕ) (low root high : ℕ) → low ≤ place → place < root → IsSummed amounts sums low root high → (get_or amounts place 0 ≤ get_or sums root 0) × (get_or sums root 0 ≤ sum amounts)
+    some_summed sums low root high p q summed =
+        let at_low = set_before amounts place 0 low p in
+        let at_root = set_behind amounts place 0 root q within in
+        let rises = before_rises (set amounts place 0) low root (omega arith) in
+        (omega (arith, summed, at_low, at_root, rises), omega (arith, summed, before_within amounts root))
 
-pub deducted_first : (amounts : List ℕ) (place : ℕ) (sums once : List ℕ) (low root high : ℕ) → root ≡ middle low high → low ≤ place → place < root → root < high → root < length once → EachRoot (IsSummed amounts sums) low high → get_or once root 0 ≡ get_or sums root 0 → EachRoot (IsSummed (set amounts place 0) once) low root → EachRoot (IsSummed (set amounts place 0) once) (root + 1) high → EachRoot (IsSummed (set amounts place 0) (set once root (get_or once root 0 - get_or amounts place 0))) low high
-deducted_first amounts place sums once low root high is_root p q r inside summed same first second =
-    let was = root_of_tree (IsSummed amounts sums) low root high is_root (omega arith) summed in
-    let at_low = taken_before amounts place low p in
-    let at_root = taken_behind amounts place root q in
-    let rises = before_rises (set amounts place 0) low root (omega arith) in
-    summed_set (set amounts place 0) once (get_or once root 0 - get_or amounts place 0) low root high is_root (omega arith) inside (omega (arith, was, same, at_low, at_root, rises)) first second
+module _ (amounts : List ℕ) (place amount : ℕ) (within : place < length amounts) where
+  pub changed_first : (sums once : List ℕ) (low root high : ℕ) → root ≡ middle low high → low ≤ place → place < root → root < high → root < length once → EachRoot (IsSummed amounts sums) low high → get_or once root 0 ≡ get_or sums root 0 → EachRoot (IsSummed (set amounts place amount) once) low root → EachRoot (IsSummed (set amounts place amount) once) (root + 1) high → EachRoot (IsSummed (set amounts place amount) (set once root (get_or once root 0 - get_or amounts place 0 + amount))) low high
+  changed_first sums once low root high is_root p q r inside summed same first second =
+      let was = root_of_tree (IsSummed amounts sums) low root high is_root (omega arith) summed in
+      let at_low = set_before amounts place amount low p in
+      let at_root = set_behind amounts place amount root q within in
+      let some = (some_summed amounts place amount within sums low root high p q was).0 in
+      summed_set (set amounts place amount) once (get_or once root 0 - get_or amounts place 0 + amount) low root high is_root (omega arith) inside (omega (arith, was, same, at_low, at_root, some)) first second
 
-pub deducted_second : (amounts : List ℕ) (place : ℕ) (sums once : List ℕ) (low root high : ℕ) → root ≡ middle low high → low ≤ root → root ≤ place → place < high → EachRoot (IsSummed amounts sums) low high → get_or once root 0 ≡ get_or sums root 0 → EachRoot (IsSummed (set amounts place 0) once) low root → EachRoot (IsSummed (set amounts place 0) once) (root + 1) high → EachRoot (IsSummed (set amounts place 0) once) low high
-deducted_second amounts place sums once low root high is_root p q r summed same first second =
-    let was = root_of_tree (IsSummed amounts sums) low root high is_root (omega arith) summed in
-    let at_low = taken_before amounts place low (omega arith) in
-    let at_root = taken_before amounts place root q in
-    summed_all (set amounts place 0) once once low root high is_root (omega arith) (λ k s t. refl) (λ k s t. refl) (omega (arith, was, same, at_low, at_root)) first second
+  pub changed_second : (sums once : List ℕ) (low root high : ℕ) → root ≡ middle low high → low ≤ root → root ≤ place → place < high → EachRoot (IsSummed amounts sums) low high → get_or once root 0 ≡ get_or sums root 0 → EachRoot (IsSummed (set amounts place amount) once) low root → EachRoot (IsSummed (set amounts place amount) once) (root + 1) high → EachRoot (IsSummed (set amounts place amount) once) low high
+  changed_second sums once low root high is_root p q r summed same first second =
+      let was = root_of_tree (IsSummed amounts sums) low root high is_root (omega arith) summed in
+      let at_low = set_before amounts place amount low (omega arith) in
+      let at_root = set_before amounts place amount root q in
+      summed_all (set amounts place amount) once once low root high is_root (omega arith) (λ k s t. refl) (λ k s t. refl) (omega (arith, was, same, at_low, at_root)) first second

@@ -1,7 +1,0 @@
-use Rattle.std.proofs.Common.{get_or, rules}
-use Rattle.std.proofs.lemmas.List.Sorted.{IsNonDecreasingBy-from_sort_by_key}
-use Rattle.smp_brewer.proofs.orders.rank.Goals as goal
-
-pub returns-clause-rises : goal.returns-clause-rises
-returns-clause-rises c a b before here =
-    IsNonDecreasingBy-from_sort_by_key (λ unit. get_or c.args.sizes.now unit 0) _ c.sort_unstable_by_key.ensures.sorted (λ a r q k. search rules) a b 0 before here
