@@ -6,7 +6,7 @@ use Rattle.std.specs.Option.{option_eq}
 use Rattle.std.specs.Fmt.{decimal}
 use Rattle.std.proofs.lemmas.Bool.{cases_eq, eq-eqb, ne_eqb}
 use Rattle.smp_split.specs.declared.kind.Kind.{Kind}
-use Rattle.smp_split.specs.declared.kind.Kind.TheVariants.{Order, Pivot, Lone, System, Support, Offer, Take, Spent, Choose, Flight, Drop, Wide}
+use Rattle.smp_split.specs.declared.kind.Kind.TheVariants.{Order, Pivot, Lone, System, Support, Offer, Take, Spent, Eliminate, Choose, Flight, Drop, Wide}
 use Rattle.smp_split.specs.Kinds.{kind_word}
 use Rattle.smp_split.specs.Trees.{Tree, Lawful, weight_sum, picked}
 use Rattle.smp_split.specs.Paths.{Entry, IsStep, Leads}
@@ -65,6 +65,7 @@ step_word Support rest = refl
 step_word Offer rest = refl
 step_word Take rest = refl
 step_word Spent rest = refl
+step_word Eliminate rest = refl
 step_word Choose rest = refl
 step_word Flight rest = refl
 step_word Drop rest = refl

@@ -4,7 +4,7 @@ use Rattle.std.specs.Prelude.{option_and_then}
 use Rattle.std.specs.Fmt.{decimal}
 use Rattle.std.proofs.lemmas.Bool.{cases_Bool, eqb-true, eqb-false}
 use Rattle.smp_split.specs.declared.kind.Kind.{Kind}
-use Rattle.smp_split.specs.declared.kind.Kind.TheVariants.{Order, Pivot, Lone, System, Support, Offer, Take, Spent, Choose, Flight, Drop, Wide}
+use Rattle.smp_split.specs.declared.kind.Kind.TheVariants.{Order, Pivot, Lone, System, Support, Offer, Take, Spent, Eliminate, Choose, Flight, Drop, Wide}
 use Rattle.smp_split.specs.Kinds.{kind_word}
 use Rattle.smp_split.specs.Trees.{Tree, Lawful, weight_sum, picked}
 use Rattle.smp_split.specs.Paths.{Entry, Leads}
@@ -39,6 +39,7 @@ stratum_no_step rest Support = refl
 stratum_no_step rest Offer = refl
 stratum_no_step rest Take = refl
 stratum_no_step rest Spent = refl
+stratum_no_step rest Eliminate = refl
 stratum_no_step rest Choose = refl
 stratum_no_step rest Flight = refl
 stratum_no_step rest Drop = refl
@@ -53,6 +54,7 @@ done_no_step rest Support = refl
 done_no_step rest Offer = refl
 done_no_step rest Take = refl
 done_no_step rest Spent = refl
+done_no_step rest Eliminate = refl
 done_no_step rest Choose = refl
 done_no_step rest Flight = refl
 done_no_step rest Drop = refl

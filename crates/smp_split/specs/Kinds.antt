@@ -1,8 +1,8 @@
 -- The words of the kinds of steps.
 use Rattle.std.specs.Prelude.{ℕ, List, codes}
 use Rattle.smp_split.specs.declared.kind.Kind.{Kind}
-use Rattle.smp_split.specs.declared.kind.Kind.TheVariants.{Order, Pivot, Lone, System, Support, Offer, Take, Spent, Choose, Flight, Drop}
-use Rattle.smp_split.specs.declared.kind.Kind.TheVariants.{Wide}
+use Rattle.smp_split.specs.declared.kind.Kind.TheVariants.{Order, Pivot, Lone, System, Support, Offer, Take, Spent}
+use Rattle.smp_split.specs.declared.kind.Kind.TheVariants.{Eliminate, Choose, Flight, Drop, Wide}
 
 abbrev pub kind_word : Kind → List ℕ
 kind_word Order = codes "order"
@@ -13,6 +13,7 @@ kind_word Support = codes "support"
 kind_word Offer = codes "offer"
 kind_word Take = codes "take"
 kind_word Spent = codes "spent"
+kind_word Eliminate = codes "eliminate"
 kind_word Choose = codes "choose"
 kind_word Flight = codes "flight"
 kind_word Drop = codes "drop"
