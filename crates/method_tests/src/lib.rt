@@ -1,9 +1,11 @@
-//! Tests of the parts of the cube, and of coordinates that stand behind other values. What a draw shows of the methods is a case of
-//! `crates/cases`.
+//! Tests of the parts of the cube, of coordinates that stand behind other values, and of a selection by elimination that ends
+//! early. What a draw shows of the methods is a case of `crates/cases`.
 //!
 //! They call the crates as any other crate does. They stand here, since a crate with tests is proved a second time with them.
 #![tactic(auto)]
 
+#[cfg(test)]
+mod elim;
 #[cfg(test)]
 mod flight;
 #[cfg(test)]
