@@ -38,7 +38,7 @@ const LAST_OF_64: [u32; 64] = [
 
 /// Cases that were worked by hand from the definitions of the steps. An independent program of these definitions, with fractions
 /// of any size, draws the same units. Above a case of several steps stand its steps: kind, bound and value.
-pub const CASES: [Case; 32] = [
+pub const CASES: [Case; 35] = [
     // Pivotal steps with the probabilities 1/5, 2/5, 3/5, 4/5: the units 0 and 1 meet, the one that stays open meets unit 2.
     // pivot 3 0, pivot 4 3, pivot 5 4
     case!(Pivotal, 2 of [1, 2, 3, 4] by [0, 3, 4] draws [2, 3]),
@@ -91,4 +91,11 @@ pub const CASES: [Case; 32] = [
     case!(Brewer, 1 of [1, 1] by [1] draws [1]),
     // offer 2 0, take 1 0
     case!(Brewer, 2 of [1, 1, 8] by [0] draws [0, 2]),
+    // The elimination procedure: one unit after the other is taken out. Of four units the largest is certain to be among three.
+    // eliminate 3 0, eliminate 10 5
+    case!(Elimination, 2 of [1, 2, 3, 4] by [0, 5] draws [1, 3]),
+    // eliminate 4 2
+    case!(Elimination, 3 of [1, 1, 1, 1] by [2] draws [0, 1, 3]),
+    // a unit that is certain among two is never taken out: eliminate 2 1
+    case!(Elimination, 2 of [1, 1, 8] by [1] draws [0, 2]),
 ];

@@ -107,11 +107,11 @@ only_probabilities version t m unit sample columns second is u s w clash there =
   one_stage = is_none second.second (w.there ∙ not_both (has (codes "prob") t) (has (codes "second") t) clash.rivals.one_stage there);
 }
 
-parts_are_design : (version : ℕ) (t : Members) (m : Method) (unit : UnitColumns) (sample : SampleSize) (columns : List (List ℕ)) (second : SecondStage) → IsVersionOf version t → NoneMissing t
-    → option_and_then method (get_member (codes "method") t) ≡ Some m → UnitFacts t unit → SampleFacts t sample → ValueFacts t columns → SecondFacts (get_member (codes "second") t) second
+parts_are_design : (version : ℕ) (t : Members) (m : Method) (unit : UnitColumns) (sample : SampleSize) (columns : List (List ℕ)) (second : SecondStage) → IsVersionOf version t → NoneMissing version t
+    → option_and_then (method version) (get_member (codes "method") t) ≡ Some m → UnitFacts t unit → SampleFacts t sample → ValueFacts t columns → SecondFacts (get_member (codes "second") t) second
     → NoClash t m → Ascend sample.sizes → IsDesign (parts version m unit sample columns second)
 parts_are_design version t m unit sample columns second is missing method_is u s v w clash ascend =
-    let needs_is = needs-is t m method_is in
+    let needs_is = needs-is version t m method_is in
     let f = subst (λ (xs : List (List ℕ)). Fits (row m).needs xs) v.is (fits (row m).needs v.balance v.near v.balance_few v.near_few
     (ap (λ b. b && not (is_balance (row m).needs)) v.balance_there ∙ clash.balance)
     (ap (λ b. b && not (is_near (row m).needs)) v.near_there ∙ clash.near)
@@ -139,20 +139,20 @@ parts_are_design version t m unit sample columns second is missing method_is u s
       second_sizes = w.sizes;
     }
 
-values_are_design : (version : ℕ) (t : Members) (d : Design) → IsVersionOf version t → NoneMissing t → values version t ≡ Ok d → NoClash t d.method → Ascend d.sizes → IsDesign d
+values_are_design : (version : ℕ) (t : Members) (d : Design) → IsVersionOf version t → NoneMissing version t → values version t ≡ Ok d → NoClash t d.method → Ascend d.sizes → IsDesign d
 unfolding values
 values_are_design version t d is_version missing h clash ascend =
-    let m = went (good (codes "method") (option_and_then method (get_member (codes "method") t))) _ d h in
+    let m = went (good (codes "method") (option_and_then (method version) (get_member (codes "method") t))) _ d h in
     let unit = went (unit_columns t) _ d m.gives in
     let sample = went (sample_size t) _ d unit.gives in
     let columns = went (value_columns t) _ d sample.gives in
-    let second = went (second_stage (get_member (codes "second") t)) _ d columns.gives in
+    let second = went (second_stage version (get_member (codes "second") t)) _ d columns.gives in
     let s = sample_facts t sample.value sample.is in
     let v = value_facts t columns.value columns.is in
-    let w = second_facts (get_member (codes "second") t) second.value second.is in
+    let w = second_facts version (get_member (codes "second") t) second.value second.is in
     let is : parts version m.value unit.value sample.value columns.value second.value ≡ d = (let same : ◌≡◌ {A = Result Design _} (Ok (parts version m.value unit.value sample.value columns.value second.value)) (Ok d) = second.gives in cc) in
     subst (λ (e : Design). NoClash t e.method → Ascend e.sizes → IsDesign e) is
-    (parts_are_design version t m.value unit.value sample.value columns.value second.value is_version missing (is_good (codes "method") (option_and_then method (get_member (codes "method") t)) m.value m.is) (unit_facts t unit.value unit.is) s v w) clash ascend
+    (parts_are_design version t m.value unit.value sample.value columns.value second.value is_version missing (is_good (codes "method") (option_and_then (method version) (get_member (codes "method") t)) m.value m.is) (unit_facts t unit.value unit.is) s v w) clash ascend
 
 pub is_design : (bytes : List ℕ) (d : Design) → design_of bytes ≡ Ok d → Ascend d.sizes → IsDesign d
 unfolding design_of
@@ -160,14 +160,14 @@ is_design bytes d h ascend =
     let t = went (document bytes) _ d h in
     let v = went (or_fault Version (version_of t.value)) _ d t.gives in
     let unknown = went (none_found UnknownKey (unknown_key v.value t.value)) _ d v.gives in
-    let missing = went (none_found MissingKey (missing_key t.value)) _ d unknown.gives in
+    let missing = went (none_found MissingKey (missing_key v.value t.value)) _ d unknown.gives in
     let design = went (values v.value t.value) _ d missing.gives in
     let clash = went (none_found (λ keys. Clash keys.0 keys.1) (Keys.clash t.value design.value.method)) _ d design.gives in
     let is : design.value ≡ d = (let same : ◌≡◌ {A = Result Design _} (Ok design.value) (Ok d) = clash.gives in cc) in
     let number = goes_on version (get_member (codes "version") t.value) v.value (is_there Version (version_of t.value) v.value v.is) in
     let is_version : IsVersionOf v.value t.value = record { within = version-range number.value v.value number.gives; known = found_none UnknownKey (unknown_key v.value t.value) unknown.value unknown.is } in
     subst (λ (e : Design). Ascend e.sizes → IsDesign e) is
-    (values_are_design v.value t.value design.value is_version (none_missing t.value (found_none MissingKey (missing_key t.value) missing.value missing.is)) design.is (no_clash t.value design.value.method (found_none (λ keys. Clash keys.0 keys.1) (Keys.clash t.value design.value.method) clash.value clash.is))) ascend
+    (values_are_design v.value t.value design.value is_version (none_missing v.value t.value (found_none MissingKey (missing_key v.value t.value) missing.value missing.is)) design.is (no_clash t.value design.value.method (found_none (λ keys. Clash keys.0 keys.1) (Keys.clash t.value design.value.method) clash.value clash.is))) ascend
 
 -- what was read is a design
 pub read_is_design : (bytes : List ℕ) (result : Result Design DesignFault) → Reads is_memory result (design_of bytes) → IfOk result (λ d. Ascend d.sizes) → IfOk result IsDesign

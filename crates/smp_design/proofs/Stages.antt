@@ -20,19 +20,19 @@ use Rattle.smp_design.proofs.Went.{went, is_good, neither, first_fails, goes_on}
 use Rattle.smp_design.proofs.ValueBounds.{Few, number-range, quotas-range, names-few, second_method-is, optional-holds, optional-there}
 
 -- no needed key is missing
-pub record NoneMissing (t : Members) : Type 0 where
+pub record NoneMissing (version : ℕ) (t : Members) : Type 0 where
   pub sized : (lacks (codes "n") t && lacks (codes "sizes") t && lacks (codes "prob") t) ≡ false
-  pub balance : (is_balance (needs t) && lacks (codes "balance") t) ≡ false
-  pub near : (is_near (needs t) && lacks (codes "near") t) ≡ false
+  pub balance : (is_balance (needs version t) && lacks (codes "balance") t) ≡ false
+  pub near : (is_near (needs version t) && lacks (codes "near") t) ≡ false
 
-pub none_missing : (t : Members) → missing_key t ≡ None → NoneMissing t
+pub none_missing : (version : ℕ) (t : Members) → missing_key version t ≡ None → NoneMissing version t
 unfolding missing_key
-none_missing t h =
+none_missing version t h =
     let a = first_fails (lacks (codes "method") t) (codes "method") _ h in
     let b = first_fails (lacks (codes "id") t) (codes "id") _ a.others in
     let c = first_fails (lacks (codes "n") t && lacks (codes "sizes") t && lacks (codes "prob") t) (codes "n") _ b.others in
-    let d = first_fails (is_balance (needs t) && lacks (codes "balance") t) (codes "balance") _ c.others in
-    let e = first_fails (is_near (needs t) && lacks (codes "near") t) (codes "near") _ d.others in
+    let d = first_fails (is_balance (needs version t) && lacks (codes "balance") t) (codes "balance") _ c.others in
+    let e = first_fails (is_near (needs version t) && lacks (codes "near") t) (codes "near") _ d.others in
     record { sized = c.fails; balance = d.fails; near = e.fails }
 
 -- no two rival keys are both there
@@ -163,32 +163,32 @@ pub record SecondFacts (o : Option Data) (s : SecondStage) : Type 0 where
   pub sizes : IfNone s.second (s.size ≡ None)
   pub there : is_some s.second ≡ is_some o
 
-second_facts_of : (t : Members) (value : Data) (s : SecondStage) → second_stage_of t ≡ Ok s → SecondFacts (Some value) s
+second_facts_of : (version : ℕ) (t : Members) (value : Data) (s : SecondStage) → second_stage_of version t ≡ Ok s → SecondFacts (Some value) s
 unfolding second_stage_of
-second_facts_of t value s h =
+second_facts_of version t value s h =
     let psu = went (good (codes "second.psu") (option_and_then as_str (get_member (codes "psu") t))) _ s h in
-    let m = went (good (codes "second.method") (option_and_then second_method (get_member (codes "method") t))) _ s psu.gives in
+    let m = went (good (codes "second.method") (option_and_then (second_method version) (get_member (codes "method") t))) _ s psu.gives in
     let n = went (good (codes "second.n") (option_and_then number (get_member (codes "n") t))) _ s m.gives in
     let size = went (good (codes "second.size") (optional as_str (get_member (codes "size") t))) _ s n.gives in
-    let m_is = goes_on second_method (get_member (codes "method") t) m.value (is_good (codes "second.method") (option_and_then second_method (get_member (codes "method") t)) m.value m.is) in
+    let m_is = goes_on (second_method version) (get_member (codes "method") t) m.value (is_good (codes "second.method") (option_and_then (second_method version) (get_member (codes "method") t)) m.value m.is) in
     let n_is = goes_on number (get_member (codes "n") t) n.value (is_good (codes "second.n") (option_and_then number (get_member (codes "n") t)) n.value n.is) in
     let is : record { psu = Some psu.value; size = size.value; second = Some (record { method = m.value; n = n.value }) } ≡ s = (let same : ◌≡◌ {A = Result SecondStage _} (Ok (record { psu = Some psu.value; size = size.value; second = Some (record { method = m.value; n = n.value }) })) (Ok s) = size.gives in cc) in
     subst (λ (v : SecondStage). SecondFacts (Some value) v) is record {
       size = number-range n_is.value n.value n_is.gives;
-      method = second_method-is m_is.value m.value m_is.gives;
+      method = second_method-is version m_is.value m.value m_is.gives;
       psu = refl;
       sizes = tt;
       there = refl;
     }
 
-pub second_facts : (o : Option Data) (s : SecondStage) → second_stage o ≡ Ok s → SecondFacts o s
-second_facts None s h =
+pub second_facts : (version : ℕ) (o : Option Data) (s : SecondStage) → second_stage version o ≡ Ok s → SecondFacts o s
+second_facts version None s h =
     let is : record { psu = None; size = None; second = None } ≡ s = (let same : ◌≡◌ {A = Result SecondStage _} (Ok (record { psu = None; size = None; second = None })) (Ok s) = h in cc) in
     subst (λ (v : SecondStage). SecondFacts None v) is record { size = tt; method = tt; psu = refl; sizes = refl; there = refl }
-second_facts (Some value) s h =
-    let table = went (good (codes "second") (as_table value)) second_stage_of s h in
-    second_facts_of table.value value s table.gives
+second_facts version (Some value) s h =
+    let table = went (good (codes "second") (as_table value)) (second_stage_of version) s h in
+    second_facts_of version table.value value s table.gives
 
 -- what the method of a design needs is in the method's row
-pub needs-is : (t : Members) (m : Method) → option_and_then method (get_member (codes "method") t) ≡ Some m → needs t ≡ (row m).needs
-needs-is t m h = ap (λ o. option_map_or (λ m. (row m).needs) o Nothing) h
+pub needs-is : (version : ℕ) (t : Members) (m : Method) → option_and_then (method version) (get_member (codes "method") t) ≡ Some m → needs version t ≡ (row m).needs
+needs-is version t m h = ap (λ o. option_map_or (λ m. (row m).needs) o Nothing) h

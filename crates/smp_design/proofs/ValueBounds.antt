@@ -59,9 +59,9 @@ names-few most value xs h =
     let is : step.value ≡ xs = (let same : ◌≡◌ {A = Option (List (List ℕ))} (Some step.value) (Some xs) = test.gives in cc) in
     subst (λ (ys : List (List ℕ)). Few most ys) is (leb-true 1 (length step.value) parts.0, leb-true (length step.value) most parts.1)
 
-pub second_method-is : (value : Data) (m : Method) → second_method value ≡ Some m → in_second m ≡ true
-second_method-is value m h =
-    let step = goes_on if_second (method value) m h in
+pub second_method-is : (version : ℕ) (value : Data) (m : Method) → second_method version value ≡ Some m → in_second m ≡ true
+second_method-is version value m h =
+    let step = goes_on if_second (method version value) m h in
     let test = passes (in_second step.value) (Some step.value) m step.gives in
     let is : step.value ≡ m = (let same : ◌≡◌ {A = Option Method} (Some step.value) (Some m) = test.gives in cc) in
     subst (λ (k : Method). in_second k ≡ true) is test.holds

@@ -43,28 +43,28 @@ value_columns t = do
   near ← good (codes "near") (optional (names 4) (get_member (codes "near") t))
   Ok (unwrap_or balance (unwrap_or near []))
 
--- the second stage of the table `second`
-unfoldable pub second_stage_of : Members → Result SecondStage DesignFault
-second_stage_of t = do
+-- the second stage of the table `second`, in a design of this version
+unfoldable pub second_stage_of : ℕ → Members → Result SecondStage DesignFault
+second_stage_of version t = do
   psu ← good (codes "second.psu") (option_and_then as_str (get_member (codes "psu") t))
-  method ← good (codes "second.method") (option_and_then second_method (get_member (codes "method") t))
+  method ← good (codes "second.method") (option_and_then (second_method version) (get_member (codes "method") t))
   n ← good (codes "second.n") (option_and_then number (get_member (codes "n") t))
   size ← good (codes "second.size") (optional as_str (get_member (codes "size") t))
   Ok (record { psu = Some psu; size = size; second = Some (record { method = method; n = n }) })
 
 -- the second stage of `second`, if that is there
-abbrev pub second_stage : Option Data → Result SecondStage DesignFault
-second_stage None = Ok (record { psu = None; size = None; second = None })
-second_stage (Some value) = good (codes "second") (as_table value) >>= second_stage_of
+abbrev pub second_stage : ℕ → Option Data → Result SecondStage DesignFault
+second_stage version None = Ok (record { psu = None; size = None; second = None })
+second_stage version (Some value) = good (codes "second") (as_table value) >>= second_stage_of version
 
 -- what the values of a design of this version say, or the first bad one
 unfoldable pub values : ℕ → Members → Result Design DesignFault
 values version t = do
-  method ← good (codes "method") (option_and_then method (get_member (codes "method") t))
+  method ← good (codes "method") (option_and_then (method version) (get_member (codes "method") t))
   unit ← unit_columns t
   sample ← sample_size t
   columns ← value_columns t
-  second ← second_stage (get_member (codes "second") t)
+  second ← second_stage version (get_member (codes "second") t)
   Ok (record {
     version = version;
     method = method;
@@ -89,7 +89,7 @@ design_of bytes = do
   t ← document bytes
   version ← or_fault Version (version_of t)
   _ ← none_found UnknownKey (unknown_key version t)
-  _ ← none_found MissingKey (missing_key t)
+  _ ← none_found MissingKey (missing_key version t)
   design ← values version t
   _ ← none_found (λ keys. Clash keys.0 keys.1) (clash t design.method)
   Ok design

@@ -82,23 +82,24 @@ abbrev pub table_lacks : List ℕ → Option Members → Bool
 table_lacks key None = false
 table_lacks key (Some t) = lacks key t
 
--- the columns of values that the method of a design needs
-abbrev pub needs : Members → Needs
-needs t = option_map_or (λ m. (row m).needs) (option_and_then Values.method (get_member (codes "method") t)) Nothing
+-- the columns of values that the method of a design of this version needs
+abbrev pub needs : ℕ → Members → Needs
+needs version t =
+    option_map_or (λ m. (row m).needs) (option_and_then (Values.method version) (get_member (codes "method") t)) Nothing
 
 -- what stands beside the first test that holds
 abbrev pub first_where : {A : Type 0} → List (Bool × A) → Option A
 first_where [] = None
 first_where (case ∷ rest) = if case.0 then Some case.1 else first_where rest
 
--- the first key that is needed and isn't there
-unfoldable pub missing_key : Members → Option (List ℕ)
-missing_key t = first_where (
+-- the first key that a design of this version needs and that isn't there
+unfoldable pub missing_key : ℕ → Members → Option (List ℕ)
+missing_key version t = first_where (
     (lacks (codes "method") t, codes "method")
     ∷ (lacks (codes "id") t, codes "id")
     ∷ (lacks (codes "n") t && lacks (codes "sizes") t && lacks (codes "prob") t, codes "n")
-    ∷ (is_balance (needs t) && lacks (codes "balance") t, codes "balance")
-    ∷ (is_near (needs t) && lacks (codes "near") t, codes "near")
+    ∷ (is_balance (needs version t) && lacks (codes "balance") t, codes "balance")
+    ∷ (is_near (needs version t) && lacks (codes "near") t, codes "near")
     ∷ (table_lacks (codes "psu") (second_table t), codes "second.psu")
     ∷ (table_lacks (codes "method") (second_table t), codes "second.method")
     ∷ (table_lacks (codes "n") (second_table t), codes "second.n")

@@ -6,7 +6,7 @@ use Rattle.toml.specs.Data.{Data, Items, no_items, item, Members, no_members, me
 use Rattle.smp_prob.specs.declared.orders.Order.{Order}
 use Rattle.smp_design.specs.declared.method.Method.{Method}
 use Rattle.smp_design.specs.declared.design.Quota as quota
-use Rattle.smp_design.specs.Words.{in_second, method_of, order_of}
+use Rattle.smp_design.specs.Words.{in_second, method_of, order_of, row}
 
 -- the versions of a design go from 1 to this one
 abbrev pub last_version : ℕ
@@ -29,17 +29,21 @@ version value = integer_to last_version value
 abbrev pub number : Data → Option ℕ
 number value = integer_to most_rows value
 
--- the word of a method
-abbrev pub method : Data → Option Method
-method value = option_and_then method_of (as_str value)
+-- a method, if designs of this version have it
+abbrev pub if_since : ℕ → Method → Option Method
+if_since version m = if nat_le (row m).since version then Some m else None
+
+-- the word of a method in a design of this version
+abbrev pub method : ℕ → Data → Option Method
+method version value = option_and_then (if_since version) (option_and_then method_of (as_str value))
 
 -- a method, if a second stage may have it
 abbrev pub if_second : Method → Option Method
 if_second m = if in_second m then Some m else None
 
 -- the word of a method that a second stage may have
-abbrev pub second_method : Data → Option Method
-second_method value = option_and_then if_second (method value)
+abbrev pub second_method : ℕ → Data → Option Method
+second_method version value = option_and_then if_second (method version value)
 
 -- the word of an order
 abbrev pub order : Data → Option Order

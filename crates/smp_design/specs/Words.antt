@@ -18,20 +18,31 @@ pub record Row : Type 0 where
   pub takes_order : Bool
   -- whether it draws a whole number of units alone, so that their probabilities have to add up to one
   pub draws_whole : Bool
+  -- the version of designs that it came with
+  pub since : ℕ
 
 -- the table of the methods, a row for each
 unfoldable pub row : Method → Row
-row the.Pivotal = record { word = codes "pivotal"; needs = Nothing; takes_order = true; draws_whole = false }
-row the.Systematic = record { word = codes "systematic"; needs = Nothing; takes_order = true; draws_whole = false }
-row the.MinimumSupport = record { word = codes "minimum_support"; needs = Nothing; takes_order = false; draws_whole = true }
-row the.Brewer = record { word = codes "brewer"; needs = Nothing; takes_order = false; draws_whole = true }
-row the.LocalPivotal = record { word = codes "local_pivotal"; needs = Near; takes_order = false; draws_whole = false }
-row the.Cube = record { word = codes "cube"; needs = Balance; takes_order = false; draws_whole = false }
+row the.Pivotal =
+    record { word = codes "pivotal"; needs = Nothing; takes_order = true; draws_whole = false; since = 1 }
+row the.Systematic =
+    record { word = codes "systematic"; needs = Nothing; takes_order = true; draws_whole = false; since = 1 }
+row the.MinimumSupport =
+    record { word = codes "minimum_support"; needs = Nothing; takes_order = false; draws_whole = true; since = 1 }
+row the.Brewer =
+    record { word = codes "brewer"; needs = Nothing; takes_order = false; draws_whole = true; since = 1 }
+row the.LocalPivotal =
+    record { word = codes "local_pivotal"; needs = Near; takes_order = false; draws_whole = false; since = 1 }
+row the.Cube =
+    record { word = codes "cube"; needs = Balance; takes_order = false; draws_whole = false; since = 1 }
+row the.Elimination =
+    record { word = codes "elimination"; needs = Nothing; takes_order = false; draws_whole = true; since = 2 }
 
 -- all methods
 abbrev pub methods : List Method
 methods =
-    the.Pivotal ∷ the.Systematic ∷ the.MinimumSupport ∷ the.Brewer ∷ the.LocalPivotal ∷ the.Cube ∷ []
+    the.Pivotal ∷ the.Systematic ∷ the.MinimumSupport ∷ the.Brewer ∷ the.LocalPivotal ∷ the.Cube ∷
+    the.Elimination ∷ []
 
 -- what a word means: the first of some things whose word it is
 abbrev pub meaning : {A : Type 0} → (A → List ℕ) → List A → List ℕ → Option A

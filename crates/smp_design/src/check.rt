@@ -62,12 +62,12 @@ fn name_in_second(alloc: Global, key: &str) -> Result<Text, NoMemory>
     Text::from_str(alloc, name.as_str())
 }
 
-// Every key that is needed is there.
-pub(crate) fn check_needed(alloc: Global, table: &Table) -> Result<(), DesignFault>
-    ensures { Reads is_memory result
-        (none_found fault.MissingKey (Keys.missing_key (table_view table.now))) }
+// Every key that a design of this version needs is there.
+pub(crate) fn check_needed(alloc: Global, table: &Table, version: u32) -> Result<(), DesignFault>
+    ensures { Reads is_memory result (none_found fault.MissingKey
+        (Keys.missing_key version (table_view table.now))) }
 {
-    match missing_key(table) {
+    match missing_key(table, version) {
         Some(key) => Err(DesignFault::MissingKey {
             name: Text::from_str(alloc, key)?,
         }),
@@ -76,10 +76,10 @@ pub(crate) fn check_needed(alloc: Global, table: &Table) -> Result<(), DesignFau
 }
 
 #[tactic(auto, unfolding(crate::specs::Keys::missing_key))]
-fn missing_key(table: &Table) -> Option<&'static str>
-    ensures { option_map (λ k. k.now) result ≡ Keys.missing_key (table_view table.now) }
+fn missing_key(table: &Table, version: u32) -> Option<&'static str>
+    ensures { option_map (λ k. k.now) result ≡ Keys.missing_key version (table_view table.now) }
 {
-    let needs = needs(table);
+    let needs = needs(table, version);
     let second = second_table(table);
     if !has(table, "method") {
         Some("method")

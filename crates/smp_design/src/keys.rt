@@ -60,11 +60,11 @@ pub(crate) fn second_table(table: &Table) -> Option<&Table>
     value_at(table, "second")?.as_table()
 }
 
-// The columns of values that the method of a design needs.
-pub(crate) fn needs(table: &Table) -> Needs
-    ensures { result ≡ Keys.needs (table_view table.now) }
+// The columns of values that the method of a design of this version needs.
+pub(crate) fn needs(table: &Table, version: u32) -> Needs
+    ensures { result ≡ Keys.needs version (table_view table.now) }
 {
-    match value_at(table, "method").and_then(method) {
+    match value_at(table, "method").and_then(|value| method(value, version)) {
         Some(method) => method.row().needs,
         None => Needs::Nothing,
     }

@@ -1,6 +1,7 @@
 //! The methods of drawing, what a design may say of each, and the words for methods and orders.
 
 ghost use Rattle.std.specs.Prelude.{◌≡◌, ◌↔◌, ℕ, List, Some};
+ghost use Rattle.smp_design.specs.Values;
 ghost use Rattle.smp_design.specs.Words;
 ghost use Rattle.smp_design.specs.Words.{row, method_of, order_word};
 
@@ -27,36 +28,41 @@ pub enum Method {
     LocalPivotal,
     /// The cube method, which balances the sample.
     Cube,
+    /// The elimination procedure.
+    Elimination,
 }
 
 /// The table of the methods, handed to a macro with what else is said: each method with its word, the
-/// columns of values that it needs, whether the design may have an order, and whether it draws a whole
-/// number of units alone.
+/// columns of values that it needs, whether the design may have an order, whether it draws a whole
+/// number of units alone, and the version of designs that it came with.
 #[macro_export]
 macro_rules! each_method {
     ($table:ident: $($said:tt)*) => {
         $table!(of [
-            Pivotal("pivotal", Nothing, true, false),
-            Systematic("systematic", Nothing, true, false),
-            MinimumSupport("minimum_support", Nothing, false, true),
-            Brewer("brewer", Nothing, false, true),
-            LocalPivotal("local_pivotal", Near, false, false),
-            Cube("cube", Balance, false, false)
+            Pivotal("pivotal", Nothing, true, false, 1),
+            Systematic("systematic", Nothing, true, false, 1),
+            MinimumSupport("minimum_support", Nothing, false, true, 1),
+            Brewer("brewer", Nothing, false, true, 1),
+            LocalPivotal("local_pivotal", Near, false, false, 1),
+            Cube("cube", Balance, false, false, 1),
+            Elimination("elimination", Nothing, false, true, 2)
         ] $($said)*)
     };
 }
 
 // Every method, and the row of a method.
 macro_rules! table {
-    (of [$($method:ident($word:literal, $needs:ident, $order:literal, $whole:literal)),*] all) => {
+    (of [$($method:ident $row:tt),*] all) => {
         &[$(Method::$method),*]
     };
     (
-        of [$($method:ident($word:literal, $needs:ident, $order:literal, $whole:literal)),*]
+        of [$($method:ident(
+            $word:literal, $needs:ident, $order:literal, $whole:literal, $since:literal
+        )),*]
         row $of:expr
     ) => {
         match $of {
-            $(Method::$method => Row::new($word, Needs::$needs, $order, $whole),)*
+            $(Method::$method => Row::new($word, Needs::$needs, $order, $whole, $since),)*
         }
     };
 }
@@ -115,20 +121,30 @@ pub(crate) struct Row {
     pub(crate) takes_order: bool,
     // Whether the method draws a whole number of units alone.
     draws_whole: bool,
+    // The version of designs that the method came with.
+    since: u32,
 }
 
 impl Row {
-    fn new(word: &'static str, needs: Needs, takes_order: bool, draws_whole: bool) -> Row
+    fn new(
+        word: &'static str,
+        needs: Needs,
+        takes_order: bool,
+        draws_whole: bool,
+        since: u32,
+    ) -> Row
         ensures word { result.word ≡ word.entry }
         ensures needs { result.needs ≡ needs }
         ensures takes_order { result.takes_order ≡ takes_order }
         ensures draws_whole { result.draws_whole ≡ draws_whole }
+        ensures since { result.since ≡ since }
     {
         Row {
             word,
             needs,
             takes_order,
             draws_whole,
+            since,
         }
     }
 }
@@ -142,6 +158,17 @@ impl Method {
             .iter()
             .copied()
             .find(|method| method.row().word == word)
+    }
+
+    // The method, if designs of this version have it.
+    pub(crate) fn if_in(self, version: u32) -> Option<Method>
+        ensures { result ≡ Values.if_since version self }
+    {
+        if self.row().since <= version {
+            Some(self)
+        } else {
+            None
+        }
     }
 
     /// Whether the method draws a whole number of units alone, so that their inclusion probabilities
@@ -183,6 +210,7 @@ impl Method {
         ensures needs { result.needs ≡ (row self).needs }
         ensures takes_order { result.takes_order ≡ (row self).takes_order }
         ensures draws_whole { result.draws_whole ≡ (row self).draws_whole }
+        ensures since { result.since ≡ (row self).since }
     {
         each_method!(table: row self)
     }

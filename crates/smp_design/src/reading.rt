@@ -44,7 +44,7 @@ fn checked_design(alloc: Global, bytes: &[u8]) -> Result<Design, DesignFault>
     let table = document(alloc, bytes)?;
     let version = version_of(&table)?;
     check_known(alloc, &table, version)?;
-    check_needed(alloc, &table)?;
+    check_needed(alloc, &table, version)?;
     let design = values(alloc, &table, version)?;
     check_clash(alloc, &table, design.method)?;
     Ok(design)
@@ -73,11 +73,15 @@ fn values(alloc: Global, table: &Table, version: u32) -> Result<Design, DesignFa
     ensures reads { Reads is_memory result (Designs.values version (table_view table.now)) }
     ensures ascending { IfOk result (λ d. Ascend d.sizes) }
 {
-    let method = good(alloc, "method", value_at(table, "method").and_then(method))?;
+    let method = good(
+        alloc,
+        "method",
+        value_at(table, "method").and_then(|value| method(value, version)),
+    )?;
     let unit = unit_columns(alloc, table)?;
     let sample = sample_size(alloc, table)?;
     let values = value_columns(alloc, table)?;
-    let second = second_stage(alloc, table)?;
+    let second = second_stage(alloc, table, version)?;
     Ok(Design {
         version,
         method,
@@ -179,9 +183,9 @@ struct SecondStage {
     second: Option<Second>,
 }
 
-fn second_stage(alloc: Global, table: &Table) -> Result<SecondStage, DesignFault>
+fn second_stage(alloc: Global, table: &Table, version: u32) -> Result<SecondStage, DesignFault>
     ensures { Reads is_memory result
-        (Designs.second_stage (get_member (codes "second") (table_view table.now))) }
+        (Designs.second_stage version (get_member (codes "second") (table_view table.now))) }
 {
     let Some(value) = value_at(table, "second") else {
         return Ok(SecondStage {
@@ -191,20 +195,20 @@ fn second_stage(alloc: Global, table: &Table) -> Result<SecondStage, DesignFault
         });
     };
     match value.as_table() {
-        Some(second) => second_stage_of(alloc, second),
+        Some(second) => second_stage_of(alloc, second, version),
         None => good(alloc, "second", None),
     }
 }
 
 #[tactic(auto, unfolding(crate::specs::Designs::second_stage_of))]
-fn second_stage_of(alloc: Global, table: &Table) -> Result<SecondStage, DesignFault>
-    ensures { Reads is_memory result (Designs.second_stage_of (table_view table.now)) }
+fn second_stage_of(alloc: Global, table: &Table, version: u32) -> Result<SecondStage, DesignFault>
+    ensures { Reads is_memory result (Designs.second_stage_of version (table_view table.now)) }
 {
     let psu = good(alloc, "second.psu", text_at(alloc, table, "psu")?)?;
     let method = good(
         alloc,
         "second.method",
-        value_at(table, "method").and_then(second_method),
+        value_at(table, "method").and_then(|value| second_method(value, version)),
     )?;
     let n = good(alloc, "second.n", value_at(table, "n").and_then(number))?;
     let size = good(

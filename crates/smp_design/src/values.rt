@@ -53,17 +53,18 @@ pub(crate) fn number(value: &Value) -> Option<u32>
     integer_to(MAX_UNITS, value)
 }
 
-pub(crate) fn method(value: &Value) -> Option<Method>
-    ensures { result ≡ Values.method (view value.now) }
+// A method of designs of this version.
+pub(crate) fn method(value: &Value, version: u32) -> Option<Method>
+    ensures { result ≡ Values.method version (view value.now) }
 {
-    Method::from_word(value.as_str()?)
+    Method::from_word(value.as_str()?)?.if_in(version)
 }
 
-// A method that a second stage may have.
-pub(crate) fn second_method(value: &Value) -> Option<Method>
-    ensures { result ≡ Values.second_method (view value.now) }
+// A method that a second stage may have, in a design of this version.
+pub(crate) fn second_method(value: &Value, version: u32) -> Option<Method>
+    ensures { result ≡ Values.second_method version (view value.now) }
 {
-    method(value).filter(|method| !method.needs_columns())
+    method(value, version).filter(|method| !method.needs_columns())
 }
 
 pub(crate) fn order(value: &Value) -> Option<Order>

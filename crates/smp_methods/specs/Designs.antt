@@ -13,6 +13,7 @@ use Rattle.smp_systematic.specs.Method as systematic
 use Rattle.smp_minsup.specs.Method as support
 use Rattle.smp_brewer.specs.Method as brewer
 use Rattle.smp_localpiv.specs.Method as local
+use Rattle.smp_elim.specs.Method as elimination
 use Rattle.smp_flight.specs.Requests.{units_of}
 use Rattle.smp_landing.specs.Cube.{left_in}
 use Rattle.smp_landing.specs.Method as cube
@@ -35,6 +36,8 @@ design_by method.Brewer order columns request values = designs.Brewer (brewer.st
 design_by method.LocalPivotal order columns request values =
     designs.LocalPivotal (local.started_on request columns values)
 design_by method.Cube order columns request values = designs.Cube (units_of request values)
+design_by method.Elimination order columns request values =
+    designs.Elimination (elimination.started request)
 
 abbrev pub design_of : Procedure → Request → List (List ℤ) → AnyDesign
 design_of way request values = design_by way.method way.order way.columns request values
@@ -65,6 +68,9 @@ variant_of (designs.LocalPivotal s) =
 variant_of (designs.Cube units) =
     variant method.Cube (cube.method_of units) (cube.started units) states.Cube
     (elim [ states.Cube state ↦ Some state | other ↦ None ]) (λ _. refl)
+variant_of (designs.Elimination s) =
+    variant method.Elimination (elimination.method_of s) s states.Elimination
+    (elim [ states.Elimination state ↦ Some state | other ↦ None ]) (λ _. refl)
 
 -- a method put into a larger type of states
 module _ {Inner Outer : Type 0} (into : Inner → Outer) (out : Outer → Option Inner)

@@ -25,6 +25,7 @@ pub enum AnyDesign {
     Brewer(smp_brewer::Brewer),
     LocalPivotal(smp_localpiv::AnyLocalPivotal),
     Cube(smp_landing::Cube),
+    Elimination(smp_elim::Elimination),
 }
 
 /// A state of a design, in the variant of its method.
@@ -36,6 +37,7 @@ pub enum AnyState {
     Brewer(smp_brewer::BrewerState),
     LocalPivotal(smp_localpiv::AnyLocalState),
     Cube(smp_landing::CubeState),
+    Elimination(smp_elim::EliminationState),
 }
 
 // What the design of a method says, whichever method it is: of itself; a state that it makes; or of
@@ -99,6 +101,9 @@ impl AnyDesign {
                 smp_localpiv::AnyLocalPivotal::on_columns(alloc, request, columns, values)?,
             ),
             Method::Cube => AnyDesign::Cube(smp_landing::Cube::new(alloc, request, values)?),
+            Method::Elimination => {
+                AnyDesign::Elimination(smp_elim::Elimination::new(alloc, request)?)
+            }
         })
     }
 
