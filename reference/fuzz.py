@@ -167,10 +167,10 @@ class World:
     """A frame as a header and rows of texts, and a design as the written values of its keys, its tables apart."""
 
     def __init__(self, r):
-        self.method = r.choice((*sampler.METHODS, "cube"))
+        self.version = r.randint(1, 2)
+        self.method = r.choice((*sampler.METHODS[self.version], "cube"))
         count = r.choice((1, 2, 3, 4, 5, 6, 7, 8, 10, 12, 14, 16, 20, 30, 60))
         self.two = self.method != "local_pivotal" and chance(r, 0.4)
-        self.version = r.randint(1, 2)
         self.given = self.version == 2 and not self.two and chance(r, 0.6)
         self.columns = self.column_count(r, count)
         self.layout(r, count)
@@ -199,7 +199,7 @@ class World:
     def probabilities(self, r, count):
         """The probability of each row. Most strata have a whole sum where the method needs one, and half of them elsewhere."""
         fractions = [None] * count
-        often = 0.9 if self.method in ("minimum_support", "brewer") else 0.5
+        often = 0.9 if self.method in sampler.WHOLE_METHODS else 0.5
         for stratum in set(self.stratum_of):
             maker, places = maker_of_fractions(r), [place for place in range(count) if self.stratum_of[place] == stratum]
             own = [maker() for _ in places]
@@ -262,7 +262,7 @@ class World:
             sized = chance(r, 0.6)
             within = collections.Counter(self.unit_of[number] for number, size in enumerate(self.second_sizes) if size or not sized)
             fewest = min(within[unit] for unit in self.unit_of)
-            second = {"psu": written_text(r, self.names["psu"]), "method": written_text(r, r.choice(sampler.SECOND_METHODS)),
+            second = {"psu": written_text(r, self.names["psu"]), "method": written_text(r, r.choice(sampler.SECOND_METHODS[self.version])),
                       "n": written_number(r, r.randint(1, max(1, fewest)) if chance(r, 0.95) else r.randint(1, 5))}
             if sized:
                 second["size"] = written_text(r, self.names["second"])

@@ -171,8 +171,15 @@ def read_words(words):
 # ---------------------------------------------------------------------------------------------------------------------------------------------
 # The design. docs/formats.md, "Design"
 
-METHODS = ("pivotal", "systematic", "minimum_support", "brewer", "local_pivotal", "cube")
-SECOND_METHODS = ("pivotal", "systematic", "minimum_support", "brewer")
+METHODS = {
+    1: ("pivotal", "systematic", "minimum_support", "brewer", "local_pivotal", "cube"),
+    2: ("pivotal", "systematic", "minimum_support", "brewer", "local_pivotal", "cube", "elimination"),
+}
+SECOND_METHODS = {
+    1: ("pivotal", "systematic", "minimum_support", "brewer"),
+    2: ("pivotal", "systematic", "minimum_support", "brewer", "elimination"),
+}
+WHOLE_METHODS = ("minimum_support", "brewer", "elimination")
 KEYS = {
     1: ("version", "method", "id", "stratum", "size", "n", "sizes", "order", "balance", "near", "second"),
     2: ("version", "method", "id", "stratum", "size", "n", "sizes", "prob", "order", "balance", "near", "second"),
@@ -269,7 +276,7 @@ def read_design(content):
         return isinstance(value, str)
 
     good = [
-        ("method", document, text(method) and method in METHODS),
+        ("method", document, text(method) and method in METHODS[version]),
         ("id", document, text(document.get("id"))),
         ("stratum", document, text(document.get("stratum"))),
         ("size", document, text(document.get("size"))),
@@ -281,7 +288,7 @@ def read_design(content):
         ("near", document, is_names(document.get("near"), 4)),
         ("second", document, isinstance(second, dict)),
         ("psu", inner, text(inner.get("psu"))),
-        ("method", inner, text(inner.get("method")) and inner["method"] in SECOND_METHODS),
+        ("method", inner, text(inner.get("method")) and inner["method"] in SECOND_METHODS[version]),
         ("n", inner, is_size(inner.get("n"))),
         ("size", inner, text(inner.get("size"))),
     ]
@@ -474,26 +481,33 @@ class TooMany(Exception):
         self.positive = positive
 
 
-def requested(sizes, n):
-    """The requested fraction of each unit, and what the steps need of the free units.
+def certain_units(sizes, n):
+    """The units that are certain where n are drawn, and the sum of the sizes of the others.
 
     c is the least number with c = n or (n - c)*z_(c+1) < R_c, over the sizes z in falling order and R_c the sum of those past the c largest."""
-    positive = sum(size > 0 for size in sizes)
-    if n > positive:
-        raise TooMany(positive)
     falling = sorted(range(len(sizes)), key=lambda unit: -sizes[unit])
     c, rest = 0, sum(sizes)
     while c < n and (n - c) * sizes[falling[c]] >= rest:
         rest -= sizes[falling[c]]
         c += 1
-    certain = set(falling[:c])
+    return set(falling[:c]), rest
 
-    def fraction(unit):
-        if unit in certain:
-            return Fraction(1)
-        return Fraction(sizes[unit] * (n - c), rest) if rest else Fraction(0)
 
-    fractions = [fraction(unit) for unit in range(len(sizes))]
+def fraction_of(size, is_certain, draws, rest):
+    """The requested fraction of a unit of this size, where so many are drawn of those that aren't certain."""
+    if is_certain:
+        return Fraction(1)
+    return Fraction(size * draws, rest) if rest else Fraction(0)
+
+
+def requested(sizes, n):
+    """The requested fraction of each unit, and what the steps need of the free units."""
+    positive = sum(size > 0 for size in sizes)
+    if n > positive:
+        raise TooMany(positive)
+    certain, rest = certain_units(sizes, n)
+    c = len(certain)
+    fractions = [fraction_of(size, unit in certain, n - c, rest) for unit, size in enumerate(sizes)]
     free = [unit for unit, value in enumerate(fractions) if 0 < value < 1]
     divisor = gcd(*(sizes[unit] for unit in free))
     shape = [sizes[unit] // divisor for unit in free]
@@ -706,6 +720,29 @@ class Offered(namedtuple("Offered", "before place")):
         return "take", parts
 
 
+class Elimination(namedtuple("Elimination", "shape left wanted")):
+    """One unit after the other is taken out. Tillé 1996, elimination procedure: with s units left, unit k goes with the probability
+    1 - p_k(s - 1)/p_k(s), where p_k(s) is its requested fraction among s units. The bound over which these stand is in docs/formats.md, "Steps"."""
+
+    def step(self):
+        s = len(self.left)
+        if s == self.wanted:
+            return None
+        (certain, rest), (later, later_rest) = certain_units(self.shape, s), certain_units(self.shape, s - 1)
+        bound = later_rest * max(1, s - len(certain))
+        parts = []
+        for place in sorted(self.left - later):
+            now = fraction_of(self.shape[place], place in certain, s - len(certain), rest)
+            weight = bound * (1 - fraction_of(self.shape[place], False, s - 1 - len(later), later_rest) / now)
+            assert weight.denominator == 1 and weight >= 1
+            parts.append((weight, lambda place=place: self._replace(left=self.left - {place})))
+        assert sum(weight for weight, _ in parts) == bound
+        return "eliminate", parts
+
+    def selected(self):
+        return set(self.left)
+
+
 class LocalPivotal(namedtuple("LocalPivotal", "values denominator points")):
     """A unit is chosen, and meets its nearest neighbour. Grafström, Lundström and Schelin 2012, local pivotal method 2.
 
@@ -868,6 +905,8 @@ def start(method, order, request, columns):
         return MinimumSupport(values, request.denominator)
     if method == "brewer":
         return Brewer(tuple(request.shape), frozenset(), request.r, 0, OFFERS_PER_UNIT * len(values))
+    if method == "elimination":
+        return Elimination(tuple(request.shape), frozenset(range(len(values))), request.r)
     if method == "local_pivotal":
         return LocalPivotal(values, request.denominator, tuple(own))
     sized = tuple((z, *xs) for z, xs in zip(request.shape, own))
@@ -946,7 +985,7 @@ def requests_of_probabilities(fractions, method):
             raise Refusal(5, f"error 5.6 denominator too large: {name}") from None
     for name, own in fractions.items():
         whole = sum(own)
-        if method in ("minimum_support", "brewer") and whole.denominator != 1:
+        if method in WHOLE_METHODS and whole.denominator != 1:
             raise Refusal(5, f"error 5.7 sum {written(whole)} isn't whole: {name}")
     return requests
 

@@ -30,6 +30,11 @@ def design(method, n=2, more="", size='size = "size"\n'):
     return f'version = 1\nmethod = "{method}"\nid = "id"\n{size}n = {n}\n{more}'
 
 
+def eliminating(n=2, more=""):
+    """A design by elimination, which version 1 doesn't know."""
+    return design("elimination", n, more).replace("version = 1", "version = 2")
+
+
 def given(method, more="", prob="p"):
     """A design with a column of probabilities."""
     return f'version = 2\nmethod = "{method}"\nid = "id"\nprob = "{prob}"\n{more}'
@@ -165,6 +170,16 @@ class Rows(unittest.TestCase):
         steps = ["offer 5 0", "take 9 8"] * 192 + ["spent 1 0", "pivot 4 0", "pivot 5 4"]
         self.drawn(design("brewer"), "id,size\na,1\nb,2\nc,2\n", tape, steps, "a,5/2\nc,5/4\n", "selected 2 of 3\nsteps 387\n")
 
+    def test_elimination(self):
+        steps = ["eliminate 3 0", "eliminate 10 5"]
+        self.drawn(eliminating(), FOUR, [0, 5], steps, "b,5/2\nd,5/4\n", "selected 2 of 4\nsteps 2\n")
+        self.drawn(eliminating(3), "id,size\na,1\nb,1\nc,1\nd,1\n", [2], ["eliminate 4 2"], "a,4/3\nb,4/3\nd,4/3\n")
+        self.refused_draw(eliminating().replace("version = 2", "version = 1"), FOUR, [], 3, "error 3.5 bad value of method")
+        weights = [weight for weight, _ in sampler.Elimination((1, 2, 3, 4), frozenset(range(4)), 2).step()[1]]
+        self.assertEqual(weights, [2, 1])
+        weights = [weight for weight, _ in sampler.Elimination((1, 2, 3, 4), frozenset(range(1, 4)), 2).step()[1]]
+        self.assertEqual(weights, [4, 4, 2])
+
     def test_local_pivotal_with_a_tie(self):
         text = design("local_pivotal", more='near = ["x"]\n', size="")
         steps = ["choose 4 1", "pivot 2 1", "choose 2 0", "pivot 2 0"]
@@ -248,7 +263,7 @@ class Rows(unittest.TestCase):
         weights = {"a": "2/1", "b": "2/1", "c": "3/1"}
         for value, ids in enumerate(["ac", "ac", "a", "b", "b", "b"]):
             self.drawn(given("systematic"), HALVES, [value], [f"system 6 {value}"], "".join(f"{name},{weights[name]}\n" for name in ids))
-        for method in ("minimum_support", "brewer"):
+        for method in sampler.WHOLE_METHODS:
             self.refused_draw(given(method), HALVES, [], 5, "error 5.7 sum 4/3 isn't whole: ")
             self.refused_draw(given(method), HALVES + "d,1\n", [], 5, "error 5.7 sum 7/3 isn't whole: ")
         frame = "id,p,x\na,1/2,0\nb,1/2,3\nc,1/3,5\n"
@@ -267,6 +282,7 @@ class Rows(unittest.TestCase):
             (given("systematic"), [1], ["system 3 1"], "ac"),
             (given("minimum_support"), [0], ["support 3 0"], "bc"),
             (given("brewer"), [1, 0, 1], ["offer 3 1", "take 2 0", "offer 2 1", "take 1 0"], "bc"),
+            (given("elimination"), [0], ["eliminate 3 0"], "bc"),
             (given("local_pivotal", 'near = ["x"]\n'), [0, 0, 0, 0], ["choose 3 0", "pivot 2 0", "choose 2 0", "pivot 3 0"], "ab"),
             (given("cube", 'balance = ["x"]\n'), [0, 0], ["flight 5 0", "drop 1 0", "flight 6 0"], "ac"),
         ]
@@ -277,7 +293,7 @@ class Rows(unittest.TestCase):
         frame = "id,p\na,1\nb,0\nc,3/6\nd,5/5\ne,007/14\nf,0/9\n"
         self.put("probs", given("brewer"), frame, "id,probability\na,1/1\nb,0/1\nc,1/2\nd,1/1\ne,1/2\nf,0/1\n")
         self.drawn(given("pivotal"), frame, [1], ["pivot 2 1"], "a,1/1\nd,1/1\ne,2/1\n", "selected 3 of 6\nsteps 1\n")
-        for method in ("pivotal", "systematic", "minimum_support", "brewer"):
+        for method in sampler.SECOND_METHODS[2]:
             self.drawn(given(method), "id,p\na,0\nb,0/3\n", [], [], "", "selected 0 of 2\nsteps 0\n")
 
     def test_refused_fractions(self):
@@ -895,8 +911,8 @@ class Probabilities(unittest.TestCase):
             fractions = [Fraction(text) for text in texts]
             request, whole = sampler.given_request(fractions), sum(fractions).denominator == 1
             columns = [(place * place, 3 - place) for place in range(len(texts))]
-            for method in sampler.METHODS:
-                if whole and method == "minimum_support" or method not in ("minimum_support", "brewer"):
+            for method in sampler.METHODS[2]:
+                if method != "brewer" and (whole or method not in sampler.WHOLE_METHODS):
                     self.over_tree(method, "frame", request, columns)
                 if method in ("pivotal", "systematic"):
                     self.over_tree(method, "random", request, columns)
@@ -905,7 +921,7 @@ class Probabilities(unittest.TestCase):
         for sizes in self.SIZES:
             positive = sum(size > 0 for size in sizes)
             columns = [(place * place, 3 - place) for place in range(len(sizes))]
-            for n, method in itertools.product(range(1, positive + 1), sampler.METHODS):
+            for n, method in itertools.product(range(1, positive + 1), sampler.METHODS[2]):
                 if method != "brewer":
                     self.of_request(method, "frame", sizes, n, columns)
                 if method in ("pivotal", "systematic") and len(sizes) < 5:
@@ -937,8 +953,10 @@ class Probabilities(unittest.TestCase):
             ("systematic", "minimum_support", 'order = "random"\n'),
             ("minimum_support", "pivotal", 'size = "z"\n'),
             ("cube", "pivotal", 'balance = ["x"]\n'),
+            ("elimination", "elimination", 'size = "z"\n'),
         ):
-            text = sampler.read_design((design(method, 3, 'stratum = "s"\n' + more + second.format(inside), size="")).encode())
+            words = design(method, 3, 'stratum = "s"\n' + more + second.format(inside), size="")
+            text = sampler.read_design(words.replace("version = 1", "version = 2").encode())
             rows = sampler.read_frame(frame.encode(), text)
             strata = sampler.plan(rows, text)
             fractions = sampler.asked(strata, len(rows))
