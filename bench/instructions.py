@@ -3,7 +3,7 @@
 
     bench/instructions.py [ROWS]       100,000 rows where none are given, half of the most that a frame has
 
-A fifth of the rows is drawn. The counts are the same from run to run, whatever else the machine does. It is no test.
+A fifth of the rows is drawn; by Brewer's method and the elimination procedure by a seed alone. The counts are the same from run to run, whatever else the machine does. It is no test.
 """
 import os
 import re
@@ -34,18 +34,16 @@ def main():
     n = max(1, rows // 5)
     frame = write(work, "frame.csv", "id,size\n" + "".join(f"U{i},{size}\n" for i, size in enumerate(sizes)))
     print("command method rows instructions (millions)")
-    for method, full_tape in [("systematic", systematic_tape), ("pivotal", pivotal_tape)]:
-        text = f'version = 1\nmethod = "{method}"\nid = "id"\nsize = "size"\nn = {n}\n'
+    for method, full_tape in [("systematic", systematic_tape), ("pivotal", pivotal_tape), ("brewer", None), ("elimination", None)]:
+        text = f'version = 2\nmethod = "{method}"\nid = "id"\nsize = "size"\nn = {n}\n'
         design = write(work, "design.toml", text)
-        values = full_tape(sizes, n, lambda bound: bound // 2)
-        tape = write(work, "tape.txt", "".join(f"{value}\n" for value in values))
         files = ["--log", os.path.join(work, "log.txt"), "--sample", os.path.join(work, "sample.csv")]
         inputs = ["--design", design, "--frame", frame]
-        calls = [
-            ("draw", ["draw", *inputs, "--tape", tape, *files]),
-            ("seeded", ["draw", *inputs, "--seed", "0" * 64, *files]),
-            ("probs", ["probs", *inputs]),
-        ]
+        calls = [("seeded", ["draw", *inputs, "--seed", "0" * 64, *files])]
+        if full_tape is not None:
+            values = full_tape(sizes, n, lambda bound: bound // 2)
+            tape = write(work, "tape.txt", "".join(f"{value}\n" for value in values))
+            calls = [("draw", ["draw", *inputs, "--tape", tape, *files]), *calls, ("probs", ["probs", *inputs])]
         for command, words in calls:
             count, code = millions([program, *words], work)
             note = "" if code == 0 else f" (ended with code {code})"

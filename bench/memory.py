@@ -16,7 +16,7 @@ import tempfile
 sys.dont_write_bytecode = True
 import draw
 
-METHODS = ("systematic", "pivotal", "minimum_support", "brewer", "local_pivotal", "cube")
+METHODS = ("systematic", "pivotal", "minimum_support", "brewer", "elimination", "local_pivotal", "cube")
 MEGABYTE = 1_000_000
 MAX_SIZE = 2_147_483_647
 OFFERS_FOR_EACH = 64
@@ -31,7 +31,7 @@ def made_up_frame(rows, columns):
 
 
 def design_of(method, n, columns):
-    lines = ["version = 1", f'method = "{method}"', 'id = "id"', f"n = {n}"]
+    lines = ["version = 2", f'method = "{method}"', 'id = "id"', f"n = {n}"]
     names = [f'"x{column}"' for column in range(1, columns + 1)]
     if method == "cube":
         lines.append("balance = [" + ", ".join(names) + "]")

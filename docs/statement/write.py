@@ -23,6 +23,7 @@ METHODS = [
     ("systematic", "systematic selection", ["smp_systematic"]),
     ("minimum_support", "minimum support", ["smp_minsup"]),
     ("brewer", "Brewer's method", ["smp_brewer"]),
+    ("elimination", "the elimination procedure", ["smp_elim"]),
     ("local_pivotal", "local pivotal selection", ["smp_localpiv", "smp_near"]),
     ("cube", "the cube method", ["smp_landing", "smp_flight", "smp_moves", "smp_kernel", "smp_balance", "smp_twostage.specs.Cubes",
                                  "smp_twostage.specs.Lines"]),
