@@ -26,7 +26,7 @@ use crate::groups::Group;
 use crate::layout::{Clusters, Strata};
 use crate::sizes::{probs_at, second_sizes, sizes_at};
 use crate::sums::values_of;
-use crate::{FirstUnit, Plan, Seat, Stratum, Units};
+use crate::{FirstUnit, Plan, Seat, SecondRequest, Stratum, Units};
 use smp_design::{Design, Method, Second};
 use smp_frac::{Frac, NoMemory};
 use smp_frame::{Numbers, Unit};
@@ -98,7 +98,7 @@ fn first_of(
     Ok(FirstUnit {
         rows: Group::from_slice(alloc, rows)?,
         values: Numbers::from_slice(alloc, &values)?,
-        second,
+        second: SecondRequest::new(alloc, second)?,
     })
 }
 

@@ -14,6 +14,7 @@ mod layout;
 mod misfit;
 mod names;
 mod plan;
+mod second;
 mod sizes;
 mod strata;
 mod sums;
@@ -22,6 +23,7 @@ pub use acceptance::accept;
 pub use groups::Group;
 pub use misfit::Misfit;
 pub use plan::{Plan, asked, first_asked};
+pub use second::SecondRequest;
 pub use strata::{FirstUnit, Seat, Stratum, Units};
 
 /// A sum of sizes, and the absolute value of a sum of values, is so large at most.

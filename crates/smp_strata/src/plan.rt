@@ -190,7 +190,7 @@ pub fn asked(plan: &Plan, k: usize) -> Frac
     let seat = plan.seat(k);
     let stratum = plan.stratum(seat.stratum);
     let first = terms_of(&stratum.request, seat.unit);
-    match &stratum.units.as_slice()[seat.unit].second {
+    match stratum.units.as_slice()[seat.unit].second.get() {
         Some(second) => product(first, terms_of(second, seat.place)),
         None => product(first, Terms { num: 1, den: 1 }),
     }

@@ -1,6 +1,6 @@
 //! The strata of a plan, and their first stage units.
 
-use crate::Group;
+use crate::{Group, SecondRequest};
 use smp_frac::{Items, Text};
 use smp_frame::Numbers;
 use smp_prob::Request;
@@ -13,7 +13,7 @@ pub struct FirstUnit {
     /// Its balancing values or coordinates, in the order of their columns: the sums over its rows.
     pub values: Numbers,
     /// The request of its second stage, whose units are places in `rows`; `None` without a second stage.
-    pub second: Option<Request>,
+    pub second: SecondRequest,
 }
 
 /// First stage units in a list.

@@ -168,7 +168,7 @@ impl<'a> Made<'a> {
             within.stage within.unit) }
         ensures each { OnOk result (EachStarts self.new.stages.items self.new.states.items) }
     {
-        let Some(request) = &first.second else {
+        let Some(request) = first.second.get() else {
             return Ok(());
         };
         let rows = first.rows.as_slice().len();
