@@ -36,3 +36,4 @@ pub mod LoneTelling
 pub mod SectionCounts
 pub mod PartSections
 pub mod LoneExact
+pub mod OneSection

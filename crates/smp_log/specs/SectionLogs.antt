@@ -70,6 +70,11 @@ abbrev pub sectioned_log_text : {State : Type 0} → Tree State → Sectioning S
 sectioned_log_text tree sections from head path =
     sections_text head sections.count (placed tree sections from path)
 
+-- the log of version 2 of a path whose steps are all of one section
+abbrev pub one_section_text : List ℕ → List Entry → List ℕ
+one_section_text head path =
+    sectioned_head head ++ (lone_text 1 0 path ++ end_text (length path))
+
 -- the path of a full tape from a state to some leaf
 pub record HasLeaf {State : Type 0} (tree : Tree State) (from : State) (path : List Entry)
     : Type 0 where

@@ -29,6 +29,6 @@ pub use replaying::{old_replay, old_replay_into};
 pub use section_laws::{
     logs_are_unambiguous, runs_are_genuine, section_answers_are_exact, sections_are_replayed_alone,
 };
-pub use section_writing::log_bytes;
+pub use section_writing::{log_bytes, one_section_log_bytes};
 pub use versions::{replay, replay_into};
 pub use writing::{old_log_bytes, step_lines};

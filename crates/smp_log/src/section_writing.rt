@@ -1,9 +1,10 @@
 ghost use Rattle.std.specs.Prelude.{◌≡◌, ◌++◌, IfOk, OnOk};
 ghost use Rattle.smp_log.specs.Genuine.{IsFullPath};
-ghost use Rattle.smp_log.specs.SectionLogs.{HasLeaf, done_text, sectioned_log_text, stratum_text};
+ghost use Rattle.smp_log.specs.SectionLogs.{HasLeaf, done_text, one_section_text};
+ghost use Rattle.smp_log.specs.SectionLogs.{sectioned_log_text, stratum_text};
 
 use crate::Head;
-use crate::writing::{push_end, push_step};
+use crate::writing::{push_end, push_step, push_steps};
 use smp_frac::{Bytes, NoMemory};
 use smp_split::{Lines, Sections};
 use std::alloc::Global;
@@ -47,6 +48,21 @@ pub fn log_bytes<S: Sections>(
         push_done(alloc, &mut text, number, own)?;
     }
     push_end(alloc, &mut text, next)?;
+    Ok(text)
+}
+
+/// The log of version 2 of a path whose steps are all of one section: what [`log_bytes`] writes where a design has one
+/// section alone. It asks no state, so nothing is walked.
+pub fn one_section_log_bytes(alloc: Global, head: &Head, lines: &Lines) -> Result<Bytes, NoMemory>
+    ensures { IfOk result (λ text. text ≡ one_section_text head.now lines.now) }
+{
+    let steps = lines.as_slice();
+    let mut text = Bytes::new(alloc);
+    text.push_all(&head.sectioned())?;
+    push_stratum(alloc, &mut text, 1, 0)?;
+    push_steps(&mut text, steps)?;
+    push_done(alloc, &mut text, 1, steps.len() as u64)?;
+    push_end(alloc, &mut text, steps.len())?;
     Ok(text)
 }
 

@@ -28,7 +28,7 @@ pub fn step_lines(alloc: Global, lines: &Lines) -> Result<Bytes, NoMemory>
     Ok(text)
 }
 
-fn push_steps(text: &mut Bytes, steps: &[(Kind, u128, u128)]) -> Result<(), NoMemory>
+pub(crate) fn push_steps(text: &mut Bytes, steps: &[(Kind, u128, u128)]) -> Result<(), NoMemory>
     ensures { OnOk result (text.new ≡ text.old ++ steps_text steps.now) }
 {
     for step in steps {
