@@ -18,7 +18,8 @@ use Rattle.smp_log.specs.Answers.{AnswersAs}
 use Rattle.smp_log.specs.Genuine.{DiffersAt, IsFullPath}
 use Rattle.smp_log.specs.declared.fault.ReplayFault.{ReplayFault}
 use Rattle.smp_log.specs.declared.fault.ReplayFault.TheVariants as replays
-use Rattle.smp_log.specs.SectionLogs.{HasLeaf, IsAnyGenuine, sectioned_log_text}
+use Rattle.smp_log.specs.SectionLogs.{HasLeaf, IsAnyGenuine, one_section_text, sectioned_log_text}
+use Rattle.smp_log.proofs.OneSection.{one_section_log}
 use Rattle.smp_log.specs.declared.fault.LogFault.{LogFault}
 use Rattle.smp_log.specs.declared.fault.LogFault.TheVariants.{Differs}
 use Rattle.smp_split.specs.Paths.{Entry, Leads}
@@ -40,7 +41,7 @@ use Rattle.smp_twostage.specs.Covered.{StartsAlone}
 use Rattle.smp_twostage.specs.Starts.{StartsWhole, first_selected, known, row_fraction, second_selected, weighted}
 use Rattle.smp_twostage.specs.Laws.Places.{place_is_seat}
 use Rattle.smp_twostage.specs.Laws.Staged.{seconds_in}
-use Rattle.smp_twostage.specs.Laws.Wholes.{covered_lawful, whole_lawful}
+use Rattle.smp_twostage.specs.Laws.Wholes.{covered_lawful, strata_sectioned, whole_lawful}
 use Rattle.smp_plan.specs.declared.plan.FramePlan.{FramePlan}
 use Rattle.smp_plan.specs.Planned.{IsPlanned, plan_view}
 use Rattle.smp_twostage.specs.declared.whole.StartedWhole.{StartedWhole}
@@ -348,6 +349,10 @@ module _ (plan : Plan) (leaf : Progress AnyState) (path : List Entry) where
   full_of None by = by.by_plan.full
   full_of (Some h) by = by.full
 
+  member_of : (only : Option ℕ) → IsDrawnOf only plan (drawn_of_only only) → BelongsToCovered (covered (drawn_of_only only)) (covered_start (covered (drawn_of_only only)))
+  member_of None by = by.member
+  member_of (Some h) by = by.starts.member
+
   there_of : (only : Option ℕ) → IsDrawnOf only plan (drawn_of_only only) → IfSome only (λ h. h < length (parts plan).strata)
   there_of None by = tt
   there_of (Some h) by = by.there
@@ -358,6 +363,13 @@ module _ (plan : FramePlan) (planned : IsPlanned plan) (only : Option ℕ) (leaf
 
   pub own_strata : IfSome only (λ h. h < length plan.plan.strata)
   own_strata = subst (λ (p : Parts). IfSome only (λ h. h < length p.strata)) (sym planned.parts_are) (there_of (plan_view plan) leaf path only by)
+
+  -- where one stratum is drawn
+  pub one_log : (strata_sections (covered drawn_here)).count ≡ 1 → one_section_text plan.head path ≡ log_text drawn_here
+  one_log one =
+      let own = covered drawn_here in
+      let has : HasLeaf (covered_tree own) (covered_start own) path = record { leaf = leaf; full = full_of (plan_view plan) leaf path only by } in
+      sym (one_section_log (covered_tree own) (BelongsToCovered own) (covered_lawful own) (strata_sections own) (strata_sectioned own) one (covered_start own) (member_of (plan_view plan) leaf path only by) plan.head path has)
 
   -- in the selection that is made once more
   module _ (own : Coverage) (is : own ≡ record { plan = plan.plan; only = only }) (start : Progress AnyState) (from : start ≡ covered_start (record { plan = plan.plan; only = only })) where

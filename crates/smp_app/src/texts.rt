@@ -12,8 +12,9 @@ ghost use Rattle.smp_weights.specs.Rows.{AddsRow, row};
 use crate::job::{DrawnText, PlanText};
 use crate::selection::Selection;
 use smp_frac::{Bytes, Frac, NoMemory, Text};
-use smp_log::{log_bytes, replay, step_lines};
+use smp_log::{log_bytes, one_section_log_bytes, replay, step_lines};
 use smp_plan::FramePlan;
+use smp_split::Sections;
 use smp_strata::asked;
 use smp_twostage::{StartedWhole, Whole, balance_lines};
 use smp_weights::{CsvRows, push_sample_row, sample_rows};
@@ -77,13 +78,16 @@ fn started_again<'a>(
     }
 }
 
-// The log: its head, the steps of a stratum after the other, and its end.
+// The log: its head, the steps of a stratum after the other, and its end. Where one stratum is drawn, all steps are its own.
 fn log_text(alloc: Global, plan: &FramePlan, selection: &Selection) -> Result<Bytes, NoMemory>
     requires planned { IsPlanned plan.now }
     requires selection { IsSelection (plan_view plan.now) selection.now }
     ensures { IfOk result (λ text. text
         ≡ Texts.log_text (selection_view (plan_view plan.now) selection.now)) }
 {
+    if selection.whole.sections() == 1 {
+        return one_section_log_bytes(alloc, &plan.head, &selection.lines);
+    }
     let StartedWhole { whole, mut state } = started_again(alloc, plan, selection.only)?;
     log_bytes(alloc, &whole, &mut state, &plan.head, &selection.lines)
 }
