@@ -61,6 +61,7 @@ impl Sink for MemSink {
         ensures never_falls { self.old.failed ≤ self.new.failed }
         ensures counted { self.new.failed ≡ failures_after result self.old.failed }
         ensures cause { IsErrOf result StoreFault.Failed → Rose self.old.failed self.new.failed }
+        ensures uncounted { IsErrOf result StoreFault.NoMemory → self.new.failed ≡ self.old.failed }
         ensures failed { IsErrOf result StoreFault.Failed ↔ IsDueToFail self.old.puts }
     {
         if self.puts.next_fails() {

@@ -1,5 +1,5 @@
 ghost use Rattle.std.specs.Prelude.{◌≡◌, ◌≤◌, None, OnOk, OnErr, IsErrOf};
-ghost use Rattle.smp_io.specs.Counts.{Rose, count_after};
+ghost use Rattle.smp_io.specs.Counts.{Rose, failures_after};
 ghost use Rattle.smp_io.specs.Sink.{with_bytes, AppendsFront};
 
 use crate::{Sink, StoreFault};
@@ -40,13 +40,17 @@ impl<'a, R: Print> Sink for OutSink<'a, R> {
         ensures err { OnErr result (AppendsFront bytes.now None None) }
         ensures never_falls { self.old ≤ self.new }
         ensures cause { IsErrOf result StoreFault.Failed → Rose self.old self.new }
-        ensures counted { self.new ≡ count_after result self.old }
+        ensures uncounted { IsErrOf result StoreFault.NoMemory → self.new ≡ self.old }
+        ensures counted { self.new ≡ failures_after result self.old }
     {
         match self.rt.write_all(bytes) {
             Ok(()) => Ok(()),
             Err(error) => {
-                self.failed = self.failed.saturating_add(1);
-                Err(StoreFault::from(error))
+                let fault = StoreFault::from(error);
+                if fault == StoreFault::Failed {
+                    self.failed = self.failed.saturating_add(1);
+                }
+                Err(fault)
             }
         }
     }

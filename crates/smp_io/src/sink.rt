@@ -23,5 +23,9 @@ pub trait Sink {
 
         // A put that failed is counted as one.
         ensures cause { IsErrOf result StoreFault.Failed →
-            Rose (faults self.old) (faults self.new) };
+            Rose (faults self.old) (faults self.new) }
+
+        // Want of memory isn't counted.
+        ensures uncounted { IsErrOf result StoreFault.NoMemory →
+            faults self.new ≡ faults self.old };
 }
