@@ -145,7 +145,7 @@ module _ (ended answer : Status) (words : List (List ℕ)) (before now : Outside
   line_put class is says work line line_is puts = elim puts [
     | Whole same whole ↦ said class is (same, says (record { refused = work.refused; files = work.same.files; line = line; line_is = line_is; put = inl (whole ∙ ap (with_bytes line) work.same.written) }))
     | Cut same rose front ↦ said class is (same, says (record { refused = work.refused; files = work.same.files; line = line; line_is = line_is; put = inr (rose_since _ _ _ le rose, subst (λ w. AppendsFront line w now.written) work.same.written front) }))
-    | OutOfMemory same some ↦ out_of_memory same (elim some [
+    | OutOfMemory same uncounted some ↦ out_of_memory same (elim some [
       | inl front ↦ inr (inl (record {
         refusal = ended;
         refused = subst (λ k. RefusesBy k ended words before.files) (sym is) work.refused;

@@ -38,13 +38,13 @@ abbrev pub put_by : {S : Type 0} → (S → Option (List ℕ)) → (S → ℕ) �
 put_by written faults out = record { written = written out; faults = faults out }
 
 -- How a line was put for a refusal, and what is answered then: the whole line, or a front of it where the sink failed; or memory ran
--- out, with a front of the line put, or with nothing.
+-- out, where no put failed, with a front of the line put, or with nothing.
 pub data PutsLine (refusal answer : Status) (line : List ℕ) (before now : Put) : Type 0 where
   Whole : answer ≡ refusal → now.written ≡ with_bytes line before.written
       → PutsLine refusal answer line before now
   Cut : answer ≡ refusal → Rose before.faults now.faults
       → AppendsFront line before.written now.written → PutsLine refusal answer line before now
-  OutOfMemory : answer ≡ status.NoMemory
+  OutOfMemory : answer ≡ status.NoMemory → now.faults ≡ before.faults
       → AppendsFront line before.written now.written ⊎ (now.written ≡ before.written)
       → PutsLine refusal answer line before now
 
