@@ -21,11 +21,12 @@ use Rattle.smp_twostage.specs.Laws.Wholes.{covered_lawful, strata_sectioned, who
 use Rattle.smp_status.specs.declared.status.Status.{Status}
 use Rattle.smp_status.specs.declared.status.Status.TheVariants as status
 use Rattle.smp_plan.specs.Plans.{Plan, parts}
-use Rattle.smp_plan.specs.Inputs.{DesignSource, Given, Held, Made, FrameSource, FrameHeld, FrameMade, ReadDesign, design_stage, frame_content, frame_stage, plan_stage, unless_misfit}
+use Rattle.smp_plan.specs.Inputs.{DesignSource, Given, Held, HeldForJoint, Made, FrameSource, FrameHeld, FrameForJoint, FrameMade, ReadDesign, design_stage, frame_content, frame_stage, has_joints, is_large, plan_stage, unless_large, unless_misfit, unless_no_joints}
 use Rattle.smp_design.specs.Designs.{design_of}
 use Rattle.smp_design.specs.declared.fault.DesignFault.{DesignFault}
 use Rattle.smp_design.specs.declared.fault.DesignFault.TheVariants as design_fault
 use Rattle.smp_frame.specs.Frames.{frame_of}
+use Rattle.smp_frame.specs.declared.frame.Unit as unit
 use Rattle.smp_frame.specs.declared.fault.FrameFault.{FrameFault}
 use Rattle.smp_frame.specs.declared.fault.FrameFault.TheVariants as frame_fault
 use Rattle.smp_strata.specs.Misfits.{misfit_of}
@@ -176,6 +177,20 @@ module _ (line : ℕ) where
   misfit_out plan None h = cc
   misfit_out plan (Some misfit) h = cc
 
+  joints_out : (read : ReadDesign) → unless_no_joints read ≡ Err (Refused (status.LogDiffers line)) → ⊥
+  joints_out read h =
+      elim (cases_Bool (has_joints read.design.method read.design.order read.design.second)) [
+        | inl e ↦ (let ends : ◌≡◌ {A = Result ReadDesign Stop} (Ok read) (Err (Refused (status.LogDiffers line))) = rw e at h in cc)
+        | inr e ↦ (let ends : ◌≡◌ {A = Result ReadDesign Stop} (Err (Refused status.NoJoint)) (Err (Refused (status.LogDiffers line))) = rw e at h in cc)
+      ]
+
+  large_out : (frame : FrameSource) (units : List unit.Unit) → unless_large frame units ≡ Err (Refused (status.LogDiffers line)) → ⊥
+  large_out frame units h =
+      elim (cases_Bool (is_large frame (length units))) [
+        | inl e ↦ (let ends : ◌≡◌ {A = Result (List unit.Unit) Stop} (Err (Refused (status.JointLarge (length units)))) (Err (Refused (status.LogDiffers line))) = rw e at h in cc)
+        | inr e ↦ (let ends : ◌≡◌ {A = Result (List unit.Unit) Stop} (Ok units) (Err (Refused (status.LogDiffers line))) = rw e at h in cc)
+      ]
+
   design_stage_out : (design : DesignSource) (fs : Files) → design_stage design fs ≡ Err (Refused (status.LogDiffers line)) → ⊥
   unfolding design_stage
   design_stage_out (Given design) fs h = cc
@@ -184,9 +199,14 @@ module _ (line : ℕ) where
   design_stage_out (Held name) fs h =
       bind_out (content name (fs name)) _ (status.LogDiffers line) (not_refused name (fs name) (status.LogDiffers line))
       (λ bytes e. bind_out (or_fault design_status (design_of bytes)) _ (status.LogDiffers line) (fault_out design_status (status.LogDiffers line) design_out (design_of bytes)) (λ design f. cc) e) h
+  design_stage_out (HeldForJoint name) fs h =
+      bind_out (content name (fs name)) _ (status.LogDiffers line) (not_refused name (fs name) (status.LogDiffers line))
+      (λ bytes e. bind_out (or_fault design_status (design_of bytes)) _ (status.LogDiffers line) (fault_out design_status (status.LogDiffers line) design_out (design_of bytes))
+      (λ design f. joints_out (record { design = design; bytes = bytes }) f) e) h
 
   content_out : (frame : FrameSource) (fs : Files) → frame_content frame fs ≡ Err (Refused (status.LogDiffers line)) → ⊥
   content_out (FrameHeld name) fs h = not_refused name (fs name) (status.LogDiffers line) h
+  content_out (FrameForJoint name) fs h = not_refused name (fs name) (status.LogDiffers line) h
   content_out (FrameMade bytes) fs h = cc
 
   frame_stage_out : (design : ReadDesign) (frame : FrameSource) (fs : Files) → frame_stage design frame fs ≡ Err (Refused (status.LogDiffers line)) → ⊥
@@ -194,7 +214,7 @@ module _ (line : ℕ) where
   frame_stage_out design frame fs h =
       bind_out (frame_content frame fs) _ (status.LogDiffers line) (content_out frame fs)
       (λ bytes e. bind_out (or_fault frame_status (frame_of design.design.columns bytes)) _ (status.LogDiffers line) (fault_out frame_status (status.LogDiffers line) frame_out (frame_of design.design.columns bytes))
-      (λ units f. misfit_out _ (misfit_of design.design units) f) e) h
+      (λ units f. bind_out (unless_large frame units) _ (status.LogDiffers line) (large_out frame units) (λ few g. misfit_out _ (misfit_of design.design few) g) f) e) h
 
   plan_out : (design : DesignSource) (frame : FrameSource) (fs : Files) → plan_stage design frame fs ≡ Err (Refused (status.LogDiffers line)) → ⊥
   plan_out design frame fs h = bind_out (design_stage design fs) (λ read. frame_stage read frame fs) (status.LogDiffers line) (design_stage_out design fs) (λ read e. frame_stage_out read frame fs e) h

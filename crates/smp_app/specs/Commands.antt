@@ -9,10 +9,10 @@ use Rattle.smp_app.specs.declared.outputs.OutputFile.{OutputFile}
 use Rattle.smp_plan.specs.Plans.{Plan, quick_design}
 use Rattle.smp_app.specs.Drawn.{Drawn}
 use Rattle.smp_app.specs.Texts.{ids_text, steps_text, log_text, sample_text, report_text, migrated_text, demo_text, probabilities_text}
-use Rattle.smp_app.specs.Texts.{accepted_text}
+use Rattle.smp_app.specs.Texts.{accepted_text, joints_text}
 use Rattle.smp_app.specs.Deliveries.{Outputs}
 use Rattle.smp_cases.specs.Demo.{demo_design_text, demo_frame_text, demo_key}
-use Rattle.smp_plan.specs.Inputs.{DesignSource, FrameSource, input_names, Held, Given, Made, FrameHeld, FrameMade}
+use Rattle.smp_plan.specs.Inputs.{DesignSource, FrameSource, input_names, Held, HeldForJoint, Given, Made, FrameHeld, FrameForJoint, FrameMade}
 
 -- a file that is written, by its name: a text of what is drawn
 pub record DrawnFile : Type 0 where
@@ -72,6 +72,11 @@ job_of (commands.Check a) = record {
   design = Held a.design;
   frame = FrameHeld a.frame;
   work = Lists accepted_text;
+}
+job_of (commands.Joint a) = record {
+  design = HeldForJoint a.design;
+  frame = FrameForJoint a.frame;
+  work = Lists joints_text;
 }
 job_of (commands.Replay a) = record {
   design = Held a.design;

@@ -26,6 +26,7 @@ use Rattle.smp_stages.specs.Paths.{GoesByStages}
 use Rattle.smp_twostage.specs.Cubes.{IsDrawnByCube, balancing}
 use Rattle.smp_twostage.specs.Covered.{StartsAlone}
 use Rattle.smp_twostage.specs.Lines.{drawn_stratum}
+use Rattle.smp_twostage.specs.Plans.{CanBeDrawn}
 use Rattle.smp_twostage.specs.Selections.{BelongsToWhole, covered_start, covered_tree, tree_of as stage_tree}
 use Rattle.smp_twostage.specs.Selections.{first_number, stages_of, states_of}
 use Rattle.smp_twostage.specs.Starts.{first_selected, known, second_selected, weighted}
@@ -138,8 +139,9 @@ pub record IsDrawFrom (plan : Plan) (source : Source) (fs : Files) : Type 0 wher
   pub is_drawn : drawn_stage plan source fs ≡ Ok drawn
   pub by_plan : IsDrawnOf drawn.only plan drawn
 
+-- what a job lists is of a plan that can be drawn
 abbrev pub IsExactFrom : Plan → Work → Files → Type 0
-IsExactFrom plan (Lists text) fs = Unit {0}
+IsExactFrom plan (Lists text) fs = CanBeDrawn (parts plan)
 IsExactFrom plan (Draws source files put) fs = IsDrawFrom plan source fs
 
 -- what a job draws by its plan is drawn with the requested probabilities

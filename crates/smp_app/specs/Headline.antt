@@ -1,5 +1,5 @@
 -- The main statement: what a call that ended well has done, and where the log differs that a call has refused.
-use Rattle.std.specs.Prelude.{◌≡◌, ℕ, ◌+◌, ◌<◌, ◌^◌, List, [], ◌∷◌, length, Some, None, option_map, Ok}
+use Rattle.std.specs.Prelude.{◌≡◌, ℕ, ◌+◌, ◌<◌, ◌≤◌, ◌^◌, List, [], ◌∷◌, length, Some, None, option_map, Ok}
 use Rattle.std.specs.List.{filter}
 use Rattle.smp_io.specs.Sink.{with_bytes}
 use Rattle.smp_io.specs.Store.{Files}
@@ -15,6 +15,7 @@ use Rattle.smp_frame.specs.Frames.{frame_of}
 use Rattle.smp_strata.specs.Misfits.{misfit_of}
 use Rattle.smp_design.specs.Designs.{design_of}
 use Rattle.smp_words.specs.declared.command.Command.{Command}
+use Rattle.smp_words.specs.declared.command.DesignArguments.{DesignArguments}
 use Rattle.smp_words.specs.declared.command.DrawArguments.{DrawArguments}
 use Rattle.smp_words.specs.declared.command.MigrateArguments.{MigrateArguments}
 use Rattle.smp_words.specs.declared.command.QuickArguments.{QuickArguments}
@@ -28,12 +29,14 @@ use Rattle.smp_log.specs.Heads.{head_of}
 use Rattle.smp_log.specs.LoneSections.{HasSection}
 use Rattle.smp_log.specs.SectionLogs.{IsAnyGenuine, IsSectionedGenuine}
 use Rattle.smp_twostage.specs.Selections.{BelongsToWhole, covered_start, covered_tree, is_of_stratum}
+use Rattle.smp_joint.specs.JointRows.{HasJoints, IsSystematicPlan}
 use Rattle.smp_status.specs.declared.status.Status.{Status}
 use Rattle.smp_status.specs.declared.status.Status.TheVariants as status
+use Rattle.smp_plan.specs.Inputs.{most_joint_rows}
 use Rattle.smp_plan.specs.Plans.{Plan, parts, quick_design}
 use Rattle.smp_app.specs.Drawn.{Drawn, tree_of, start_of, sections_of, drawn_rows}
 use Rattle.smp_app.specs.Draws.{IsDrawnAlone, IsDrawnBy, OldDiffers, RefusesLog, StratumDiffers, WholeDiffers}
-use Rattle.smp_app.specs.Texts.{ids_text, log_text, migrated_text, report_text, sample_text, steps_text}
+use Rattle.smp_app.specs.Texts.{ids_text, joints_text, log_text, migrated_text, report_text, sample_text, steps_text}
 use Rattle.smp_app.specs.Verdict.{alone, drawn_by_log}
 use Rattle.smp_app.specs.Deliveries.{with_files}
 use Rattle.smp_app.specs.Answers.{Outside}
@@ -190,6 +193,23 @@ pub record IsExactMigration (a : MigrateArguments) (fs : Files) (before now : Ou
   -- The plan is what was read.
   pub read : IsReadPlan a.design a.frame fs drawn.plan
 
+-- ---- joint probabilities
+
+-- What a `joint` that ended well has done.
+pub record IsExactJoint (a : DesignArguments) (fs : Files) (before now : Outside) : Type 0 where
+  -- The plan is what was read. It draws systematically, in the order of the frame and in one stage, from 2,000 rows at most.
+  pub plan : Plan
+  pub read : IsReadPlan a.design a.frame fs plan
+  pub systematic : IsSystematicPlan (parts plan)
+  pub few : length plan.units ≤ most_joint_rows
+  -- Over draws that are uniform below each bound, each two rows are both selected with exactly the joint probability that is listed
+  -- for them; and where the probabilities of a stratum's units add up to a whole number, those of a unit with all others of the stratum
+  -- add up to one less than it times the unit's own.
+  pub joints : HasJoints (parts plan)
+  -- They were put, and no file has changed.
+  pub put : now.written ≡ with_bytes (joints_text plan) before.written
+  pub same : now.files ≡ Some fs
+
 -- ---- a log that is refused
 
 -- A log was refused at a line: the plan is what was read, and the log in its file differs there.
@@ -209,7 +229,8 @@ pub record Ends (answer : Status) (words : List (List ℕ)) (before : Outside) (
   pub told : before.files ≡ Some fs
 
 -- A call that answers Done has done what its command asks for: such a draw, whose log `replay` accepts; such a quick draw; such a
--- replay, of all strata or of the one whose number the words have, counted from 1; such a migration. Where it answers that a log
+-- replay, of all strata or of the one whose number the words have, counted from 1; such a migration; such a list of joint
+-- probabilities. Where it answers that a log
 -- differs at a line, the lines before this one are the most whole lines with which some genuine log begins, of either version for
 -- `replay`, of version 1 for `migrate`; with a stratum the line is the first with which no genuine section of it goes on.
 pub record Headline (answer : Status) (words : List (List ℕ)) (before now : Outside) : Type 0 where
@@ -229,6 +250,8 @@ pub record Headline (answer : Status) (words : List (List ℕ)) (before now : Ou
   pub migrate : (a : MigrateArguments) (fs : Files)
       → Ends answer words before status.Done (commands.Migrate a) fs
       → IsExactMigration a fs before now
+  pub joint : (a : DesignArguments) (fs : Files)
+      → Ends answer words before status.Done (commands.Joint a) fs → IsExactJoint a fs before now
   pub replay_differs : (a : ReplayArguments) (fs : Files) (line : ℕ)
       → Ends answer words before (status.LogDiffers line) (commands.Replay a) fs
       → a.stratum ≡ None

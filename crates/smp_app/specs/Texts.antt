@@ -11,6 +11,7 @@ use Rattle.smp_weights.specs.Sample.{sample_file}
 use Rattle.smp_twostage.specs.Covered.{covered_left}
 use Rattle.smp_twostage.specs.Lines.{balance_lines, covered_strata}
 use Rattle.smp_twostage.specs.Selections.{covered_start, covered_tree, strata_sections}
+use Rattle.smp_joint.specs.JointText.{joint_text}
 use Rattle.smp_plan.specs.Plans.{Plan, parts, row_id, row_probability}
 use Rattle.smp_app.specs.Drawn.{Drawn, covered, rows_by, drawn_rows}
 
@@ -31,6 +32,10 @@ abbrev pub accepted_text : Plan → List ℕ
 accepted_text plan =
     codes "accepted " ++ (decimal (length plan.units)
     ++ (codes " units in " ++ (decimal (length (parts plan).strata) ++ codes " strata\n")))
+
+-- the joint probabilities of each two units (Särndal, Swensson and Wretman 1992)
+abbrev pub joints_text : Plan → List ℕ
+joints_text plan = joint_text (map (λ u. u.id) plan.units) (parts plan)
 
 -- ---- texts of what is drawn
 

@@ -26,6 +26,8 @@ use std::alloc::Global;
 ///   of the same steps to M, and puts how many there are.
 /// - `probs --design D --frame F` puts the probabilities with which the units of F are to be selected.
 /// - `check --design D --frame F` puts how many units are accepted.
+/// - `joint --design D --frame F` puts the joint probability of each two rows of F, where D draws systematically, in the order of the frame
+///   and in one stage, and F has 2,000 rows at most.
 /// - `demo N SEED` makes a frame of N units and a design for it, draws by a key that is made of SEED, replays its own
 ///   log and puts a summary. It reads and writes no file.
 /// - `quick FRAME N TAPE OUT` needs no design: it draws N units by sequential pivotal steps, writes their ids to OUT and puts the lines of

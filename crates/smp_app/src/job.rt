@@ -2,10 +2,10 @@
 
 ghost use Rattle.std.specs.Prelude.{◌≡◌, IfOk};
 ghost use Rattle.smp_words.specs.Words.{IsAsked};
-ghost use Rattle.smp_words.specs.declared.command.Command.TheVariants.{Demo, Draw, Migrate, Quick, Replay};
+ghost use Rattle.smp_words.specs.declared.command.Command.TheVariants.{Demo, Draw, Joint, Migrate, Quick, Replay};
 ghost use Rattle.smp_plan.specs.declared.source.DesignSource.TheVariants as DesignSource;
 ghost use Rattle.smp_plan.specs.declared.source.FrameSource.TheVariants as FrameSource;
-ghost use Rattle.smp_plan.specs.Inputs.{FrameHeld, Held};
+ghost use Rattle.smp_plan.specs.Inputs.{FrameForJoint, FrameHeld, Held, HeldForJoint};
 ghost use Rattle.smp_app.specs.Commands.{Lists, job_of, log_source, source_of};
 ghost use Rattle.smp_app.specs.Kept.Stages.{IsJob, draw_view, job_view, file_view, plan_text, drawn_text};
 
@@ -25,6 +25,8 @@ pub enum PlanText {
     Probabilities,
     /// How many units are accepted.
     Accepted,
+    /// The joint probability of each two units.
+    Joints,
 }
 
 /// A text of what is drawn.
@@ -132,6 +134,7 @@ impl<'a> Job<'a> {
             Command::Migrate(arguments) => migrate_job(alloc, arguments),
             Command::Probs(arguments) => Ok(listing(arguments, PlanText::Probabilities)),
             Command::Check(arguments) => Ok(listing(arguments, PlanText::Accepted)),
+            Command::Joint(arguments) => Ok(joint_job(arguments)),
             Command::Demo(arguments) => Ok(demo_job(alloc, arguments)),
         }
     }
@@ -208,6 +211,19 @@ fn migrate_job<'a>(alloc: Global, arguments: &'a MigrateArguments) -> Result<Job
             put: DrawnText::Migrated,
         },
     })
+}
+
+// The joint probabilities are put, of a design that has them and of a frame that isn't too large for them.
+fn joint_job<'a>(arguments: &'a DesignArguments) -> Job<'a>
+    ensures job { job_view result ≡ job_of (Joint arguments.now) }
+    ensures design { (job_view result).design ≡ HeldForJoint arguments.now.design }
+    ensures frame { (job_view result).frame ≡ FrameForJoint arguments.now.frame }
+{
+    Job {
+        design: DesignSource::Joint(&arguments.design),
+        frame: FrameSource::Joint(&arguments.frame),
+        work: Work::Lists(PlanText::Joints),
+    }
 }
 
 // A frame and a design that the command makes are drawn from by the seed's own key.

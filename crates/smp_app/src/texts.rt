@@ -1,4 +1,4 @@
-ghost use Rattle.std.specs.Prelude.{◌≡◌, ◌++◌, ◌∷◌, [], ◌<◌, length, IfOk, IfSome, OnOk, Some, codes, string_bytes};
+ghost use Rattle.std.specs.Prelude.{◌≡◌, ◌++◌, ◌∷◌, [], ◌<◌, length, map, IfOk, IfSome, OnOk, Some, codes, string_bytes};
 ghost use Rattle.std.specs.Fmt.{decimal};
 ghost use Rattle.smp_app.specs.Texts;
 ghost use Rattle.smp_app.specs.Drawn.{rows_by};
@@ -12,6 +12,8 @@ ghost use Rattle.smp_weights.specs.Rows.{AddsRow, row};
 use crate::job::{DrawnText, PlanText};
 use crate::selection::Selection;
 use smp_frac::{Bytes, Frac, NoMemory, Text};
+use smp_frame::Unit;
+use smp_joint::joint_bytes;
 use smp_log::{log_bytes, one_section_log_bytes, replay, step_lines};
 use smp_plan::FramePlan;
 use smp_split::Sections;
@@ -29,6 +31,7 @@ impl PlanText {
         match self {
             PlanText::Probabilities => probabilities_text(alloc, plan),
             PlanText::Accepted => accepted_text(alloc, plan),
+            PlanText::Joints => joints_text(alloc, plan),
         }
     }
 }
@@ -267,6 +270,26 @@ fn push_probability(
     let mut fraction = Bytes::new(alloc);
     probability.write(&mut fraction)?;
     rows.push(&[id.as_str().as_bytes(), fraction.as_slice()])
+}
+
+// The joint probabilities of each two units.
+fn joints_text(alloc: Global, plan: &FramePlan) -> Result<Bytes, NoMemory>
+    requires { IsPlanned plan.now }
+    ensures { IfOk result (λ text. text ≡ Texts.joints_text (plan_view plan.now)) }
+{
+    let ids = ids_of(alloc, plan.frame.units())?;
+    joint_bytes(alloc, ids.as_slice(), &plan.plan)
+}
+
+// The ids of units.
+fn ids_of(alloc: Global, units: &[Unit]) -> Result<Vec<Text>, NoMemory>
+    ensures { IfOk result (λ ids. ids.items ≡ map (λ u. u.id) units.now) }
+{
+    let mut ids = Vec::new(alloc);
+    for unit in units {
+        ids.push(unit.id.copy(alloc)?)?;
+    }
+    Ok(ids)
 }
 
 // What is said of a design and a frame that are accepted: how many units there are, and in how many strata.

@@ -1,5 +1,5 @@
 -- What was read of a design and a frame.
-use Rattle.std.proofs.Common.{◌≡◌, ℕ, List, [], Some, Result, Ok, Err, refl, ap, ◌∙◌, arith}
+use Rattle.std.proofs.Common.{◌≡◌, ℕ, true, false, length, List, [], Some, Result, Ok, Err, refl, ap, ◌∙◌, arith}
 use Rattle.smp_io.specs.Store.{Files}
 use Rattle.smp_log.specs.Heads.{head_of}
 use Rattle.smp_design.specs.Designs.{design_of}
@@ -8,12 +8,13 @@ use Rattle.smp_design.specs.declared.design.Design.{Design}
 use Rattle.smp_design.specs.declared.fault.DesignFault.{DesignFault}
 use Rattle.smp_design.specs.declared.fault.DesignFault.TheVariants as design_fault
 use Rattle.smp_status.specs.declared.status.Status.{Status}
+use Rattle.smp_status.specs.declared.status.Status.TheVariants as status
 use Rattle.smp_frame.specs.declared.frame.Unit as unit
 use Rattle.smp_frame.specs.Frames.{frame_of}
 use Rattle.smp_strata.specs.declared.misfit.Misfit.{Misfit}
 use Rattle.smp_strata.specs.declared.misfit.Misfit.TheVariants as misfits
 use Rattle.smp_plan.specs.Plans.{Plan}
-use Rattle.smp_plan.specs.Inputs.{DesignSource, Held, Given, Made, FrameSource, FrameHeld, FrameMade, design_names, frame_names, input_names, ReadDesign, frame_content, design_stage, frame_stage, plan_of, plan_stage}
+use Rattle.smp_plan.specs.Inputs.{DesignSource, Held, HeldForJoint, Given, Made, FrameSource, FrameHeld, FrameForJoint, FrameMade, is_large, design_names, frame_names, input_names, ReadDesign, frame_content, design_stage, frame_stage, plan_of, plan_stage}
 use Rattle.smp_faults.specs.Memory as memory
 use Rattle.smp_faults.specs.Steps.{◌>>=◌}
 use Rattle.smp_plan.specs.Stops.{Stop, Refused, without}
@@ -27,12 +28,14 @@ use Rattle.smp_plan.proofs.Names.{contains_left, contains_right, Apart}
 pub design_ignores : (source : DesignSource) → Ignores (design_stage source) (design_names source)
 unfolding design_stage
 design_ignores (Held design) name differs fs = rw (differs design (0, omega arith, refl)) refl
+design_ignores (HeldForJoint design) name differs fs = rw (differs design (0, omega arith, refl)) refl
 design_ignores (Given design) name differs fs = refl
 design_ignores (Made bytes) name differs fs = refl
 
 frame_ignores : (design : ReadDesign) (frame : FrameSource) → Ignores (frame_stage design frame) (frame_names frame)
 unfolding frame_stage
 frame_ignores design (FrameHeld frame) name differs fs = rw (differs frame (0, omega arith, refl)) refl
+frame_ignores design (FrameForJoint frame) name differs fs = rw (differs frame (0, omega arith, refl)) refl
 frame_ignores design (FrameMade bytes) name differs fs = refl
 
 pub plan_ignores : (design : DesignSource) (frame : FrameSource) → Ignores (plan_stage design frame) (input_names design frame)
@@ -46,13 +49,13 @@ plan_ignores design frame name differs fs =
 -- ---- a frame and its plan
 
 -- what was read of a frame leads to its plan
-module _ (design : ReadDesign) (frame : FrameSource) (bytes : List ℕ) (units : List unit.Unit) (before now : Told) (read : Reads (frame_names frame) (frame_content frame) (Ok bytes) before now) (framed : frame_of design.design.columns bytes ≡ Ok units) where
+module _ (design : ReadDesign) (frame : FrameSource) (bytes : List ℕ) (units : List unit.Unit) (before now : Told) (read : Reads (frame_names frame) (frame_content frame) (Ok bytes) before now) (framed : frame_of design.design.columns bytes ≡ Ok units) (few : is_large frame (length units) ≡ false) where
   abbrev pub made : Plan
   made = record { design = design.design; units = units; head = head_of design.bytes bytes }
 
   staged : (fs : Files) → before.files ≡ Some fs → frame_stage design frame fs ≡ plan_of made
   unfolding frame_stage
-  staged fs told = rw (read.follows fs told, framed) refl
+  staged fs told = rw (read.follows fs told, framed, few) refl
 
   pub plan_read : (plan : Plan) → plan_of made ≡ Ok plan → Reads (frame_names frame) (frame_stage design frame) (Ok plan) before now
   plan_read plan is = record {
@@ -87,6 +90,15 @@ module _ (design : ReadDesign) (frame : FrameSource) (bytes : List ℕ) (units :
   misfit_read (misfits.Denominator stratum) gives = refused_so (misfits.Denominator stratum) IsRefusal refl refl (λ fs told. staged fs told ∙ gives) tt
   misfit_read (misfits.NotWhole stratum sum) gives = refused_so (misfits.NotWhole stratum sum) IsRefusal refl refl (λ fs told. staged fs told ∙ gives) tt
   misfit_read (misfits.SecondTooMany psu n positive) gives = refused_so (misfits.SecondTooMany psu n positive) IsRefusal refl refl (λ fs told. staged fs told ∙ gives) tt
+
+-- of too many rows
+module _ (design : ReadDesign) (frame : FrameSource) (bytes : List ℕ) (units : List unit.Unit) (before now : Told) (read : Reads (frame_names frame) (frame_content frame) (Ok bytes) before now) (framed : frame_of design.design.columns bytes ≡ Ok units) (large : is_large frame (length units) ≡ true) where
+  large_staged : (fs : Files) → before.files ≡ Some fs → frame_stage design frame fs ≡ Err (Refused (status.JointLarge (length units)))
+  unfolding frame_stage
+  large_staged fs told = rw (read.follows fs told, framed, large) refl
+
+  pub large_read : Reads {A = Plan} (frame_names frame) (frame_stage design frame) (Err (status.JointLarge (length units))) before now
+  large_read = record { follows = large_staged; kinds = refl; cause = tt; same = read.same; reads = read.reads; writes = read.writes }
 
 -- ---- a design that is made of bytes with the command
 

@@ -16,7 +16,7 @@ use Rattle.smp_plan.specs.declared.source.FrameSource as code_frame
 use Rattle.smp_plan.specs.declared.source.FrameSource.TheVariants as frames
 use Rattle.smp_cases.specs.Demo.{demo_design_text, demo_frame_text}
 use Rattle.smp_plan.specs.Plans.{Plan, parts, quick_design}
-use Rattle.smp_plan.specs.Inputs.{DesignSource, Held, Given, Made, FrameSource, FrameHeld, FrameMade, ReadDesign}
+use Rattle.smp_plan.specs.Inputs.{DesignSource, Held, HeldForJoint, Given, Made, FrameSource, FrameHeld, FrameForJoint, FrameMade, ReadDesign}
 use Rattle.smp_plan.specs.Stops.{Stop, Refused}
 
 -- ---- values of the code as the definitions see them
@@ -29,11 +29,13 @@ read_view read = record { design = read.design; bytes = read.bytes }
 
 abbrev pub source_view : code_source.DesignSource → DesignSource
 source_view (sources.Held name) = Held name.now
+source_view (sources.Joint name) = HeldForJoint name.now
 source_view (sources.Quick n) = Given (quick_design n)
 source_view (sources.Demo n) = Made (demo_design_text n)
 
 abbrev pub frame_view : code_frame.FrameSource → FrameSource
 frame_view (frames.Held name) = FrameHeld name.now
+frame_view (frames.Joint name) = FrameForJoint name.now
 frame_view (frames.Demo n seed) = FrameMade (demo_frame_text n seed)
 
 -- ---- the plan
@@ -60,9 +62,11 @@ IsDemoSize n = (30 ≤ n) × (n ≤ 100000)
 
 abbrev pub IsInRanges : code_source.DesignSource → Type 0
 IsInRanges (sources.Held name) = Unit {0}
+IsInRanges (sources.Joint name) = Unit {0}
 IsInRanges (sources.Quick n) = IsDesign (quick_design n)
 IsInRanges (sources.Demo n) = IsDemoSize n
 
 abbrev pub IsFrameInRanges : code_frame.FrameSource → Type 0
 IsFrameInRanges (frames.Held name) = Unit {0}
+IsFrameInRanges (frames.Joint name) = Unit {0}
 IsFrameInRanges (frames.Demo n seed) = IsDemoSize n

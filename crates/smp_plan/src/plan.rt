@@ -3,6 +3,7 @@ ghost use Rattle.smp_frame.specs.Bounds.{HaveValues, IsFrame};
 ghost use Rattle.smp_design.specs.Bounds.{IsDesign};
 ghost use Rattle.smp_words.specs.Words.{all_distinct};
 ghost use Rattle.smp_plan.specs.Stops.{content_of};
+ghost use Rattle.smp_plan.specs.Inputs as Inputs;
 ghost use Rattle.smp_plan.specs.Inputs.{design_names, frame_names, input_names};
 ghost use Rattle.smp_plan.specs.Inputs.{design_stage, frame_content, frame_stage, plan_of, plan_stage};
 ghost use Rattle.smp_plan.specs.Reads.{Reads, told, result_view};
@@ -11,7 +12,7 @@ ghost use Rattle.smp_plan.specs.Planned.{GivesPlan, IsFrameInRanges, IsInRanges,
 use crate::quick::quick_design;
 use crate::{DesignSource, FrameSource};
 use smp_cases::{demo_design, demo_frame};
-use smp_design::{Design, read_design};
+use smp_design::{Design, Method, Order, read_design};
 use smp_frac::Bytes;
 use smp_frame::{Frame, read_frame};
 use smp_io::{Store, StoreFault};
@@ -19,6 +20,9 @@ use smp_log::{Head, log_head};
 use smp_status::Status;
 use smp_strata::{Misfit, Plan, accept};
 use std::alloc::Global;
+
+// The most rows of which joint probabilities are listed.
+const MAX_JOINT_ROWS: usize = 2_000;
 
 /// A design, and the bytes that it was read from; none for the design of a command.
 #[derive(Drop)]
@@ -75,6 +79,14 @@ fn design_from<K: Store>(
             let design = read_design(alloc, bytes.as_slice())?;
             Ok(ReadDesign { design, bytes })
         }
+        DesignSource::Joint(name) => {
+            let bytes = read_input(alloc, store, name.as_str())?;
+            let design = read_design(alloc, bytes.as_slice())?;
+            if !has_joints(&design) {
+                return Err(Status::NoJoint);
+            }
+            Ok(ReadDesign { design, bytes })
+        }
         DesignSource::Demo(n) => {
             let bytes = demo_design(alloc, *n)?;
             let design = read_design(alloc, bytes.as_slice())?;
@@ -84,6 +96,26 @@ fn design_from<K: Store>(
             design: quick_design(alloc, *n)?,
             bytes: Bytes::new(alloc),
         }),
+    }
+}
+
+// Whether a design draws systematically, in the order of the frame and in one stage.
+fn has_joints(design: &Design) -> bool
+    ensures { result ≡ Inputs.has_joints design.now.method design.now.order design.now.second }
+{
+    match (design.method, design.order, &design.second) {
+        (Method::Systematic, Order::Frame, None) => true,
+        _ => false,
+    }
+}
+
+// Whether so many rows are too many for joint probabilities, where these are asked for.
+fn is_large(source: FrameSource, rows: usize) -> bool
+    ensures { result ≡ Inputs.is_large (frame_view source.entry) rows }
+{
+    match source {
+        FrameSource::Joint(_) => rows > MAX_JOINT_ROWS,
+        _ => false,
     }
 }
 
@@ -115,7 +147,9 @@ fn frame_bytes<K: Store>(alloc: Global, store: &mut K, source: FrameSource) -> R
     ensures idle { frame_names (frame_view source.entry) ≡ [] → store.new ≡ store.old }
 {
     match source {
-        FrameSource::Held(name) => read_input(alloc, store, name.as_str()),
+        FrameSource::Held(name) | FrameSource::Joint(name) => {
+            read_input(alloc, store, name.as_str())
+        }
         FrameSource::Demo { n, seed } => Ok(demo_frame(alloc, n, seed)?),
     }
 }
@@ -141,6 +175,10 @@ fn frame_plan<K: Store>(
     let bytes = frame_bytes(alloc, store, source)?;
     let content = bytes.as_slice();
     let frame = read_frame(alloc, content, &read.design.columns)?;
+    let rows = frame.units().len();
+    if is_large(source, rows) {
+        return Err(Status::JointLarge { rows: rows as u64 });
+    }
     let head = log_head(read.bytes.as_slice(), content);
     Ok(plan_for(alloc, read.design, frame, head)?)
 }

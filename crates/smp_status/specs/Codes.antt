@@ -27,6 +27,8 @@ code_of status.ReadFault = 12
 code_of status.WriteFault = 13
 code_of status.NoMemory = 14
 code_of (status.NoStratum number strata) = 16
+code_of status.NoJoint = 17
+code_of (status.JointLarge rows) = 18
 
 -- how a call may end: all was done; the words are those of no command; it was refused; a read or a write failed; memory ran out
 pub data Class : Type 0 where

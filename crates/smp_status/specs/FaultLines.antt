@@ -58,7 +58,7 @@ misfit_line (misfits.NotWhole stratum sum) =
 misfit_line misfits.NoMemory = None
 
 abbrev pub usage_line : List ℕ
-usage_line = codes "error 2 usage: sampler COMMAND [OPTIONS], COMMAND is quick, draw, replay, migrate, probs, check or demo\n"
+usage_line = codes "error 2 usage: sampler COMMAND [OPTIONS], COMMAND is quick, draw, replay, migrate, probs, check, joint or demo\n"
 
 abbrev pub refusal_line : Status → Option (List ℕ)
 refusal_line (status.Design fault) = design_line fault
@@ -74,6 +74,10 @@ refusal_line (status.Rejected bound) = Some (codes "error 10 rejected 256 times 
 refusal_line (status.LogDiffers line) = Some (codes "error 11 log differs at line " ++ (decimal line ++ codes "\n"))
 refusal_line (status.NoStratum number strata) =
     Some (codes "error 16 stratum " ++ (decimal number ++ (codes " of " ++ (decimal strata ++ codes "\n"))))
+refusal_line status.NoJoint =
+    Some (codes "error 17 joint probabilities need systematic selection in frame order\n")
+refusal_line (status.JointLarge rows) =
+    Some (codes "error 18 " ++ (decimal rows ++ codes " rows, at most 2000\n"))
 refusal_line other = None
 
 -- refusals have a line, and other ends none

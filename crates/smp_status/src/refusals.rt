@@ -69,6 +69,13 @@ fn line_for(alloc: Global, status: &Status) -> Result<Option<String>, AllocError
         Status::NoStratum { number, strata } => {
             Ok(Some(format!(in alloc; "error 16 stratum {number} of {strata}\n")?))
         }
+        Status::NoJoint => Ok(Some(String::from_str(
+            alloc,
+            "error 17 joint probabilities need systematic selection in frame order\n",
+        )?)),
+        Status::JointLarge { rows } => {
+            Ok(Some(format!(in alloc; "error 18 {rows} rows, at most 2000\n")?))
+        }
         Status::Done | Status::ReadFault | Status::WriteFault | Status::NoMemory => Ok(None),
     }
 }
@@ -78,7 +85,7 @@ fn usage_line(alloc: Global) -> Result<String, AllocError>
 {
     String::from_str(
         alloc,
-        "error 2 usage: sampler COMMAND [OPTIONS], COMMAND is quick, draw, replay, migrate, probs, check or demo\n",
+        "error 2 usage: sampler COMMAND [OPTIONS], COMMAND is quick, draw, replay, migrate, probs, check, joint or demo\n",
     )
 }
 

@@ -52,6 +52,12 @@ pub enum Status {
         number: u32,
         strata: u32,
     },
+    /// The design doesn't draw systematically, in the order of the frame and in one stage.
+    NoJoint,
+    /// The frame has so many rows, and joint probabilities are for at most 2,000.
+    JointLarge {
+        rows: u64,
+    },
     /// A file couldn't be read.
     ReadFault,
     /// A file couldn't be written, or the result couldn't be put.
@@ -81,6 +87,8 @@ impl Status {
             Status::WriteFault => 13,
             Status::NoMemory => 14,
             Status::NoStratum { .. } => 16,
+            Status::NoJoint => 17,
+            Status::JointLarge { .. } => 18,
         }
     }
 }

@@ -5,7 +5,7 @@ use Rattle.std.specs.Str.{bytes_eq}
 use Rattle.std.proofs.lemmas.Bool.{and_parts, leb-true}
 use Rattle.smp_lines.specs.Decimals.{number_below}
 use Rattle.smp_words.specs.declared.command.DesignArguments.{DesignArguments}
-use Rattle.smp_words.specs.declared.command.Command.TheVariants.{Migrate, Probs, Check}
+use Rattle.smp_words.specs.declared.command.Command.TheVariants.{Migrate, Probs, Check, Joint}
 use Rattle.smp_words.specs.declared.command.Chance.TheVariants.{Seed}
 use Rattle.smp_fractions.specs.Limits.{most_rows}
 use Rattle.smp_words.specs.Words.{Given, DrawFiles, IsAsked, ◌>>=◌, when, in_range, number_from, all_distinct, is_empty, has_only, options_for, seed_from, have_own_names, least_demo_units, most_demo_units, stratum_from, draw_command, replay_command, quick_words, demo_words, design_arguments, draw_files, draw_by, draw, replay, migrate, by_name, command_given}
@@ -115,6 +115,9 @@ probs_asked g = if_some Apart _ (design_arguments g) (design_apart g) (λ argume
 check_asked : (g : Given) → IfSome (design_arguments g) (λ arguments. IsAsked (Check arguments))
 check_asked g = if_some Apart _ (design_arguments g) (design_apart g) (λ arguments apart. record { distinct = apart; sized = tt })
 
+joint_asked : (g : Given) → IfSome (design_arguments g) (λ arguments. IsAsked (Joint arguments))
+joint_asked g = if_some Apart _ (design_arguments g) (design_apart g) (λ arguments apart. record { distinct = apart; sized = tt })
+
 named_asked : (name : List ℕ) (g : Given) → IfSome (by_name name g) IsAsked
 named_asked name g =
     either_some IsAsked (bytes_eq name (codes "quick")) (quick_words g.rest) _ (quick_asked g.rest)
@@ -123,8 +126,9 @@ named_asked name g =
     (either_some IsAsked (bytes_eq name (codes "migrate")) (migrate g) _ (migrate_asked g)
     (either_some IsAsked (bytes_eq name (codes "probs")) (option_map Probs (design_arguments g)) _ (some_map IsAsked Probs (design_arguments g) (probs_asked g))
     (either_some IsAsked (bytes_eq name (codes "check")) (option_map Check (design_arguments g)) _ (some_map IsAsked Check (design_arguments g) (check_asked g))
+    (either_some IsAsked (bytes_eq name (codes "joint")) (option_map Joint (design_arguments g)) _ (some_map IsAsked Joint (design_arguments g) (joint_asked g))
     (either_some IsAsked (bytes_eq name (codes "demo")) (demo_words g.rest) None (demo_asked g.rest)
-    tt))))))
+    tt)))))))
 
 pub given_asked : (g : Given) → IfSome (command_given g) IsAsked
 unfolding command_given

@@ -11,7 +11,7 @@ use Rattle.smp_lines.specs.Decimals.{number_below}
 use Rattle.smp_words.specs.CommandLine.{words_of}
 use Rattle.smp_words.specs.declared.command.DesignArguments.{DesignArguments}
 use Rattle.smp_words.specs.declared.command.Command.{Command}
-use Rattle.smp_words.specs.declared.command.Command.TheVariants.{Quick, Draw, Replay, Migrate, Probs, Check, Demo}
+use Rattle.smp_words.specs.declared.command.Command.TheVariants.{Quick, Draw, Replay, Migrate, Probs, Check, Joint, Demo}
 use Rattle.smp_words.specs.declared.command.Chance.{Chance}
 use Rattle.smp_words.specs.declared.command.Chance.TheVariants.{Tape, Seed}
 
@@ -204,6 +204,7 @@ options_for name =
     else if bytes_eq name (codes "migrate") then codes "design" ∷ codes "frame" ∷ codes "log" ∷ codes "to" ∷ []
     else if bytes_eq name (codes "probs") then codes "design" ∷ codes "frame" ∷ []
     else if bytes_eq name (codes "check") then codes "design" ∷ codes "frame" ∷ []
+    else if bytes_eq name (codes "joint") then codes "design" ∷ codes "frame" ∷ []
     else []
 
 -- what stands beside the word of a command
@@ -215,6 +216,7 @@ by_name name g =
     else if bytes_eq name (codes "migrate") then migrate g
     else if bytes_eq name (codes "probs") then option_map Probs (design_arguments g)
     else if bytes_eq name (codes "check") then option_map Check (design_arguments g)
+    else if bytes_eq name (codes "joint") then option_map Joint (design_arguments g)
     else if bytes_eq name (codes "demo") then demo_words g.rest
     else None
 
@@ -241,6 +243,7 @@ names_of (Replay a) = a.design ∷ a.frame ∷ a.log ∷ a.sample ∷ []
 names_of (Migrate a) = a.design ∷ a.frame ∷ a.log ∷ a.to ∷ []
 names_of (Probs a) = a.design ∷ a.frame ∷ []
 names_of (Check a) = a.design ∷ a.frame ∷ []
+names_of (Joint a) = a.design ∷ a.frame ∷ []
 names_of (Demo a) = []
 
 -- the units that a command itself asks for, or its stratum

@@ -100,6 +100,8 @@ pub enum Command {
     Probs(DesignArguments),
     /// Say whether a design and a frame are accepted.
     Check(DesignArguments),
+    /// List the joint probabilities.
+    Joint(DesignArguments),
     /// Draw from a frame and a design that the program makes.
     Demo(DemoArguments),
 }

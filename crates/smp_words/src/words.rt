@@ -55,7 +55,7 @@ fn options_for(name: &str) -> &'static [&'static str]
         "draw" => &["design", "frame", "tape", "seed", "log", "sample"],
         "replay" => &["design", "frame", "log", "sample", "stratum"],
         "migrate" => &["design", "frame", "log", "to"],
-        "probs" | "check" => &["design", "frame"],
+        "probs" | "check" | "joint" => &["design", "frame"],
         _ => &[],
     }
 }
@@ -70,6 +70,7 @@ fn by_name(alloc: Global, name: &str, given: &Given) -> Result<Option<Command>, 
         "migrate" => migrate(alloc, given),
         "probs" => Ok(design_arguments(alloc, given)?.map(Command::Probs)),
         "check" => Ok(design_arguments(alloc, given)?.map(Command::Check)),
+        "joint" => Ok(design_arguments(alloc, given)?.map(Command::Joint)),
         "demo" => Ok(demo(given)),
         _ => Ok(None),
     }

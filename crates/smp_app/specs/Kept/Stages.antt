@@ -41,7 +41,7 @@ use Rattle.smp_status.specs.Codes.{Class, IsDone, IsUsage, IsRefusal, IsReadFaul
 use Rattle.smp_plan.specs.Plans.{Plan}
 use Rattle.smp_app.specs.Drawn.{tree_of, Drawn, covered, drawn_rows}
 use Rattle.smp_app.specs.Texts.{ids_text, steps_text, log_text, sample_text, report_text, migrated_text, demo_text, probabilities_text}
-use Rattle.smp_app.specs.Texts.{accepted_text}
+use Rattle.smp_app.specs.Texts.{accepted_text, joints_text}
 use Rattle.smp_app.specs.Commands.{Source, ByTape, BySeed, ByLog, ByOldLog, BySection, DrawnFile, Work, Lists, Draws, Job, inputs_of}
 use Rattle.smp_plan.specs.Stops.{Stop, Refused}
 use Rattle.smp_app.specs.Verdict.{draw_status, drawn_at, drawn_by_log, drawn_by_old_log, drawn_by_section}
@@ -64,6 +64,7 @@ walked_view plan walked path =
 abbrev pub plan_text : PlanText → Plan → List ℕ
 plan_text plan_texts.Probabilities = probabilities_text
 plan_text plan_texts.Accepted = accepted_text
+plan_text plan_texts.Joints = joints_text
 
 abbrev pub drawn_text : DrawnText → Drawn → List ℕ
 drawn_text drawn_texts.Ids = ids_text

@@ -7,6 +7,7 @@ use Rattle.smp_app.specs.Deliveries.{Outputs, names_of}
 use Rattle.smp_plan.specs.Reads.{Reads, told}
 use Rattle.smp_app.specs.Kept.Stages.{draw_view, drawn_text, file_view, selection_view}
 use Rattle.smp_plan.specs.Planned.{plan_view}
+use Rattle.smp_twostage.specs.Plans.{CanBeDrawn}
 use Rattle.smp_plan.proofs.Steps.{stops}
 use Rattle.smp_app.proofs.Stages.{names_written}
 use Rattle.smp_app.proofs.work.work_outputs.Goals as goal
@@ -51,3 +52,6 @@ returns-in_ok-drawn_outputs-in-Draws-clause-exact g c fs held =
       is_drawn = c.in_ok-selection-in-Draws.ensures.reads.follows fs held;
       by_plan = c.in_ok-selection-in-Draws.ensures.selection.drawn;
     })
+
+pub returns-in_ok-bytes-in-Lists-clause-exact : goal.returns-in_ok-bytes-in-Lists-clause-exact
+returns-in_ok-bytes-in-Lists-clause-exact g c fs held = rw c.in-Lists.is (subst CanBeDrawn c.requires.planned.parts_are c.requires.planned.drawable)
