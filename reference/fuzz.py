@@ -67,8 +67,8 @@ ODD_BYTES = (b"\xff", b"\xc3", b"\xc0\x80", b"\xed\xa0\x80", b"\xf4\x90\x80\x80"
              b"\r", b"\n", b"\r\n", b",", b'"', b'""', b"'", b"-", b"0", b"9", b" ", b"#", b"=", b"[", b"]", b"{", b"}", b"\\", b".", b"_")
 ODD_WORDS = (b"", b"-", b"--", b"---", b"-h", b"--help", b"-V", b"--version", b"help", b"draw", b"quick", b"probs", b"-1", b"3", b"x", b"=",
              b"-d", b"--d", b"--design", b"--frame", b"--tape", b"--seed", b"--out", b"--Design", b"--design=", b"--design=x", b"--tape=t",
-             b"--seed=" + b"0" * 64, b"--log=--log", b"--sample==", b"--size=1", b"--=x", b"--stratum", b"--stratum=1", b"--to", b"--to=to", b"migrate", b"\xff", b"--design=\xff", b"--\xff", b"\xef\xbb\xbf")
-COMMANDS = ("draw", "quick", "probs", "check", "replay", "demo", "seed", "migrate")
+             b"--seed=" + b"0" * 64, b"--log=--log", b"--sample==", b"--size=1", b"--=x", b"--stratum", b"--stratum=1", b"--to", b"--to=to", b"migrate", b"joint", b"\xff", b"--design=\xff", b"--\xff", b"\xef\xbb\xbf")
+COMMANDS = ("draw", "quick", "probs", "check", "replay", "demo", "seed", "migrate", "joint")
 DRAW_FILES = ("design", "frame", "tape", "log", "sample")
 KINDS_OF_FAULTS = ("keys", "table", "fractions", "tape", "words", "design bytes", "frame bytes", "tape bytes", "file")
 
@@ -164,13 +164,14 @@ def texts(r, front, count):
 
 
 class World:
-    """A frame as a header and rows of texts, and a design as the written values of its keys, its tables apart."""
+    """A frame as a header and rows of texts, and a design as the written values of its keys, its tables apart: any, or one that has joint probabilities."""
 
-    def __init__(self, r):
+    def __init__(self, r, has_joints):
         self.version = r.randint(1, 2)
-        self.method = r.choice((*sampler.METHODS[self.version], "cube"))
+        self.has_joints = has_joints
+        self.method = "systematic" if has_joints else r.choice((*sampler.METHODS[self.version], "cube"))
         count = r.choice((1, 2, 3, 4, 5, 6, 7, 8, 10, 12, 14, 16, 20, 30, 60))
-        self.two = self.method != "local_pivotal" and chance(r, 0.4)
+        self.two = self.method != "local_pivotal" and not has_joints and chance(r, 0.4)
         self.given = self.version == 2 and not self.two and chance(r, 0.6)
         self.columns = self.column_count(r, count)
         self.layout(r, count)
@@ -253,7 +254,7 @@ class World:
             least = len(units) if chance(r, 0.9) else 1
             self.keys["n"] = written_number(r, r.randint(least, max(least, every * 2 // 3)))
         if self.method in ("pivotal", "systematic") and chance(r, 0.5):
-            self.keys["order"] = written_text(r, r.choice(("random", "random", "frame")))
+            self.keys["order"] = written_text(r, "frame" if self.has_joints else r.choice(("random", "random", "frame")))
         if self.values:
             asked = [*self.values, *r.choices((*self.values, self.names["size"]), k=max(0, r.randint(-8, 2)))]
             most = 15 if self.method == "cube" or chance(r, 0.02) else 4
@@ -686,8 +687,8 @@ def faults_of(r):
 def made(seed):
     """The case of a seed."""
     r = random.Random(seed)
-    command = r.choices(COMMANDS, (55, 10, 6, 4, 13, 1, 7, 4))[0]
-    faults, names, world = faults_of(r), names_of(r), World(r)
+    command = r.choices(COMMANDS, (50, 10, 6, 4, 13, 1, 7, 4, 5))[0]
+    faults, names, world = faults_of(r), names_of(r), World(r, command == "joint" and chance(r, 0.9))
     n = r.randint(1, max(1, len(world.rows) // 2)) if command == "quick" else None
     if n is not None and chance(r, 0.9):
         places = {world.names["id"]: "id", world.names["size"]: "size"}

@@ -31,6 +31,7 @@ from math import gcd, lcm
 MOST_ROWS = 200_000
 LEAST_OF_A_DEMONSTRATION, MOST_OF_A_DEMONSTRATION = 30, 100_000
 MOST_OF_A_SIZE = 2_147_483_647
+MOST_JOINT_ROWS = 2_000
 MOST_OF_A_MULTIPLE = 2_147_483_647
 MOST_OF_A_FILE = 2_147_483_648
 MOST_OF_A_VECTOR = 2**44
@@ -39,7 +40,7 @@ MOST_OF_AN_ESTIMATE = 2**126
 OFFERS_PER_UNIT = 64
 CANDIDATES = 256
 
-USAGE = "error 2 usage: sampler COMMAND [OPTIONS], COMMAND is quick, draw, replay, migrate, probs, check or demo"
+USAGE = "error 2 usage: sampler COMMAND [OPTIONS], COMMAND is quick, draw, replay, migrate, probs, check, joint or demo"
 
 
 class Refusal(Exception):
@@ -88,6 +89,7 @@ FILES = {
     "migrate": (("design", "frame", "log", "to"),),
     "probs": (("design", "frame"),),
     "check": (("design", "frame"),),
+    "joint": (("design", "frame"),),
 }
 
 
@@ -1029,6 +1031,33 @@ def asked(strata, count):
     return fractions
 
 
+def pieces_of(low, high):
+    """A piece of the line from one fraction to the next, of a length up to 1, laid on the circle of circumference 1: one piece of it or two."""
+    low, high = low - low // 1, high - low // 1
+    return [(low, high)] if high <= 1 else [(low, Fraction(1)), (Fraction(0), high - 1)]
+
+
+def joint_fractions(strata, count):
+    """Gives the joint probability of two rows, by systematic selection in frame order and in one stage.
+
+    One point, uniform on the circle, takes the units whose pieces hold it, where they are laid round it one after the other. So two units of a stratum
+    are both taken with the length that their pieces share. Strata have points of their own."""
+    stands = [None] * count
+    for stratum in strata:
+        end = Fraction(0)
+        for unit, fraction in zip(stratum.units, stratum.request.fractions):
+            stands[unit.rows[0]] = stratum.number, fraction, pieces_of(end, end + fraction)
+            end += fraction
+
+    def joint(first, second):
+        (stratum, fraction, pieces), (other_stratum, other_fraction, others) = stands[first], stands[second]
+        if stratum != other_stratum:
+            return fraction * other_fraction
+        return sum((max(Fraction(0), min(high, end) - max(low, begin)) for low, high in pieces for begin, end in others), Fraction(0))
+
+    return joint
+
+
 Drawn = namedtuple("Drawn", "rows units left")
 
 
@@ -1470,6 +1499,19 @@ def check(given, store):
     return [], f"accepted {len(rows)} units in {len(plan(rows, design))} strata\n".encode("ascii")
 
 
+def joint(given, store):
+    """Puts the joint probability of each two rows."""
+    design = read_design(store.read(given["design"]))
+    if design.method != "systematic" or design.order != "frame" or design.psu is not None:
+        raise Refusal(17, "error 17 joint probabilities need systematic selection in frame order")
+    rows = read_frame(store.read(given["frame"]), design)
+    if len(rows) > MOST_JOINT_ROWS:
+        raise Refusal(18, f"error 18 {len(rows)} rows, at most {MOST_JOINT_ROWS}")
+    joints = joint_fractions(plan(rows, design), len(rows))
+    pairs = ((first, second) for first in range(len(rows)) for second in range(first + 1, len(rows)))
+    return [], csv_row("first", "second", "probability") + b"".join(csv_row(rows[i].id, rows[j].id, written(joints(i, j))) for i, j in pairs)
+
+
 def demo_frame(n, seed):
     """A frame of n farms in three regions, with numbers from the upper bits of a linear congruence modulo 2^64 that starts from the seed."""
     state = seed
@@ -1518,7 +1560,7 @@ def perform(words, store):
     command, given = read_words(words)
     if command == "demo":
         return demo(given)
-    commands = {"quick": quick, "draw": draw, "replay": replay, "migrate": migrate, "probs": probs, "check": check}
+    commands = {"quick": quick, "draw": draw, "replay": replay, "migrate": migrate, "probs": probs, "check": check, "joint": joint}
     return commands[command](given, store)
 
 

@@ -126,7 +126,7 @@ class Rows(unittest.TestCase):
         self.refused([*DRAW, "--tape", "tape"], store_of(design_text, frame_text, tape), code, line)
 
     def put(self, command, design_text, frame_text, text):
-        """What `probs` or `check` puts."""
+        """What `probs`, `check` or `joint` puts."""
         store = store_of(design_text, frame_text)
         self.assertEqual(sampler.sampler(["sampler", command, *FILES], store), 0, store.written)
         self.assertEqual(store.written.decode(), text)
@@ -614,6 +614,20 @@ class Rows(unittest.TestCase):
         for text, line in rows.items():
             self.refused_draw(text, FOUR, [], 3, "error " + line)
 
+    def test_joint(self):
+        header = "first,second,probability\n"
+        self.put("joint", design("systematic"), FOUR, header + "a,b,0/1\na,c,1/5\na,d,0/1\nb,c,0/1\nb,d,2/5\nc,d,2/5\n")
+        self.put("joint", design("systematic"), "id,size\na,1\nb,1\nc,8\n", header + "a,b,0/1\na,c,1/2\nb,c,1/2\n")
+        self.put("joint", given("systematic"), HALVES, header + "a,b,0/1\na,c,1/3\nb,c,0/1\n")
+        self.put("joint", design("systematic", 1), "id,size\na,1\n", header)
+        words = ["sampler", "joint", *FILES]
+        none = "error 17 joint probabilities need systematic selection in frame order"
+        for text in (design("pivotal"), design("systematic") + 'order = "random"\n', given("brewer")):
+            self.refused(words, store_of(text, "no frame"), 17, none)
+        long = "id,size\n" + "".join(f"u{row},1\n" for row in range(2001))
+        self.refused(words, store_of(design("systematic", 3000), long), 18, "error 18 2001 rows, at most 2000")
+        self.refused(words, store_of(design("systematic", 3000), long + "u0,1\n"), 4, "error 4.7 repeated id in row 2002")
+
     def test_words(self):
         tape = ["--tape", "tape"]
         rows = [
@@ -644,6 +658,8 @@ class Rows(unittest.TestCase):
             [*MIGRATE, "--sample", "sample"],
             [*MIGRATE, "--stratum", "1"],
             [*REPLAY, "--to", "new"],
+            ["sampler", "joint", *FILES, "--log", "log"],
+            ["sampler", "joint", "--design", "design"],
         ]
         for words in rows:
             self.refused(words, store_of(design("pivotal"), FOUR, [0, 3, 4]), 2, sampler.USAGE)
