@@ -5,7 +5,7 @@
     docs/statement/write.py --check    ends with 1 where a page isn't as it would be written, and names it
 
 A page has each definition that the statement reaches for one method, once. To add a method, add its row to METHODS. A section that is to have more
-or less names other fields in DRAW, or in REPLAY. A definition that was moved or renamed is found again, unless it is one that this file names.
+or less names other fields in DRAW, in REPLAY or in JOINT. A definition that was moved or renamed is found again, unless it is one that this file names.
 """
 import os
 import re
@@ -32,6 +32,7 @@ METHODS = [
 CUBE_ALONE = {"KeepsBalance"}
 # What is the same by every method and has a page of its own, by crates, files and names: on the methods' pages it stands in short.
 APART = {
+    "joint": ["smp_joint", "IsExactJoint", "joints_text", "most_joint_rows"],
     "read": ["smp_plan", "smp_strata", "smp_design", "smp_frame", "smp_prob.specs.Requested", "smp_prob.specs.Given", "smp_prob.specs.Shapes",
              "IsReadPlan", "IsReadFrame", "tape_of"],
     "written": ["smp_weights", "smp_log.specs.Heads", "smp_log.specs.Logs", "smp_log.specs.SectionLogs", "smp_app.specs.Texts",
@@ -59,6 +60,11 @@ WRITTEN = [
     ("The log and the sample", "", {"IsExactDraw": ["written"]}),
     ("The report", "", {"IsExactDraw": ["put"]}),
     ("What the report tells of balance", "", None),
+]
+JOINT = [
+    ("What is listed", "", {"IsExactJoint": ["put"]}),
+    ("What the listed fractions are", "", {"IsExactJoint": ["systematic", "few", "joints"]}),
+    ("What was read", "What the bytes of the design and of the frame say is on the page [read.md](read.md).", {"IsExactJoint": ["read", "same"]}),
 ]
 REPLAY = [
     ("A draw whose log is replayed", "", {"Headline": ["draw", "replayed"]}),
@@ -334,7 +340,12 @@ ABOUT_REPLAY = """`sampler` proves the record `Headline` of each call over a sto
 [call.rt](../../crates/smp_app/src/call.rt)). A `draw` has a page for each method:
 {methods}.
 This page has what the record says besides: of what `replay`, `migrate` and `quick` have done, and where a log differs that is refused. Definitions that stand
-on the page of each method, on [read.md](read.md) or on [written.md](written.md) aren't here again."""
+on the page of each method, on [read.md](read.md) or on [written.md](written.md) aren't here again. What `joint` has listed is on [joint.md](joint.md)."""
+
+ABOUT_JOINT = """`sampler` proves the record `IsExactJoint` of each call of `joint` that answers Done, over a store that tells its files and a sink that tells what was put
+(field `joint` of `Headline`, clause `headline` in [call.rt](../../crates/smp_app/src/call.rt)). This page has what one has to believe to know what that says.
+[formats.md](../formats.md) has it in words ("Joint probabilities"). Definitions that stand on the page of each method, as the draw tree of a plan, on
+[systematic.md](systematic.md), on [read.md](read.md), on [written.md](written.md) or on [replay.md](replay.md) aren't here again."""
 
 
 def in_lines(text):
@@ -559,7 +570,10 @@ def pages():
         known.update({at: METHODS[0][0] for at in common})
     names = ", ".join(f"[{method}.md]({method}.md)" for method, _, _ in METHODS)
     sections = [(heading, with_fields(words, told), starts_of(modules, told)) for heading, words, told in REPLAY]
-    _, found["replay"] = other_page(modules, "replay", known, "What is proved of a replay", ABOUT_REPLAY.format(methods=names), ["Ends", "Headline"], sections)
+    page, found["replay"] = other_page(modules, "replay", known, "What is proved of a replay", ABOUT_REPLAY.format(methods=names), ["Ends", "Headline"], sections)
+    known.update({at: "replay" for at in page.shown if at not in known})
+    sections = [(heading, with_fields(words, told), starts_of(modules, told)) for heading, words, told in JOINT]
+    _, found["joint"] = other_page(modules, "joint", known, "What is proved of joint probabilities", ABOUT_JOINT, ["IsExactJoint"], sections)
     return found
 
 
