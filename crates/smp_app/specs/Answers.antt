@@ -15,7 +15,8 @@ use Rattle.smp_app.specs.Verdict.{verdict}
 use Rattle.smp_app.specs.Draws.{IsExact, IsExactRefusal}
 use Rattle.smp_app.specs.Deliveries.{Outputs, SomeRose, names_of, with_files, StopsAt, AtPlace}
 
--- what can be told of the outside: the files, what was put, and the counts of failed calls
+-- What can be told of the outside: the files, and for each name the counts of failed reads and writes; what was put, and the count of
+-- failed puts. `None` where the files, or what was put, aren't told.
 pub record Outside : Type 0 where
   pub files : Option Files
   pub read_faults : List ℕ → ℕ

@@ -86,8 +86,9 @@ pub record IsExactDraw (a : DrawArguments) (fs : Files) (before now : Outside) :
   pub drawn : Drawn
   pub is_drawn : IsDrawnByChance a.chance fs drawn
   -- Over draws that are uniform below each bound that is asked for, the probability that a row is selected is exactly the one that is
-  -- requested of it; as many are drawn as the design asks for; and in each stratum that is drawn by the cube, each flight step keeps
-  -- every balancing total in force exactly, and landing starts only where no direction is left or the next step doesn't fit.
+  -- requested of it; as many are drawn as the design asks for; and in each stratum that is drawn by the cube or the local cube, each
+  -- flight step keeps every balancing total in force exactly, and landing starts only where no direction is left or the next step
+  -- doesn't fit.
   pub by_plan : IsDrawnBy drawn.plan drawn
   -- The log and the sample of that leaf are written, and no other file has changed. The log has the plan's head and, a stratum after the
   -- other, every step that leads to the leaf.
@@ -108,12 +109,15 @@ pub record IsReplayed (drawn : Drawn) : Type 0 where
 -- What a `quick` that ended well has done: a draw of n units by sequential pivotal steps, of which the ids are written, and the
 -- lines of the steps put.
 pub record IsExactQuick (a : QuickArguments) (fs : Files) (before now : Outside) : Type 0 where
+  -- What is drawn is the leaf to which the values of the tape lead in the draw tree of the plan.
   pub drawn : Drawn
   pub is_drawn : IsDrawnByTape a.tape fs drawn
   pub by_plan : IsDrawnBy drawn.plan drawn
+  -- The ids of that leaf are written, no other file has changed, and the lines of the steps were put.
   pub written : now.files
       ≡ Some (with_files (record { name = a.out; bytes = ids_text drawn } ∷ []) fs)
   pub put : now.written ≡ with_bytes (steps_text drawn) before.written
+  -- The plan is of the design of `quick`, of which there are no bytes, and of the frame that was read.
   pub design : drawn.plan.design ≡ quick_design a.n
   pub read : IsReadFrame a.frame [] fs drawn.plan
 
@@ -228,11 +232,10 @@ pub record Ends (answer : Status) (words : List (List ℕ)) (before : Outside) (
   pub asked : command_of words ≡ Some command
   pub told : before.files ≡ Some fs
 
--- A call that answers Done has done what its command asks for: such a draw, whose log `replay` accepts; such a quick draw; such a
--- replay, of all strata or of the one whose number the words have, counted from 1; such a migration; such a list of joint
--- probabilities. Where it answers that a log
--- differs at a line, the lines before this one are the most whole lines with which some genuine log begins, of either version for
--- `replay`, of version 1 for `migrate`; with a stratum the line is the first with which no genuine section of it goes on.
+-- A call that answers Done has done what its command asks for: such a draw, whose log `replay` accepts; such a quick draw; such a replay,
+-- of all strata or of the one whose number the words have, counted from 1; such a migration; such a list of joint probabilities. Where it
+-- answers that a log differs at a line, the lines before this one are the most whole lines with which some genuine log begins, of either
+-- version for `replay`, of version 1 for `migrate`; with a stratum the line is the first with which no genuine section of it goes on.
 pub record Headline (answer : Status) (words : List (List ℕ)) (before now : Outside) : Type 0 where
   pub draw : (a : DrawArguments) (fs : Files)
       → Ends answer words before status.Done (commands.Draw a) fs → IsExactDraw a fs before now

@@ -39,11 +39,11 @@ joints_text plan = joint_text (map (λ u. u.id) plan.units) (parts plan)
 
 -- ---- texts of what is drawn
 
--- the ids of the drawn units: the header `id`, then an id a row
+-- the row of a drawn unit: its id
 abbrev pub id_row : Plan → ℕ → List ℕ
 id_row plan r = row (row_id plan r ∷ [])
 
--- all of them, behind a header
+-- the ids of the drawn units: the header `id`, then an id a row
 abbrev pub ids_text : Drawn → List ℕ
 ids_text drawn = row (codes "id" ∷ []) ++ flat_map (id_row drawn.plan) (drawn_rows drawn)
 

@@ -1,6 +1,6 @@
-//! The balance of a stratum that is drawn by the cube method (Deville and Tillé 2004), over all of its units.
+//! The balance of a stratum that is drawn by the cube method (Deville and Tillé 2004), or by the local cube, over all of its units.
 //!
-//! The cube draws among the free units alone. What it keeps and what its landing gives up is said here of the totals over all units of
+//! The method draws among the free units alone. What it keeps and what its landing gives up is said here of the totals over all units of
 //! the stratum, with those that are certain, which are selected at every leaf. [`balance_lines`] is what the report tells of it.
 #![tactic(auto)]
 

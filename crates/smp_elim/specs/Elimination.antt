@@ -20,9 +20,11 @@ pub record Remaining : Type 0 where
 abbrev pub all_left : List ℕ → ℕ → Remaining
 all_left sizes wanted = record { sizes = sizes; wanted = wanted; left = replicate (length sizes) true }
 
+-- the size of a unit
 abbrev pub size_of : Remaining → ℕ → ℕ
 size_of s unit = slice_index s.sizes unit
 
+-- whether a unit is left
 abbrev pub is_left : Remaining → ℕ → Bool
 is_left s unit = slice_index_or s.left unit false
 
@@ -35,14 +37,14 @@ fewer s = left_count s - 1
 
 -- ---- samples of n units, with probabilities in proportion to size
 
--- the probability of a unit, and whether it is certain
+-- where n of all units are drawn in proportion to size: the probability of a unit, and whether it is certain
 abbrev pub fraction_at : Remaining → ℕ → ℕ → Fraction
 fraction_at s n unit = requested_fraction n s.sizes (size_of s unit)
 
 abbrev pub is_certain_at : Remaining → ℕ → ℕ → Bool
 is_certain_at s n unit = is_certain n s.sizes (size_of s unit)
 
--- how many of the n units aren't the certain ones, and the sum of the sizes of the units that aren't certain
+-- then how many draws the certain units leave, and the sum of the sizes of the units that aren't certain
 abbrev pub draws_at : Remaining → ℕ → ℕ
 draws_at s n = n - certain_units n s.sizes
 
@@ -51,28 +53,31 @@ total_at s n = open_total n s.sizes
 
 -- ---- a step
 
--- the factor of all weights, and the bound of the draw
+-- the factor of all weights: how many draws the certain units leave where as many are drawn as are left, and 1 where they leave none
 abbrev pub factor : Remaining → ℕ
 factor s = max 1 (draws_at s (left_count s))
 
+-- the bound of the draw
 abbrev pub bound_of : Remaining → ℕ
 bound_of s = total_at s (fewer s) * factor s
 
--- the weight with which a unit is taken out: of one that is certain as long as so many are left, and of any other
+-- The weight with which a unit is taken out, in proportion to 1 - p/q: q is its probability where as many are drawn as are left, and p
+-- where one fewer is (Tillé 1996). First that of a unit that is certain where as many are drawn as are left, then that of any other.
 abbrev pub weight_of : Remaining → ℕ → ℕ
 weight_of s unit =
     if is_certain_at s (left_count s) unit
     then factor s * (total_at s (fewer s) - size_of s unit * draws_at s (fewer s))
     else total_at s (fewer s) * factor s - draws_at s (fewer s) * total_at s (left_count s)
 
--- a unit may be taken out where it is left and isn't certain when one fewer is
+-- a unit may be taken out where it is left and isn't certain where one fewer is drawn than are left
 abbrev pub may_go : Remaining → ℕ → Bool
 may_go s unit = is_left s unit && not (is_certain_at s (fewer s) unit)
 
+-- the state after this unit was taken out
 abbrev pub without : Remaining → ℕ → Remaining
 without s unit = record { sizes = s.sizes; wanted = s.wanted; left = slice_set s.left unit false }
 
--- the units that may be taken out, in order
+-- a part for each unit that may be taken out, in order
 abbrev pub eliminate_parts : Remaining → List (Part Remaining)
 eliminate_parts s = unit_parts (may_go s) (weight_of s) (without s) (length s.sizes)
 
@@ -83,6 +88,7 @@ value_of s unit =
 
 -- ---- the design
 
+-- The draw tree over so many units. It is done where as many are left as are wanted, and selects these.
 abbrev pub elimination_tree : ℕ → Tree Remaining
 elimination_tree units = record {
   units = units;

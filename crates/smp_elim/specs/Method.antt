@@ -12,10 +12,11 @@ use Rattle.smp_elim.specs.Laws.Splits.{elimination_lawful}
 abbrev pub draws_of : Request → ℕ
 draws_of request = if nat_eq (length request.free) 0 then 0 else request.r
 
--- the state before the first step of a selection of the request's draws, and of one of so many units with its shape
+-- the state before the first step of a selection of as many units as the request draws
 abbrev pub started : Request → Remaining
 started request = all_left request.shape (draws_of request)
 
+-- the same of a selection of so many units with the shape of the request
 abbrev pub started_to : Request → ℕ → Remaining
 started_to request size = all_left request.shape size
 

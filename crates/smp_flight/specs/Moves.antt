@@ -56,6 +56,7 @@ pub data IsWide (units : Units) (s : Flight) (order : List ℕ) : Type 0 where
       (w : List ℤ) (m : Move) (plus_end minus_end : Shares) → Finds units s order (found w) →
       IsMove units s.shares order w m plus_end minus_end → (Fits m plus_end minus_end → ⊥) → IsWide units s order
 
+-- what holds of the next step of a state whose search goes through the columns of these units
 abbrev pub IsNext : Units → Flight → List ℕ → Next → Type 0
 IsNext units s order (move m) = IsFlown units s order m
 IsNext units s order independent = Finds units s order none

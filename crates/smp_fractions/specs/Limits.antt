@@ -13,7 +13,7 @@ number_limit = 2 ^ 31
 abbrev pub most_entry : ℕ
 most_entry = 2 ^ 44
 
--- the most of a denominator of a step's values: times such an entry it is below 2^126 still
+-- the most of a denominator of a step's values: times an entry of at most 2^44 it is below 2^126 still
 abbrev pub most_denominator : ℕ
 most_denominator = 2 ^ 80
 

@@ -2,7 +2,7 @@
 use Rattle.std.specs.Prelude.{◌≡◌, ◌≢◌, ℕ, List, Option, Some, None, if◌then◌else◌}
 use Rattle.std.specs.Str.{bytes_eq}
 
--- what is held under each name
+-- the files: what is held under each name, and nothing under a name that no file has
 abbrev pub Files : Type 0
 Files = List ℕ → Option (List ℕ)
 

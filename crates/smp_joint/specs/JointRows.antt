@@ -13,19 +13,19 @@ use Rattle.smp_strata.specs.declared.strata.Stratum as stratum
 use Rattle.smp_twostage.specs.Selections.{place_of, start_of, whole_tree}
 use Rattle.smp_joint.specs.Joints.{joint_of}
 
--- of two units of a stratum
+-- the joint probability of two first stage units of a stratum
 abbrev pub joint_in : Option stratum.Stratum → ℕ → ℕ → Fraction
 joint_in (Some s) j k = joint_of s.request j k
 joint_in None j k = whole 0
 
--- of the rows at two seats: of one stratum, or of two strata, which are drawn apart
+-- that of the rows at two seats: of one stratum, or of two strata, which are drawn apart
 abbrev pub joint_at_seats : List stratum.Stratum → seat.Seat → seat.Seat → Fraction
 joint_at_seats strata a b =
     if nat_eq a.stratum b.stratum
     then joint_in (slice_get strata a.stratum) a.unit b.unit
     else times (first_fraction strata a.stratum a.unit) (first_fraction strata b.stratum b.unit)
 
--- of two rows
+-- that of two rows
 abbrev pub joint_fraction : Parts → ℕ → ℕ → Fraction
 joint_fraction plan j k =
     joint_at_seats plan.strata (place_of plan.strata j) (place_of plan.strata k)
@@ -36,7 +36,7 @@ pub record IsSystematicPlan (plan : Parts) : Type 0 where
   pub order : plan.order ≡ Frame
   pub second : plan.second ≡ None
 
--- what a unit has with each other unit of its stratum
+-- the joint probability of a unit with another unit of its stratum, and 0 with itself
 abbrev pub with_other : stratum.Stratum → ℕ → ℕ → Fraction
 with_other s unit other = cond (nat_eq other unit) (whole 0) (joint_of s.request unit other)
 

@@ -9,8 +9,8 @@ use Rattle.smp_prob.specs.Shares.{shares_of, common_denominator}
 use Rattle.smp_prob.specs.Inclusions.{fraction_at, inclusion}
 use Rattle.smp_joint.specs.Both.{both_of}
 
--- of two units that stand so: the other one's where one is certain, 0 where one is never selected, and of two free units the share of
--- the draws that select both
+-- the joint probability of two units of a request that stand so: the other one's where one is certain, 0 where one is never selected, and
+-- of two free units the share of the draws that select both
 abbrev pub joint_at : Request → Inclusion → Inclusion → Fraction
 joint_at request Certain other = fraction_at request other
 joint_at request other Certain = fraction_at request other
@@ -18,5 +18,6 @@ joint_at request (Free i) (Free j) =
     over (both_of (shares_of request) i j) (common_denominator request)
 joint_at request one other = whole 0
 
+-- the joint probability of two units of a request by their numbers
 abbrev pub joint_of : Request → ℕ → ℕ → Fraction
 joint_of request i j = joint_at request (inclusion request i) (inclusion request j)

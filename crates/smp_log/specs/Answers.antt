@@ -45,6 +45,7 @@ read_by script start leaf_of log =
     answer_of (leaf_of read.1)
     (read.0 == length (whole_lines log) && bytes_eq log (lines_text (whole_lines log))) read.0
 
+-- the leaf, where the last line was read
 abbrev pub log_leaf : {State : Type 0} → LogPlace State → Option State
 log_leaf (heading wanted lines) = None
 log_leaf (stepping steps s) = None

@@ -21,10 +21,11 @@ pub record IsLogOf {State : Type 0} (IsText : List Entry → List ℕ → Type 0
   pub full : IsFullPath tree from path leaf
   pub text : IsText path log
 
--- the bytes are the log of a full tape, of version 1
+-- the bytes are the log of a path, of version 1
 abbrev pub IsLogText : List ℕ → List Entry → List ℕ → Type 0
 IsLogText head path log = log ≡ log_text head path
 
+-- the bytes are the log of the path of a full tape, of version 1
 abbrev pub IsGenuine : {State : Type 0} → Tree State → State → List ℕ → List ℕ → State → Type 0
 IsGenuine tree from head log leaf = IsLogOf (IsLogText head) tree from log leaf
 

@@ -9,6 +9,7 @@ use Rattle.smp_split.specs.Paths.{Entry}
 abbrev pub step_text : Entry → List ℕ
 step_text step = kind_word step.0 ++ (32 ∷ (decimal step.1 ++ (32 ∷ (decimal step.2 ++ 10 ∷ []))))
 
+-- the lines of the steps of a path
 abbrev pub steps_text : List Entry → List ℕ
 steps_text path = flat_map step_text path
 

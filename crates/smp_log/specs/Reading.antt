@@ -61,7 +61,8 @@ step_first kind bound text =
     option_and_then (λ p. option_map (λ value. (value, p.1)) (step_value kind bound p.0))
     (cut_at 10 text)
 
--- A reader of lines: the place that a line leads to, where it may stand, and the places at which the lines may end.
+-- A reader of lines: the place that a line leads to from a place, where the line may stand there, and the places at which the lines may
+-- end.
 pub record Script (Place : Type 0) : Type 0 where
   pub follow : Place → List ℕ → Option Place
   pub over : Place → Bool
@@ -93,6 +94,7 @@ next_step tree last steps s line =
     else option_map (λ value. stepping (steps + 1) (picked s (tree.parts s) value))
     (step_value (tree.kind s) (weight_sum (tree.parts s)) line)
 
+-- the place behind a line, from any place
 abbrev pub next_place : {State : Type 0} → Tree State → (ℕ → List ℕ) → State → LogPlace State
     → List ℕ → Option (LogPlace State)
 next_place tree last from (heading wanted lines) line =
@@ -100,11 +102,13 @@ next_place tree last from (heading wanted lines) line =
 next_place tree last from (stepping steps s) line = next_step tree last steps s line
 next_place tree last from (closed s) line = None
 
+-- whether the last line was read
 abbrev pub is_closed : {State : Type 0} → LogPlace State → Bool
 is_closed (heading wanted lines) = false
 is_closed (stepping steps s) = false
 is_closed (closed s) = true
 
+-- the reader of a log of version 1 of a tree from a state
 abbrev pub log_script : {State : Type 0} → Tree State → (ℕ → List ℕ) → State
     → Script (LogPlace State)
 log_script tree last from = record { follow = next_place tree last from; over = is_closed }

@@ -25,6 +25,7 @@ pub data SectionPlace (State : Type 0) : Type 0 where
   inside : ℕ → ℕ → ℕ → ℕ → State → SectionPlace State
   closed : State → SectionPlace State
 
+-- before the lines of a head and the first section
 abbrev pub before : {State : Type 0} → State → List (List ℕ) → SectionPlace State
 before from [] = opening 0 0 0 from
 before from (line ∷ lines) = heading line lines
@@ -37,6 +38,8 @@ taken_at tree s = if nat_lt 1 (weight_sum (tree.parts s)) then 1 else 0
 abbrev pub where_same : {Place : Type 0} → List ℕ → List ℕ → Place → Option Place
 where_same line wanted place = if bytes_eq line wanted then Some place else None
 
+-- the place behind a line: the opening line of a section, a step of it while its steps come next, its last line, and behind all sections
+-- the last line of the log
 abbrev pub next_place : {State : Type 0} → Tree State → Sectioning State → State
     → SectionPlace State → List ℕ → Option (SectionPlace State)
 next_place tree sections from (heading wanted lines) line =
@@ -53,12 +56,14 @@ next_place tree sections from (inside h taken steps own s) line =
     else where_same line (done_line (h + 1) own) (opening (h + 1) taken steps s)
 next_place tree sections from (closed s) line = None
 
+-- whether the last line was read
 abbrev pub is_closed : {State : Type 0} → SectionPlace State → Bool
 is_closed (heading wanted lines) = false
 is_closed (opening h taken steps s) = false
 is_closed (inside h taken steps own s) = false
 is_closed (closed s) = true
 
+-- the reader of a log of version 2 of a tree from a state
 abbrev pub section_script : {State : Type 0} → Tree State → Sectioning State → State
     → Script (SectionPlace State)
 section_script tree sections from =
@@ -66,6 +71,7 @@ section_script tree sections from =
 
 -- ---- the answer, computed
 
+-- the leaf, where the last line was read
 abbrev pub section_leaf : {State : Type 0} → SectionPlace State → Option State
 section_leaf (heading wanted lines) = None
 section_leaf (opening h taken steps s) = None

@@ -22,8 +22,8 @@ pub struct Started {
 
 impl Started {
     /// Starts to draw the free units of a request by a procedure. There is a list of values for each
-    /// of them, in their order: a method that spreads the units over points takes the first of these
-    /// as coordinates, and the cube balances on all of them.
+    /// of them, in their order: local pivotal selection takes them as coordinates, the cube balances on
+    /// them, and the local cube takes the last as coordinates and balances on the others.
     #[tactic(auto, using(crate::proofs::Starts::is_started))]
     pub fn new(
         alloc: Global,

@@ -47,7 +47,7 @@ abbrev pub least_large : Shares → ℕ
 least_large s =
     least s.den (for_units s (λ k. if is_large s k then slice_index s.numer k else s.den))
 
--- the weight of the part that ends the design
+-- lambda, the weight of the part in which the r largest are taken (Deville and Tillé 1998)
 abbrev pub lambda : Shares → ℕ
 lambda s = min (s.den - most_small s) (least_large s)
 

@@ -29,7 +29,7 @@ entry_at (u ∷ units) (e ∷ entries) k = cond (nat_eq u k) e (entry_at units e
 abbrev pub entry_of : Line → ℕ → ℤ
 entry_of line k = entry_at line.units line.entries k
 
--- the opposite
+-- the opposite of a line: each entry with the other sign
 abbrev pub turned : Line → Line
 turned line = record { units = line.units; entries = map neg_ℤ line.entries }
 
@@ -39,7 +39,7 @@ turned line = record { units = line.units; entries = map neg_ℤ line.entries }
 abbrev pub fraction_of : Ratio → Fraction
 fraction_of r = over r.num r.den
 
--- the value of a unit, so far along a line
+-- the value of unit k so far along a line: its value in s, and t times its entry
 abbrev pub along : Shares → Line → Fraction → ℕ → Fraction
 along s line t k = plus (value_at s k) (times t (integer (entry_of line k)))
 
@@ -48,7 +48,7 @@ pub record StaysWithin (s : Shares) (line : Line) (t : Fraction) : Type 0 where
   pub low : (k : ℕ) → AtMost (whole 0) (along s line t k)
   pub high : (k : ℕ) → AtMost (along s line t k) (whole 1)
 
--- the greatest fraction for which the values so far along the line lie from 0 to 1, in lowest terms
+-- how far a line can be followed: the greatest fraction, in lowest terms, for which the values so far along it lie from 0 to 1
 pub record IsGreatest (s : Shares) (line : Line) (r : Ratio) : Type 0 where
   pub some : 1 ≤ r.den
   pub reduced : IsGcd r.num r.den 1
@@ -78,7 +78,8 @@ pub record Move : Type 0 where
   pub down : Ratio
   pub direction : Line
 
--- no entry of the direction, and neither denominator, passes its gate
+-- A move fits where no number of it passes its gate: no entry of the direction is above 2^44 in absolute value, and the denominator of the
+-- values at either end isn't above 2^80.
 pub record Fits (m : Move) (plus_end minus_end : Shares) : Type 0 where
   pub entries : Within most_entry m.direction.entries
   pub plus_den : plus_end.den ≤ most_denominator
@@ -103,7 +104,7 @@ pub data Next : Type 0 where
   independent : Next
   wide : Next
 
--- the end that is chosen: its line, and how far it is followed
+-- of the end that is chosen, the first where `plus` is true: its line, and how far that is followed
 abbrev pub chosen_line : Move → Bool → Line
 chosen_line m plus = cond plus m.direction (turned m.direction)
 

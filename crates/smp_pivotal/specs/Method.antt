@@ -13,5 +13,6 @@ pub use Rattle.smp_values.specs.InOrder.{started}
 abbrev pub tree_of : Ordered Shares → Tree (Ordered Shares)
 tree_of design = design_tree pivotal_rule design
 
+-- the method: pivotal steps on the values of the design, in its order
 abbrev pub method_of : Ordered Shares → Method (Ordered Shares)
 method_of design = placed_method pivotal_rule pivotal_law design

@@ -11,7 +11,7 @@ use Rattle.smp_prob.specs.declared.requests.Request.{Request}
 use Rattle.smp_prob.specs.Requested.{places}
 use Rattle.smp_prob.specs.Shapes.{size_divisor, shape_of}
 
--- the largest common multiple of their denominators
+-- the most of the least common multiple of the denominators of given probabilities
 abbrev pub largest_multiple : ℕ
 largest_multiple = 2147483647
 
@@ -47,12 +47,12 @@ free_numerators probs = map (numerator_over (common_multiple probs)) (filter is_
 abbrev pub has_whole_sum : ℕ → List ℕ → Bool
 has_whole_sum den numerators = nat_eq (sum numerators % den) 0
 
--- that sum; where it isn't whole, the greatest common divisor of the numerators
+-- r of the request: that sum; where it isn't whole, the greatest common divisor of the numerators
 abbrev pub draws : ℕ → List ℕ → ℕ
 draws den numerators =
     if has_whole_sum den numerators then sum numerators / den else size_divisor numerators
 
--- the sum of the shapes; where the sum isn't whole, the denominator
+-- the total of the request: the sum of the shapes; where the numerators have no whole sum, the denominator
 abbrev pub out_of : ℕ → List ℕ → ℕ
 out_of den numerators = if has_whole_sum den numerators then sum (shape_of numerators) else den
 

@@ -5,7 +5,7 @@ use Rattle.smp_fractions.specs.Fractions.{Fraction, whole, over}
 use Rattle.smp_prob.specs.declared.requests.Request.{Request}
 use Rattle.smp_prob.specs.Shapes.{shape_of}
 
--- how many sizes are larger than z, and the sum of the others
+-- how many sizes are larger than z, and the sum of those that aren't
 abbrev pub larger : List ℕ → ℕ → ℕ
 larger sizes z = count_by (nat_lt z) sizes
 
@@ -25,7 +25,7 @@ is_free n sizes z = nat_lt 0 z && not (is_certain n sizes z)
 abbrev pub positive_units : List ℕ → ℕ
 positive_units sizes = count_by (nat_lt 0) sizes
 
--- how many units are certain, and the sum of the sizes of the others
+-- how many units are certain
 abbrev pub certain_units : ℕ → List ℕ → ℕ
 certain_units n sizes = count_by (is_certain n sizes) sizes
 

@@ -20,6 +20,6 @@ common_denominator request = if length request.free == 0 then 1 else request.tot
 abbrev pub numerators : Request → List ℕ
 numerators request = map (λ shape. shape * (request.r / common_divisor request)) request.shape
 
--- the requested probabilities of the free units, so
+-- the requested probabilities of the free units, as such values
 abbrev pub shares_of : Request → Shares
 shares_of request = record { numer = numerators request; den = common_denominator request }

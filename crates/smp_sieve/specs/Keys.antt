@@ -11,13 +11,15 @@ pub record Place : Type 0 where
 abbrev pub words_of_seed : List ℕ → Place
 words_of_seed seed = record { key = key_of seed; next = 0 }
 
--- the word of a key at a place: twenty rounds are ten double rounds, the stream is 0, and after 2^68 words they come round
+-- the word of 32 bits at a place in stream 0 of ChaCha20 under a key (Bernstein 2008): twenty rounds are ten double rounds, and after 2^68
+-- words they come round
 abbrev pub key_word : List ℕ → ℕ → ℕ
 key_word key place = word_at 10 key 0 (place % 2 ^ 68)
 
--- the next word of a key, and the place behind it
+-- the next word of a key
 abbrev pub key_first : Place → ℕ
 key_first at = key_word at.key at.next
 
+-- the place behind that word
 abbrev pub key_next : Place → Place
 key_next at = record { key = at.key; next = (at.next + 1) % 2 ^ 68 }

@@ -48,7 +48,7 @@ first_below (suc n) words place bound =
     (Ok (candidate words place bound), place + words_of bound)
     (first_below n words (place + words_of bound) bound)
 
--- a draw below a bound, and how many words it takes. A bound of 1 takes none.
+-- a draw below a bound, the first of at most 256 candidates that is below it, and how many words it takes. A bound of 1 takes none.
 unfoldable pub sieve_draw : (ℕ → ℕ) → ℕ → Result ℕ DrawFault × ℕ
 sieve_draw words bound = cond (nat_lt 1 bound) (first_below 256 words 0 bound) (Ok 0, 0)
 

@@ -11,6 +11,6 @@ abbrev pub behind : {Words : Type 0} → Stream Words → ℕ → Words → Word
 behind stream zero words = words
 behind stream (suc n) words = stream.next (behind stream n words)
 
--- the word at each place: the number of words before it
+-- the word at each place, which is the number of words before it
 abbrev pub ahead : {Words : Type 0} → Stream Words → Words → ℕ → ℕ
 ahead stream words place = stream.first (behind stream place words)

@@ -5,11 +5,12 @@ use Rattle.smp_split.specs.Trees.{Tree}
 use Rattle.smp_split.specs.Parts.{moved}
 use Rattle.smp_split.specs.declared.kind.Kind.TheVariants.{Pivot}
 
--- what is said of a state of the larger type: this of one that is such, and else that
+-- Of a state of a larger type, which may be one of a smaller type: what `say` says of that one, and `other` where it is none.
 abbrev pub said_of : {Inner Said : Type 0} → Said → (Inner → Said) → Option Inner → Said
 said_of other say None = other
 said_of other say (Some state) = say state
 
+-- it belongs where it is such a state and that one belongs
 abbrev pub belongs_at : {Inner : Type 0} → (Inner → Type 0) → Option Inner → Type 0
 belongs_at belongs None = ⊥
 belongs_at belongs (Some state) = belongs state

@@ -26,7 +26,7 @@ mean_of tree f state = mean_of_within (tree.rank state) tree f state
 abbrev pub mean : {State : Type 0} → Tree State → (ℕ → Fraction) → State → Fraction
 mean tree c state = mean_of tree (selected_sum tree c) state
 
--- the second-order inclusion probability: that both units are selected
+-- the second-order inclusion probability: the mean of the number that is 1 where both units are selected, and 0 elsewhere
 abbrev pub joint_probability : {State : Type 0} → Tree State → State → ℕ → ℕ → Fraction
 joint_probability tree state j k =
     mean_of tree (λ leaf. whole (cond (tree.selected leaf j && tree.selected leaf k) 1 0)) state
@@ -35,7 +35,7 @@ joint_probability tree state j k =
 abbrev pub only : ℕ → ℕ → Fraction
 only unit k = whole (cond (nat_eq k unit) 1 0)
 
--- the first-order inclusion probability: that the unit is selected
+-- the first-order inclusion probability: the mean of the number that is 1 where the unit is selected, and 0 elsewhere
 abbrev pub inclusion_probability : {State : Type 0} → Tree State → State → ℕ → Fraction
 inclusion_probability tree state unit = mean tree (only unit) state
 

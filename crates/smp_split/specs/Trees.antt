@@ -10,8 +10,8 @@ pub record Part (State : Type 0) : Type 0 where
   pub weight : ℕ
   pub state : State
 
--- what a design means: how many units it has, and of each state whether it is done, the kind of its step, its parts, its
--- rank, the value of each unit, which is a fraction, and which units are selected in it
+-- what a design means: how many units it has, and of each state whether it is done, the kind of its step, its parts, its rank (a number
+-- that is to fall at each step), the value of each unit, which is a fraction, and which units are selected in it
 pub record Tree (State : Type 0) : Type 0 where
   pub units : ℕ
   pub done : State → Bool
@@ -26,7 +26,7 @@ abbrev pub weight_sum : {State : Type 0} → List (Part State) → ℕ
 weight_sum [] = 0
 weight_sum (p ∷ ps) = p.weight + weight_sum ps
 
--- the state of the first part at which the cumulated weights pass the draw
+-- the state of the first part at which the cumulated weights pass the draw, and the default where there is none
 abbrev pub picked : {State : Type 0} → State → List (Part State) → ℕ → State
 picked default [] draw = default
 picked default (p ∷ ps) draw =
@@ -42,7 +42,7 @@ abbrev pub EachPart : {State : Type 0} → (Part State → Type 0) → List (Par
 EachPart P [] = Unit {0}
 EachPart P (p ∷ ps) = P p × EachPart P ps
 
--- what a part of a state is held to
+-- a part of a state: its weight is 1 or more, its rank is lower, and its state belongs to the tree too
 pub record IsPart {State : Type 0} (tree : Tree State) (belongs : State → Type 0) (state : State)
     (part : Part State) : Type 0 where
   pub heavy : 1 ≤ part.weight

@@ -50,7 +50,7 @@ pub record AreSeated (rows : ℕ) (strata : List stratum.Stratum) : Type 0 where
 -- a plan over so many columns of values
 pub record IsPlan (count : ℕ) (plan : Parts) : Type 0 where
   pub strata : All (IsStratum plan.second) plan.strata
-  -- the method draws a whole number of units only where one is asked of it
+  -- where the method draws a whole number of units alone, a whole number is asked of each stratum
   pub whole : IsTrue (row plan.method).draws_whole → All (λ s. IsWhole s.request) plan.strata
   pub columns : All (λ s. All (λ f. length f.values ≡ count) s.units) plan.strata
   pub seated : AreSeated plan.rows plan.strata

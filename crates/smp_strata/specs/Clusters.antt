@@ -24,7 +24,7 @@ abbrev pub clusters : Option second.Second → List unit.Unit → List (List ℕ
 clusters None units = map (λ row. row ∷ []) (rows_of units)
 clusters (Some second) units = map (in_psu units) (psu_names units)
 
--- the stratum of a cluster is that of its first row
+-- the first row of a cluster, whose stratum is that of the cluster
 abbrev pub first_row : List ℕ → ℕ
 first_row rows = slice_index rows 0
 

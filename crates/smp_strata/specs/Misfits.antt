@@ -121,7 +121,7 @@ not_whole design units =
 
 -- ---- the first
 
--- of a design without a column of probabilities, and of one with it
+-- the first misfit among those of a design without a column of probabilities, among those of one with it, and by which of the two it is
 abbrev pub sizes_misfit : Design → List unit.Unit → Option Misfit
 sizes_misfit design units =
     or_else (no_size design units)

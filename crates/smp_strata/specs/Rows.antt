@@ -9,12 +9,13 @@ use Rattle.smp_frac.specs.declared.fractions.Frac.{Frac}
 use Rattle.smp_frame.specs.declared.frame.Unit as unit
 use Rattle.smp_frame.specs.Bounds.{probs_of, sizes_of, second_sizes_of}
 
+-- the rows of a frame by their numbers, of which the first is 0
 abbrev pub rows_of : List unit.Unit → List ℕ
 rows_of units = range_with_len 0 (length units)
 
 -- ---- a row
 
--- the names of its stratum and of its psu
+-- the name of a row's stratum, and of its psu
 abbrev pub stratum_at : List unit.Unit → ℕ → List ℕ
 stratum_at units row = slice_index_or (map (λ u. u.stratum) units) row []
 

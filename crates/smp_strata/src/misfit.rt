@@ -47,7 +47,7 @@ pub enum Misfit {
         /// The stratum's name, which is empty where there are no strata.
         stratum: Text,
     },
-    /// The method draws a whole number of units, and a stratum's probabilities don't add up to one.
+    /// The method draws a whole number of units, and a stratum's probabilities add up to no whole number.
     NotWhole {
         /// The stratum's name, which is empty where there are no strata.
         stratum: Text,

@@ -10,7 +10,7 @@ use smp_prob::Request;
 pub struct FirstUnit {
     /// Its rows in frame order, the first of the frame being row 0.
     pub rows: Group,
-    /// Its balancing values or coordinates, in the order of their columns: the sums over its rows.
+    /// Its balancing values, and then its coordinates, in the order of their columns: the sums over its rows.
     pub values: Numbers,
     /// The request of its second stage, whose units are places in `rows`; `None` without a second stage.
     pub second: SecondRequest,

@@ -13,5 +13,6 @@ pub use Rattle.smp_values.specs.InOrder.{started}
 abbrev pub tree_of : Ordered Shares → Tree (Ordered Shares)
 tree_of design = design_tree systematic_rule design
 
+-- the method: a systematic step on the values of the design, in its order
 abbrev pub method_of : Ordered Shares → Method (Ordered Shares)
 method_of design = placed_method systematic_rule systematic_law design

@@ -28,7 +28,8 @@ pub record Meets (den before after draw : ℕ) : Type 0 where
   pub from : before ≤ draw + j * den
   pub below : draw + j * den < after
 
--- whether a draw takes what stands at a place
+-- Whether a draw takes what stands at a place (Madow 1949): the numerators are laid end to end, and the draw, or a point some whole number
+-- of denominators further on, lies on that of the place.
 abbrev pub takes : Shares → ℕ → ℕ → Bool
 takes s draw place = meets s.den (cumulated s.numer place) (cumulated s.numer (place + 1)) draw
 

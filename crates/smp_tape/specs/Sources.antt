@@ -7,7 +7,8 @@ pub record Drawn (Rest : Type 0) : Type 0 where
   pub answer : Result ℕ DrawFault
   pub rest : Rest
 
--- A value that it answers is below the bound. To a bound of 1 it answers 0, and it stays as it is.
+-- A source of draws: what it answers to a bound. A value that it answers is below the bound. To a bound of 1 it answers 0, and it stays as
+-- it is.
 pub record Source (Rest : Type 0) : Type 0 where
   pub next : Rest → ℕ → Drawn Rest
   pub below : (rest : Rest) (bound value : ℕ) → 1 ≤ bound → (next rest bound).answer ≡ Ok value → value < bound

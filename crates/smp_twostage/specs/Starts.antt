@@ -27,12 +27,13 @@ row_fraction plan row = seat_fraction plan.strata (place_of plan.strata row)
 
 -- ---- weighted totals
 
--- the value of a row that can be selected, and 0 of one whose probability is 0
+-- whether a whole number is 1 or more
 abbrev pub is_positive : ℤ → Bool
 is_positive (pos zero) = false
 is_positive (pos (suc n)) = true
 is_positive (negsuc n) = false
 
+-- the value x of a row that can be selected, and 0 of one whose probability is 0
 abbrev pub known : Fraction → ℤ → ℤ
 known asked x = cond (is_positive asked.num) x (pos 0)
 
@@ -113,7 +114,7 @@ pub record StartsWhole (plan : Parts) (start : Progress AnyState) : Type 0 where
   -- A path to a leaf is made of the stages' own paths, one after another.
   pub paths : AtEachLeaf (whole_tree plan) start
       (λ path leaf. GoesByStages tree_of (stages_of plan) (states_of plan) path leaf.states)
-  -- Where the method balances, each stratum's part of it is one of the cube's own paths.
+  -- Where the method balances, each stratum's part of it is one of the method's own paths.
   pub cubes : balances plan.method ≡ true → (path : List Entry) (ends : List AnyState)
       (goes : GoesByStages tree_of (stages_of plan) (states_of plan) path ends)
       → (h : ℕ) (s : stratum.Stratum) → slice_get plan.strata h ≡ Some s

@@ -7,7 +7,7 @@
 //!
 //! Each stratum is a section of it. One stratum can be drawn alone: `specs/Covered.antt` says that this selection is a part of the whole one.
 //!
-//! [`balance_lines`] is what the report tells of the strata where they are drawn by the cube, as `specs/Lines.antt` says.
+//! [`balance_lines`] is what the report tells of the strata where they are drawn by the cube or the local cube, as `specs/Lines.antt` says.
 #![tactic(auto)]
 
 mod lines;

@@ -170,8 +170,8 @@ impl<'a> Whole<'a> {
     /// second one takes none.
     ///
     /// From this state each row is selected with exactly the probability that the plan gives it, and the estimator of Horvitz and Thompson (1952)
-    /// has no bias. By every method but the cube, as many first stage units of a stratum are selected as their probabilities add up to, or, where
-    /// these have no whole sum, one of the two whole numbers around it. All states are made here, so no later step takes memory; where there is
+    /// has no bias. By every method that doesn't balance, as many first stage units of a stratum are selected as their probabilities add up to,
+    /// or, where these have no whole sum, one of the two whole numbers around it. All states are made here, so no later step takes memory; where there is
     /// too little of it, the answer is [`NoMemory`], the only error.
     pub fn start(alloc: Global, plan: &'a Plan) -> Result<StartedWhole<'a>, NoMemory>
         requires { CanBeDrawn plan.now }
@@ -240,8 +240,8 @@ impl<'a> Whole<'a> {
         }
     }
 
-    /// How many first stage units of a stratum were undecided where the landing of its cube began (Deville and Tillé 2004): 0 as long as it
-    /// hasn't begun, 0 where no unit was left for it, and 0 by any other method. Strata are counted from 0, in order of first appearance.
+    /// How many first stage units of a stratum were undecided where the landing of its cube, or local cube, began (Deville and Tillé 2004): 0 as
+    /// long as it hasn't begun, 0 where no unit was left for it, and 0 by any other method. Strata are counted from 0, in order of first appearance.
     pub fn left(&self, state: &StagesState<AnyState>, stratum: usize) -> u32
         requires state { BelongsToCovered self.now state.now }
         requires stratum { covers self.now stratum ≡ true }

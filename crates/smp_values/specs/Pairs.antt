@@ -3,7 +3,7 @@
 use Rattle.std.specs.Prelude.{ℕ, ◌+◌, ◌-◌, min, nat_lt, nat_le, if◌then◌else◌}
 use Rattle.smp_values.specs.declared.pairs.TwoWeights.{TwoWeights}
 
--- the weights of the two parts
+-- the weights of the two parts of a step on two units, whose values are a and b over den (Deville and Tillé 1998)
 abbrev pub pair_weights : ℕ → ℕ → ℕ → TwoWeights
 pair_weights a b den =
     if nat_le (a + b) den then record { first = a; second = b } else record { first = den - b; second = den - a }
@@ -12,15 +12,15 @@ pair_weights a b den =
 abbrev pub pair_bound : ℕ → ℕ → ℕ → ℕ
 pair_bound a b den = (pair_weights a b den).first + (pair_weights a b den).second
 
--- all that both have, up to den
+-- what one of the two takes: all that both have, up to den
 abbrev pub taken : ℕ → ℕ → ℕ → ℕ
 taken a b den = min (a + b) den
 
--- what is left, or 0
+-- what is left for the other, or 0
 abbrev pub left : ℕ → ℕ → ℕ → ℕ
 left a b den = a + b - den
 
--- in the first part the first unit takes, in the second part the second one does
+-- the numerators of both units: in the first part the first unit takes, in the second part the second one does
 abbrev pub pair_first : ℕ → ℕ → ℕ → ℕ × ℕ
 pair_first a b den = (taken a b den, left a b den)
 

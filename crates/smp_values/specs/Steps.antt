@@ -35,7 +35,7 @@ abbrev pub kind_on : List ℕ → Kind
 kind_on (i ∷ j ∷ others) = Pivot
 kind_on others = Lone
 
--- the next step, on fractional units
+-- the parts and the kind of the next step, which is on the first two fractional units, or on the only one
 abbrev pub pivotal_parts : Shares → List (Part Shares)
 pivotal_parts s = parts_on s (fractional_units s)
 

@@ -9,17 +9,19 @@ use Rattle.smp_fractions.specs.Fractions.{Fraction, over}
 use Rattle.smp_split.specs.Trees.{Part, Tree}
 use Rattle.smp_split.specs.declared.kind.Kind.{Kind}
 
--- a numerator of a fractional unit
+-- whether a numerator over a denominator, the first number, is the value of a fractional unit: above 0 and below 1
 abbrev pub fractional : ℕ → ℕ → Bool
 fractional den a = nat_lt 0 a && nat_lt a den
 
+-- whether a unit is fractional: its value is above 0 and below 1
 abbrev pub is_fractional : Shares → ℕ → Bool
 is_fractional s unit = fractional s.den (slice_index s.numer unit)
 
--- the fractional units in order, the one at a place among them, and how many they are
+-- the fractional units in order
 abbrev pub fractional_units : Shares → List ℕ
 fractional_units s = filter (is_fractional s) (range_with_len 0 (length s.numer))
 
+-- the one at a place among them
 abbrev pub fractional_at : Shares → ℕ → ℕ
 fractional_at s place = slice_index (fractional_units s) place
 
@@ -42,7 +44,7 @@ is_one s unit = nat_eq (slice_index s.numer unit) s.den
 abbrev pub AddTo : ℕ → Shares → Type 0
 AddTo n s = sum s.numer ≡ n * s.den
 
--- the values with another numerator of one unit, of two units, and with those of two units exchanged
+-- the values with another numerator of one unit, and of two units
 abbrev pub with_one : Shares → ℕ → ℕ → Shares
 with_one s i new = record { numer = slice_set s.numer i new; den = s.den }
 

@@ -7,6 +7,7 @@ use Rattle.clap.specs.declared.builder.ArgAction.TheVariants.{Set, Append}
 abbrev pub option_rule : List ℕ → Rule
 option_rule name = record (new_rule name) { long = Some name; action = Some Set }
 
+-- the first word that is no option: the command
 abbrev pub command_rule : Rule
 command_rule = record (new_rule (codes "command")) { action = Some Set }
 
@@ -14,6 +15,7 @@ command_rule = record (new_rule (codes "command")) { action = Some Set }
 abbrev pub rest_rule : Rule
 rest_rule = record (new_rule (codes "rest")) { action = Some Append; range = Some (record { start_inclusive = 0; end_inclusive = 4 }) }
 
+-- a command line without arguments, and without clap's own help and version
 abbrev pub plain_app : App
 plain_app = let a = new_app (codes "sampler") in record a { top = record a.top { disable_help_flag = true; disable_version_flag = true } }
 
@@ -22,6 +24,7 @@ abbrev pub with_options : App → List (List ℕ) → App
 with_options app [] = app
 with_options app (name ∷ names) = with_options (with_rule app (option_rule name)) names
 
+-- with the command and the words after it
 abbrev pub with_positionals : App → App
 with_positionals app = with_rule (with_rule app command_rule) rest_rule
 
@@ -31,6 +34,7 @@ option_names =
     codes "design" ∷ codes "frame" ∷ codes "tape" ∷ codes "seed" ∷ codes "log" ∷ codes "sample" ∷ codes "stratum" ∷
     codes "to" ∷ []
 
+-- the command line of this program
 abbrev pub sampler_app : App
 sampler_app = with_options (with_positionals plain_app) option_names
 

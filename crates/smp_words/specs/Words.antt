@@ -28,6 +28,7 @@ pub record Given : Type 0 where
   pub stratum : Option (List ℕ)
   pub to : Option (List ℕ)
 
+-- the same, of the values that clap found
 abbrev pub given_of : List Row → Given
 given_of rows = record {
   command = first_of (codes "command") rows;
@@ -49,6 +50,7 @@ options_of g =
     ∷ (codes "log", g.log) ∷ (codes "sample", g.sample) ∷ (codes "stratum", g.stratum) ∷ (codes "to", g.to) ∷ []
 
 infixl 10 ◌>>=◌
+-- one thing, and then the next one, where the first is there
 abbrev pub ◌>>=◌ : {A B : Type 0} → Option A → (A → Option B) → Option B
 (Some x) >>= f = f x
 None >>= f = None
@@ -79,10 +81,11 @@ abbrev pub all_distinct : List (List ℕ) → Bool
 all_distinct [] = true
 all_distinct (name ∷ names) = not (list_any (bytes_eq name) names) && all_distinct names
 
--- the number that decimal digits write, if it lies in a range
+-- a number, if it lies in a range
 abbrev pub in_range : ℕ → ℕ → ℕ → Option ℕ
 in_range least most n = when (nat_le least n && nat_le n most) (Some n)
 
+-- the number below 2^128 that decimal digits write, if it lies in a range
 abbrev pub number_from : ℕ → ℕ → List ℕ → Option ℕ
 number_from least most text = number_below (2 ^ 128) text >>= in_range least most
 
@@ -133,6 +136,7 @@ pub record DrawFiles : Type 0 where
   pub log : List ℕ
   pub sample : List ℕ
 
+-- these files, where all are named and no other word is there
 abbrev pub draw_files : Given → Option DrawFiles
 draw_files g = when (is_empty g.rest) (do
   design ← g.design
