@@ -126,7 +126,7 @@ fn sample_text(alloc: Global, plan: &FramePlan, selection: &Selection) -> Result
     let units = plan.frame.units();
     let mut rows = sample_rows(alloc)?;
     for row in selection.rows.as_slice() {
-        push_sample_row(alloc, &mut rows, &units[*row].id, asked(&plan.plan, *row))?;
+        push_sample_row(&mut rows, &units[*row].id, asked(&plan.plan, *row))?;
     }
     rows.into_bytes(alloc)
 }

@@ -9,6 +9,7 @@ ghost use Rattle.smp_fractions.specs.Fractions.{Same, AtMost, over, plus, times,
 use crate::{Bytes, NoMemory, gcd};
 use itoa::Buffer;
 use std::cmp::Ordering;
+use std::marker::Model;
 
 /// A result needs a number of 2^126 or more.
 #[derive(Clone, Copy, Debug, PartialEq, Eq)]
@@ -27,6 +28,35 @@ pub struct Frac {
     pub den: u128,
     pub ghost positive: { 1 ≤ den },
     pub ghost lowest: { greatest_common_divisor num den ≡ 1 },
+}
+
+/// The text of a fraction, of at most 81 bytes.
+///
+/// It is seen as its bytes.
+#[derive(Debug, Drop)]
+pub struct FractionText {
+    // The text stands at the front.
+    text: [u8; 81],
+    length: usize,
+}
+
+impl Model for FractionText {
+    ghost use Rattle.std.specs.Prelude.{◌≤◌, ℕ, List, take};
+
+    ghost Value = { List ℕ };
+
+    ghost view = { λ t. take t.length t.text };
+
+    ghost invariant = { λ t. t.length ≤ 81 };
+}
+
+impl FractionText {
+    /// Its bytes.
+    pub fn as_slice(&self) -> &[u8]
+        ensures { result.now ≡ self.now }
+    {
+        &self.text[..self.length]
+    }
 }
 
 // Puts a piece at a place. What stands before it stays.
@@ -154,15 +184,22 @@ impl Frac {
         Ok(Frac { num, den })
     }
 
+    /// The numerator, a slash and the denominator in decimal. It takes no memory.
+    pub fn text(self) -> FractionText
+        ensures { result ≡ fraction_text (fraction self) }
+    {
+        let mut text = [0; 81];
+        let length = put_terms(&mut text, self.num, self.den);
+        FractionText { text, length }
+    }
+
     /// Appends the numerator, a slash and the denominator in decimal, or nothing where memory
     /// runs out.
     pub fn write(self, into: &mut Bytes) -> Result<(), NoMemory>
         ensures ok { OnOk result (into.new ≡ into.old ++ fraction_text (fraction self)) }
         ensures err { OnErr result (into.new ≡ into.old) }
     {
-        let mut text = [0; 81];
-        let length = put_terms(&mut text, self.num, self.den);
-        into.push_all(&text[..length])
+        into.push_all(self.text().as_slice())
     }
 
     /// The fraction `num / (part * den)` in lowest terms, where `num` has no divisor in common

@@ -17,7 +17,7 @@ mod text;
 pub use bytes::Bytes;
 pub use differences::difference;
 pub use divisors::{content, gcd, lcm_within, quotient};
-pub use fractions::{Frac, Wide};
+pub use fractions::{Frac, FractionText, Wide};
 pub use items::Items;
 pub use memory::NoMemory;
 pub use signed::Signed;

@@ -1,4 +1,4 @@
-ghost use Rattle.std.specs.Prelude.{◌≡◌, ◌≤◌, ◌⊎◌, [], None, Some, length, IfOk, OnErr, OnOk};
+ghost use Rattle.std.specs.Prelude.{◌≡◌, ◌≤◌, [], None, Some, length, IfOk, OnErr, OnOk};
 ghost use Rattle.smp_frac.specs.Fractions.{fraction};
 ghost use Rattle.smp_weights.specs.Chosen.{ChosenArePositive};
 ghost use Rattle.smp_weights.specs.Rows.{AddsRow};
@@ -21,19 +21,13 @@ pub fn sample_rows(alloc: Global) -> Result<CsvRows, NoMemory>
 /// Writes the row of a unit: its id, and its design weight, the inverse of the inclusion probability asked for it
 /// (Tillé 2006), as a fraction in lowest terms.
 ///
-/// After want of memory the rows are as before, or nothing is told of them any more.
-pub fn push_sample_row(
-    alloc: Global,
-    rows: &mut CsvRows,
-    id: &Text,
-    asked: Frac,
-) -> Result<(), NoMemory>
+/// After want of memory nothing is told of the rows any more.
+pub fn push_sample_row(rows: &mut CsvRows, id: &Text, asked: Frac) -> Result<(), NoMemory>
     requires { 1 ≤ asked.num }
     ensures ok { OnOk result (AddsRow rows.old rows.new (sample_row id.now (fraction asked))) }
-    ensures err { OnErr result ((rows.new ≡ rows.old) ⊎ (rows.new ≡ None)) }
+    ensures err { OnErr result (rows.new ≡ None) }
 {
-    let mut weight = Bytes::new(alloc);
-    weight_of(asked).write(&mut weight)?;
+    let weight = weight_of(asked).text();
     rows.push(&[id.as_str().as_bytes(), weight.as_slice()])
 }
 
@@ -53,7 +47,7 @@ pub fn sample_bytes(
     let mut rows = sample_rows(alloc)?;
     for (place, id) in ids.iter().enumerate() {
         if chosen[place] {
-            push_sample_row(alloc, &mut rows, id, asked[place])?;
+            push_sample_row(&mut rows, id, asked[place])?;
         }
     }
     rows.into_bytes(alloc)
