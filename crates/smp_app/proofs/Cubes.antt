@@ -1,23 +1,21 @@
 -- What the cube draws of the strata of a plan, and what the report tells of it.
-use Rattle.std.proofs.Common.{◌≡◌, ℕ, Bool, true, List, [], ◌∷◌, length, map, Some, None, refl, sym, ap, subst, ◌∙◌}
+use Rattle.std.proofs.Common.{◌≡◌, ℕ, Bool, true, List, [], ◌∷◌, length, map, take, Some, None, refl, sym, ap, subst, ◌∙◌}
 use Rattle.std.specs.List.{filter, range_with_len, slice_get}
 use Rattle.std.proofs.lemmas.List.{length-map}
 use Rattle.smp_split.specs.Paths.{Entry}
-use Rattle.smp_landing.specs.Cube.{Balancing}
 use Rattle.smp_balance.specs.Strata.{AreStratumUnits}
 use Rattle.smp_balance.specs.Totals.{is_selected}
 use Rattle.smp_balance.specs.Reports.{TellsColumn}
 use Rattle.smp_balance.proofs.Balances.{each_is_balanced}
 use Rattle.smp_balance.proofs.Reports.{each_line_tells}
 use Rattle.smp_design.specs.Words.{balances}
-use Rattle.smp_methods.specs.declared.any.AnyState.TheVariants as states
 use Rattle.smp_methods.specs.declared.any.AnyState.{AnyState}
 use Rattle.smp_stages.specs.Paths.{GoesByStages}
 use Rattle.smp_stages.specs.Stages.{Progress}
 use Rattle.smp_strata.specs.Plans.{Parts}
 use Rattle.smp_strata.specs.declared.strata.Stratum.{Stratum}
-use Rattle.smp_twostage.specs.Cubes.{IsDrawnByCube, balancing}
-use Rattle.smp_twostage.specs.Selections.{tree_of as stage_tree, first_number, stages_of, states_of}
+use Rattle.smp_twostage.specs.Cubes.{IsDrawnByCube, balancing, leaf_of}
+use Rattle.smp_twostage.specs.Selections.{balance_count, tree_of as stage_tree, first_number, stages_of, states_of}
 use Rattle.smp_twostage.specs.Lines.{drawn_stratum}
 use Rattle.smp_twostage.specs.Plans.{CanBeDrawn}
 use Rattle.smp_twostage.specs.Starts.{first_selected}
@@ -43,22 +41,22 @@ module _ (plan : FramePlan) (planned : IsPlanned plan) (balance : balances plan.
   drawable = subst CanBeDrawn planned.parts_are planned.drawable
 
   -- the stratum, as the cube draws from it
-  pub is_stratum : AreStratumUnits (balancing s)
+  pub is_stratum : AreStratumUnits (balancing all s)
   is_stratum = cube_stratum all drawable balance h s is
 
   -- ---- what was drawn of it
 
-  module _ (path : List Entry) (to : Progress AnyState) (leaf : Balancing) (leaf_is : slice_get to.states (first_number all h) ≡ Some (states.Cube leaf)) where
+  module _ (path part : List Entry) (to : Progress AnyState) (drawn : IsDrawnByCube all h s part to.states) where
     abbrev here : Drawn
     here = record { plan = plan_view plan; only = None; leaf = to; path = path }
 
-    units_are : (drawn_stratum (covered here) to.states h s).units ≡ filter (is_selected (balancing s) leaf) (range_with_len 0 (length (map (λ u. u.values) s.units)))
+    units_are : (drawn_stratum (covered here) to.states h s).units ≡ filter (is_selected (balancing all s) (leaf_of drawn)) (range_with_len 0 (length (balancing all s).values))
     units_are =
-        filter_same (first_selected all to.states h) (is_selected (balancing s) leaf) (range_with_len 0 (length s.units)) (cube_selected all drawable balance to.states h s is leaf leaf_is)
-        ∙ ap (λ n. filter (is_selected (balancing s) leaf) (range_with_len 0 n)) (sym (length-map s.units (λ u. u.values)))
+        filter_same (first_selected all to.states h) (is_selected (balancing all s) (leaf_of drawn)) (range_with_len 0 (length s.units)) (cube_selected all to.states h s is part drawn)
+        ∙ ap (λ n. filter (is_selected (balancing all s) (leaf_of drawn)) (range_with_len 0 n)) (sym (length-map s.units (λ u. take (balance_count all s) u.values)))
 
-    pub tells : (column : ℕ) → TellsColumn (drawn_stratum (covered here) to.states h s) leaf column
-    tells = each_line_tells (drawn_stratum (covered here) to.states h s) leaf is_stratum units_are
+    pub tells : (column : ℕ) → TellsColumn (drawn_stratum (covered here) to.states h s) (leaf_of drawn) column
+    tells = each_line_tells (drawn_stratum (covered here) to.states h s) (leaf_of drawn) is_stratum units_are
 
 -- ---- the balance of what is drawn
 
@@ -80,7 +78,7 @@ module _ (plan : FramePlan) (planned : IsPlanned plan) (path : List Entry) (to :
             (let drawn_so = has.1 h s is balance in
             record {
               drawn_so = drawn_so;
-              balanced = each_is_balanced (balancing s) (is_stratum plan planned balance h s is);
-              told = tells plan planned balance h s is path to drawn_so.leaf drawn_so.leaf_is;
+              balanced = each_is_balanced (balancing (parts (plan_view plan)) s) (is_stratum plan planned balance h s is);
+              told = tells plan planned balance h s is path (has.0.part (first_number (parts (plan_view plan)) h)) to drawn_so;
             });
       }

@@ -12,7 +12,8 @@ use Rattle.smp_app.specs.Texts.{ids_text, steps_text, log_text, sample_text, rep
 use Rattle.smp_app.specs.Texts.{accepted_text, joints_text}
 use Rattle.smp_app.specs.Deliveries.{Outputs}
 use Rattle.smp_cases.specs.Demo.{demo_design_text, demo_frame_text, demo_key}
-use Rattle.smp_plan.specs.Inputs.{DesignSource, FrameSource, input_names, Held, HeldForJoint, Given, Made, FrameHeld, FrameForJoint, FrameMade}
+use Rattle.smp_plan.specs.Inputs.{DesignSource, input_names, Held, HeldForJoint, Given, Made}
+use Rattle.smp_plan.specs.Inputs.{FrameSource, FrameHeld, FrameForJoint, FrameMade}
 
 -- a file that is written, by its name: a text of what is drawn
 pub record DrawnFile : Type 0 where

@@ -7,7 +7,7 @@ use Rattle.smp_fractions.specs.Bounds.{IsAround}
 use Rattle.smp_fractions.specs.Fractions.{Same, integer, sum_below}
 use Rattle.smp_prob.specs.Given.{expected_size}
 use Rattle.smp_split.specs.Means.{mean, inclusion_probability}
-use Rattle.smp_balance.specs.Totals.{IsBalanced}
+use Rattle.smp_balance.specs.Totals.{AreBalanced}
 use Rattle.smp_balance.specs.Reports.{TellsColumn}
 use Rattle.smp_design.specs.declared.design.Second as second
 use Rattle.smp_design.specs.Words.{balances}
@@ -23,7 +23,7 @@ use Rattle.smp_strata.specs.Plans.{first_probs}
 use Rattle.smp_strata.specs.declared.strata.FirstUnit as first
 use Rattle.smp_strata.specs.declared.strata.Stratum.{Stratum}
 use Rattle.smp_stages.specs.Paths.{GoesByStages}
-use Rattle.smp_twostage.specs.Cubes.{IsDrawnByCube, balancing}
+use Rattle.smp_twostage.specs.Cubes.{IsDrawnByCube, balancing, leaf_of}
 use Rattle.smp_twostage.specs.Covered.{StartsAlone}
 use Rattle.smp_twostage.specs.Lines.{drawn_stratum}
 use Rattle.smp_twostage.specs.Plans.{CanBeDrawn}
@@ -50,19 +50,19 @@ Goes drawn =
     let plan = parts drawn.plan in
     GoesByStages stage_tree (stages_of plan) (states_of plan) drawn.path drawn.leaf.states
 
--- What is drawn of a stratum by the cube. The part of the path that is drawn in it leads through the cube's tree, from the requested
--- probabilities to a leaf. On this part, as on every path of the cube from there, each flight step keeps every
--- balancing total in force exactly, and the landing begins only where no direction is left or the next step doesn't fit; `IsBalanced`
+-- What is drawn of a stratum by the cube, or by the local cube. The part of the path that is drawn in it leads through the method's tree,
+-- from the requested probabilities to a leaf. On this part, as on every path of the method from there, each flight step keeps every
+-- balancing total in force exactly, and the landing begins only where no direction is left or the next step doesn't fit; `AreBalanced`
 -- says what else holds.
 pub record IsCubeDraw (drawn : Drawn) (goes : Goes drawn) (h : ℕ) (s : Stratum) : Type 0 where
   pub drawn_so : IsDrawnByCube (parts drawn.plan) h s
       (goes.part (first_number (parts drawn.plan) h)) drawn.leaf.states
-  pub balanced : IsBalanced (balancing s)
+  pub balanced : AreBalanced (balancing (parts drawn.plan) s)
   -- The report tells the estimates at that leaf and the known totals.
   pub told : (column : ℕ)
-      → TellsColumn (drawn_stratum (covered drawn) drawn.leaf.states h s) drawn_so.leaf column
+      → TellsColumn (drawn_stratum (covered drawn) drawn.leaf.states h s) (leaf_of drawn_so) column
 
--- Where the method balances, each stratum is drawn so.
+-- The path is made of the stages' own paths; and where the method balances, each stratum is drawn so.
 pub record KeepsBalance (drawn : Drawn) : Type 0 where
   pub goes : Goes drawn
   pub cubes : balances drawn.plan.design.method ≡ true → (h : ℕ) (s : Stratum)
@@ -75,13 +75,15 @@ pub record KeepsBalance (drawn : Drawn) : Type 0 where
 pub record HasProbabilities (plan : Plan) : Type 0 where
   pub probability : (row : ℕ) → row < length plan.units
       → Same (inclusion_probability (tree_of plan) (start_of plan) row) (row_probability plan row)
-  -- A row counts for its value over its probability there, and for its value here, or for 0 where its probability is 0.
+  -- In the mean each selected row counts for its value over its probability, in the sum each row for its value; one of probability 0
+  -- counts for 0 in both.
   pub unbiased : (x : ℕ → ℤ)
       → Same (mean (tree_of plan) (λ row. weighted (row_probability plan row) (x row)) (start_of plan))
       (sum_below (length plan.units) (λ row. integer (known (row_probability plan row) (x row))))
 
 -- What holds of what is drawn of all strata by a plan.
 pub record IsDrawnBy (plan : Plan) (drawn : Drawn) : Type 0 where
+  -- It is drawn by this plan, of all strata.
   pub plan_is : drawn.plan ≡ plan
   pub all : drawn.only ≡ None
   -- The draw tree splits lawfully in each state to which a path leads from the start: where it isn't done the weights are at least 1,
@@ -90,6 +92,7 @@ pub record IsDrawnBy (plan : Plan) (drawn : Drawn) : Type 0 where
   pub lawful : Lawful (tree_of plan) (IsReached (tree_of plan) (start_of plan))
   -- The path of the draw leads from the start to a leaf, which is done.
   pub full : IsFullPath (tree_of plan) (start_of plan) drawn.path drawn.leaf
+  -- Each row is selected with exactly the probability that is asked for it, and the weighted total has no bias.
   pub probabilities : HasProbabilities plan
   -- As many first stage units of each stratum are drawn as the design asks for: its sample size, or with given probabilities what they
   -- add up to, where that is a whole number.
@@ -109,6 +112,7 @@ pub record IsDrawnBy (plan : Plan) (drawn : Drawn) : Type 0 where
       → first_selected (parts drawn.plan) drawn.leaf.states h k ≡ true
       → count_by (second_selected (parts drawn.plan) drawn.leaf.states h k)
       (range_with_len 0 (length u.rows)) ≡ asked.n
+  -- What the cube and the local cube keep; of a plan by any other method only that the path is made of the stages' own paths.
   pub balance : KeepsBalance drawn
 
 -- What is drawn of stratum h alone, by a tree that splits lawfully too. The draw starts from the stratum's state in the start of the whole

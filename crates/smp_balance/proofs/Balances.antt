@@ -1,4 +1,4 @@
--- Every selection from a stratum by the cube is balanced, since that from its free units is.
+-- Every selection from a stratum is balanced where that from its free units is.
 use Rattle.std.proofs.Common.{◌≡◌, ℕ, zero, suc, ◌-◌, ◌^◌, ◌<◌, ◌≤◌, cond, true, ℤ, List, [], ◌∷◌, length, get_or, arith, refl, sym, ap, ◌∙◌, subst, inl, inr, ◌⊎◌}
 use Rattle.std.specs.Prelude.{slice_index}
 use Rattle.std.proofs.lemmas.Bool.{cases_eq}
@@ -9,28 +9,34 @@ use Rattle.smp_fractions.proofs.Fractions.{same_refl, same_sym, same_trans, plus
 use Rattle.smp_fractions.proofs.Bounds.{plus_most, same_most, most_of_same, differ_same, differ_by_same}
 use Rattle.smp_kernel.specs.Vectors.{Within}
 use Rattle.smp_prob.specs.Inclusions.{inclusion}
-use Rattle.smp_split.specs.Trees.{picked}
+use Rattle.smp_split.specs.Trees.{Tree, picked}
 use Rattle.smp_values.specs.Values.{is_fractional, is_one, value_at}
 use Rattle.smp_flight.specs.States as flights
 use Rattle.smp_flight.specs.States.{Units, column}
 use Rattle.smp_flight.specs.Requests.{AreValues}
 use Rattle.smp_flight.specs.Totals as free
-use Rattle.smp_flight.specs.Totals.{expanded, addend, target}
+use Rattle.smp_flight.specs.Totals.{expanded, addend, row_total, target}
 use Rattle.smp_flight.proofs.Making.{rows_are, units_are}
 use Rattle.smp_flight.proofs.Nexts.{started_flight}
-use Rattle.smp_landing.specs.Cube.{Balancing, values_in}
+use Rattle.smp_flight.specs.Selections.{Balancing, IsBalancing, IsSelection, Selection, rows_in, starting, values_in}
 use Rattle.smp_moves.specs.Balances.{IsBeforeLanding, LandsAt}
-use Rattle.smp_moves.specs.Owed.{balance_of as weighed_balance, weighed_estimate, weighed_total}
+use Rattle.smp_moves.specs.Owed.{balance_of as weighed_balance, weighed_bound, weighed_estimate, weighed_total}
 use Rattle.smp_moves.proofs.Owed.{lands_or_not}
 use Rattle.smp_split.specs.Paths.{Entry, IsStep, Leads}
 use Rattle.smp_split.specs.declared.kind.Kind.TheVariants as kind
 use Rattle.smp_values.specs.Values.{fractional_count}
-use Rattle.smp_landing.specs.Cube.{rows_in}
-use Rattle.smp_landing.specs.Landings.{weighed_of}
-use Rattle.smp_landing.specs.Landings as landings
+use Rattle.smp_flight.specs.Landings.{weighed_of}
+use Rattle.smp_flight.specs.Landings as landings
+use Rattle.smp_flight.proofs.Seen.{total_is as seen_total}
+use Rattle.smp_landing.specs.Cube.{cube_of}
+use Rattle.smp_landing.specs.Laws.Splits.{is_cube}
 use Rattle.smp_landing.proofs.Starts.{cube_balances}
-use Rattle.smp_balance.specs.Strata.{StratumUnits, AreStratumUnits, values_of, column_count, row_count, free_values, free_units, tree_of, start_of}
-use Rattle.smp_balance.specs.Totals.{EachIsBalanced, IsBalanced, balance_of, counted, total, known_of, known, estimate, error_bound}
+use Rattle.smp_localcube.specs.Local.{IsLocal, local_of}
+use Rattle.smp_localcube.specs.Method.{LocalUnits, started}
+use Rattle.smp_localcube.specs.Laws.Splits.{is_local_cube}
+use Rattle.smp_localcube.proofs.Starts.{local_balances}
+use Rattle.smp_balance.specs.Strata.{StratumUnits, AreStratumUnits, values_of, column_count, row_count, free_values, free_units}
+use Rattle.smp_balance.specs.Totals.{AreBalanced, EachIsBalanced, IsBalanced, balance_of, counted, total, known_of, known, estimate, error_bound}
 use Rattle.smp_rows.proofs.Sums.{at_free, sum_apart}
 use Rattle.smp_balance.proofs.Terms.{fixed_at, known_at, total_term, estimate_term, known_term, error_term}
 
@@ -65,13 +71,17 @@ module _ (s : StratumUnits) (ok : AreStratumUnits s) where
       subst (λ (m : ℕ). Same (sum_below (length s.values) f) (plus (sum_below m g) (sum_below (length s.values) h))) (sym ok.request.paired)
       (sum_apart s.request (length s.values) ok.inside ok.stands g f h each)
 
-  total_is : (at : Balancing) (row : ℕ) → Same (total s at row) (plus (weighed_total (weighed_of (free_units s)) at row) (fixed row))
-  total_is at row =
+  total_of : (at : Balancing) (row : ℕ) → Same (total s at row) (plus (row_total (free_units s) (values_in at) row) (fixed row))
+  total_of at row =
       apart (λ k. times (counted s row k) _) (λ u. times (expanded (free_units s) row u) (value_at (values_in at) u)) (λ k. fixed_at s ok row k (inclusion s.request k))
       (λ k _. total_term s ok (value_at (values_in at)) row k (inclusion s.request k) refl)
 
-  estimate_is : (leaf : Balancing) (row : ℕ) → Same (estimate s leaf row) (plus (weighed_estimate (weighed_of (free_units s)) leaf row) (fixed row))
-  estimate_is leaf row =
+  -- what is estimated of the free units
+  abbrev free_estimate : Balancing → ℕ → Fraction
+  free_estimate leaf row = sum_below (length s.request.shape) (λ u. cond (is_one (values_in leaf) u) (expanded (free_units s) row u) (whole 0))
+
+  estimate_of : (leaf : Balancing) (row : ℕ) → Same (estimate s leaf row) (plus (free_estimate leaf row) (fixed row))
+  estimate_of leaf row =
       apart (λ k. cond _ (counted s row k) (whole 0)) (λ u. cond (is_one (values_in leaf) u) (expanded (free_units s) row u) (whole 0)) (λ k. fixed_at s ok row k (inclusion s.request k))
       (λ k _. estimate_term s ok (is_one (values_in leaf)) row k (inclusion s.request k) refl)
 
@@ -91,7 +101,7 @@ module _ (s : StratumUnits) (ok : AreStratumUnits s) where
       (λ k _. error_term s ok (values_in at) row k (inclusion s.request k) refl))
       (same_trans (plus_same (same_refl (free.error_bound (free_units s) (values_in at) row)) (sum-zero (length s.values) (λ k. whole 0) (λ k _. same_refl (whole 0)))) (plus-zero (free.error_bound (free_units s) (values_in at) row)))
 
-  -- ---- the cube of the free units
+  -- ---- the free units
 
   one_each : length (free_values s) ≡ length s.request.free
   one_each = length-map s.request.free (values_of s)
@@ -117,12 +127,12 @@ module _ (s : StratumUnits) (ok : AreStratumUnits s) where
     within = λ u l. let m : u < length s.request.free = omega (arith, l, one_each) in subst (Within (2 ^ 31 - 1)) (sym (free_at u m)) (ok.values.within (slice_index s.request.free u) (ok.inside u m));
   }
 
-  of_cube : landings.IsBalanced (free_units s) (start_of s)
-  of_cube = cube_balances (free_units s) (started_flight (free_units s) (units_are s.request ok.request (free_values s) one_each free_are_values))
+  first_flight : flights.IsFlight (free_units s) (flights.started (free_units s))
+  first_flight = started_flight (free_units s) (units_are s.request ok.request (free_values s) one_each free_are_values)
 
-  -- a row of the stratum is a row of the cube, where any unit is free
-  cube_row : (row : ℕ) → row < row_count s → 1 ≤ length s.request.free → row < flights.row_count (free_units s)
-  cube_row row l some = omega (arith, l, rows_are s.request ok.request (free_values s) one_each free_are_values, same_length 0 (omega (arith, some)))
+  -- a row of the stratum is a row of the free units, where there are any
+  free_row : (row : ℕ) → row < row_count s → 1 ≤ length s.request.free → row < flights.row_count (free_units s)
+  free_row row l some = omega (arith, l, rows_are s.request ok.request (free_values s) one_each free_are_values, same_length 0 (omega (arith, some)))
 
   -- and where none is, its sums are 0
   none_free : (f g : ℕ → Fraction) → length s.request.free ≡ 0 → Same (sum_below (length s.request.shape) f) (sum_below (length s.request.shape) g)
@@ -130,48 +140,6 @@ module _ (s : StratumUnits) (ok : AreStratumUnits s) where
 
   some_or_none : (1 ≤ length s.request.free) ⊎ (length s.request.free ≡ 0)
   some_or_none = elim (cases_eq (length s.request.free) 0) [ inl none ↦ inr none | inr some ↦ inl (omega (arith, some)) ]
-
-  -- ---- the clauses
-
-  with_fixed : {a b : Fraction} (row : ℕ) → Same a b → Same (plus a (fixed row)) (plus b (fixed row))
-  with_fixed row h = plus_same h (same_refl (fixed row))
-
-  flights_keep : (path : List Entry) (at : Balancing) (entry : Entry) → Leads (tree_of s) (start_of s) path at → IsStep (tree_of s) at entry → entry.0 ≡ kind.Flight → (row : ℕ) → row < rows_in at →
-      Same (total s (picked at ((tree_of s).parts at) entry.2) row) (total s at row)
-  flights_keep path at entry leads step is row l =
-      same_trans (total_is (picked at ((tree_of s).parts at) entry.2) row)
-      (same_trans (with_fixed row (of_cube.flights path at entry leads step is row l)) (same_sym (total_is at row)))
-
-  totals_are_known : (path : List Entry) (at : Balancing) → Leads (tree_of s) (start_of s) path at → IsBeforeLanding path → (row : ℕ) → row < row_count s → Same (total s at row) (known s row)
-  totals_are_known path at leads before row l =
-      let free_total : Same (weighed_total (weighed_of (free_units s)) at row) (target (free_units s) row) =
-      elim some_or_none [
-        | inl some ↦ of_cube.totals path at leads before row (cube_row row l some)
-        | inr none ↦ none_free (λ u. times (expanded (free_units s) row u) (value_at (values_in at) u)) (addend (free_units s) row) none
-      ] in
-      same_trans (total_is at row) (same_trans (with_fixed row free_total) (same_sym (known_is row)))
-
-  exact_without_landing : (path : List Entry) (leaf : Balancing) → Leads (tree_of s) (start_of s) path leaf → IsBeforeLanding path → (tree_of s).done leaf ≡ true → (row : ℕ) → row < row_count s →
-      Same (estimate s leaf row) (known s row)
-  exact_without_landing path leaf leads before done row l =
-      let free_estimate : Same (weighed_estimate (weighed_of (free_units s)) leaf row) (target (free_units s) row) =
-      elim some_or_none [
-        | inl some ↦ of_cube.exact path leaf leads before done row (cube_row row l some)
-        | inr none ↦ none_free (λ u. cond (is_one (values_in leaf) u) (expanded (free_units s) row u) (whole 0)) (addend (free_units s) row) none
-      ] in
-      same_trans (estimate_is leaf row) (same_trans (with_fixed row free_estimate) (same_sym (known_is row)))
-
-  differ_none : (row : ℕ) (at leaf : Balancing) → length s.request.free ≡ 0 → DifferByAtMost (free.error_bound (free_units s) (values_in at) row) (weighed_estimate (weighed_of (free_units s)) leaf row) (target (free_units s) row)
-  differ_none row at leaf none =
-      let zero_bound : Same (free.error_bound (free_units s) (values_in at) row) (whole 0) =
-      subst (λ (n : ℕ). Same (sum_below n (λ u. cond (is_fractional (values_in at) u) (absolute (expanded (free_units s) row u)) (whole 0))) (whole 0)) (sym (ok.request.paired ∙ none)) (same_refl (whole 0)) in
-      differ_bound (same_sym zero_bound)
-      (differ_same (weighed_estimate (weighed_of (free_units s)) leaf row) (target (free_units s) row)
-      (none_free (λ u. cond (is_one (values_in leaf) u) (expanded (free_units s) row u) (whole 0)) (addend (free_units s) row) none))
-
-  -- a landing of the stratum is one of the cube
-  of_landing : (before : List Entry) (at : Balancing) → LandsAt (balance_of s) (start_of s) before at → LandsAt (weighed_balance (weighed_of (free_units s))) (start_of s) before at
-  of_landing before at lands = record { leads = lands.leads; flight = lands.flight; going = lands.going; begins = lands.begins }
 
   fewer_rows : flights.row_count (free_units s) ≤ row_count s
   fewer_rows =
@@ -185,36 +153,108 @@ module _ (s : StratumUnits) (ok : AreStratumUnits s) where
       first_none [] h = refl
       first_none (x ∷ xs) h = absurd (omega arith)
 
-  few_are_left : (before : List Entry) (at : Balancing) → LandsAt (balance_of s) (start_of s) before at → (tree_of s).kind at ≡ kind.Drop → (fractional_count (values_in at) ≤ rows_in at) × (rows_in at ≤ row_count s)
-  few_are_left before at lands drops =
-      let few : (fractional_count (values_in at) ≤ rows_in at) × (rows_in at ≤ flights.row_count (free_units s)) = of_cube.few before at (of_landing before at lands) drops in
-      (few.0, omega (arith, few.1, fewer_rows))
+  -- ---- the clauses, of a selection from the free units that is balanced
 
-  error_is_bounded : (before after : List Entry) (at leaf : Balancing) → LandsAt (balance_of s) (start_of s) before at → Leads (tree_of s) at after leaf → (tree_of s).done leaf ≡ true → (row : ℕ) → row < row_count s →
-      DifferByAtMost (error_bound s at row) (estimate s leaf row) (known s row)
-  error_is_bounded before after at leaf lands leads done row l =
-      let apart_free : DifferByAtMost (free.error_bound (free_units s) (values_in at) row) (weighed_estimate (weighed_of (free_units s)) leaf row) (target (free_units s) row) =
-      elim some_or_none [
-        | inl some ↦ of_cube.error before after at leaf (of_landing before at lands) leads done row (cube_row row l some)
-        | inr none ↦ differ_none row at leaf none
-      ] in
-      differ_bound (same_sym (error_is at row))
-      (differ_by_same (estimate_is leaf row) (known_is row)
-      (differ_plus (free.error_bound (free_units s) (values_in at) row) (weighed_estimate (weighed_of (free_units s)) leaf row) (target (free_units s) row) (fixed row) apart_free))
+  with_fixed : {a b : Fraction} (row : ℕ) → Same a b → Same (plus a (fixed row)) (plus b (fixed row))
+  with_fixed row h = plus_same h (same_refl (fixed row))
 
-  pub is_balanced : IsBalanced s
-  is_balanced = record {
-    flights = flights_keep;
-    totals = totals_are_known;
-    exact = exact_without_landing;
-    lands = λ path to leads. lands_or_not (balance_of s) path (start_of s) to leads;
-    landing = λ before at lands. of_cube.landing before at (of_landing before at lands);
-    drops = of_cube.drops;
-    few = few_are_left;
-    error = error_is_bounded;
-    none_left = of_cube.none_left;
-    left = λ before after entry at to lands leads. of_cube.left before after entry at to (of_landing before at lands) leads;
+  module _ {State : Type 0} (tree : Tree State) (seen : State → Balancing) (order : State → List ℕ) where
+    abbrev draws : Selection State
+    draws = record { units = free_units s; tree = tree; seen = seen; order = order }
+
+    module _ (belongs : State → Type 0) (is : IsSelection draws belongs) (from : State) (of_free : landings.IsBalanced draws from) where
+      -- what is said of the free units, by their values
+      free_total_is : (t : State) (row : ℕ) → weighed_total (weighed_of draws) t row ≡ row_total (free_units s) (values_in (seen t)) row
+      free_total_is t row = seen_total draws belongs is t row
+
+      free_estimate_is : (leaf : State) (row : ℕ) → weighed_estimate (weighed_of draws) leaf row ≡ free_estimate (seen leaf) row
+      free_estimate_is leaf row = rw (is.units, is.selected leaf) refl
+
+      free_bound_is : (t : State) (row : ℕ) → weighed_bound (weighed_of draws) t row ≡ free.error_bound (free_units s) (values_in (seen t)) row
+      free_bound_is t row = rw is.units refl
+
+      flights_keep : (path : List Entry) (t : State) (entry : Entry) → Leads tree from path t → IsStep tree t entry → entry.0 ≡ kind.Flight → (row : ℕ) → row < rows_in (seen t) →
+          Same (total s (seen (picked t (tree.parts t) entry.2)) row) (total s (seen t) row)
+      flights_keep path t entry leads step k row l =
+          let next : State = picked t (tree.parts t) entry.2 in
+          let kept : Same (row_total (free_units s) (values_in (seen next)) row) (row_total (free_units s) (values_in (seen t)) row) =
+          rw (free_total_is (picked t (tree.parts t) entry.2) row, free_total_is t row) at (of_free.flights path t entry leads step k row l) in
+          same_trans (total_of (seen next) row) (same_trans (with_fixed row kept) (same_sym (total_of (seen t) row)))
+
+      totals_are_known : (path : List Entry) (t : State) → Leads tree from path t → IsBeforeLanding path → (row : ℕ) → row < row_count s → Same (total s (seen t) row) (known s row)
+      totals_are_known path t leads before row l =
+          let free_total : Same (row_total (free_units s) (values_in (seen t)) row) (target (free_units s) row) =
+          elim some_or_none [
+            | inl some ↦ rw (free_total_is t row) at (of_free.totals path t leads before row (free_row row l some))
+            | inr none ↦ none_free (λ u. times (expanded (free_units s) row u) (value_at (values_in (seen t)) u)) (addend (free_units s) row) none
+          ] in
+          same_trans (total_of (seen t) row) (same_trans (with_fixed row free_total) (same_sym (known_is row)))
+
+      exact_without_landing : (path : List Entry) (leaf : State) → Leads tree from path leaf → IsBeforeLanding path → tree.done leaf ≡ true → (row : ℕ) → row < row_count s →
+          Same (estimate s (seen leaf) row) (known s row)
+      exact_without_landing path leaf leads before done row l =
+          let exact : Same (free_estimate (seen leaf) row) (target (free_units s) row) =
+          elim some_or_none [
+            | inl some ↦ rw (free_estimate_is leaf row) at (of_free.exact path leaf leads before done row (free_row row l some))
+            | inr none ↦ none_free (λ u. cond (is_one (values_in (seen leaf)) u) (expanded (free_units s) row u) (whole 0)) (addend (free_units s) row) none
+          ] in
+          same_trans (estimate_of (seen leaf) row) (same_trans (with_fixed row exact) (same_sym (known_is row)))
+
+      differ_none : (row : ℕ) (at leaf : Balancing) → length s.request.free ≡ 0 → DifferByAtMost (free.error_bound (free_units s) (values_in at) row) (free_estimate leaf row) (target (free_units s) row)
+      differ_none row at leaf none =
+          let zero_bound : Same (free.error_bound (free_units s) (values_in at) row) (whole 0) =
+          subst (λ (n : ℕ). Same (sum_below n (λ u. cond (is_fractional (values_in at) u) (absolute (expanded (free_units s) row u)) (whole 0))) (whole 0)) (sym (ok.request.paired ∙ none)) (same_refl (whole 0)) in
+          differ_bound (same_sym zero_bound)
+          (differ_same (free_estimate leaf row) (target (free_units s) row)
+          (none_free (λ u. cond (is_one (values_in leaf) u) (expanded (free_units s) row u) (whole 0)) (addend (free_units s) row) none))
+
+      -- a landing of the stratum is one of the free units
+      of_landing : (before : List Entry) (t : State) → LandsAt (balance_of s draws) from before t → LandsAt (weighed_balance (weighed_of draws)) from before t
+      of_landing before t lands = record { leads = lands.leads; flight = lands.flight; going = lands.going; begins = lands.begins }
+
+      few_are_left : (before : List Entry) (t : State) → LandsAt (balance_of s draws) from before t → tree.kind t ≡ kind.Drop → (fractional_count (values_in (seen t)) ≤ rows_in (seen t)) × (rows_in (seen t) ≤ row_count s)
+      few_are_left before t lands drops =
+          let few : (fractional_count (values_in (seen t)) ≤ rows_in (seen t)) × (rows_in (seen t) ≤ flights.row_count (free_units s)) = of_free.few before t (of_landing before t lands) drops in
+          (few.0, omega (arith, few.1, fewer_rows))
+
+      error_is_bounded : (before after : List Entry) (t leaf : State) → LandsAt (balance_of s draws) from before t → Leads tree t after leaf → tree.done leaf ≡ true → (row : ℕ) → row < row_count s →
+          DifferByAtMost (error_bound s (seen t) row) (estimate s (seen leaf) row) (known s row)
+      error_is_bounded before after t leaf lands leads done row l =
+          let apart_free : DifferByAtMost (free.error_bound (free_units s) (values_in (seen t)) row) (free_estimate (seen leaf) row) (target (free_units s) row) =
+          elim some_or_none [
+            | inl some ↦ rw (free_bound_is t row, free_estimate_is leaf row) at (of_free.error before after t leaf (of_landing before t lands) leads done row (free_row row l some))
+            | inr none ↦ differ_none row (seen t) (seen leaf) none
+          ] in
+          differ_bound (same_sym (error_is (seen t) row))
+          (differ_by_same (estimate_of (seen leaf) row) (known_is row)
+          (differ_plus (free.error_bound (free_units s) (values_in (seen t)) row) (free_estimate (seen leaf) row) (target (free_units s) row) (fixed row) apart_free))
+
+      is_balanced : IsBalanced s draws from
+      is_balanced = record {
+        flights = flights_keep;
+        totals = totals_are_known;
+        exact = exact_without_landing;
+        lands = λ path to leads. lands_or_not (balance_of s draws) path from to leads;
+        landing = λ before t lands. of_free.landing before t (of_landing before t lands);
+        drops = of_free.drops;
+        few = few_are_left;
+        error = error_is_bounded;
+        none_left = of_free.none_left;
+        left = λ before after entry t to lands leads. of_free.left before after entry t to (of_landing before t lands) leads;
+      }
+
+  -- ---- both methods
+
+  pub are_balanced : AreBalanced s
+  are_balanced = record {
+    cube =
+        (let c = cube_of (free_units s) in
+        is_balanced c.tree c.seen c.order (IsBalancing (free_units s)) (is_cube (free_units s)) (starting (free_units s)) (cube_balances (free_units s) first_flight));
+    local_cube = λ coords.
+        (let c = local_of (free_units s) in
+        let design : LocalUnits = record { units = free_units s; coords = coords } in
+        is_balanced c.tree c.seen c.order (IsLocal (free_units s)) (is_local_cube (free_units s)) (started design) (local_balances design first_flight));
   }
 
 pub each_is_balanced : EachIsBalanced
-each_is_balanced s ok = is_balanced s ok
+each_is_balanced s ok = are_balanced s ok

@@ -17,7 +17,7 @@ use Rattle.smp_weights.specs.Chosen.{Chosen, weight}
 use Rattle.smp_weights.specs.Values.{weighted_total}
 use Rattle.smp_frac.proofs.LowestTerms.{lowest_terms-value}
 use Rattle.smp_weights.proofs.Values.{estimate_value}
-use Rattle.smp_landing.specs.Cube.{Balancing}
+use Rattle.smp_flight.specs.Selections.{Balancing}
 use Rattle.smp_balance.specs.Strata.{StratumUnits, AreStratumUnits, value_in}
 use Rattle.smp_balance.specs.Totals.{can_be_selected, counted, known_of, known_value, estimate, is_selected}
 use Rattle.smp_balance.specs.Lines.{known_total, weighed, column_estimate}

@@ -3,7 +3,7 @@ use Rattle.std.specs.Prelude.{◌≡◌, ℕ, suc, length, IfOk}
 use Rattle.std.specs.List.{filter, range_with_len}
 use Rattle.smp_fractions.specs.Fractions.{Same, integer}
 use Rattle.smp_frac.specs.Fractions.{signed_fraction}
-use Rattle.smp_landing.specs.Cube.{Balancing}
+use Rattle.smp_flight.specs.Selections.{Balancing}
 use Rattle.smp_balance.specs.Strata.{AreStratumUnits}
 use Rattle.smp_balance.specs.Totals.{known, estimate, is_selected}
 use Rattle.smp_balance.specs.Lines.{Drawn, known_total, column_estimate}

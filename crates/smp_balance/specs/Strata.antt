@@ -1,16 +1,13 @@
--- A stratum that is drawn by the cube method (Deville and Tillé 2004), over all of its units: those that are free, which the cube draws
--- from, those that are certain, and those that are never selected.
+-- A stratum that is drawn by the cube method (Deville and Tillé 2004), or by the local cube, over all of its units: those that are free,
+-- which the method draws from, those that are certain, and those that are never selected.
 use Rattle.std.specs.Prelude.{◌≡◌, ℕ, suc, ◌<◌, List, [], ℤ, length, map, slice_index, slice_index_or}
 use Rattle.smp_prob.specs.declared.requests.Request.{Request}
 use Rattle.smp_prob.specs.declared.inclusions.Inclusion.TheVariants.{Free}
 use Rattle.smp_prob.specs.Requests.{IsRequest}
 use Rattle.smp_prob.specs.Inclusions.{IsRising, inclusion}
 use Rattle.smp_kernel.specs.Vectors.{entry}
-use Rattle.smp_split.specs.Trees.{Tree}
 use Rattle.smp_flight.specs.States.{Units}
 use Rattle.smp_flight.specs.Requests.{AreValues, units_of}
-use Rattle.smp_landing.specs.Cube.{Balancing, cube_tree}
-use Rattle.smp_landing.specs.Method.{started}
 
 -- the request for the units of the stratum, and the balancing values of each unit
 pub record StratumUnits : Type 0 where
@@ -35,15 +32,9 @@ row_count s = suc (column_count s)
 abbrev pub free_values : StratumUnits → List (List ℤ)
 free_values s = map (values_of s) s.request.free
 
--- the units that the cube draws from, its draw tree, and its state before the first step
+-- the units that the method draws from
 abbrev pub free_units : StratumUnits → Units
 free_units s = units_of s.request (free_values s)
-
-abbrev pub tree_of : StratumUnits → Tree Balancing
-tree_of s = cube_tree (free_units s)
-
-abbrev pub start_of : StratumUnits → Balancing
-start_of s = started (free_units s)
 
 -- a request for these units: each free one is one of them and stands as that, and each has balancing values
 pub record AreStratumUnits (s : StratumUnits) : Type 0 where

@@ -1,5 +1,5 @@
 -- Balancing totals over all units of a stratum, and what is estimated of them by design weights (Horvitz and Thompson 1952).
-use Rattle.std.specs.Prelude.{ℕ, zero, suc, Bool, true, false, cond, ℤ, pos, length}
+use Rattle.std.specs.Prelude.{ℕ, zero, suc, Bool, true, false, cond, List, ℤ, pos, length}
 use Rattle.smp_fractions.specs.Fractions.{Fraction, whole, integer, times, inverse, sum_below}
 use Rattle.smp_fractions.specs.Bounds.{absolute}
 use Rattle.smp_prob.specs.declared.inclusions.Inclusion.{Inclusion}
@@ -10,9 +10,12 @@ use Rattle.smp_values.specs.Values.{fractional_count, is_fractional, is_one, val
 use Rattle.smp_rows.specs.Rows.{row_value}
 use Rattle.smp_moves.specs.Balances as moves
 use Rattle.smp_moves.specs.Balances.{Balance}
-use Rattle.smp_landing.specs.Cube.{Balancing, left_in, rows_in, values_in}
-use Rattle.smp_landing.specs.Landings.{HasIndependentColumns, IsStuck}
-use Rattle.smp_balance.specs.Strata.{StratumUnits, AreStratumUnits, free_units, row_count, start_of, tree_of, value_in}
+use Rattle.smp_flight.specs.Selections.{Balancing, Selection, left_in, rows_in, starting, values_in}
+use Rattle.smp_flight.specs.Landings.{HasIndependentColumns, IsStuck}
+use Rattle.smp_landing.specs.Cube.{cube_of}
+use Rattle.smp_localcube.specs.Local.{local_of}
+use Rattle.smp_localcube.specs.Method.{started}
+use Rattle.smp_balance.specs.Strata.{StratumUnits, AreStratumUnits, free_units, row_count, value_in}
 
 -- whether a unit can be selected: its probability isn't 0
 abbrev pub can_be_selected : Inclusion → Bool
@@ -40,11 +43,12 @@ value_of s state k = row_value (value_at (values_in state)) (inclusion s.request
 abbrev pub total : StratumUnits → Balancing → ℕ → Fraction
 total s state row = sum_below (length s.values) (λ k. times (counted s row k) (value_of s state k))
 
--- What is known: the sum of the probabilities; of a column the sum over the units that can be selected.
+-- what a unit adds to what is known of a row: in the first row its probability, in that of a column its value where it can be selected
 abbrev pub known_of : StratumUnits → ℕ → ℕ → Fraction
 known_of s zero k = asked_fraction s.request k
 known_of s (suc column) k = integer (known_value s column k)
 
+-- What is known of a row: the sum of the probabilities; of a column the sum over the units that can be selected.
 abbrev pub known : StratumUnits → ℕ → Fraction
 known s row = sum_below (length s.values) (known_of s row)
 
@@ -71,25 +75,31 @@ error_bound s state row =
 
 -- ---- what is balanced
 
--- what the cube balances of a stratum, by the search of its free units and the totals of all
-abbrev pub balance_of : StratumUnits → Balance Balancing
-balance_of s = record {
-  tree = tree_of s;
-  rows = rows_in;
-  left = left_in;
-  undecided = λ state. fractional_count (values_in state);
+-- what a selection from the free units of a stratum balances, by its search among these and the totals of all
+abbrev pub balance_of : {State : Type 0} → StratumUnits → Selection State → Balance State
+balance_of s c = record {
+  tree = c.tree;
+  rows = λ t. rows_in (c.seen t);
+  left = λ t. left_in (c.seen t);
+  undecided = λ t. fractional_count (values_in (c.seen t));
   all_rows = row_count s;
-  total = total s;
+  total = λ t. total s (c.seen t);
   known = known s;
-  estimate = estimate s;
-  bound = error_bound s;
-  independent = HasIndependentColumns (free_units s);
-  stuck = IsStuck (free_units s);
+  estimate = λ t. estimate s (c.seen t);
+  bound = λ t. error_bound s (c.seen t);
+  independent = λ t. HasIndependentColumns (free_units s) (c.seen t);
+  stuck = λ t. IsStuck (free_units s) (c.order t) (c.seen t);
 }
 
--- every selection from the stratum is balanced
-abbrev pub IsBalanced : StratumUnits → Type 0
-IsBalanced s = moves.IsBalanced (balance_of s) (start_of s)
+-- the selection is balanced from a state
+abbrev pub IsBalanced : {State : Type 0} → StratumUnits → Selection State → State → Type 0
+IsBalanced s c = moves.IsBalanced (balance_of s c)
+
+-- every selection from the stratum is balanced from its start: by the cube, and by the local cube wherever its free units lie
+pub record AreBalanced (s : StratumUnits) : Type 0 where
+  pub cube : IsBalanced s (cube_of (free_units s)) (starting (free_units s))
+  pub local_cube : (coords : List (List ℤ))
+      → IsBalanced s (local_of (free_units s)) (started (record { units = free_units s; coords = coords }))
 
 abbrev pub EachIsBalanced : Type 0
-EachIsBalanced = (s : StratumUnits) → AreStratumUnits s → IsBalanced s
+EachIsBalanced = (s : StratumUnits) → AreStratumUnits s → AreBalanced s

@@ -21,7 +21,7 @@ use Rattle.smp_cases.specs.declared.fault.CaseFault.TheVariants.{TooMany, Draw, 
 
 -- the design that draws the free units of a request by a method, without columns of values, in frame order
 abbrev pub design : Method → Request → AnyDesign
-design method request = design_of (procedure method Frame 0) request (map (λ _. []) request.free)
+design method request = design_of (procedure method Frame 0 0) request (map (λ _. []) request.free)
 
 -- The draw tree of a case over all units. The certain ones are selected at each leaf, those of size 0 at none.
 abbrev pub case_tree : Method → List ℕ → ℕ → Tree AnyState

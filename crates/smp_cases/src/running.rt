@@ -36,9 +36,9 @@ pub fn needs_columns(method: Method) -> bool
 #[tactic(auto, using(smp_design::proofs::Rows::takes_unless_needed))]
 fn procedure(method: Method) -> Procedure
     requires { needs_columns method ≡ false }
-    ensures { result ≡ procedure method Frame 0 }
+    ensures { result ≡ procedure method Frame 0 0 }
 {
-    match Procedure::of_method(method, Order::Frame, 0) {
+    match Procedure::of_method(method, Order::Frame, 0, 0) {
         Some(procedure) => procedure,
         None => unreachable!(),
     }
@@ -61,7 +61,7 @@ fn start(alloc: Global, method: Method, request: &Request) -> Result<Started, No
     requires request { IsRequest request.now }
     requires whole { IsWhole request.now }
     ensures { IfOk result
-        (IsStarted (procedure method Frame 0) request.now (map (λ _. []) request.now.free)) }
+        (IsStarted (procedure method Frame 0 0) request.now (map (λ _. []) request.now.free)) }
 {
     let values = no_values(alloc, request)?;
     Started::new(alloc, procedure(method), request, values.as_slice())

@@ -1,5 +1,5 @@
 -- Every design that was read keeps the ranges, and its parts go together.
-use Rattle.std.proofs.Common.{◌≡◌, ℕ, ◌≤◌, Bool, true, false, not, ◌&&◌, List, [], length, Option, Some, None, IfSome, IfOk, Result, Ok, Err, codes, refl, sym, ap, ◌∙◌, subst, arith, inl, inr}
+use Rattle.std.proofs.Common.{◌≡◌, ℕ, ◌≤◌, Bool, true, false, not, ◌&&◌, List, [], ◌++◌, length, Option, Some, None, IfSome, IfOk, Result, Ok, Err, codes, refl, sym, ap, ◌∙◌, subst, arith, inl, inr, length-append}
 use Rattle.std.specs.Prelude.{IfNone, OnSome, option_and_then, is_some, unwrap_or}
 use Rattle.std.proofs.lemmas.Bool.{cases_Bool}
 use Rattle.toml.specs.Data.{Members, get_member}
@@ -8,13 +8,14 @@ use Rattle.smp_prob.specs.declared.orders.Order.TheVariants as the_order
 use Rattle.smp_design.specs.declared.design.Design.{Design}
 use Rattle.smp_design.specs.declared.method.Method.{Method}
 use Rattle.smp_design.specs.declared.method.Needs.{Needs}
-use Rattle.smp_design.specs.declared.method.Needs.TheVariants.{Nothing, Balance, Near}
+use Rattle.smp_design.specs.declared.method.Needs.TheVariants.{Nothing, Balance, Near, Both}
 use Rattle.smp_design.specs.declared.fault.DesignFault.{DesignFault}
 use Rattle.smp_design.specs.declared.fault.DesignFault.TheVariants.{Version, UnknownKey, MissingKey, Clash}
 use Rattle.smp_design.specs.declared.reading.UnitColumns.{UnitColumns}
 use Rattle.smp_design.specs.declared.reading.SampleSize.{SampleSize}
 use Rattle.smp_design.specs.declared.reading.SecondStage.{SecondStage}
-use Rattle.smp_design.specs.Bounds.{IsDesign, HasOnlyProbabilities, From1To, Ascend, least_values, most_values}
+use Rattle.smp_design.specs.declared.reading.ValueColumns.{ValueColumns}
+use Rattle.smp_design.specs.Bounds.{IsDesign, HasOnlyProbabilities, From1To, Ascend, AreNear, least_values, most_values}
 use Rattle.smp_design.specs.Designs.{document, unit_columns, sample_size, value_columns, second_stage, values, design_of}
 use Rattle.smp_design.specs.Keys
 use Rattle.smp_design.specs.Keys.{has, version_of, unknown_key, missing_key}
@@ -29,20 +30,30 @@ use Rattle.smp_design.proofs.KnownKeys.{prob_in_2}
 use Rattle.smp_design.proofs.Stages.{NoneMissing, none_missing, NoClash, no_clash, UnitFacts, unit_facts, SampleFacts, sample_facts, ValueFacts, value_facts, SecondFacts, second_facts, needs-is}
 
 -- the number of columns that a method with these needs takes
-record Fits (needs : Needs) (columns : List (List ℕ)) : Type 0 where
-  pub some : least_values needs ≤ length columns
-  pub few : length columns ≤ most_values needs
+record Fits (needs : Needs) (columns : ValueColumns) : Type 0 where
+  pub some : least_values needs ≤ length columns.names
+  pub few : length columns.names ≤ most_values needs
+  pub near : AreNear needs columns.near (length columns.names)
 
 fits : (needs : Needs) (b n : Option (List (List ℕ))) → IfSome b (Few 15) → IfSome n (Few 4) → (is_some b && not (is_balance needs)) ≡ false → (is_some n && not (is_near needs)) ≡ false
-    → (is_balance needs ≡ true → is_some b ≡ true) → (is_near needs ≡ true → is_some n ≡ true) → Fits needs (unwrap_or b (unwrap_or n []))
-fits Nothing None None few few' h k balance near = record { some = omega arith; few = omega arith }
+    → (is_balance needs ≡ true → is_some b ≡ true) → (is_near needs ≡ true → is_some n ≡ true) → Fits needs (record { names = unwrap_or b [] ++ unwrap_or n []; near = length (unwrap_or n []) })
+fits Nothing None None few few' h k balance near = record { some = omega arith; few = omega arith; near = refl }
 fits Nothing (Some xs) n few few' h k balance near = absurd (cc)
 fits Nothing None (Some xs) few few' h k balance near = absurd (cc)
-fits Balance (Some xs) n few few' h k balance near = record { some = few.0; few = few.1 }
+fits Balance (Some xs) None few few' h k balance near =
+    record { some = omega (arith, few.0, length-append xs []); few = omega (arith, few.1, length-append xs []); near = refl }
+fits Balance (Some xs) (Some ys) few few' h k balance near = absurd (cc)
 fits Balance None n few few' h k balance near = absurd (let there = balance refl in cc)
 fits Near (Some xs) n few few' h k balance near = absurd (cc)
-fits Near None (Some xs) few few' h k balance near = record { some = few'.0; few = few'.1 }
+fits Near None (Some xs) few few' h k balance near = record { some = few'.0; few = few'.1; near = refl }
 fits Near None None few few' h k balance near = absurd (let there = near refl in cc)
+fits Both (Some xs) (Some ys) few few' h k balance near = record {
+  some = omega (arith, few.0, few'.0, length-append xs ys);
+  few = omega (arith, few.1, few'.1, length-append xs ys);
+  near = ((few'.0, few'.1), (omega (arith, few.0, length-append xs ys), omega (arith, few.1, length-append xs ys)));
+}
+fits Both (Some xs) None few few' h k balance near = absurd (let there = near refl in cc)
+fits Both None n few few' h k balance near = absurd (let there = balance refl in cc)
 
 -- one of two tests holds, where not both fail
 both : (a b : Bool) → (a && not b) ≡ false → a ≡ true → b ≡ true
@@ -80,12 +91,13 @@ not_random : (o : Order) → o ≡ the_order.Frame → o ≡ the_order.Random �
 not_random o h k = absurd (cc)
 
 -- the design of its parts
-abbrev parts : ℕ → Method → UnitColumns → SampleSize → List (List ℕ) → SecondStage → Design
+abbrev parts : ℕ → Method → UnitColumns → SampleSize → ValueColumns → SecondStage → Design
 parts version m unit sample columns second = record {
   version = version;
   method = m;
   order = sample.order;
-  columns = record { id = unit.id; stratum = unit.stratum; psu = second.psu; size = unit.size; second_size = second.size; prob = sample.prob; values = columns };
+  columns = record { id = unit.id; stratum = unit.stratum; psu = second.psu; size = unit.size; second_size = second.size; prob = sample.prob; values = columns.names };
+  near = columns.near;
   n = sample.n;
   sizes = sample.sizes;
   second = second.second;
@@ -97,7 +109,7 @@ record IsVersionOf (version : ℕ) (t : Members) : Type 0 where
   known : unknown_key version t ≡ None
 
 -- the keys beside that of the probabilities
-only_probabilities : (version : ℕ) (t : Members) (m : Method) (unit : UnitColumns) (sample : SampleSize) (columns : List (List ℕ)) (second : SecondStage) → IsVersionOf version t → UnitFacts t unit → SampleFacts t sample
+only_probabilities : (version : ℕ) (t : Members) (m : Method) (unit : UnitColumns) (sample : SampleSize) (columns : ValueColumns) (second : SecondStage) → IsVersionOf version t → UnitFacts t unit → SampleFacts t sample
     → SecondFacts (get_member (codes "second") t) second → NoClash t m → has (codes "prob") t ≡ true → HasOnlyProbabilities (parts version m unit sample columns second)
 only_probabilities version t m unit sample columns second is u s w clash there = record {
   version = prob_in_2 version t is.within is.known there;
@@ -107,12 +119,12 @@ only_probabilities version t m unit sample columns second is u s w clash there =
   one_stage = is_none second.second (w.there ∙ not_both (has (codes "prob") t) (has (codes "second") t) clash.rivals.one_stage there);
 }
 
-parts_are_design : (version : ℕ) (t : Members) (m : Method) (unit : UnitColumns) (sample : SampleSize) (columns : List (List ℕ)) (second : SecondStage) → IsVersionOf version t → NoneMissing version t
+parts_are_design : (version : ℕ) (t : Members) (m : Method) (unit : UnitColumns) (sample : SampleSize) (columns : ValueColumns) (second : SecondStage) → IsVersionOf version t → NoneMissing version t
     → option_and_then (method version) (get_member (codes "method") t) ≡ Some m → UnitFacts t unit → SampleFacts t sample → ValueFacts t columns → SecondFacts (get_member (codes "second") t) second
     → NoClash t m → Ascend sample.sizes → IsDesign (parts version m unit sample columns second)
 parts_are_design version t m unit sample columns second is missing method_is u s v w clash ascend =
     let needs_is = needs-is version t m method_is in
-    let f = subst (λ (xs : List (List ℕ)). Fits (row m).needs xs) v.is (fits (row m).needs v.balance v.near v.balance_few v.near_few
+    let f = subst (λ (xs : ValueColumns). Fits (row m).needs xs) v.is (fits (row m).needs v.balance v.near v.balance_few v.near_few
     (ap (λ b. b && not (is_balance (row m).needs)) v.balance_there ∙ clash.balance)
     (ap (λ b. b && not (is_near (row m).needs)) v.near_there ∙ clash.near)
     (λ balance. v.balance_there ∙ both _ (has (codes "balance") t) missing.balance (ap is_balance needs_is ∙ balance))
@@ -132,6 +144,7 @@ parts_are_design version t m unit sample columns second is missing method_is u s
       ];
       some_values = f.some;
       few_values = f.few;
+      near_values = f.near;
       second_size = w.size;
       second_method = w.method;
       second_first = on_some second.second _ (λ there. not_both (has (codes "second") t) (is_near (row m).needs) clash.second (sym w.there ∙ there));

@@ -1,5 +1,5 @@
 -- What is true of each part of a design that was read.
-use Rattle.std.proofs.Common.{◌≡◌, ℕ, true, false, not, ◌&&◌, List, [], Option, Some, None, IfSome, Result, Ok, codes, refl, ap, ◌∙◌, subst, arith}
+use Rattle.std.proofs.Common.{◌≡◌, ℕ, true, false, not, ◌&&◌, List, [], ◌++◌, length, Option, Some, None, IfSome, Result, Ok, codes, refl, ap, ◌∙◌, subst, arith}
 use Rattle.std.specs.Option.{option_map_or}
 use Rattle.std.specs.Prelude.{All, IfNone, option_and_then, is_some, unwrap_or}
 use Rattle.toml.specs.Data.{Data, Members, get_member, as_str, as_table}
@@ -10,6 +10,7 @@ use Rattle.smp_design.specs.declared.method.Needs.TheVariants.{Nothing}
 use Rattle.smp_design.specs.declared.reading.UnitColumns.{UnitColumns}
 use Rattle.smp_design.specs.declared.reading.SampleSize.{SampleSize}
 use Rattle.smp_design.specs.declared.reading.SecondStage.{SecondStage}
+use Rattle.smp_design.specs.declared.reading.ValueColumns.{ValueColumns}
 use Rattle.smp_design.specs.Bounds.{InRange}
 use Rattle.smp_design.specs.Designs.{unit_columns, sample_size, value_columns, second_stage_of, second_stage}
 use Rattle.smp_design.specs.Keys.{has, lacks, needs, missing_key, rival_keys, clash}
@@ -129,16 +130,16 @@ sample_facts t s h =
     }
 
 -- the columns of `balance` and of `near`
-pub record ValueFacts (t : Members) (columns : List (List ℕ)) : Type 0 where
+pub record ValueFacts (t : Members) (columns : ValueColumns) : Type 0 where
   pub balance : Option (List (List ℕ))
   pub near : Option (List (List ℕ))
   pub balance_few : IfSome balance (Few 15)
   pub near_few : IfSome near (Few 4)
   pub balance_there : is_some balance ≡ has (codes "balance") t
   pub near_there : is_some near ≡ has (codes "near") t
-  pub is : unwrap_or balance (unwrap_or near []) ≡ columns
+  pub is : record { names = unwrap_or balance [] ++ unwrap_or near []; near = length (unwrap_or near []) } ≡ columns
 
-pub value_facts : (t : Members) (columns : List (List ℕ)) → value_columns t ≡ Ok columns → ValueFacts t columns
+pub value_facts : (t : Members) (columns : ValueColumns) → value_columns t ≡ Ok columns → ValueFacts t columns
 unfolding value_columns
 value_facts t columns h =
     let balance = went (good (codes "balance") (optional (names 15) (get_member (codes "balance") t))) _ columns h in
@@ -152,7 +153,7 @@ value_facts t columns h =
       near_few = optional-holds (Few 4) (names 4) (names-few 4) (get_member (codes "near") t) near.value near_is;
       balance_there = optional-there (names 15) (get_member (codes "balance") t) balance.value balance_is;
       near_there = optional-there (names 4) (get_member (codes "near") t) near.value near_is;
-      is = let same : ◌≡◌ {A = Result (List (List ℕ)) _} (Ok (unwrap_or balance.value (unwrap_or near.value []))) (Ok columns) = near.gives in cc;
+      is = let same : ◌≡◌ {A = Result ValueColumns _} (Ok (record { names = unwrap_or balance.value [] ++ unwrap_or near.value []; near = length (unwrap_or near.value []) })) (Ok columns) = near.gives in cc;
     }
 
 -- the second stage

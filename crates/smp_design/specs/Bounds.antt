@@ -1,5 +1,5 @@
 -- What is true of every design that was read.
-use Rattle.std.specs.Prelude.{◌≡◌, ℕ, ◌≤◌, List, [], length, map, None, IsSome, IfSome, IfNone, OnSome, IsTrue, All, is_some}
+use Rattle.std.specs.Prelude.{◌≡◌, ℕ, ◌+◌, ◌-◌, ◌≤◌, List, [], length, map, None, IsSome, IfSome, IfNone, OnSome, IsTrue, All, is_some}
 use Rattle.std.specs.Prelude.{false}
 use Rattle.std.specs.Ordering.{nat_cmp}
 use Rattle.std.specs.Cmp.Lexicographic.{slice_cmp}
@@ -7,7 +7,7 @@ use Rattle.std.specs.List.Sorted.{IsStrictlySortedBy}
 use Rattle.smp_fractions.specs.Limits.{most_rows}
 use Rattle.smp_prob.specs.declared.orders.Order.TheVariants as the_order
 use Rattle.smp_design.specs.declared.method.Needs.{Needs}
-use Rattle.smp_design.specs.declared.method.Needs.TheVariants.{Nothing, Balance, Near}
+use Rattle.smp_design.specs.declared.method.Needs.TheVariants.{Nothing, Balance, Near, Both}
 use Rattle.smp_design.specs.declared.design.Design.{Design}
 use Rattle.smp_design.specs.declared.design.Quota as quota
 use Rattle.smp_design.specs.Values.{last_version}
@@ -26,12 +26,21 @@ abbrev pub least_values : Needs → ℕ
 least_values Nothing = 0
 least_values Balance = 1
 least_values Near = 1
+least_values Both = 2
 
 -- the greatest number of columns of values, by what a method needs
 abbrev pub most_values : Needs → ℕ
 most_values Nothing = 0
 most_values Balance = most_balance
 most_values Near = most_near
+most_values Both = most_balance + most_near
+
+-- so many columns of `near` among so many columns of values, by what a method needs: none, all, or those behind the ones of `balance`
+abbrev pub AreNear : Needs → ℕ → ℕ → Type 0
+AreNear Nothing near columns = near ≡ 0
+AreNear Balance near columns = near ≡ 0
+AreNear Near near columns = near ≡ columns
+AreNear Both near columns = From1To most_near near × From1To most_balance (columns - near)
 
 -- quotas in byte order of their strata's names, which differ
 abbrev pub Ascend : List quota.Quota → Type 0
@@ -60,6 +69,7 @@ pub record IsDesign (d : Design) : Type 0 where
   pub order : d.order ≡ the_order.Random → IsTrue (row d.method).takes_order
   pub some_values : least_values (row d.method).needs ≤ length d.columns.values
   pub few_values : length d.columns.values ≤ most_values (row d.method).needs
+  pub near_values : AreNear (row d.method).needs d.near (length d.columns.values)
   -- the second stage, whose first stage units stand in a column
   pub second_size : IfSome d.second (λ s. InRange s.n)
   pub second_method : IfSome d.second (λ s. IsTrue (in_second s.method))

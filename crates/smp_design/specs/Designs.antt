@@ -1,5 +1,5 @@
 -- Which bytes are a design, and which fault comes first where they aren't.
-use Rattle.std.specs.Prelude.{ℕ, List, [], Option, Some, None, option_and_then, unwrap_or, Result, Ok, if◌then◌else◌, codes}
+use Rattle.std.specs.Prelude.{ℕ, List, [], ◌++◌, length, Option, Some, None, option_and_then, unwrap_or, Result, Ok, if◌then◌else◌, codes}
 use Rattle.std.specs.Str.{is_utf8}
 use Rattle.toml.specs.Data.{Data, Members, get_member, as_str, as_table}
 use Rattle.toml.specs.Parse.{parse_document}
@@ -8,6 +8,7 @@ use Rattle.smp_design.specs.declared.design.Design.{Design}
 use Rattle.smp_design.specs.declared.reading.UnitColumns.{UnitColumns}
 use Rattle.smp_design.specs.declared.reading.SampleSize.{SampleSize}
 use Rattle.smp_design.specs.declared.reading.SecondStage.{SecondStage}
+use Rattle.smp_design.specs.declared.reading.ValueColumns.{ValueColumns}
 use Rattle.smp_design.specs.declared.fault.DesignFault.{DesignFault}
 use Rattle.smp_design.specs.declared.fault.DesignFault.TheVariants.{Syntax, Version, UnknownKey, MissingKey, Clash}
 use Rattle.smp_design.specs.Keys.{version_of, unknown_key, missing_key, clash}
@@ -36,12 +37,12 @@ sample_size t = do
   order ← good (codes "order") (optional order (get_member (codes "order") t))
   Ok (record { n = n; sizes = unwrap_or sizes []; prob = prob; order = unwrap_or order the_order.Frame })
 
--- the columns of `balance` or of `near`
-unfoldable pub value_columns : Members → Result (List (List ℕ)) DesignFault
+-- the columns of `balance`, and then those of `near`
+unfoldable pub value_columns : Members → Result ValueColumns DesignFault
 value_columns t = do
   balance ← good (codes "balance") (optional (names 15) (get_member (codes "balance") t))
   near ← good (codes "near") (optional (names 4) (get_member (codes "near") t))
-  Ok (unwrap_or balance (unwrap_or near []))
+  Ok (record { names = unwrap_or balance [] ++ unwrap_or near []; near = length (unwrap_or near []) })
 
 -- the second stage of the table `second`, in a design of this version
 unfoldable pub second_stage_of : ℕ → Members → Result SecondStage DesignFault
@@ -76,8 +77,9 @@ values version t = do
       size = unit.size;
       second_size = second.size;
       prob = sample.prob;
-      values = columns;
+      values = columns.names;
     };
+    near = columns.near;
     n = sample.n;
     sizes = sample.sizes;
     second = second.second;

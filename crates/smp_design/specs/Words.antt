@@ -1,12 +1,12 @@
 -- The table of the methods, and the words of a design for methods and orders.
-use Rattle.std.specs.Prelude.{ℕ, nat_le, ◌&&◌, not, List, [], ◌∷◌, Bool, true, false, Option, codes, find}
+use Rattle.std.specs.Prelude.{ℕ, ◌-◌, nat_eq, nat_le, ◌&&◌, not, List, [], ◌∷◌, Bool, true, false, Option, codes, find}
 use Rattle.std.specs.Str.{bytes_eq}
 use Rattle.smp_prob.specs.declared.orders.Order.{Order}
 use Rattle.smp_prob.specs.declared.orders.Order.TheVariants.{Frame, Random}
 use Rattle.smp_design.specs.declared.method.Method.{Method}
 use Rattle.smp_design.specs.declared.method.Method.TheVariants as the
 use Rattle.smp_design.specs.declared.method.Needs.{Needs}
-use Rattle.smp_design.specs.declared.method.Needs.TheVariants.{Nothing, Balance, Near}
+use Rattle.smp_design.specs.declared.method.Needs.TheVariants.{Nothing, Balance, Near, Both}
 
 -- what a design may say of a method
 pub record Row : Type 0 where
@@ -16,7 +16,7 @@ pub record Row : Type 0 where
   pub needs : Needs
   -- whether the design may have an order
   pub takes_order : Bool
-  -- whether it draws a whole number of units alone, so that their probabilities have to add up to one
+  -- whether it draws a whole number of units alone, so that their probabilities have to add up to a whole number
   pub draws_whole : Bool
   -- the version of designs that it came with
   pub since : ℕ
@@ -37,12 +37,14 @@ row the.Cube =
     record { word = codes "cube"; needs = Balance; takes_order = false; draws_whole = false; since = 1 }
 row the.Elimination =
     record { word = codes "elimination"; needs = Nothing; takes_order = false; draws_whole = true; since = 2 }
+row the.LocalCube =
+    record { word = codes "local_cube"; needs = Both; takes_order = false; draws_whole = false; since = 2 }
 
 -- all methods
 abbrev pub methods : List Method
 methods =
     the.Pivotal ∷ the.Systematic ∷ the.MinimumSupport ∷ the.Brewer ∷ the.LocalPivotal ∷ the.Cube ∷
-    the.Elimination ∷ []
+    the.Elimination ∷ the.LocalCube ∷ []
 
 -- what a word means: the first of some things whose word it is
 abbrev pub meaning : {A : Type 0} → (A → List ℕ) → List A → List ℕ → Option A
@@ -57,14 +59,16 @@ abbrev pub is_nothing : Needs → Bool
 is_nothing Nothing = true
 is_nothing other = false
 
--- the columns of `balance` alone
+-- those of `balance`, alone or beside those of `near`
 abbrev pub is_balance : Needs → Bool
 is_balance Balance = true
+is_balance Both = true
 is_balance other = false
 
--- the columns of `near` alone
+-- those of `near`, alone or beside those of `balance`
 abbrev pub is_near : Needs → Bool
 is_near Near = true
+is_near Both = true
 is_near other = false
 
 -- the most columns of `balance`, and of `near`
@@ -74,15 +78,17 @@ most_balance = 15
 abbrev pub most_near : ℕ
 most_near = 4
 
--- so many columns are what is needed: where nothing is, any columns are left alone
-abbrev pub fits_columns : Needs → ℕ → Bool
-fits_columns Nothing columns = true
-fits_columns Balance columns = nat_le columns most_balance
-fits_columns Near columns = nat_le 1 columns && nat_le columns most_near
+-- so many columns, so many of which are those of `near`, are what is needed: where nothing is, any columns are left alone
+abbrev pub fits_columns : Needs → ℕ → ℕ → Bool
+fits_columns Nothing near columns = true
+fits_columns Balance near columns = nat_eq near 0 && nat_le columns most_balance
+fits_columns Near near columns = nat_le 1 columns && nat_le columns most_near
+fits_columns Both near columns =
+    nat_le 1 near && nat_le near most_near && nat_le near columns && nat_le (columns - near) most_balance
 
--- whether a method can be used with so many columns of values
-abbrev pub takes_columns : Method → ℕ → Bool
-takes_columns method columns = fits_columns (row method).needs columns
+-- whether a method can be used with so many columns of values, so many of which are those of `near`
+abbrev pub takes_columns : Method → ℕ → ℕ → Bool
+takes_columns method near columns = fits_columns (row method).needs near columns
 
 -- whether the method needs columns of values
 abbrev pub needs_columns : Method → Bool

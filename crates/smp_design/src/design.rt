@@ -14,9 +14,11 @@ pub struct Design {
     pub method: Method,
     /// In which order the method takes the units.
     pub order: Order,
-    /// The columns of the frame. The values are those to balance with the cube method, and the coordinates with
-    /// the local pivotal method.
+    /// The columns of the frame. The values are those on which the method balances, and then the coordinates of its
+    /// points.
     pub columns: Columns,
+    /// How many of the columns of values are coordinates, from 0 to 4.
+    pub near: u32,
     /// How many first stage units are drawn from all strata together, from 1 to 200,000; `None` where it is said for
     /// each stratum, or where the columns name one of probabilities.
     pub n: Option<u32>,

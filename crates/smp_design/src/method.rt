@@ -30,6 +30,8 @@ pub enum Method {
     Cube,
     /// The elimination procedure.
     Elimination,
+    /// The cube method among neighbours.
+    LocalCube,
 }
 
 /// The table of the methods, handed to a macro with what else is said: each method with its word, the
@@ -45,7 +47,8 @@ macro_rules! each_method {
             Brewer("brewer", Nothing, false, true, 1),
             LocalPivotal("local_pivotal", Near, false, false, 1),
             Cube("cube", Balance, false, false, 1),
-            Elimination("elimination", Nothing, false, true, 2)
+            Elimination("elimination", Nothing, false, true, 2),
+            LocalCube("local_cube", Both, false, false, 2)
         ] $($said)*)
     };
 }
@@ -70,14 +73,17 @@ macro_rules! table {
 // Every method.
 const METHODS: &[Method] = each_method!(table: all);
 
-// The columns of values that a method needs.
+/// The columns of values that a method needs.
 #[derive(Clone, Copy)]
 pub(crate) enum Needs {
+    /// None.
     Nothing,
-    // Those of `balance`.
+    /// Those of `balance`.
     Balance,
-    // Those of `near`.
+    /// Those of `near`.
     Near,
+    /// Those of `balance`, and those of `near`.
+    Both,
 }
 
 impl Needs {
@@ -90,23 +96,27 @@ impl Needs {
     pub(crate) fn is_balance(self) -> bool
         ensures { result ≡ Words.is_balance self }
     {
-        matches!(self, Needs::Balance)
+        matches!(self, Needs::Balance | Needs::Both)
     }
 
     pub(crate) fn is_near(self) -> bool
         ensures { result ≡ Words.is_near self }
     {
-        matches!(self, Needs::Near)
+        matches!(self, Needs::Near | Needs::Both)
     }
 
-    // Whether so many columns are what is needed. Where nothing is needed, any columns are left alone.
-    fn fits(self, columns: usize) -> bool
-        ensures { result ≡ Words.fits_columns self columns }
+    // Whether so many columns, so many of which are those of `near`, are what is needed. Where nothing is needed, any
+    // columns are left alone.
+    fn fits(self, near: usize, columns: usize) -> bool
+        ensures { result ≡ Words.fits_columns self near columns }
     {
         match self {
             Needs::Nothing => true,
-            Needs::Balance => columns <= MAX_BALANCE,
+            Needs::Balance => near == 0 && columns <= MAX_BALANCE,
             Needs::Near => 1 <= columns && columns <= MAX_NEAR,
+            Needs::Both => {
+                1 <= near && near <= MAX_NEAR && near <= columns && columns - near <= MAX_BALANCE
+            }
         }
     }
 }
@@ -180,11 +190,12 @@ impl Method {
     }
 
     /// Whether the method can be used with so many columns of values: those on which it balances, or
-    /// the coordinates of its points. A method that needs no columns leaves any alone.
-    pub fn takes_columns(self, columns: usize) -> bool
-        ensures { result ≡ Words.takes_columns self columns }
+    /// the coordinates of its points, or those and then these, so many of which are coordinates. A method
+    /// that needs no columns leaves any alone.
+    pub fn takes_columns(self, near: usize, columns: usize) -> bool
+        ensures { result ≡ Words.takes_columns self near columns }
     {
-        self.row().needs.fits(columns)
+        self.row().needs.fits(near, columns)
     }
 
     /// Whether the method needs columns of values.

@@ -1,6 +1,6 @@
 //! Designs from their bytes.
 
-ghost use Rattle.std.specs.Prelude.{◌≡◌, [], IfOk, codes, unwrap_or};
+ghost use Rattle.std.specs.Prelude.{◌≡◌, ◌++◌, [], IfOk, codes, unwrap_or};
 ghost use Rattle.toml.specs.Data.{get_member};
 ghost use Rattle.toml.specs.View.{table_view};
 ghost use Rattle.smp_design.specs.Bounds.{IsDesign, Ascend};
@@ -19,7 +19,7 @@ use crate::keys::value_at;
 use crate::method::{MAX_BALANCE, MAX_NEAR};
 use crate::values::{method, number, second_method};
 use crate::{Design, DesignFault, Quotas, Second};
-use smp_frac::Text;
+use smp_frac::{NoMemory, Text};
 use smp_frame::{Columns, Names};
 use smp_prob::Order;
 use std::alloc::Global;
@@ -93,8 +93,9 @@ fn values(alloc: Global, table: &Table, version: u32) -> Result<Design, DesignFa
             size: unit.size,
             second_size: second.size,
             prob: sample.prob,
-            values,
+            values: values.names,
         },
+        near: values.near,
         n: sample.n,
         sizes: sample.sizes,
         second: second.second,
@@ -154,9 +155,15 @@ fn quotas_or_none(alloc: Global, quotas: Option<Quotas>) -> Quotas
     }
 }
 
-// The columns of `balance` or of `near`.
+/// The columns of values, and how many of them are those of `near`, which come last.
+#[derive(Drop)]
+struct ValueColumns {
+    names: Names,
+    near: u32,
+}
+
 #[tactic(auto, unfolding(crate::specs::Designs::value_columns))]
-fn value_columns(alloc: Global, table: &Table) -> Result<Names, DesignFault>
+fn value_columns(alloc: Global, table: &Table) -> Result<ValueColumns, DesignFault>
     ensures { Reads is_memory result (Designs.value_columns (table_view table.now)) }
 {
     let balance = good(
@@ -169,10 +176,40 @@ fn value_columns(alloc: Global, table: &Table) -> Result<Names, DesignFault>
         "near",
         optional_names_at(alloc, table, "near", MAX_NEAR)?,
     )?;
-    match balance.or(near) {
-        Some(names) => Ok(names),
-        None => Ok(Names::from_vec(Vec::new(alloc))),
+    let balance = names_or_none(alloc, balance);
+    let near = names_or_none(alloc, near);
+    Ok(ValueColumns {
+        names: joined(alloc, balance.as_slice(), near.as_slice())?,
+        near: near.as_slice().len() as u32,
+    })
+}
+
+fn names_or_none(alloc: Global, names: Option<Names>) -> Names
+    ensures { result ≡ unwrap_or names [] }
+{
+    match names {
+        Some(names) => names,
+        None => Names::from_vec(Vec::new(alloc)),
     }
+}
+
+// These names, and then those.
+fn joined(alloc: Global, first: &[Text], second: &[Text]) -> Result<Names, NoMemory>
+    ensures { IfOk result (λ names. names ≡ first.now ++ second.now) }
+{
+    let mut names = Vec::new(alloc);
+    push_all(alloc, &mut names, first)?;
+    push_all(alloc, &mut names, second)?;
+    Ok(Names::from_vec(names))
+}
+
+fn push_all(alloc: Global, names: &mut Vec<Text>, more: &[Text]) -> Result<(), NoMemory>
+    ensures { IfOk result (λ _. names.new.items ≡ names.old.items ++ more.now) }
+{
+    for name in more {
+        names.push(name.copy(alloc)?)?;
+    }
+    Ok(())
 }
 
 /// The second stage, with the columns of its first stage units and of its sizes.

@@ -11,10 +11,9 @@ use Rattle.smp_moves.proofs.Entries.{frame_order, order_front, order_within}
 use Rattle.smp_flight.specs.States.{AreFirst, Flight, IsFlight, Tracked, Units, column, columns_of, size}
 use Rattle.smp_flight.specs.Moves.{IsNext, sized}
 use Rattle.smp_flight.specs.Kept.Searches.{search}
-use Rattle.smp_flight.specs.Steps.{next, next_on_is}
-use Rattle.smp_flight.specs.Answers.{Allows, IsFirstMove, IsMoveOf, answer_of}
+use Rattle.smp_flight.specs.Steps.{next, next_on, next_on_is}
+use Rattle.smp_flight.specs.Answers.{Allows, IsFirstMove, IsMoveOf, answer_of, IsPaddedIn}
 use Rattle.smp_flight.specs.Kept.Steps.{next_along, next_by, next_of}
-use Rattle.smp_flight.specs.Kept.Lines.{IsPaddedIn}
 use Rattle.smp_flight.specs.declared.steps.Next.{Next as Answer}
 use Rattle.smp_flight.specs.declared.steps.Next.TheVariants as answers
 use Rattle.smp_flight.proofs.Nexts.{next_is, next_on_front}
@@ -73,6 +72,10 @@ module _ (u v : Units) where
     by_same : next_by u order s ≡ next_by v order s
     by_same = of_same (search s.rows (columns_of u order)) ∙ ap (λ (cs : List (List ℤ)). next_of v s.shares order (search s.rows cs)) same
 
+    -- whichever units the search goes through
+    pub same_on : next_on u order s ≡ next_on v order s
+    same_on = next_on_is u order s ∙ by_same ∙ sym (next_on_is v order s)
+
   module _ (s : Flight) (fu : IsFlight u s) (fv : IsFlight v s) where
     abbrev front : List ℕ
     front = take (s.rows + 1) (fractional_units s.shares)
@@ -80,4 +83,4 @@ module _ (u v : Units) where
     pub same_next : columns_of u (take (s.rows + 1) (fractional_units s.shares)) ≡ columns_of v (take (s.rows + 1) (fractional_units s.shares)) → next u s ≡ next v s
     same_next same =
         let ok : IsOrder s.shares front = order_front s.shares (fractional_units s.shares) (frame_order s.shares) (s.rows + 1) in
-        sym (next_on_front u s (fractional_units s.shares)) ∙ next_on_is u front s ∙ by_same s fu fv front ok same ∙ sym (next_on_is v front s) ∙ next_on_front v s (fractional_units s.shares)
+        sym (next_on_front u s (fractional_units s.shares)) ∙ same_on s fu fv front ok same ∙ next_on_front v s (fractional_units s.shares)

@@ -15,8 +15,7 @@ use Rattle.smp_moves.specs.Ends.{entries_fit}
 use Rattle.smp_flight.specs.Steps.{next_on, next}
 use Rattle.smp_flight.specs.Kept.Steps.{direction, next_along, next_of, next_by}
 use Rattle.smp_flight.specs.Moves.{Finds}
-use Rattle.smp_flight.specs.Answers.{Allows, AreSearched, IsFirstMove, IsMoveOf, answer_of, move_of}
-use Rattle.smp_flight.specs.Kept.Lines.{IsPaddedIn}
+use Rattle.smp_flight.specs.Answers.{Allows, AreSearched, IsFirstMove, IsMoveOf, answer_of, move_of, IsPaddedIn}
 use Rattle.smp_flight.specs.declared.steps.Next.{Next as Answer}
 use Rattle.smp_flight.specs.declared.steps.Next.TheVariants as answers
 use Rattle.smp_moves.proofs.Entries.{frame_order, order_front}

@@ -1,5 +1,5 @@
 -- A selection starts from the values that are requested, and is balanced.
-use Rattle.std.proofs.Common.{ℤ, List, arith, sym, ◌∙◌}
+use Rattle.std.proofs.Common.{ℤ, List, arith, refl, sym, ◌∙◌}
 use Rattle.smp_fractions.proofs.Fractions.{same_refl}
 use Rattle.smp_prob.specs.declared.requests.Request.{Request}
 use Rattle.smp_prob.specs.Requests.{IsRequest}
@@ -13,21 +13,24 @@ use Rattle.smp_values.proofs.Requests.{requested_values}
 use Rattle.smp_flight.specs.States as flights
 use Rattle.smp_flight.specs.States.{Units, IsFlight}
 use Rattle.smp_flight.specs.Requests.{units_of}
-use Rattle.smp_landing.specs.Cube.{IsBalancing, cube_tree}
-use Rattle.smp_landing.specs.Landings.{IsBalanced, weighed_of}
-use Rattle.smp_landing.specs.Method.{method_of, started}
-use Rattle.smp_landing.proofs.Counts.{cube_count}
-use Rattle.smp_landing.proofs.Owed.{IsFlying, cube_owes, cube_start}
-use Rattle.smp_moves.proofs.Owed.{is_balanced}
+use Rattle.smp_flight.specs.Landings.{IsBalanced}
+use Rattle.smp_flight.specs.Selections.{IsBalancing, starting}
+use Rattle.smp_flight.proofs.Owed.{selection_balanced}
+use Rattle.smp_flight.proofs.WholeSums.{leaves_count}
+use Rattle.smp_landing.specs.Cube.{cube_of, cube_tree}
+use Rattle.smp_landing.specs.Laws.Splits.{is_cube}
+use Rattle.smp_landing.specs.Method.{method_of}
 
-pub starts_requested : (request : Request) (xs : List (List ℤ)) → IsRequest request → IsRequested (cube_tree (units_of request xs)) request (started (units_of request xs))
+pub starts_requested : (request : Request) (xs : List (List ℤ)) → IsRequest request →
+    IsRequested (cube_tree (units_of request xs)) request (starting (units_of request xs))
 starts_requested request xs is =
-    requested_values request is (cube_tree (units_of request xs)) (started (units_of request xs)) (is.paired ∙ sym (length-numerators request is)) (λ k _. same_refl (value_at (shares_of request) k))
+    requested_values request is (cube_tree (units_of request xs)) (starting (units_of request xs)) (is.paired ∙ sym (length-numerators request is)) (λ k _. same_refl (value_at (shares_of request) k))
 
 module _ (units : Units) (is_flight : IsFlight units (flights.started units)) where
-  pub cube_starts : Starts (method_of units) (started units)
-  cube_starts = starts (method_of units) (started units) is_flight (λ n adds. cube_count units n (flights.started units) 0 is_flight (omega arith) adds)
+  pub cube_starts : Starts (method_of units) (starting units)
+  cube_starts =
+      starts (method_of units) (starting units) is_flight
+      (λ n adds. leaves_count (cube_of units) (IsBalancing units) (is_cube units) n (starting units) is_flight (omega arith) adds)
 
-  pub cube_balances : IsBalanced units (started units)
-  cube_balances =
-      is_balanced (weighed_of units) (IsBalancing units) IsFlying (cube_owes units) (started units) (cube_start units is_flight)
+  pub cube_balances : IsBalanced (cube_of units) (starting units)
+  cube_balances = selection_balanced (cube_of units) (IsBalancing units) (is_cube units) (starting units) is_flight refl

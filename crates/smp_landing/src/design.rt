@@ -6,9 +6,10 @@ ghost use Rattle.smp_split.specs.Methods.{Starts};
 ghost use Rattle.smp_values.specs.Starts.{IsRequested};
 ghost use Rattle.smp_flight.specs.Requests.{AreValues, units_of};
 ghost use Rattle.smp_flight.specs.States.{Units};
-ghost use Rattle.smp_landing.specs.Cube.{left_in};
-ghost use Rattle.smp_landing.specs.Landings.{IsBalanced};
-ghost use Rattle.smp_landing.specs.Method.{method_of, started};
+ghost use Rattle.smp_flight.specs.Selections.{left_in, starting};
+ghost use Rattle.smp_flight.specs.Landings.{IsBalanced};
+ghost use Rattle.smp_landing.specs.Cube.{cube_of};
+ghost use Rattle.smp_landing.specs.Method.{method_of};
 
 use crate::state::{CubeState, Phase};
 use smp_flight::{Shape, start};
@@ -46,7 +47,7 @@ impl Cube {
         requires values { AreValues xs.now }
         ensures design { IfOk result (λ design. design ≡ units_of request.now xs.now) }
         ensures requested { IfOk result (λ design.
-            IsRequested (method_of design).tree request.now (started design)) }
+            IsRequested (method_of design).tree request.now (starting design)) }
     {
         Ok(Cube {
             shape: Shape::new(alloc, request, xs)?,
@@ -58,9 +59,9 @@ impl Cube {
     /// values add up to a whole number, that many units are. The flight keeps each balancing total, and the units that are fractional
     /// where the landing begins bound the error of each estimate.
     pub fn start(&self, alloc: Global) -> Result<CubeState, NoMemory>
-        ensures state { IfOk result (λ state. state ≡ started self.now) }
+        ensures state { IfOk result (λ state. state ≡ starting self.now) }
         ensures starts { IfOk result (Starts (method_of self.now)) }
-        ensures balanced { IfOk result (IsBalanced self.now) }
+        ensures balanced { IfOk result (IsBalanced (cube_of self.now)) }
     {
         self.shape.rows();
         Ok(CubeState {

@@ -1,17 +1,16 @@
 //! The states of a selection by the cube.
 
 ghost use Rattle.std.specs.Prelude.{◌≡◌, ◌<◌, ◌≤◌, false, length};
-ghost use Rattle.smp_fractions.specs.Limits.{most_rows};
 ghost use Rattle.smp_split.specs.Trees.{picked, weight_sum};
 ghost use Rattle.smp_values.specs.Values.{is_one, is_settled};
 ghost use Rattle.smp_flight.specs.States.{AreFirst, IsFlight};
 ghost use Rattle.smp_flight.specs.Steps.{chosen};
 ghost use Rattle.smp_flight.specs.Answers.{IsFirstMove, move_of};
-ghost use Rattle.smp_landing.specs.Cube.{Balancing, IsBalancing, cube_kind, cube_parts, landed, values_in};
+ghost use Rattle.smp_flight.specs.Selections.{Balancing, IsBalancing, values_in};
+ghost use Rattle.smp_landing.specs.Cube.{cube_kind, cube_parts};
 ghost use Rattle.smp_landing.specs.Kept.States.{IsKept, balancing_of};
 
-use smp_flight::{FlightState, Move, Next, Shape, apply, look, step};
-use smp_kernel::Steps;
+use smp_flight::{FlightState, Move, Next, Shape, fill, fly, landed, look, step};
 use smp_split::Kind;
 use smp_values::{PivotalSteps, Values};
 use std::marker::{Brand, Model};
@@ -46,31 +45,14 @@ impl Model for CubeState {
     ghost invariant = { λ a. IsKept a.phase a.flight a.room };
 }
 
-/// Sets the values to those of a flight.
-fn fill(flight: &FlightState, values: &mut Values)
-    requires { length values.old.numer ≡ length flight.now.flight.shares.numer }
-    ensures { values.new ≡ flight.now.flight.shares }
-{
-    for unit in 0..values.len() {
-        values.set(unit, flight.numer(unit));
-    }
-    values.set_denominator(flight.denom());
-}
-
-/// How many units were fractional where the landing began: here, unless it began before.
-fn landed(flight: &FlightState, left: u32) -> u32
-    requires { length flight.now.flight.shares.numer ≤ most_rows }
-    ensures { result ≡ landed flight.now.flight left }
-{
-    if left == 0 {
-        flight.fractional() as u32
-    } else {
-        left
-    }
-}
-
-/// Goes to an end of a move of the flight, counted on a ledger that nothing was written into, and looks for the step from there.
-fn fly<L: Ledger>(shape: &Shape, flight: &mut FlightState, mv: &Move, plus: bool, blank: Blank)
+/// Goes to an end of a move of the flight, and looks for the step from there.
+fn fly_and_look<L: Ledger>(
+    shape: &Shape,
+    flight: &mut FlightState,
+    mv: &Move,
+    plus: bool,
+    blank: Blank,
+)
     requires flight { IsFlight shape.now flight.old.flight }
     requires first { AreFirst flight.old.flight flight.old.window }
     requires mv { IsFirstMove shape.now flight.old mv.now }
@@ -82,8 +64,7 @@ fn fly<L: Ledger>(shape: &Shape, flight: &mut FlightState, mv: &Move, plus: bool
         ≡ length flight.old.flight.shares.numer }
     ensures first { AreFirst flight.new.flight flight.new.window }
 {
-    let mut steps = Steps::<L>::new(blank);
-    apply(shape, flight, mv, plus, &mut steps);
+    fly::<L>(shape, flight, mv, plus, blank);
     look(shape, flight);
 }
 
@@ -161,7 +142,7 @@ impl CubeState {
                 }
                 Next::Move(mv) => {
                     let plus = draw < mv.plus_weight;
-                    fly::<Brand>(shape, &mut self.flight, &mv, plus, Blank::new(1));
+                    fly_and_look::<Brand>(shape, &mut self.flight, &mv, plus, Blank::new(1));
                 }
             },
             Phase::Pairing => self.steps.advance(draw),

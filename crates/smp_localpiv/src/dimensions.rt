@@ -50,8 +50,9 @@ fn point<const K: usize>(values: &[i32]) -> [i32; K]
     point
 }
 
-// Where the units with these values lie: the coordinates of each are its values from a place on.
-pub(crate) fn points<const K: usize>(
+/// Where the units with these values lie: the coordinates of each, as many as `K`, from 1 to 4, are its values from a place on, and 0
+/// where there are fewer.
+pub fn points<const K: usize>(
     alloc: Global,
     place: usize,
     values: &[Numbers],

@@ -1,16 +1,19 @@
 -- A procedure takes the values that a frame has for it.
-use Rattle.std.proofs.Common.{◌≡◌, ℕ, zero, suc, ◌-◌, ◌^◌, ◌<◌, ◌≤◌, true, ℤ, List, [], ◌∷◌, length, map, get_or, Some, All, arith, refl, sym, subst, ◌∙◌}
-use Rattle.std.specs.Prelude.{◌&&◌, nat_le}
-use Rattle.std.proofs.lemmas.Bool.{and_parts, leb-true}
-use Rattle.std.proofs.lemmas.List.Elements.{All-get_or, All-map}
+use Rattle.std.proofs.Common.{◌≡◌, ℕ, zero, suc, ◌-◌, ◌^◌, ◌<◌, ◌≤◌, true, ℤ, List, [], ◌∷◌, length, map, take, get_or, Some, All, arith, refl, sym, ap, ap₂, subst, ◌∙◌, suc-le-suc, length-take}
+use Rattle.std.specs.Prelude.{◌&&◌, nat_eq, nat_le}
+use Rattle.std.specs.Int.RustNames.{unsigned_abs}
+use Rattle.std.proofs.lemmas.Bool.{and_parts, eqb-true, leb-true}
+use Rattle.std.proofs.lemmas.List.{take_all}
+use Rattle.std.proofs.lemmas.List.Elements.{All-get_or, All-map, All-take}
 use Rattle.smp_kernel.specs.Vectors.{Within}
 use Rattle.smp_design.specs.declared.method.Method.{Method}
-use Rattle.smp_design.specs.Words.{balances, takes_columns}
-use Rattle.smp_design.proofs.Rows.{balances_few}
+use Rattle.smp_design.specs.declared.method.Method.TheVariants.{Cube, LocalCube}
+use Rattle.smp_design.specs.Words.{row, balances, most_balance, takes_columns}
+use Rattle.smp_design.proofs.Rows.{TakesBoth, balances_few, takes_both}
 use Rattle.smp_prob.specs.declared.orders.Order.{Order}
 use Rattle.smp_flight.specs.Requests.{AreValues}
 use Rattle.smp_methods.specs.declared.procedure.Procedure.{Procedure}
-use Rattle.smp_methods.specs.Procedures.{procedure, procedure_of, TakesValues}
+use Rattle.smp_methods.specs.Procedures.{NeededIf, TakesValues, balancing_values, procedure, procedure_of}
 use Rattle.smp_methods.proofs.Wholes.{needed_if, takes_of, way_of}
 
 -- the coordinates of points are few
@@ -36,20 +39,71 @@ module _ (columns : ℕ) (values : List (List ℤ)) (counted : All (λ v. length
     within = λ k l. All-get_or (Within (2 ^ 31 - 1)) values k [] l small;
   }
 
+-- the values before the coordinates
+module _ (near columns : ℕ) (values : List (List ℤ)) (counted : All (λ v. length v ≡ columns) values) (small : All (Within (2 ^ 31 - 1)) values) where
+  cut_counted : All (λ v. length v ≡ columns - near) (balancing_values near columns values)
+  cut_counted =
+      All-map (λ (v : List ℤ). length v ≡ columns - near) (take (columns - near)) values
+      (λ k d l. omega (arith, length-take (columns - near) (get_or values k d), counted k d l))
+
+  cut_small : All (Within (2 ^ 31 - 1)) (balancing_values near columns values)
+  cut_small =
+      All-map (Within (2 ^ 31 - 1)) (take (columns - near)) values
+      (λ k d l. All-take (λ z. unsigned_abs z ≤ 2 ^ 31 - 1) (columns - near) (get_or values k d) (small k d l))
+
   -- the values of a frame that was read with so many columns
-  pub procedure_takes : (m : Method) (order : Order) (way : Procedure) → procedure_of m order columns ≡ Some way → TakesValues way values
+  pub procedure_takes : (m : Method) (order : Order) (way : Procedure) → procedure_of m order near columns ≡ Some way → TakesValues way values
   procedure_takes m order way is =
-      let takes = takes_of m order columns way is in
-      subst (λ (w : Procedure). TakesValues w values) (way_of m order columns way is) (record {
+      let takes = takes_of m order near columns way is in
+      subst (λ (w : Procedure). TakesValues w values) (way_of m order near columns way is) (record {
         columns = takes;
-        balancing = needed_if (balances m) (AreValues values) (λ balance. are_values (balances_few m columns balance takes));
+        each = needed_if (balances m) (All (λ v. length v ≡ columns) values) (λ balance. counted);
+        balancing = needed_if (balances m) (AreValues (balancing_values near columns values))
+            (λ balance. are_values (columns - near) (balancing_values near columns values) cut_counted cut_small (balances_few m near columns balance takes));
       })
 
 -- units that have no values
-pub takes_none : (m : Method) (order : Order) (units : List ℕ) → takes_columns m 0 ≡ true → TakesValues (procedure m order 0) (map (λ _. []) units)
-takes_none m order units takes = record {
-  columns = takes;
-  balancing = needed_if (balances m) (AreValues (map (λ _. []) units)) (λ balance.
-      are_values 0 (map (λ _. []) units) (All-map (λ (v : List ℤ). length v ≡ 0) (λ _. []) units (λ k d l. refl))
-      (All-map (Within (2 ^ 31 - 1)) (λ _. []) units (λ k d l i e m. absurd (omega (arith, m)))) (omega arith));
-}
+pub takes_none : (m : Method) (order : Order) (units : List ℕ) → takes_columns m 0 0 ≡ true → TakesValues (procedure m order 0 0) (map (λ _. []) units)
+takes_none m order units takes =
+    procedure_takes 0 0 (map (λ _. []) units) (All-map (λ (v : List ℤ). length v ≡ 0) (λ _. []) units (λ k d l. refl))
+    (All-map (Within (2 ^ 31 - 1)) (λ _. []) units (λ k d l i e m. absurd (omega (arith, m)))) m order (procedure m order 0 0) (rw takes refl)
+
+-- ---- where no column is a coordinate
+
+-- all values are balanced
+no_cut : (columns : ℕ) (values : List (List ℤ)) → All (λ v. length v ≡ columns) values → balancing_values 0 columns values ≡ values
+no_cut columns [] counted = refl
+no_cut columns (v ∷ values) counted =
+    ap₂ (λ (w : List ℤ) rest. w ∷ rest) (take_all (columns - 0) v (omega (arith, counted 0 [] (omega arith))))
+    (no_cut columns values (λ k d l. counted (suc k) d (suc-le-suc l)))
+
+pub all_balanced : (way : Procedure) (values : List (List ℤ)) → TakesValues way values → way.method ≡ Cube → balancing_values way.near way.columns values ≡ values
+unfolding row
+all_balanced way values takes is =
+    let fits : (nat_eq way.near 0 && nat_le way.columns most_balance) ≡ true = subst (λ m. takes_columns m way.near way.columns ≡ true) is takes.columns in
+    let parts = and_parts (nat_eq way.near 0) (nat_le way.columns most_balance) fits in
+    let none : way.near ≡ 0 = eqb-true way.near 0 parts.0 in
+    let each : All (λ v. length v ≡ way.columns) values = subst (λ m. NeededIf (balances m) (All (λ v. length v ≡ way.columns) values)) is takes.each in
+    ap (λ near. balancing_values near way.columns values) none ∙ no_cut way.columns values each
+
+pub cube_values : (way : Procedure) (values : List (List ℤ)) → TakesValues way values → way.method ≡ Cube → AreValues values
+unfolding row
+cube_values way values takes is =
+    subst AreValues (all_balanced way values takes is) (subst (λ m. NeededIf (balances m) (AreValues (balancing_values way.near way.columns values))) is takes.balancing)
+
+-- ---- what the local cube needs of them
+
+module _ (way : Procedure) (values : List (List ℤ)) (takes : TakesValues way values) (is : way.method ≡ LocalCube) where
+  both : TakesBoth way.near way.columns
+  unfolding row
+  both = takes_both way.near way.columns (subst (λ m. takes_columns m way.near way.columns ≡ true) is takes.columns)
+
+  pub local_near : (1 ≤ way.near) × (way.near ≤ 4)
+  local_near = (both.some, both.few)
+
+  pub local_within : way.near ≤ way.columns
+  local_within = both.within
+
+  pub local_values : AreValues (balancing_values way.near way.columns values)
+  unfolding row
+  local_values = subst (λ m. NeededIf (balances m) (AreValues (balancing_values way.near way.columns values))) is takes.balancing

@@ -70,7 +70,7 @@ is_started way request values design state whole made requested there starts aro
     let asked : IsRequested (method_of own).tree request (first_state own) =
     subst (λ (d : AnyDesign). IsRequested (method_of d).tree request (first_state d)) made (requested_among (variant_of design) request requested) in
     let same : state ≡ first_state own = there ∙ ap first_state made in
-    let named : drawn_by own ≡ way.method = drawn_by_method way.method way.order way.columns request values in
+    let named : drawn_by own ≡ way.method = drawn_by_method way.method way.order way.near way.columns request values in
     record {
       design = made;
       state = same;

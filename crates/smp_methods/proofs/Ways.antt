@@ -12,12 +12,12 @@ use Rattle.smp_methods.specs.Designs.{design_by, design_of, drawn_by, method_of}
 use Rattle.smp_methods.specs.Starts.{SelectsAround}
 
 -- this is checked method by method
-pub drawn_by_method : (m : Method) (order : Order) (columns : ℕ) (request : Request) (values : List (List ℤ)) → drawn_by (design_by m order columns request values) ≡ m
-drawn_by_method Pivotal order columns request values = refl
-drawn_by_method other order columns request values = refl
+pub drawn_by_method : (m : Method) (order : Order) (near columns : ℕ) (request : Request) (values : List (List ℤ)) → drawn_by (design_by m order near columns request values) ≡ m
+drawn_by_method Pivotal order near columns request values = refl
+drawn_by_method other order near columns request values = refl
 
 -- by a method that doesn't balance
 pub around_unless : (way : Procedure) (request : Request) (values : List (List ℤ)) (state : AnyState) → balances way.method ≡ false → SelectsAround (design_of way request values) state
     → LeavesSelectAround (method_of (design_of way request values)).tree state
 around_unless way request values state unbalanced around =
-    around (ap balances (drawn_by_method way.method way.order way.columns request values) ∙ unbalanced)
+    around (ap balances (drawn_by_method way.method way.order way.near way.columns request values) ∙ unbalanced)

@@ -19,19 +19,19 @@ given_if true own way h = record { holds = refl; is = (let same : ◌≡◌ {A =
 given_if false own way h = absurd (cc)
 
 -- the procedure of a method is by the method, which can be used with so many columns
-pub takes_of : (method : Method) (order : Order) (columns : ℕ) (way : Procedure) → procedure_of method order columns ≡ Some way → takes_columns method columns ≡ true
-takes_of method order columns way is = (given_if (takes_columns method columns) (procedure method order columns) way is).holds
+pub takes_of : (method : Method) (order : Order) (near columns : ℕ) (way : Procedure) → procedure_of method order near columns ≡ Some way → takes_columns method near columns ≡ true
+takes_of method order near columns way is = (given_if (takes_columns method near columns) (procedure method order near columns) way is).holds
 
-pub way_of : (method : Method) (order : Order) (columns : ℕ) (way : Procedure) → procedure_of method order columns ≡ Some way → procedure method order columns ≡ way
-way_of method order columns way is = (given_if (takes_columns method columns) (procedure method order columns) way is).is
+pub way_of : (method : Method) (order : Order) (near columns : ℕ) (way : Procedure) → procedure_of method order near columns ≡ Some way → procedure method order near columns ≡ way
+way_of method order near columns way is = (given_if (takes_columns method near columns) (procedure method order near columns) way is).is
 
 -- a procedure that is there
 some_if : (test : Bool) (own : Procedure) → is_some (if test then Some own else None) ≡ true → test ≡ true
 some_if true own h = refl
 some_if false own h = absurd (cc)
 
-pub takes_some : (method : Method) (order : Order) (columns : ℕ) → is_some (procedure_of method order columns) ≡ true → takes_columns method columns ≡ true
-takes_some method order columns some = some_if (takes_columns method columns) (procedure method order columns) some
+pub takes_some : (method : Method) (order : Order) (near columns : ℕ) → is_some (procedure_of method order near columns) ≡ true → takes_columns method near columns ≡ true
+takes_some method order near columns some = some_if (takes_columns method near columns) (procedure method order near columns) some
 
 -- what is needed where a test holds
 pub needed_if : (test : Bool) (Needed : Type 0) → (test ≡ true → Needed) → NeededIf test Needed
@@ -46,5 +46,5 @@ pub needs_whole : (way : Procedure) (request : Request) → IsWhole request → 
 needs_whole way request whole = needed_if (row way.method).draws_whole (IsWhole request) (λ _. whole)
 
 -- the procedure of a method needs a whole number of units only where the method draws such
-pub needs_of : (method : Method) (order : Order) (columns : ℕ) (way : Procedure) (request : Request) → procedure_of method order columns ≡ Some way → (IsTrue (row method).draws_whole → IsWhole request) → NeedsWhole way request
-needs_of method order columns way request is whole = subst (λ w. NeedsWhole w request) (way_of method order columns way is) (needed_if (row method).draws_whole (IsWhole request) whole)
+pub needs_of : (method : Method) (order : Order) (near columns : ℕ) (way : Procedure) (request : Request) → procedure_of method order near columns ≡ Some way → (IsTrue (row method).draws_whole → IsWhole request) → NeedsWhole way request
+needs_of method order near columns way request is whole = subst (λ w. NeedsWhole w request) (way_of method order near columns way is) (needed_if (row method).draws_whole (IsWhole request) whole)

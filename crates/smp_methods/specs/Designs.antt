@@ -1,6 +1,6 @@
 -- The design of a request by any procedure, and what it owes. Each method has a row in each of two
 -- lists: how it starts, and what is asked of it.
-use Rattle.std.specs.Prelude.{◌≡◌, ℕ, ℤ, List, Option, Some, None, refl}
+use Rattle.std.specs.Prelude.{◌≡◌, ℕ, ◌-◌, ℤ, List, Option, Some, None, refl}
 use Rattle.smp_prob.specs.declared.orders.Order.{Order}
 use Rattle.smp_prob.specs.declared.requests.Request.{Request}
 use Rattle.smp_split.specs.Embeds.{embedded, BelongsInside}
@@ -15,42 +15,51 @@ use Rattle.smp_brewer.specs.Method as brewer
 use Rattle.smp_localpiv.specs.Method as local
 use Rattle.smp_elim.specs.Method as elimination
 use Rattle.smp_flight.specs.Requests.{units_of}
-use Rattle.smp_landing.specs.Cube.{left_in}
+use Rattle.smp_flight.specs.Selections.{left_in, starting}
 use Rattle.smp_landing.specs.Method as cube
+use Rattle.smp_localpiv.specs.Coordinates.{points_from}
+use Rattle.smp_localcube.specs.Method as local_cube
+use Rattle.smp_methods.specs.Procedures.{balancing_values}
 use Rattle.smp_methods.specs.declared.procedure.Procedure.{Procedure}
 use Rattle.smp_methods.specs.declared.any.AnyDesign.{AnyDesign}
 use Rattle.smp_methods.specs.declared.any.AnyDesign.TheVariants as designs
 use Rattle.smp_methods.specs.declared.any.AnyState.{AnyState}
 use Rattle.smp_methods.specs.declared.any.AnyState.TheVariants as states
 
--- The design of a request by a method, with the requested values: with the units in this order, where so
--- many columns of values are read. The values of the free units serve as coordinates, or as balancing values.
-abbrev pub design_by : named.Method → Order → ℕ → Request → List (List ℤ) → AnyDesign
-design_by method.Pivotal order columns request values =
+-- The design of a request by a method, with the requested values: with the units in this order, where so many columns of values are
+-- read, the last `near` of them as coordinates. The values of the free units serve as coordinates, or as balancing values, or as
+-- these and then those.
+abbrev pub design_by : named.Method → Order → ℕ → ℕ → Request → List (List ℤ) → AnyDesign
+design_by method.Pivotal order near columns request values =
     designs.Pivotal (pivotal.started request order)
-design_by method.Systematic order columns request values =
+design_by method.Systematic order near columns request values =
     designs.Systematic (systematic.started request order)
-design_by method.MinimumSupport order columns request values =
+design_by method.MinimumSupport order near columns request values =
     designs.MinimumSupport (support.started request)
-design_by method.Brewer order columns request values = designs.Brewer (brewer.started request)
-design_by method.LocalPivotal order columns request values =
+design_by method.Brewer order near columns request values = designs.Brewer (brewer.started request)
+design_by method.LocalPivotal order near columns request values =
     designs.LocalPivotal (local.started_on request columns values)
-design_by method.Cube order columns request values = designs.Cube (units_of request values)
-design_by method.Elimination order columns request values =
+design_by method.Cube order near columns request values =
+    designs.Cube (units_of request (balancing_values near columns values))
+design_by method.Elimination order near columns request values =
     designs.Elimination (elimination.started request)
+design_by method.LocalCube order near columns request values = designs.LocalCube (record {
+  units = units_of request (balancing_values near columns values);
+  coords = points_from near (columns - near) values;
+})
 
+-- the same, by a procedure
 abbrev pub design_of : Procedure → Request → List (List ℤ) → AnyDesign
-design_of way request values = design_by way.method way.order way.columns request values
+design_of way request values = design_by way.method way.order way.near way.columns request values
 
--- One method's design among all: its method, whose row says what else is asked of it; what the method owes;
--- the design, which is seen as its first state; `into`, which puts the method's states among those of all
--- methods, and `out`, which gives them back.
+-- One method's design among all: its method's name; what the method owes; the design, which is seen as its first state; `into`, which puts
+-- the method's states among those of all methods, and `out`, which gives them back; and that it gives back what was put there.
 pub data Variant : Type 1 where
   variant : {State : Type 0} → named.Method → Method State → State → (into : State → AnyState)
       → (out : AnyState → Option State) → ((state : State) → out (into state) ≡ Some state)
       → Variant
 
--- the list of the methods
+-- the variant that each design is: the list of the methods
 abbrev pub variant_of : AnyDesign → Variant
 variant_of (designs.Pivotal s) = variant method.Pivotal (pivotal.method_of s) s states.Pivotal
     (elim [ states.Pivotal state ↦ Some state | other ↦ None ]) (λ _. refl)
@@ -66,11 +75,14 @@ variant_of (designs.LocalPivotal s) =
     variant method.LocalPivotal (local.method_of s) s states.LocalPivotal
     (elim [ states.LocalPivotal state ↦ Some state | other ↦ None ]) (λ _. refl)
 variant_of (designs.Cube units) =
-    variant method.Cube (cube.method_of units) (cube.started units) states.Cube
+    variant method.Cube (cube.method_of units) (starting units) states.Cube
     (elim [ states.Cube state ↦ Some state | other ↦ None ]) (λ _. refl)
 variant_of (designs.Elimination s) =
     variant method.Elimination (elimination.method_of s) s states.Elimination
     (elim [ states.Elimination state ↦ Some state | other ↦ None ]) (λ _. refl)
+variant_of (designs.LocalCube design) =
+    variant method.LocalCube (local_cube.method_of design) (local_cube.started design) states.LocalCube
+    (elim [ states.LocalCube state ↦ Some state | other ↦ None ]) (λ _. refl)
 
 -- a method put into a larger type of states
 module _ {Inner Outer : Type 0} (into : Inner → Outer) (out : Outer → Option Inner)
@@ -104,7 +116,8 @@ first_state design = state_among (variant_of design)
 abbrev pub method_of : AnyDesign → Method AnyState
 method_of design = method_among (variant_of design)
 
--- how many units were undecided where the cube's landing began, and 0 by any other method
+-- how many units were undecided where the landing of the cube, or of the local cube, began, and 0 by any other method
 abbrev pub left_at : AnyDesign → AnyState → ℕ
 left_at (designs.Cube units) (states.Cube state) = left_in state
+left_at (designs.LocalCube design) (states.LocalCube state) = left_in state.at
 left_at design state = 0

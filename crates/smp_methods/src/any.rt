@@ -8,6 +8,7 @@ ghost use Rattle.smp_methods.specs.Kept.Alone.{AroundAlone, RequestedAlone, Star
 ghost use Rattle.smp_methods.specs.Procedures.{NeedsWhole, TakesValues};
 
 use crate::Procedure;
+use crate::local::local_cube;
 use smp_design::{Method, each_method};
 use smp_frac::NoMemory;
 use smp_frame::Numbers;
@@ -26,6 +27,7 @@ pub enum AnyDesign {
     LocalPivotal(smp_localpiv::AnyLocalPivotal),
     Cube(smp_landing::Cube),
     Elimination(smp_elim::Elimination),
+    LocalCube(smp_localcube::AnyLocalCube),
 }
 
 /// A state of a design, in the variant of its method.
@@ -38,6 +40,7 @@ pub enum AnyState {
     LocalPivotal(smp_localpiv::AnyLocalState),
     Cube(smp_landing::CubeState),
     Elimination(smp_elim::EliminationState),
+    LocalCube(smp_localcube::AnyLocalCubeState),
 }
 
 // What the design of a method says, whichever method it is: of itself; a state that it makes; or of
@@ -69,7 +72,7 @@ macro_rules! by_method {
 
 impl AnyDesign {
     /// The design of a request by a procedure. Each free unit has the value that is requested.
-    #[tactic(auto, using(crate::proofs::Columns::few_points), unfolding(smp_design::specs::Words::row))]
+    #[tactic(auto, using(crate::proofs::Columns::few_points, crate::proofs::Columns::cube_values, crate::proofs::Columns::local_near, crate::proofs::Columns::local_within, crate::proofs::Columns::local_values, crate::proofs::Columns::all_balanced), unfolding(smp_design::specs::Words::row))]
     pub(crate) fn new(
         alloc: Global,
         procedure: Procedure,
@@ -85,7 +88,12 @@ impl AnyDesign {
         ensures requested { IfOk result (λ design.
             RequestedAlone request.now (variant_of design)) }
     {
-        let Procedure { order, columns, .. } = procedure;
+        let Procedure {
+            order,
+            near,
+            columns,
+            ..
+        } = procedure;
         Ok(match procedure.method {
             Method::Pivotal => {
                 AnyDesign::Pivotal(smp_pivotal::Pivotal::new(alloc, request, order)?)
@@ -104,6 +112,9 @@ impl AnyDesign {
             Method::Elimination => {
                 AnyDesign::Elimination(smp_elim::Elimination::new(alloc, request)?)
             }
+            Method::LocalCube => {
+                AnyDesign::LocalCube(local_cube(alloc, request, near, columns, values)?)
+            }
         })
     }
 
@@ -117,13 +128,14 @@ impl AnyDesign {
         by_method!(self, design => state design.start(alloc)?)
     }
 
-    /// How many units were undecided where the cube's landing began: 0 as long as it hasn't begun,
-    /// and by any other method.
+    /// How many units were undecided where the landing of the cube, or of the local cube, began: 0 as
+    /// long as it hasn't begun, and by any other method.
     pub fn left(&self, state: &AnyState) -> u32
         ensures { result ≡ left_at self.now state.now }
     {
         match (self, state) {
             (AnyDesign::Cube(design), AnyState::Cube(inner)) => design.left(inner),
+            (AnyDesign::LocalCube(design), AnyState::LocalCube(inner)) => design.left(inner),
             _ => 0,
         }
     }

@@ -7,6 +7,7 @@
 #![tactic(auto)]
 
 mod any;
+mod local;
 mod procedure;
 mod start;
 

@@ -5,7 +5,7 @@ use Rattle.smp_prob.specs.declared.orders.Order.{Order}
 use Rattle.smp_frame.specs.declared.frame.Unit as unit
 use Rattle.std.specs.List.Sorted.{IsStrictlySortedBy}
 use Rattle.smp_fractions.specs.Limits.{most_rows}
-use Rattle.smp_design.specs.Bounds.{Ascend, IsDesign, least_values, most_values}
+use Rattle.smp_design.specs.Bounds.{AreNear, Ascend, IsDesign, least_values, most_values}
 use Rattle.smp_design.specs.Words.{row, in_second}
 use Rattle.smp_design.proofs.Rows.{takes_nothing, takes_own}
 use Rattle.smp_design.specs.declared.design.Design.{Design}
@@ -17,8 +17,8 @@ use Rattle.smp_strata.specs.Plans.{Parts, parts_of}
 use Rattle.smp_twostage.specs.Plans.{CanBeDrawn, TakesRows}
 use Rattle.smp_plan.specs.Plans.{quick_design}
 
-takes : (m : Method) (order : Order) (columns : ℕ) → least_values (row m).needs ≤ columns → columns ≤ most_values (row m).needs → is_some (procedure_of m order columns) ≡ true
-takes m order columns some few = rw (takes_own m columns some few) refl
+takes : (m : Method) (order : Order) (near columns : ℕ) → least_values (row m).needs ≤ columns → columns ≤ most_values (row m).needs → AreNear (row m).needs near columns → is_some (procedure_of m order near columns) ≡ true
+takes m order near columns some few are = rw (takes_own m near columns some few are) refl
 
 takes_rows : (m : Method) → in_second m ≡ true → TakesRows m
 takes_rows m second = rw (takes_nothing m second) refl
@@ -32,7 +32,7 @@ module _ (design : Design) (units : List unit.Unit) (is : IsDesign design) where
   parts_drawn sound = record {
     columns = length design.columns.values;
     sound = sound;
-    method = takes design.method design.order (length design.columns.values) is.some_values is.few_values;
+    method = takes design.method design.order design.near (length design.columns.values) is.some_values is.few_values is.near_values;
     second = second_takes design.second is.second_method;
   }
 
@@ -57,6 +57,7 @@ quick_is_design n some few = record {
   order = λ e. absurd (cc);
   some_values = omega arith;
   few_values = omega arith;
+  near_values = refl;
   second_size = tt;
   second_method = tt;
   second_first = tt;

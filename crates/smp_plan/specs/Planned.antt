@@ -16,7 +16,8 @@ use Rattle.smp_plan.specs.declared.source.FrameSource as code_frame
 use Rattle.smp_plan.specs.declared.source.FrameSource.TheVariants as frames
 use Rattle.smp_cases.specs.Demo.{demo_design_text, demo_frame_text}
 use Rattle.smp_plan.specs.Plans.{Plan, parts, quick_design}
-use Rattle.smp_plan.specs.Inputs.{DesignSource, Held, HeldForJoint, Given, Made, FrameSource, FrameHeld, FrameForJoint, FrameMade, ReadDesign}
+use Rattle.smp_plan.specs.Inputs.{DesignSource, Held, HeldForJoint, Given, Made}
+use Rattle.smp_plan.specs.Inputs.{FrameSource, FrameHeld, FrameForJoint, FrameMade, ReadDesign}
 use Rattle.smp_plan.specs.Stops.{Stop, Refused}
 
 -- ---- values of the code as the definitions see them

@@ -9,7 +9,7 @@ use Rattle.smp_design.specs.declared.method.Method.TheVariants.{Pivotal}
 use Rattle.smp_strata.specs.Asked.{row_fraction}
 use Rattle.smp_strata.specs.Plans.{Parts, parts_of}
 
--- the design of `quick`: n units by pivotal steps in frame order, with the columns `id` and `size`
+-- the columns that `quick` asks for: `id` and `size`
 abbrev pub quick_columns : Columns
 quick_columns = record {
   id = codes "id";
@@ -21,12 +21,14 @@ quick_columns = record {
   values = [];
 }
 
+-- the design of `quick`: n units by pivotal steps in frame order, with these columns
 abbrev pub quick_design : ℕ → Design
 quick_design n = record {
   version = 1;
   method = Pivotal;
   order = Frame;
   columns = quick_columns;
+  near = 0;
   n = Some n;
   sizes = [];
   second = None;

@@ -17,6 +17,7 @@ pub(crate) fn quick_design(alloc: Global, n: u32) -> Result<Design, NoMemory>
         method: Method::Pivotal,
         order: Order::Frame,
         columns: quick_columns(alloc)?,
+        near: 0,
         n: Some(n),
         sizes: Quotas::from_vec(Vec::new(alloc)),
         second: None,

@@ -17,11 +17,13 @@ use Rattle.smp_strata.specs.Rows.{prob_at, size_of, second_size_at, values_of}
 use Rattle.smp_strata.specs.declared.strata.FirstUnit as first
 use Rattle.smp_strata.specs.declared.strata.Stratum as stratum
 
--- What a plan says: by which method and in which order the first stage units of each stratum are drawn; by which method the rows within
--- them, where there is a second stage; how many rows the frame has; and the strata.
+-- What a plan says: by which method and in which order the first stage units of each stratum are drawn, and how many of their values
+-- are coordinates, which are the last ones; by which method the rows within them, where there is a second stage; how many rows the
+-- frame has; and the strata.
 pub record Parts : Type 0 where
   pub method : Method
   pub order : Order
+  pub near : ℕ
   pub second : Option Method
   pub rows : ℕ
   pub strata : List stratum.Stratum
@@ -38,7 +40,8 @@ abbrev pub cluster_counts : Design → List unit.Unit → List ℕ
 cluster_counts design units =
     map (λ stratum. length (clusters_in design units stratum)) (strata_numbers units)
 
--- by allocation of n among the strata with these counts, or by their entries; 0 is no number
+-- how many first stage units are asked of each stratum: by allocation of n among the strata with these counts, or by their entries; 0 is no
+-- number
 abbrev pub sizes_by : Option ℕ → List quota.Quota → List (List ℕ) → List ℕ → List ℕ
 sizes_by (Some n) quotas names counts = allocation n counts
 sizes_by None quotas names counts = map (quota_of quotas) names
@@ -98,6 +101,7 @@ abbrev pub parts_of : Design → List unit.Unit → Parts
 parts_of design units = record {
   method = design.method;
   order = design.order;
+  near = design.near;
   second = option_map (λ second. second.method) design.second;
   rows = length units;
   strata = map (stratum_of design units) (strata_numbers units);

@@ -295,5 +295,6 @@ pub(crate) fn planned(
     let list = plan_strata(alloc, units, design, &clusters.rows, strata, sizes)?;
     let seats = seats_of(alloc, clusters, strata)?;
     let second = second_method(design);
-    Ok(Plan::new(design.method, design.order, second, list, seats))
+    let near = design.near as usize;
+    Ok(Plan::new(design.method, design.order, near, second, list, seats))
 }

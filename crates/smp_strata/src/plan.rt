@@ -21,6 +21,7 @@ use std::marker::Model;
 pub struct Plan {
     method: Method,
     order: Order,
+    near: usize,
     second: Option<Method>,
     strata: Vec<Stratum>,
     seats: Vec<Seat>,
@@ -37,6 +38,7 @@ impl Model for Plan {
     ghost view = { λ p. record {
       method = p.method;
       order = p.order;
+      near = p.near;
       second = p.second;
       rows = length p.seats.items;
       strata = p.strata.items;
@@ -50,6 +52,7 @@ impl Plan {
     pub(crate) fn new(
         method: Method,
         order: Order,
+        near: usize,
         second: Option<Method>,
         strata: Vec<Stratum>,
         seats: Vec<Seat>,
@@ -59,6 +62,7 @@ impl Plan {
         ensures { result ≡ record {
           method = method;
           order = order;
+          near = near;
           second = second;
           rows = length seats.items;
           strata = strata.items;
@@ -67,6 +71,7 @@ impl Plan {
         Plan {
             method,
             order,
+            near,
             second,
             strata,
             seats,
@@ -85,6 +90,13 @@ impl Plan {
         ensures { result ≡ self.now.order }
     {
         self.order
+    }
+
+    /// How many of the values of a first stage unit are the coordinates of its point, from 0 to 4: the last ones.
+    pub fn near(&self) -> usize
+        ensures { result ≡ self.now.near }
+    {
+        self.near
     }
 
     /// How rows are drawn from a first stage unit, where there is a second stage.

@@ -1,5 +1,5 @@
 -- A plan's method takes the values that its units have.
-use Rattle.std.proofs.Common.{◌≡◌, ℕ, ◌-◌, ◌^◌, ◌<◌, ◌≤◌, true, ℤ, List, [], ◌∷◌, length, map, get_or, Option, Some, None, All, arith, refl, sym, ap, subst, ◌∙◌}
+use Rattle.std.proofs.Common.{◌≡◌, ℕ, ◌-◌, ◌^◌, ◌<◌, ◌≤◌, true, ℤ, List, [], ◌∷◌, length, map, take, get_or, Option, Some, None, All, arith, refl, sym, ap, subst, ◌∙◌, length-take}
 use Rattle.std.specs.Prelude.{is_some, unwrap_or}
 use Rattle.std.specs.List.{slice_get}
 use Rattle.std.proofs.lemmas.List.{get_or-map}
@@ -22,7 +22,7 @@ use Rattle.smp_strata.specs.declared.strata.Stratum.{Stratum}
 use Rattle.smp_twostage.specs.Kept.{IsPlanned}
 use Rattle.smp_twostage.specs.Plans.{CanBeDrawn}
 use Rattle.smp_balance.specs.Strata.{column_count, free_values, values_of}
-use Rattle.smp_twostage.specs.Selections.{balancing}
+use Rattle.smp_twostage.specs.Selections.{balance_count, balancing, valued}
 
 -- a procedure that is there
 given : (way : Option Procedure) (other : Procedure) → is_some way ≡ true → way ≡ Some (unwrap_or way other)
@@ -36,40 +36,48 @@ first_long (u ∷ us) n some all = All-get_or (λ (v : FirstUnit). length v.valu
 pub near_within : (values : List ℤ) → AreNear values → Within (2 ^ 31 - 1) values
 near_within values near k d l = let h = near k d l in omega (arith, h)
 
+-- as many values are balanced as stand before the coordinates
+pub balanced_count : (plan : Parts) (s : Stratum) → column_count (balancing plan s) ≡ balance_count plan s
+balanced_count plan s = counted s.units plan.near
+  where
+    counted : (units : List FirstUnit) (near : ℕ) → length (get_or (map (λ u. take (length (get_or (map (λ v. v.values) units) 0 []) - near) u.values) units) 0 []) ≡ length (get_or (map (λ v. v.values) units) 0 []) - near
+    counted [] near = omega arith
+    counted (u ∷ units) near = omega (arith, length-take (length u.values - near) u.values)
+
 module _ (plan : Parts) (s : Stratum) (planned : IsPlanned plan s) where
-  pub columns_are : column_count (balancing s) ≡ planned.columns
+  pub columns_are : column_count (valued s) ≡ planned.columns
   columns_are = first_long s.units planned.columns planned.stratum.some planned.counted
 
-  pub has_procedure : is_some (procedure_of plan.method plan.order (column_count (balancing s))) ≡ true
-  has_procedure = ap (λ n. is_some (procedure_of plan.method plan.order n)) columns_are ∙ planned.method
+  pub has_procedure : is_some (procedure_of plan.method plan.order plan.near (column_count (valued s))) ≡ true
+  has_procedure = ap (λ n. is_some (procedure_of plan.method plan.order plan.near n)) columns_are ∙ planned.method
 
   -- the values of a free unit
-  free_at : (P : List ℤ → Type 0) → ((u : FirstUnit) → IsFirst plan.second u → length u.values ≡ planned.columns → P u.values) → All P (free_values (balancing s))
+  free_at : (P : List ℤ → Type 0) → ((u : FirstUnit) → IsFirst plan.second u → length u.values ≡ planned.columns → P u.values) → All P (free_values (valued s))
   free_at P holds =
-      All-map P (values_of (balancing s)) s.request.free
-      (All-weaker (λ k. k < length s.units) (λ k. P (values_of (balancing s) k)) (λ k l. at k l) s.request.free planned.stratum.over.free)
+      All-map P (values_of (valued s)) s.request.free
+      (All-weaker (λ k. k < length s.units) (λ k. P (values_of (valued s) k)) (λ k l. at k l) s.request.free planned.stratum.over.free)
     where
-      by_unit : (k : ℕ) (u : Option FirstUnit) → slice_get s.units k ≡ u → k < length s.units → P (values_of (balancing s) k)
+      by_unit : (k : ℕ) (u : Option FirstUnit) → slice_get s.units k ≡ u → k < length s.units → P (values_of (valued s) k)
       by_unit k (Some u) is l =
           let here : get_or s.units k u ≡ u = get_or_from_slice_get s.units k u u is in
-          let value : values_of (balancing s) k ≡ u.values = get_or-map (λ (v : FirstUnit). v.values) s.units k u [] l ∙ ap (λ (v : FirstUnit). v.values) here in
+          let value : values_of (valued s) k ≡ u.values = get_or-map (λ (v : FirstUnit). v.values) s.units k u [] l ∙ ap (λ (v : FirstUnit). v.values) here in
           let first : IsFirst plan.second u = subst (IsFirst plan.second) here (All-get_or (IsFirst plan.second) s.units k u l planned.stratum.firsts) in
           let counted : length u.values ≡ planned.columns = subst (λ (v : FirstUnit). length v.values ≡ planned.columns) here (All-get_or (λ (v : FirstUnit). length v.values ≡ planned.columns) s.units k u l planned.counted) in
           subst P (sym value) (holds u first counted)
       by_unit k None is l = let some = some_within s.units k l in absurd (let none : None ≡ Some some.0 = sym is ∙ some.1 in cc)
 
-      at : (k : ℕ) → k < length s.units → P (values_of (balancing s) k)
+      at : (k : ℕ) → k < length s.units → P (values_of (valued s) k)
       at k l = by_unit k (slice_get s.units k) refl l
 
-  pub takes_free : (way : Procedure) → procedure_of plan.method plan.order (column_count (balancing s)) ≡ Some way → TakesValues way (free_values (balancing s))
+  pub takes_free : (way : Procedure) → procedure_of plan.method plan.order plan.near (column_count (valued s)) ≡ Some way → TakesValues way (free_values (valued s))
   takes_free way is =
-      procedure_takes planned.columns (free_values (balancing s)) (free_at (λ v. length v ≡ planned.columns) (λ u first counted. counted)) (free_at (Within (2 ^ 31 - 1)) (λ u first counted. near_within u.values first.near))
-      plan.method plan.order way (ap (procedure_of plan.method plan.order) (sym columns_are) ∙ is)
+      procedure_takes plan.near planned.columns (free_values (valued s)) (free_at (λ v. length v ≡ planned.columns) (λ u first counted. counted)) (free_at (Within (2 ^ 31 - 1)) (λ u first counted. near_within u.values first.near))
+      plan.method plan.order way (ap (procedure_of plan.method plan.order plan.near) (sym columns_are) ∙ is)
 
 -- rows have no values
-pub takes_rows : (method : Method) (request : Request) (way : Procedure) → procedure_of method Frame 0 ≡ Some way → TakesValues way (map (λ _. []) request.free)
+pub takes_rows : (method : Method) (request : Request) (way : Procedure) → procedure_of method Frame 0 0 ≡ Some way → TakesValues way (map (λ _. []) request.free)
 takes_rows method request way is =
-    procedure_takes 0 (map (λ _. []) request.free) (All-map (λ (v : List ℤ). length v ≡ 0) (λ _. []) request.free (λ k d l. refl)) (All-map (Within (2 ^ 31 - 1)) (λ _. []) request.free (λ k d l i e m. absurd (omega (arith, m)))) method Frame way is
+    procedure_takes 0 0 (map (λ _. []) request.free) (All-map (λ (v : List ℤ). length v ≡ 0) (λ _. []) request.free (λ k d l. refl)) (All-map (Within (2 ^ 31 - 1)) (λ _. []) request.free (λ k d l i e m. absurd (omega (arith, m)))) method Frame way is
 
 -- ---- the strata of a plan that can be drawn
 

@@ -1,5 +1,5 @@
--- A stratum's part of a path of the whole selection is one of the cube's own paths.
-use Rattle.std.proofs.Common.{◌≡◌, ℕ, Bool, true, false, List, length, Option, Some, None, arith, refl, sym, ap, subst, ◌∙◌}
+-- A stratum's part of a path of the whole selection is one of its method's own paths.
+use Rattle.std.proofs.Common.{◌≡◌, ℕ, zero, suc, Bool, true, false, ℤ, List, [], ◌∷◌, length, map, take, get_or, Option, Some, None, arith, refl, sym, ap, ap₂, subst, ◌∙◌, inl, inr}
 use Rattle.std.specs.Prelude.{◌&&◌, option_map}
 use Rattle.std.specs.List.{slice_get}
 use Rattle.std.proofs.lemmas.Option.{slice_get_within, slice_get-map}
@@ -13,108 +13,168 @@ use Rattle.smp_split.proofs.Lenses.{came_whole}
 use Rattle.smp_rows.specs.Rows.{rows_tree}
 use Rattle.smp_rows.specs.Laws.Rows.{row_view, rows_lens, rows_close}
 use Rattle.smp_flight.specs.Requests.{units_of}
-use Rattle.smp_landing.specs.Cube.{Balancing, cube_tree}
-use Rattle.smp_landing.specs.Method.{started}
-use Rattle.smp_design.specs.declared.method.Method.TheVariants.{Cube}
+use Rattle.smp_flight.specs.Selections.{Balancing, Selection, starting}
+use Rattle.smp_localpiv.specs.Coordinates.{points_from}
+use Rattle.smp_landing.specs.Cube.{cube_of}
+use Rattle.smp_localcube.specs.Local.{Local, local_of}
+use Rattle.smp_localcube.specs.Method.{LocalUnits, started}
+use Rattle.smp_design.specs.declared.method.Method.{Method}
+use Rattle.smp_design.specs.declared.method.Method.TheVariants.{Cube, LocalCube}
 use Rattle.smp_design.specs.Words.{balances}
 use Rattle.smp_design.proofs.Rows.{is_cube}
+use Rattle.smp_methods.specs.declared.any.AnyDesign.{AnyDesign}
 use Rattle.smp_methods.specs.declared.any.AnyState.{AnyState}
 use Rattle.smp_methods.specs.declared.any.AnyState.TheVariants as states
 use Rattle.smp_methods.specs.declared.procedure.Procedure.{Procedure}
-use Rattle.smp_methods.specs.Designs.{design_of, first_state, method_of}
-use Rattle.smp_methods.specs.Procedures.{procedure}
+use Rattle.smp_methods.specs.Designs.{design_by, design_of, first_state, method_of}
+use Rattle.smp_methods.specs.Procedures.{balancing_values, procedure}
 use Rattle.smp_stages.specs.Paths.{GoesByStages, IsStagePath}
 use Rattle.smp_stages.specs.Stages.{drawn_within, is_drawn, read, unit_selected, within_of}
 use Rattle.smp_stages.specs.Laws.Reads.{some_within}
 use Rattle.smp_strata.specs.Plans.{Parts}
+use Rattle.smp_strata.specs.declared.strata.FirstUnit.{FirstUnit}
 use Rattle.smp_strata.specs.declared.strata.Stratum.{Stratum}
 use Rattle.smp_balance.specs.Totals.{is_selected}
-use Rattle.smp_twostage.specs.Cubes.{IsDrawnByCube, balancing}
+use Rattle.smp_twostage.specs.Cubes.{IsDrawnByCube, IsDrawnFrom, balancing, by_cube, by_local_cube, leaf_of, local_units}
 use Rattle.smp_twostage.specs.Starts.{first_selected}
 use Rattle.smp_twostage.specs.Plans.{CanBeDrawn}
-use Rattle.smp_balance.specs.Strata.{column_count, free_values}
-use Rattle.smp_twostage.specs.Selections.{tree_of, first_number, first_stage, stages_of, states_of}
+use Rattle.smp_balance.specs.Strata.{column_count, free_units, free_values, values_of}
+use Rattle.smp_twostage.specs.Selections.{balance_count, tree_of, first_number, first_stage, stages_of, states_of, valued}
 use Rattle.smp_twostage.specs.Laws.Numbering.{first_there}
 use Rattle.smp_twostage.proofs.Columns.{is_planned}
 
-module _ (plan : Parts) (drawable : CanBeDrawn plan) (balance : balances plan.method ≡ true) (path : List Entry) (ends : List AnyState) (goes : GoesByStages tree_of (stages_of plan) (states_of plan) path ends) (h : ℕ) (s : Stratum) (is : slice_get plan.strata h ≡ Some s) where
+-- ---- the values that are balanced are those of the stratum before its coordinates
+
+cut_none : (m : ℕ) → take {A = ℤ} m [] ≡ []
+cut_none zero = refl
+cut_none (suc m) = refl
+
+cut_at : (m : ℕ) (units : List FirstUnit) (k : ℕ) → take m (get_or (map (λ u. u.values) units) k []) ≡ get_or (map (λ u. take m u.values) units) k []
+cut_at m [] k = cut_none m
+cut_at m (u ∷ units) zero = refl
+cut_at m (u ∷ units) (suc k) = cut_at m units k
+
+cut_all : (plan : Parts) (s : Stratum) (free : List ℕ) → map (take (balance_count plan s)) (map (values_of (valued s)) free) ≡ map (values_of (balancing plan s)) free
+cut_all plan s [] = refl
+cut_all plan s (k ∷ free) = ap₂ (λ (v : List ℤ) vs. v ∷ vs) (cut_at (balance_count plan s) s.units k) (cut_all plan s free)
+
+module _ (plan : Parts) (s : Stratum) where
+  abbrev columns : ℕ
+  columns = column_count (valued s)
+
+  abbrev design_so : Method → AnyDesign
+  design_so m = design_by m plan.order plan.near columns s.request (free_values (valued s))
+
+  same_values : balancing_values plan.near columns (free_values (valued s)) ≡ free_values (balancing plan s)
+  same_values = cut_all plan s s.request.free
+
+  abbrev cube_out : AnyState → Option Balancing
+  cube_out = elim [ states.Cube state ↦ Some state | other ↦ None ]
+
+  abbrev local_out : AnyState → Option Local
+  local_out = elim [ states.LocalCube state ↦ Some state | other ↦ None ]
+
+  -- the tree of the first stage, and where it starts
+  cube_tree_is : plan.method ≡ Cube → (method_of (design_so plan.method)).tree ≡ embedded states.Cube cube_out (cube_of (free_units (balancing plan s))).tree
+  cube_tree_is is =
+      ap (λ m. (method_of (design_so m)).tree) is
+      ∙ ap (λ vs. embedded states.Cube cube_out (cube_of (units_of s.request vs)).tree) same_values
+
+  cube_start_is : plan.method ≡ Cube → first_state (design_so plan.method) ≡ states.Cube (starting (free_units (balancing plan s)))
+  cube_start_is is = ap (λ m. first_state (design_so m)) is ∙ ap (λ vs. states.Cube (starting (units_of s.request vs))) same_values
+
+  local_tree_is : plan.method ≡ LocalCube → (method_of (design_so plan.method)).tree ≡ embedded states.LocalCube local_out (local_of (free_units (balancing plan s))).tree
+  local_tree_is is =
+      ap (λ m. (method_of (design_so m)).tree) is
+      ∙ ap (λ vs. embedded states.LocalCube local_out (local_of (units_of s.request vs)).tree) same_values
+
+  abbrev local_so : List (List ℤ) → LocalUnits
+  local_so vs = record { units = units_of s.request vs; coords = points_from plan.near (balance_count plan s) (free_values (valued s)) }
+
+  local_start_is : plan.method ≡ LocalCube → first_state (design_so plan.method) ≡ states.LocalCube (started (local_units plan s))
+  local_start_is is = ap (λ m. first_state (design_so m)) is ∙ ap (λ vs. states.LocalCube (started (local_so vs))) same_values
+
+-- ---- the part of a path
+
+module _ (plan : Parts) (drawable : CanBeDrawn plan) (path : List Entry) (ends : List AnyState) (goes : GoesByStages tree_of (stages_of plan) (states_of plan) path ends) (h : ℕ) (s : Stratum) (is : slice_get plan.strata h ≡ Some s) where
   abbrev at : ℕ
   at = first_number plan h
 
-  abbrev inner : Tree Balancing
-  inner = cube_tree (units_of s.request (free_values (balancing s)))
-
-  abbrev out : AnyState → Option Balancing
-  out = elim [ states.Cube state ↦ Some state | other ↦ None ]
-
-  abbrev outer : Tree AnyState
-  outer = embedded states.Cube out inner
-
-  abbrev tree_by : Procedure → Tree AnyState
-  tree_by way = rows_tree (length s.units) s.request (method_of (design_of way s.request (free_values (balancing s)))).tree
-
-  abbrev start_by : Procedure → AnyState
-  start_by way = first_state (design_of way s.request (free_values (balancing s)))
-
-  abbrev by_cube : Procedure
-  by_cube = procedure Cube plan.order (column_count (balancing s))
-
-  way_is : procedure plan.method plan.order (column_count (balancing s)) ≡ by_cube
-  way_is = ap (λ m. procedure m plan.order (column_count (balancing s))) (is_cube plan.method balance)
+  abbrev start_so : AnyState
+  start_so = first_state (design_so plan s plan.method)
 
   there : slice_get (stages_of plan) at ≡ Some (first_stage plan s)
   there = first_there plan h s is
 
-  begins : slice_get (states_of plan) at ≡ Some (start_by (procedure plan.method plan.order (column_count (balancing s))))
+  begins : slice_get (states_of plan) at ≡ Some start_so
   begins = slice_get-map (λ stage. first_state stage.design.design) (stages_of plan) at ∙ ap (option_map (λ stage. first_state stage.design.design)) there
 
   abbrev last : (state : AnyState) × (slice_get ends at ≡ Some state)
   last = some_within ends at (let within = slice_get_within (stages_of plan) at (first_stage plan s) there in omega (arith, goes.paired, within))
 
-  own : IsStagePath true (tree_of (first_stage plan s).design) (start_by (procedure plan.method plan.order (column_count (balancing s)))) (goes.part at) last.0
+  own : IsStagePath true (tree_of (first_stage plan s).design) start_so (goes.part at) last.0
   own =
       let is_first : is_drawn tree_of (stages_of plan) ends at ≡ true = rw there refl in
-      subst (λ drawn. IsStagePath drawn (tree_of (first_stage plan s).design) (start_by (procedure plan.method plan.order (column_count (balancing s)))) (goes.part at) last.0) is_first
-      (goes.each at (first_stage plan s) (start_by (procedure plan.method plan.order (column_count (balancing s)))) last.0 there begins last.1)
+      subst (λ drawn. IsStagePath drawn (tree_of (first_stage plan s).design) start_so (goes.part at) last.0) is_first
+      (goes.each at (first_stage plan s) start_so last.0 there begins last.1)
 
-  pub drawn_by_cube : IsDrawnByCube plan h s (goes.part at) ends
-  drawn_by_cube =
-      let request = (is_planned plan drawable h s is).stratum.over.sound in
-      let leads : Leads (tree_by by_cube) (start_by by_cube) (goes.part at) last.0 = subst (λ (p : Procedure). Leads (tree_by p) (start_by p) (goes.part at) last.0) way_is own.0 in
-      let done : (tree_by by_cube).done last.0 ≡ true = subst (λ (p : Procedure). (tree_by p).done last.0 ≡ true) way_is own.1 in
-      let rows = came_whole outer (λ _. Unit {0}) (rows_tree (length s.units) s.request outer) (λ t. t) (λ row. row_view (inclusion s.request row))
-      (rows_lens (length s.units) s.request outer (λ _. Unit {0}) (sym request.paired)) (rows_close (length s.units) s.request outer (λ _. Unit {0}))
-      (goes.part at) (states.Cube (started (units_of s.request (free_values (balancing s))))) last.0 leads in
-      let cubes = came_whole inner (λ _. Unit {0}) outer states.Cube (λ k. as_unit k)
-      (embedded_lens states.Cube out inner (λ _. refl) (λ _. Unit {0})) (embedded_closes states.Cube out inner (λ _. refl) (λ _. Unit {0}))
-      (goes.part at) (started (units_of s.request (free_values (balancing s)))) rows.inside rows.leads in
-      let same : last.0 ≡ states.Cube cubes.inside = rows.is ∙ cubes.is in
-      record {
-        leaf = cubes.inside;
-        leaf_is = last.1 ∙ ap Some same;
-        leads = cubes.leads;
-        ended = subst (λ (t : AnyState). (tree_by by_cube).done t ≡ true) same done;
-      }
+  module _ {State : Type 0} (c : Selection State) (from : State) (into : State → AnyState) (out : AnyState → Option State) (back : (i : State) → out (into i) ≡ Some i)
+      (tree_is : (method_of (design_so plan s plan.method)).tree ≡ embedded into out c.tree) (start_is : start_so ≡ into from)
+      (closed : (i : State) → (embedded into out c.tree).done (into i) ≡ c.tree.done i) (count : c.tree.units ≡ length s.request.shape) where
+    abbrev outer : Tree AnyState
+    outer = embedded into out c.tree
 
--- ---- which units the cube has selected
+    drawn_from : IsDrawnFrom c from into plan h (goes.part at) ends
+    drawn_from =
+        let request = (is_planned plan drawable h s is).stratum.over.sound in
+        let leads : Leads (rows_tree (length s.units) s.request outer) (into from) (goes.part at) last.0 =
+        subst (λ (t : Tree AnyState). Leads (rows_tree (length s.units) s.request t) (into from) (goes.part at) last.0) tree_is
+        (subst (λ (start : AnyState). Leads (tree_of (first_stage plan s).design) start (goes.part at) last.0) start_is own.0) in
+        let done : outer.done last.0 ≡ true = subst (λ (t : Tree AnyState). (rows_tree (length s.units) s.request t).done last.0 ≡ true) tree_is own.1 in
+        let rows = came_whole outer (λ _. Unit {0}) (rows_tree (length s.units) s.request outer) (λ t. t) (λ row. row_view (inclusion s.request row))
+        (rows_lens (length s.units) s.request outer (λ _. Unit {0}) (sym request.paired ∙ sym count)) (rows_close (length s.units) s.request outer (λ _. Unit {0}))
+        (goes.part at) (into from) last.0 leads in
+        let cubes = came_whole c.tree (λ _. Unit {0}) outer into (λ k. as_unit k)
+        (embedded_lens into out c.tree back (λ _. Unit {0})) (embedded_closes into out c.tree back (λ _. Unit {0}))
+        (goes.part at) from rows.inside rows.leads in
+        let same : last.0 ≡ into cubes.inside = rows.is ∙ cubes.is in
+        record {
+          leaf = cubes.inside;
+          leaf_is = last.1 ∙ ap Some same;
+          leads = cubes.leads;
+          ended = sym (closed cubes.inside) ∙ subst (λ (t : AnyState). outer.done t ≡ true) same done;
+        }
 
-module _ (plan : Parts) (drawable : CanBeDrawn plan) (balance : balances plan.method ≡ true) (ends : List AnyState) (h : ℕ) (s : Stratum) (is : slice_get plan.strata h ≡ Some s) (leaf : Balancing) (leaf_is : slice_get ends (first_number plan h) ≡ Some (states.Cube leaf)) where
-  abbrev selected_by : Procedure → ℕ → Bool
-  selected_by way k = is_taken ((method_of (design_of way s.request (free_values (balancing s)))).tree.selected (states.Cube leaf)) (inclusion s.request k)
+  pub drawn_by_cube : balances plan.method ≡ true → IsDrawnByCube plan h s (goes.part at) ends
+  drawn_by_cube balance =
+      elim (is_cube plan.method balance) [
+        | inl m ↦ by_cube m (drawn_from (cube_of (free_units (balancing plan s))) (starting (free_units (balancing plan s))) states.Cube (cube_out plan s) (λ _. refl) (cube_tree_is plan s m) (cube_start_is plan s m) (λ _. refl) refl)
+        | inr m ↦ by_local_cube m (drawn_from (local_of (free_units (balancing plan s))) (started (local_units plan s)) states.LocalCube (local_out plan s) (λ _. refl) (local_tree_is plan s m) (local_start_is plan s m) (λ _. refl) refl)
+      ]
 
-  is_the_cube : procedure plan.method plan.order (column_count (balancing s)) ≡ procedure Cube plan.order (column_count (balancing s))
-  is_the_cube = ap (λ m. procedure m plan.order (column_count (balancing s))) (is_cube plan.method balance)
+-- ---- which units are selected
 
-  read_there : (k : ℕ) → unit_selected tree_of (stages_of plan) ends (record { stage = first_number plan h; unit = k }) ≡ selected_by (procedure plan.method plan.order (column_count (balancing s))) k
-  read_there k =
-      ap (λ o. read tree_of false (λ tree t. tree.selected t k) o (slice_get ends (first_number plan h))) (first_there plan h s is)
-      ∙ ap (λ o. read tree_of false (λ tree t. tree.selected t k) (Some (first_stage plan s)) o) leaf_is
+module _ (plan : Parts) (ends : List AnyState) (h : ℕ) (s : Stratum) (is : slice_get plan.strata h ≡ Some s) where
+  module _ (state : AnyState) (state_is : slice_get ends (first_number plan h) ≡ Some state) where
+    abbrev selected_by : Tree AnyState → ℕ → Bool
+    selected_by tree k = is_taken (tree.selected state) (inclusion s.request k)
 
-  is_first : is_drawn tree_of (stages_of plan) ends (first_number plan h) ≡ true
-  is_first = ap (λ o. drawn_within tree_of (stages_of plan) ends (within_of o)) (first_there plan h s is)
+    read_there : (k : ℕ) → unit_selected tree_of (stages_of plan) ends (record { stage = first_number plan h; unit = k }) ≡ selected_by (method_of (design_so plan s plan.method)).tree k
+    read_there k =
+        ap (λ o. read tree_of false (λ tree t. tree.selected t k) o (slice_get ends (first_number plan h))) (first_there plan h s is)
+        ∙ ap (λ o. read tree_of false (λ tree t. tree.selected t k) (Some (first_stage plan s)) o) state_is
+
+    is_first : is_drawn tree_of (stages_of plan) ends (first_number plan h) ≡ true
+    is_first = ap (λ o. drawn_within tree_of (stages_of plan) ends (within_of o)) (first_there plan h s is)
+
+    selected_so : (k : ℕ) → first_selected plan ends h k ≡ selected_by (method_of (design_so plan s plan.method)).tree k
+    selected_so k =
+        ap (λ b. b && unit_selected tree_of (stages_of plan) ends (record { stage = first_number plan h; unit = k })) is_first
+        ∙ read_there k
 
   -- those that are certain, and those whose value is 1 at the leaf
-  pub cube_selected : (k : ℕ) → first_selected plan ends h k ≡ is_selected (balancing s) leaf k
-  cube_selected k =
-      ap (λ b. b && unit_selected tree_of (stages_of plan) ends (record { stage = first_number plan h; unit = k })) is_first
-      ∙ read_there k ∙ ap (λ way. selected_by way k) is_the_cube
+  pub cube_selected : (part : List Entry) (drawn : IsDrawnByCube plan h s part ends) (k : ℕ) → first_selected plan ends h k ≡ is_selected (balancing plan s) (leaf_of drawn) k
+  cube_selected part (by_cube m d) k =
+      selected_so (states.Cube d.leaf) d.leaf_is k ∙ ap (λ tree. selected_by (states.Cube d.leaf) d.leaf_is tree k) (cube_tree_is plan s m)
+  cube_selected part (by_local_cube m d) k =
+      selected_so (states.LocalCube d.leaf) d.leaf_is k ∙ ap (λ tree. selected_by (states.LocalCube d.leaf) d.leaf_is tree k) (local_tree_is plan s m)

@@ -27,7 +27,7 @@ use Rattle.smp_strata.specs.declared.strata.Stratum.{Stratum}
 use Rattle.smp_twostage.specs.Kept.{EachStarts, StageStarts}
 use Rattle.smp_twostage.specs.Plans.{CanBeDrawn}
 use Rattle.smp_balance.specs.Strata.{column_count, free_values}
-use Rattle.smp_twostage.specs.Selections.{Selecting, first_number, first_stage, stages_of, tree_of, whole_tree, balancing}
+use Rattle.smp_twostage.specs.Selections.{Selecting, first_number, first_stage, stages_of, tree_of, whole_tree, valued}
 use Rattle.smp_twostage.specs.Starts.{FirstSelectsAround}
 use Rattle.smp_twostage.specs.Laws.Numbering.{first_there}
 use Rattle.smp_twostage.proofs.Columns.{is_planned}
@@ -58,9 +58,9 @@ module _ (plan : Parts) (drawable : CanBeDrawn plan) (other : balances plan.meth
   own_around : LeavesSelectAround (tree_of own) first.0
   own_around =
       let over = (is_planned plan drawable h s is).stratum.over in
-      let way : Procedure = procedure plan.method plan.order (column_count (balancing s)) in
+      let way : Procedure = procedure plan.method plan.order plan.near (column_count (valued s)) in
       rows_around (length s.units) s.request (λ u l. over.free u 0 l) over.apart (method_of own.design).tree starts.member.paired (method_of own.design).belongs first.0
-      (around_unless way s.request (free_values (balancing s)) first.0 other starts.around)
+      (around_unless way s.request (free_values (valued s)) first.0 other starts.around)
 
   module _ (start_paths : AtEachLeaf (whole_tree plan) (progress tree_of (stages_of plan) states) (λ path leaf. GoesByStages tree_of (stages_of plan) states path leaf.states)) where
     pub firsts_around : FirstSelectsAround plan (progress tree_of (stages_of plan) states) h s

@@ -171,7 +171,7 @@ module _ (plan : Parts) (drawable : CanBeDrawn plan) (states : List AnyState) (e
     firsts = firsts;
     seconds = seconds plan.second refl;
     around = λ other h s is. firsts_around plan drawable other states each h s is starts.paths;
-    cubes = drawn_by_cube plan drawable;
+    cubes = λ balance path ends goes h s is. drawn_by_cube plan drawable path ends goes h s is balance;
     paths = subst (λ (qs : List AnyState). AtEachLeaf (whole_tree plan) start (λ path leaf. GoesByStages tree_of (stages_of plan) qs path leaf.states)) states_are starts.paths;
   }
 

@@ -1,9 +1,10 @@
 -- What is told of a stratum that is drawn by the cube can be told.
-use Rattle.std.proofs.Common.{◌≡◌, ℕ, ◌+◌, ◌-◌, ◌^◌, ◌<◌, ◌≤◌, Bool, true, false, true≢false, ℤ, List, length, map, Option, Some, None, refl, sym, ap, ◌∙◌, arith}
+use Rattle.std.proofs.Common.{◌≡◌, ℕ, ◌+◌, ◌-◌, ◌^◌, ◌<◌, ◌≤◌, Bool, true, false, true≢false, ℤ, List, length, map, take, Option, Some, None, refl, sym, ap, ◌∙◌, subst, arith, length-take}
 use Rattle.std.specs.List.{range_with_len, slice_get}
+use Rattle.std.specs.Int.RustNames.{unsigned_abs}
 use Rattle.std.proofs.lemmas.Bool.{and_parts, eqb-true}
 use Rattle.std.proofs.lemmas.List.{length-map}
-use Rattle.std.proofs.lemmas.List.Elements.{All-from_get_or, All-map, All-weaker, filter_passes}
+use Rattle.std.proofs.lemmas.List.Elements.{All-from_get_or, All-map, All-take, All-weaker, filter_passes}
 use Rattle.smp_prob.specs.declared.inclusions.Inclusion.{Inclusion}
 use Rattle.smp_prob.specs.declared.inclusions.Inclusion.TheVariants.{Certain, Free, Never}
 use Rattle.smp_prob.specs.Inclusions.{is_taken, inclusion}
@@ -30,11 +31,11 @@ use Rattle.smp_twostage.specs.Cubes.{balancing}
 use Rattle.smp_twostage.specs.Kept.{IsPlanned}
 use Rattle.smp_twostage.specs.Lines.{drawn_stratum}
 use Rattle.smp_twostage.specs.Plans.{CanBeDrawn}
-use Rattle.smp_twostage.specs.Selections.{Coverage, Selecting, covered_parts, covers, first_number, first_stage, is_only, parts_by, stages_of, tree_of}
+use Rattle.smp_twostage.specs.Selections.{Coverage, Selecting, balance_count, covered_parts, covers, first_number, first_stage, is_only, parts_by, stages_of, tree_of}
 use Rattle.smp_twostage.specs.Starts.{first_selected}
 use Rattle.smp_twostage.specs.Laws.Covered.{alone_there}
 use Rattle.smp_twostage.specs.Laws.Numbering.{first_there}
-use Rattle.smp_twostage.proofs.Columns.{is_planned, near_within}
+use Rattle.smp_twostage.proofs.Columns.{columns_are, is_planned, near_within}
 use Rattle.smp_twostage.proofs.Numbers.{passing}
 
 -- ---- a first stage unit that is selected can be
@@ -74,18 +75,26 @@ module _ (plan : Parts) (drawable : CanBeDrawn plan) (balance : balances plan.me
   abbrev own : IsPlanned plan s
   own = is_planned plan drawable h s is
 
-  values_are : AreValues (map (λ u. u.values) s.units)
-  values_are =
-      are_values own.columns (map (λ u. u.values) s.units)
-      (All-map (λ (v : List ℤ). length v ≡ own.columns) (λ (u : FirstUnit). u.values) s.units own.counted)
-      (All-map (Within (2 ^ 31 - 1)) (λ (u : FirstUnit). u.values) s.units (All-weaker (IsFirst plan.second) (λ u. Within (2 ^ 31 - 1) u.values) (λ u first. near_within u.values first.near) s.units own.stratum.firsts))
-      (balances_few plan.method own.columns balance (takes_some plan.method plan.order own.columns own.method))
+  abbrev cut : FirstUnit → List ℤ
+  cut u = take (balance_count plan s) u.values
 
-  pub is_stratum : AreStratumUnits (balancing s)
+  few_columns : balance_count plan s ≤ 15
+  few_columns =
+      subst (λ n. n - plan.near ≤ 15) (sym (columns_are plan s own))
+      (balances_few plan.method plan.near own.columns balance (takes_some plan.method plan.order plan.near own.columns own.method))
+
+  values_are : AreValues (map (λ u. take (balance_count plan s) u.values) s.units)
+  values_are =
+      are_values (balance_count plan s) (map (λ u. take (balance_count plan s) u.values) s.units)
+      (All-map (λ (v : List ℤ). length v ≡ balance_count plan s) cut s.units (All-weaker (λ u. length u.values ≡ own.columns) (λ u. length (cut u) ≡ balance_count plan s) (λ u counted. omega (arith, length-take (balance_count plan s) u.values, counted, columns_are plan s own)) s.units own.counted))
+      (All-map (Within (2 ^ 31 - 1)) cut s.units (All-weaker (IsFirst plan.second) (λ u. Within (2 ^ 31 - 1) (cut u)) (λ u first. All-take (λ z. unsigned_abs z ≤ 2 ^ 31 - 1) (balance_count plan s) u.values (near_within u.values first.near)) s.units own.stratum.firsts))
+      few_columns
+
+  pub is_stratum : AreStratumUnits (balancing plan s)
   is_stratum = record {
     request = own.stratum.over.sound;
     rising = own.stratum.over.rising;
-    inside = λ u l. (let inside = own.stratum.over.free u 0 l in omega (arith, inside, length-map s.units (λ u. u.values)));
+    inside = λ u l. (let inside = own.stratum.over.free u 0 l in omega (arith, inside, length-map s.units cut));
     stands = own.stratum.over.apart;
     values = values_are;
   }
@@ -96,14 +105,14 @@ module _ (c : Coverage) (drawable : CanBeDrawn c.plan) (balance : balances c.pla
   pub is_told : covers c h ≡ true → IsTold (drawn_stratum c states h s)
   is_told covered = record {
     stratum = is_stratum c.plan drawable balance h s is;
-    few = (let few = (is_planned c.plan drawable h s is).stratum.few in omega (arith, few, length-map s.units (λ u. u.values)));
+    few = (let few = (is_planned c.plan drawable h s is).stratum.few in omega (arith, few, length-map s.units (cut c.plan drawable balance h s is)));
     columns = refl;
     units =
         All-weaker (λ k. covered_first c states h k ≡ true) (λ k. can_be_selected (inclusion s.request k) ≡ true) (λ k selected. covered_open c states h s is covered k selected)
         (drawn_stratum c states h s).units (filter_passes (covered_first c states h) (range_with_len 0 (length s.units)));
     within =
-        All-from_get_or (λ k. k < length (map (λ u. u.values) s.units)) (drawn_stratum c states h s).units 0
-        (λ i l. let below = (passing (covered_first c states h) 0 0 (length s.units) i l).0 in omega (arith, below, length-map s.units (λ u. u.values)));
+        All-from_get_or (λ k. k < length (map (λ u. take (balance_count c.plan s) u.values) s.units)) (drawn_stratum c states h s).units 0
+        (λ i l. let below = (passing (covered_first c states h) 0 0 (length s.units) i l).0 in omega (arith, below, length-map s.units (cut c.plan drawable balance h s is)));
   }
 
 -- what the code says of it
@@ -111,10 +120,10 @@ module _ (c : Coverage) (states : List AnyState) (h : ℕ) (s : Stratum) where
   abbrev told : lines.Drawn
   told = drawn_stratum c states h s
 
-  pub drawn_same : (left columns : ℕ) (values : List (List ℤ)) (units : List ℕ) → left ≡ told.left → columns ≡ told.columns → values ≡ map (λ u. u.values) s.units → units ≡ told.units
+  pub drawn_same : (left columns : ℕ) (values : List (List ℤ)) (units : List ℕ) → left ≡ told.left → columns ≡ told.columns → values ≡ map (λ u. take (balance_count c.plan s) u.values) s.units → units ≡ told.units
       → ◌≡◌ {A = lines.Drawn} (record { number = h + 1; left = left; columns = columns; stratum = record { request = s.request; values = values }; units = units }) told
   drawn_same left columns values units left_is columns_are values_are units_are =
       ap (λ (n : ℕ). record { number = h + 1; left = n; columns = columns; stratum = record { request = s.request; values = values }; units = units }) left_is
       ∙ ap (λ (n : ℕ). record { number = h + 1; left = told.left; columns = n; stratum = record { request = s.request; values = values }; units = units }) columns_are
       ∙ ap (λ (vs : List (List ℤ)). record { number = h + 1; left = told.left; columns = told.columns; stratum = record { request = s.request; values = vs }; units = units }) values_are
-      ∙ ap (λ (us : List ℕ). record { number = h + 1; left = told.left; columns = told.columns; stratum = balancing s; units = us }) units_are
+      ∙ ap (λ (us : List ℕ). record { number = h + 1; left = told.left; columns = told.columns; stratum = balancing c.plan s; units = us }) units_are

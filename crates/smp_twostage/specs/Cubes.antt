@@ -2,20 +2,47 @@
 use Rattle.std.specs.Prelude.{◌≡◌, ℕ, true, List, Some}
 use Rattle.std.specs.List.{slice_get}
 use Rattle.smp_split.specs.Paths.{Entry, Leads}
-use Rattle.smp_landing.specs.Cube.{Balancing}
-use Rattle.smp_balance.specs.Strata.{tree_of, start_of}
+use Rattle.smp_flight.specs.Selections.{Balancing, Selection, starting}
+use Rattle.smp_localpiv.specs.Coordinates.{points_from}
+use Rattle.smp_landing.specs.Cube.{cube_of}
+use Rattle.smp_localcube.specs.Local.{local_of}
+use Rattle.smp_localcube.specs.Method.{LocalUnits, started}
+use Rattle.smp_balance.specs.Strata.{free_units, free_values}
+use Rattle.smp_design.specs.declared.method.Method.TheVariants as method
 use Rattle.smp_methods.specs.declared.any.AnyState.{AnyState}
-use Rattle.smp_methods.specs.declared.any.AnyState.TheVariants.{Cube}
+use Rattle.smp_methods.specs.declared.any.AnyState.TheVariants as states
 use Rattle.smp_strata.specs.Plans.{Parts}
 use Rattle.smp_strata.specs.declared.strata.Stratum.{Stratum}
-use Rattle.smp_twostage.specs.Selections.{first_number}
+use Rattle.smp_twostage.specs.Selections.{balance_count, first_number, valued}
 pub use Rattle.smp_twostage.specs.Selections.{balancing}
 
--- The stratum's part of a path leads through the cube's tree, from the requested probabilities to a leaf, and it ends the selection in the
--- stratum.
-pub record IsDrawnByCube (plan : Parts) (h : ℕ) (s : Stratum) (part : List Entry)
+-- The stratum's part of a path leads through the tree of a selection, from a state to a leaf, and it ends the selection in the stratum.
+pub record IsDrawnFrom {State : Type 0} (c : Selection State) (from : State) (into : State → AnyState)
+    (plan : Parts) (h : ℕ) (part : List Entry) (ends : List AnyState) : Type 0 where
+  pub leaf : State
+  pub leaf_is : slice_get ends (first_number plan h) ≡ Some (into leaf)
+  pub leads : Leads c.tree from part leaf
+  pub ended : c.tree.done leaf ≡ true
+
+-- the units that the local cube draws from, and where they lie
+abbrev pub local_units : Parts → Stratum → LocalUnits
+local_units plan s = record {
+  units = free_units (balancing plan s);
+  coords = points_from plan.near (balance_count plan s) (free_values (valued s));
+}
+
+-- The stratum is drawn so from the requested probabilities, by the cube or by the local cube.
+pub data IsDrawnByCube (plan : Parts) (h : ℕ) (s : Stratum) (part : List Entry)
     (ends : List AnyState) : Type 0 where
-  pub leaf : Balancing
-  pub leaf_is : slice_get ends (first_number plan h) ≡ Some (Cube leaf)
-  pub leads : Leads (tree_of (balancing s)) (start_of (balancing s)) part leaf
-  pub ended : (tree_of (balancing s)).done leaf ≡ true
+  by_cube : plan.method ≡ method.Cube
+      → IsDrawnFrom (cube_of (free_units (balancing plan s))) (starting (free_units (balancing plan s)))
+      states.Cube plan h part ends → IsDrawnByCube plan h s part ends
+  by_local_cube : plan.method ≡ method.LocalCube
+      → IsDrawnFrom (local_of (free_units (balancing plan s))) (started (local_units plan s))
+      states.LocalCube plan h part ends → IsDrawnByCube plan h s part ends
+
+-- the leaf, as a state of flight and landing
+abbrev pub leaf_of : {plan : Parts} {h : ℕ} {s : Stratum} {part : List Entry} {ends : List AnyState}
+    → IsDrawnByCube plan h s part ends → Balancing
+leaf_of (by_cube is drawn) = drawn.leaf
+leaf_of (by_local_cube is drawn) = drawn.leaf.at

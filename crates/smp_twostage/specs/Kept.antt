@@ -19,7 +19,7 @@ use Rattle.smp_twostage.specs.Selections.{Coverage, Selecting, belongs_to, cover
 -- a stratum of a plan that can be drawn
 pub record IsPlanned (plan : Parts) (s : Stratum) : Type 0 where
   pub columns : ℕ
-  pub method : is_some (procedure_of plan.method plan.order columns) ≡ true
+  pub method : is_some (procedure_of plan.method plan.order plan.near columns) ≡ true
   pub second : IfSome plan.second TakesRows
   pub stratum : IsStratum plan.second s
   pub whole : IsTrue (row plan.method).draws_whole → IsWhole s.request

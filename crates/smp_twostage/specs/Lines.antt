@@ -19,8 +19,8 @@ abbrev pub drawn_stratum : Coverage → List AnyState → ℕ → Stratum → ba
 drawn_stratum c states h s = record {
   number = h + 1;
   left = covered_left c states h;
-  columns = column_count (balancing s);
-  stratum = balancing s;
+  columns = column_count (balancing c.plan s);
+  stratum = balancing c.plan s;
   units = filter (covered_first c states h) (range_with_len 0 (length s.units));
 }
 

@@ -1,7 +1,7 @@
 -- The whole selection by a plan, in stages. Strata are drawn in order of first appearance. In each its first stage units are drawn,
 -- and then, where there is a second stage, rows within each of those that were drawn, certain ones among them (Särndal, Swensson and
 -- Wretman 1992).
-use Rattle.std.specs.Prelude.{ℕ, zero, Bool, true, suc, ◌+◌, nat_eq, nat_lt, ◌&&◌, if◌then◌else◌, List, [], ◌∷◌}
+use Rattle.std.specs.Prelude.{ℕ, zero, Bool, true, suc, ◌+◌, ◌-◌, nat_eq, nat_lt, ◌&&◌, if◌then◌else◌, List, [], ◌∷◌}
 use Rattle.std.specs.Prelude.{◌++◌, length, map, take, drop, Option, Some, None, option_map, unwrap_or}
 use Rattle.std.specs.List.{slice_get, list_any, position_or_len, range_with_len}
 use Rattle.smp_balance.specs.Strata.{StratumUnits, column_count, free_values}
@@ -45,8 +45,19 @@ belongs_to s = BelongsToRows s.request (method_of s.design).tree (method_of s.de
 -- ---- the stages
 
 -- a stratum as it is drawn from: its request, and the values of its first stage units
-abbrev pub balancing : stratum.Stratum → StratumUnits
-balancing s = record { request = s.request; values = map (λ u. u.values) s.units }
+abbrev pub valued : stratum.Stratum → StratumUnits
+valued s = record { request = s.request; values = map (λ u. u.values) s.units }
+
+-- how many columns of values stand before those of coordinates
+abbrev pub balance_count : Parts → stratum.Stratum → ℕ
+balance_count plan s = column_count (valued s) - plan.near
+
+-- a stratum as it is balanced: its request, and of the values of its first stage units those that aren't coordinates
+abbrev pub balancing : Parts → stratum.Stratum → StratumUnits
+balancing plan s = record {
+  request = s.request;
+  values = map (λ u. take (balance_count plan s) u.values) s.units;
+}
 
 -- the first stage of a stratum: its first stage units, by the plan's method and in its order
 abbrev pub first_stage : Parts → stratum.Stratum → Stage Selecting
@@ -54,8 +65,8 @@ first_stage plan s = record {
   design = record {
     units = length s.units;
     request = s.request;
-    design = design_of (procedure plan.method plan.order (column_count (balancing s)))
-        s.request (free_values (balancing s));
+    design = design_of (procedure plan.method plan.order plan.near (column_count (valued s)))
+        s.request (free_values (valued s));
   };
   within = None;
 }
@@ -66,7 +77,7 @@ second_stage method request rows at k = record {
   design = record {
     units = rows;
     request = request;
-    design = design_of (procedure method Frame 0) request (map (λ _. []) request.free);
+    design = design_of (procedure method Frame 0 0) request (map (λ _. []) request.free);
   };
   within = Some (record { stage = at; unit = k });
 }
@@ -110,27 +121,32 @@ first_number plan h = length (stages_below plan h)
 
 -- ---- where the rows are selected
 
--- the seat of the row at this place of the plan: its first stage unit, and with a second stage itself within that unit
+-- The seat of the row at this place of the plan, where its stratum's first stage has the number `at`: its first stage unit, and with a
+-- second stage itself within that unit. The stages within a stratum's units stand behind its first stage, one for each unit.
 abbrev pub seat_by : Option Method → ℕ → place.Seat → Seat
 seat_by None at p = First (record { stage = at; unit = p.unit })
 seat_by (Some method) at p =
     Second (record { stage = at; unit = p.unit })
     (record { stage = suc (at + p.unit); unit = p.place })
 
+-- the same, with the number that the stratum's first stage has
 abbrev pub seat_of : Parts → place.Seat → Seat
 seat_of plan p = seat_by plan.second (first_number plan p.stratum) p
 
--- the place of a row in the plan: the stratum, the first stage unit and the place in it that have the row
+-- whether a row is one of a first stage unit, and whether it is one of a stratum
 abbrev pub unit_has : ℕ → unit.FirstUnit → Bool
 unit_has row u = list_any (nat_eq row) u.rows
 
 abbrev pub stratum_has : ℕ → stratum.Stratum → Bool
 stratum_has row s = list_any (unit_has row) s.units
 
+-- the first stage units of a stratum, none where there is no such stratum
 abbrev pub units_at : Option stratum.Stratum → List unit.FirstUnit
 units_at (Some s) = s.units
 units_at None = []
 
+-- the place of a row in the plan: the first stratum that has it, the first unit there that has it, and where it stands among the unit's
+-- rows
 abbrev pub place_of : List stratum.Stratum → ℕ → place.Seat
 place_of strata row =
     let h = position_or_len (stratum_has row) strata in
@@ -196,14 +212,16 @@ covered_stages c = stages_of (covered_parts c)
 abbrev pub covered_start : Coverage → Progress AnyState
 covered_start c = progress tree_of (covered_stages c) (states_of (covered_parts c))
 
--- the seats of the rows; where stratum h is drawn alone, rows of other strata have none
+-- whether a row is one of stratum h
 abbrev pub is_of_stratum : Parts → ℕ → ℕ → Bool
 is_of_stratum plan h row = nat_eq (place_of plan.strata row).stratum h
 
+-- the seat of a row where stratum h is drawn alone, whose first stage has the number 0; rows of other strata have none
 abbrev pub seat_alone : Parts → ℕ → ℕ → Seat
 seat_alone plan h row =
     if is_of_stratum plan h row then seat_by plan.second 0 (place_of plan.strata row) else Nowhere
 
+-- the seats of all rows, in frame order, where all strata are drawn or one alone
 abbrev pub seats_by : Parts → Option ℕ → List Seat
 seats_by plan None = seats_of plan
 seats_by plan (Some h) = map (seat_alone plan h) (range_with_len 0 plan.rows)

@@ -1,11 +1,12 @@
 //! What the report tells of the strata that are balanced.
 
-ghost use Rattle.std.specs.Prelude.{◌≡◌, ◌++◌, ◌+◌, ◌^◌, ◌<◌, true, length, map, IfOk, OnOk, string_bytes};
+ghost use Rattle.std.specs.Prelude.{◌≡◌, ◌++◌, ◌+◌, ◌^◌, ◌<◌, true, length, map, take, IfOk, OnOk, string_bytes};
 ghost use Rattle.std.specs.List.{filter, range_with_len, slice_get};
 ghost use Rattle.smp_design.specs.Words.{balances};
 ghost use Rattle.smp_twostage.specs.Covered.{covered_first};
 ghost use Rattle.smp_twostage.specs.Lines.{all_lines, balance_lines, stratum_lines};
-ghost use Rattle.smp_twostage.specs.Selections.{BelongsToCovered, covered_tree, covers, units_at};
+ghost use Rattle.smp_balance.specs.Strata.{column_count};
+ghost use Rattle.smp_twostage.specs.Selections.{BelongsToCovered, balance_count, balancing, covered_tree, covers, units_at};
 
 use crate::Whole;
 use crate::made::column_count;
@@ -13,10 +14,11 @@ use smp_balance::DrawnStratum;
 use smp_frac::NoMemory;
 use smp_methods::AnyState;
 use smp_stages::StagesState;
-use smp_strata::FirstUnit;
+use smp_strata::{FirstUnit, Plan, Stratum};
 use std::alloc::Global;
 
-/// What the cube kept and gave up in each stratum that is covered (Deville and Tillé 2004), in a done state; no text by any other method.
+/// What the cube, or the local cube, kept and gave up in each stratum that is covered (Deville and Tillé 2004), in a done state; no text
+/// by any other method.
 ///
 /// Of each stratum H, in order of first appearance, come `left H L`, with L the number of its first stage units that were undecided where its
 /// landing began (see [`Whole::left`]); and then for each balancing column J `balance H J E T`. E is the sum of the values of the drawn first
@@ -98,14 +100,16 @@ fn stratum_lines(
     ensures { IfOk result
         (λ text. string_bytes text ≡ stratum_lines whole.now state.now.states number) }
 {
-    let stratum = whole.plan().stratum(number);
+    let plan = whole.plan();
+    let stratum = plan.stratum(number);
     let units = stratum.units.as_slice();
-    let values = values_of(alloc, units)?;
+    let columns = balance_count(plan, stratum);
+    let values = values_of(alloc, units, columns)?;
     let drawn = drawn_units(alloc, whole, state, number, units.len())?;
     let drawn = DrawnStratum {
         number: number + 1,
         left: whole.left(state, number),
-        columns: column_count(stratum),
+        columns,
         request: &stratum.request,
         values: values.as_slice(),
         units: drawn.as_slice(),
@@ -137,14 +141,27 @@ fn drawn_units(
     Ok(drawn)
 }
 
-// The values of each unit.
-fn values_of<'a>(alloc: Global, units: &'a [FirstUnit]) -> Result<Vec<&'a [i32]>, NoMemory>
+// How many columns of values stand before those of coordinates.
+fn balance_count(plan: &Plan, stratum: &Stratum) -> usize
+    ensures is { result ≡ balance_count plan.now stratum.now }
+    ensures counted { result ≡ column_count (balancing plan.now stratum.now) }
+{
+    column_count(stratum).saturating_sub(plan.near())
+}
+
+// So many first values of each unit.
+fn values_of<'a>(
+    alloc: Global,
+    units: &'a [FirstUnit],
+    columns: usize,
+) -> Result<Vec<&'a [i32]>, NoMemory>
     ensures { IfOk result (λ values. map (λ v. v.now) values.items
-        ≡ map (λ u. u.values) units.now) }
+        ≡ map (λ u. take columns u.values) units.now) }
 {
     let mut values = Vec::with_capacity(alloc, units.len())?;
     for unit in units {
-        values.push(unit.values.as_slice())?;
+        let all = unit.values.as_slice();
+        values.push(&all[..columns.min(all.len())])?;
     }
     Ok(values)
 }

@@ -9,7 +9,7 @@ ghost use Rattle.smp_strata.specs.Bounds.{IsFirst};
 ghost use Rattle.smp_twostage.specs.Kept.{EachStarts, IsPlanned, StageStarts, first_numbers};
 ghost use Rattle.smp_twostage.specs.Plans.{CanBeDrawn, TakesRows};
 ghost use Rattle.smp_balance.specs.Strata as Strata;
-ghost use Rattle.smp_twostage.specs.Selections.{all_of, balancing, covered_stages, first_stage, one_of};
+ghost use Rattle.smp_twostage.specs.Selections.{all_of, covered_stages, first_stage, one_of, valued};
 ghost use Rattle.smp_twostage.specs.Selections.{stage_by, stages_in, stages_of, stages_within};
 
 use crate::StageDesign;
@@ -37,12 +37,12 @@ pub(crate) struct Made<'a> {
 }
 
 // The procedure of a method that takes so many columns.
-fn procedure(method: Method, order: Order, columns: usize) -> Procedure
-    requires { is_some (procedure_of method order columns) ≡ true }
-    ensures is { result ≡ procedure method order columns }
-    ensures given { procedure_of method order columns ≡ Some result }
+fn procedure(method: Method, order: Order, near: usize, columns: usize) -> Procedure
+    requires { is_some (procedure_of method order near columns) ≡ true }
+    ensures is { result ≡ procedure method order near columns }
+    ensures given { procedure_of method order near columns ≡ Some result }
 {
-    match Procedure::of_method(method, order, columns) {
+    match Procedure::of_method(method, order, near, columns) {
         Some(procedure) => procedure,
         None => unreachable!(),
     }
@@ -61,7 +61,7 @@ fn values_at(alloc: Global, units: &[FirstUnit], unit: usize) -> Result<Numbers,
 
 // The values of the free units of a stratum, in their order.
 fn free_values(alloc: Global, stratum: &Stratum) -> Result<Vec<Numbers>, NoMemory>
-    ensures { IfOk result (λ values. values.items ≡ Strata.free_values (balancing stratum.now)) }
+    ensures { IfOk result (λ values. values.items ≡ Strata.free_values (valued stratum.now)) }
 {
     let mut values = Vec::new(alloc);
     for unit in stratum.request.free.as_slice() {
@@ -83,7 +83,7 @@ fn no_values(alloc: Global, request: &Request) -> Result<Vec<Numbers>, NoMemory>
 
 // How many columns of values the units of a stratum have.
 pub(crate) fn column_count(stratum: &Stratum) -> usize
-    ensures { result ≡ Strata.column_count (balancing stratum.now) }
+    ensures { result ≡ Strata.column_count (valued stratum.now) }
 {
     match stratum.units.as_slice().first() {
         Some(first) => first.values.as_slice().len(),
@@ -147,7 +147,12 @@ impl<'a> Made<'a> {
     {
         let units = stratum.units.as_slice().len();
         let values = free_values(alloc, stratum)?;
-        let procedure = procedure(plan.method(), plan.order(), column_count(stratum));
+        let procedure = procedure(
+            plan.method(),
+            plan.order(),
+            plan.near(),
+            column_count(stratum),
+        );
         let started = start_stage(alloc, procedure, units, &stratum.request, values.as_slice())?;
         self.push(started, None)
     }
@@ -173,7 +178,7 @@ impl<'a> Made<'a> {
         };
         let rows = first.rows.as_slice().len();
         let values = no_values(alloc, request)?;
-        let procedure = procedure(method, Order::Frame, 0);
+        let procedure = procedure(method, Order::Frame, 0, 0);
         let started = start_stage(alloc, procedure, rows, request, values.as_slice())?;
         self.push(started, Some(within))
     }

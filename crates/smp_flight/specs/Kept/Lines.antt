@@ -1,5 +1,5 @@
 -- What the code keeps of a search and of a line.
-use Rattle.std.specs.Prelude.{◌≡◌, ℕ, ◌++◌, ◌<◌, ◌≤◌, List, ℤ, length, slice_index, take, ⊤}
+use Rattle.std.specs.Prelude.{◌≡◌, ℕ, ◌++◌, ◌<◌, ◌≤◌, List, ℤ, length, slice_index, take}
 use Rattle.std.specs.List.{filter}
 use Rattle.smp_kernel.specs.Searched.{answer, ArePadded}
 use Rattle.smp_kernel.specs.declared.searches.Searched.{Searched}
@@ -12,8 +12,6 @@ use Rattle.smp_flight.specs.Kept.Steps.{direction}
 use Rattle.smp_moves.specs.Answers.{line_of, IsPadded}
 use Rattle.smp_moves.specs.declared.lines.Line.{Line as LineOfPlaces}
 use Rattle.smp_flight.specs.declared.fronts.Front.{Front}
-use Rattle.smp_flight.specs.declared.steps.Next.{Next as Answer}
-use Rattle.smp_flight.specs.declared.steps.Next.TheVariants as answers
 use Rattle.smp_moves.specs.Kept.Ends.{HasSmallEntries}
 
 -- the units in the first places of an array
@@ -49,9 +47,3 @@ pub record IsLineOf (units : Units) (order : List ℕ) (w : List ℤ) (line : Li
   pub is : line_of line ≡ direction units order w
   pub padded : IsPadded line
   pub small : HasSmallEntries line
-
--- a move has a line whose other places are 0
-abbrev pub IsPaddedIn : Answer → Type 0
-IsPaddedIn (answers.Move m) = IsPadded m.direction
-IsPaddedIn answers.Independent = ⊤
-IsPaddedIn answers.Wide = ⊤

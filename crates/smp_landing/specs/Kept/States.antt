@@ -3,7 +3,7 @@ use Rattle.std.specs.Prelude.{◌≡◌, ℕ, ◌≤◌, length}
 use Rattle.smp_fractions.specs.Limits.{most_rows}
 use Rattle.smp_prob.specs.Shares.{Shares}
 use Rattle.smp_flight.specs.States.{AreFirst, Flight, Tracked}
-use Rattle.smp_landing.specs.Cube.{Balancing, flying, pairing}
+use Rattle.smp_flight.specs.Selections.{Balancing, flying, pairing}
 use Rattle.smp_landing.specs.declared.state.Phase.{Phase}
 use Rattle.smp_landing.specs.declared.state.Phase.TheVariants.{Flying, Pairing}
 

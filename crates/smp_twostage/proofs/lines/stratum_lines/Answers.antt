@@ -1,9 +1,12 @@
-use Rattle.std.proofs.Common.{◌≡◌, ℕ, ◌+◌, List, [], length, map, Option, Some, IfOk, refl, sym, subst, ◌∙◌, ap}
+use Rattle.std.proofs.Common.{◌≡◌, ℕ, ◌+◌, List, [], length, map, take, Option, Some, IfOk, refl, sym, subst, ◌∙◌, ap}
 use Rattle.std.specs.Prelude.{option_map, string_bytes, unwrap_or}
 use Rattle.std.specs.List.{filter, range_with_len, slice_get}
 use Rattle.std.proofs.lemmas.Option.{slice_get_read}
 use Rattle.smp_balance.specs.Lines as balance
 use Rattle.smp_balance.specs.Lines.{IsTold, balance_lines}
+use Rattle.smp_balance.specs.Strata.{column_count}
+use Rattle.smp_strata.specs.Plans.{Parts}
+use Rattle.smp_twostage.specs.Selections.{balance_count, balancing}
 use Rattle.smp_strata.specs.declared.strata.FirstUnit.{FirstUnit}
 use Rattle.smp_strata.specs.declared.strata.Stratum.{Stratum}
 use Rattle.smp_twostage.specs.Covered.{covered_first}
@@ -16,17 +19,17 @@ module _ (c : After-as_slice-2) where
   there : slice_get c.args.whole.now.plan.strata c.args.number ≡ Some c.stratum-stratum.result.now
   there =
       let strata = c.args.whole.now.plan.strata in
-      slice_get_read strata (length strata) c.args.number c.stratum-stratum.result.now refl c.requires.number (rw c.plan.ensures at c.stratum-stratum.ensures.value)
+      slice_get_read strata (length strata) c.args.number c.stratum-stratum.result.now refl c.requires.number (rw c.plan-plan.ensures at c.stratum-stratum.ensures.value)
 
   -- what was drawn, as the code says it
   same : ◌≡◌ {A = balance.Drawn}
-      (record { number = c.args.number + 1; left = c.left.result; columns = c.column_count.result; stratum = record { request = c.stratum-stratum.result.now.request; values = map (λ v. v.now) c.as_slice.result.now }; units = c.as_slice-2.result.now })
+      (record { number = c.args.number + 1; left = c.left.result; columns = c.balance_count-columns.result; stratum = record { request = c.stratum-stratum.result.now.request; values = map (λ v. v.now) c.as_slice.result.now }; units = c.as_slice-2.result.now })
       (drawn_stratum c.args.whole.now c.args.state.now.states c.args.number c.stratum-stratum.result.now)
   same =
       let whole = c.args.whole.now in
       let states = c.args.state.now.states in
-      drawn_same whole states c.args.number c.stratum-stratum.result.now c.left.result c.column_count.result (map (λ v. v.now) c.as_slice.result.now) c.as_slice-2.result.now c.left.ensures c.column_count.ensures
-      (ap (map (λ v. v.now)) c.as_slice.ensures.value ∙ c.in_ok-values.ensures ∙ ap (map (λ (u : FirstUnit). u.values)) c.as_slice-units.ensures)
+      drawn_same whole states c.args.number c.stratum-stratum.result.now c.left.result c.balance_count-columns.result (map (λ v. v.now) c.as_slice.result.now) c.as_slice-2.result.now c.left.ensures (c.balance_count-columns.ensures.counted ∙ ap (λ (p : Parts). column_count (balancing p c.stratum-stratum.result.now)) c.plan-plan.ensures)
+      (ap (map (λ v. v.now)) c.as_slice.ensures.value ∙ c.in_ok-values.ensures ∙ ap (λ n. map (λ (u : FirstUnit). take n u.values) c.as_slice-units.result.now) (c.balance_count-columns.ensures.is ∙ ap (λ (p : Parts). balance_count p c.stratum-stratum.result.now) c.plan-plan.ensures) ∙ ap (map (λ (u : FirstUnit). take (balance_count c.args.whole.now.plan c.stratum-stratum.result.now) u.values)) c.as_slice-units.ensures)
       (c.as_slice-2.ensures.value ∙ c.in_ok-drawn.ensures ∙ ap (λ (us : List FirstUnit). filter (covered_first whole states c.args.number) (range_with_len 0 (length us))) c.as_slice-units.ensures)
 
 pub balance_lines-requires : goal.balance_lines-requires

@@ -2,7 +2,7 @@ use Rattle.std.proofs.Common.{◌≡◌, Bool, true, false, not, [], arith, map,
 use Rattle.std.proofs.lemmas.Bool.{cases_eq}
 use Rattle.std.specs.Cmp.Lexicographic.{pointwise}
 use Rattle.std.specs.Cmp.Rules.{signed_items}
-use Rattle.smp_flight.specs.States.{column, row_count}
+use Rattle.smp_flight.specs.States.{row_count}
 use Rattle.smp_flight.proofs.Reducing.{columns_are}
 use Rattle.smp_flight.proofs.found.Found.is_of.Goals as goal
 

@@ -1,7 +1,9 @@
 use Rattle.std.proofs.Common.{◌≡◌, false, arith, sym, ◌∙◌}
 use Rattle.smp_values.specs.Values.{is_settled}
 use Rattle.smp_flight.specs.States.{IsFlight}
-use Rattle.smp_landing.specs.Laws.Splits.{some_row}
+use Rattle.smp_values.specs.Values.{fractional_units}
+use Rattle.smp_flight.proofs.ByOrder.{some_row}
+use Rattle.smp_flight.proofs.WholeOrders.{frame_whole}
 use Rattle.smp_landing.proofs.state.CubeState.advance.Goals as goal
 
 pub drop_row-requires-clause-some : goal.drop_row-requires-clause-some
@@ -9,9 +11,10 @@ drop_row-requires-clause-some c =
     let ok : IsFlight c.args.shape.now c.self.inside.flight.flight = rw (← c.self.view_is, c.in-Flying.is) at c.requires.state in
     let going : is_settled c.self.inside.flight.flight.shares ≡ false = rw (← c.self.view_is, c.in-Flying.is) at c.requires.going in
     let e = rw c.in-Independent.is at c.step.ensures.is in
-    some_row c.args.shape.now c.self.inside.flight.flight c.self.inside.left ok (sym e) going
+    some_row c.args.shape.now c.self.inside.flight.flight c.self.inside.left
+    (fractional_units c.self.inside.flight.flight.shares) ok (frame_whole c.self.inside.flight.flight.shares) (sym e) going
 
 pub invariant_of-self-in-Move : goal.invariant_of-self-in-Move
 invariant_of-self-in-Move c =
     let kept = rw c.in-Flying.is at c.self.invariant in
-    rw c.in-Flying.is (record { fits = kept.fits ∙ sym c.fly.ensures.units; few = omega (arith, kept.few, c.fly.ensures.units); first = c.fly.ensures.first })
+    rw c.in-Flying.is (record { fits = kept.fits ∙ sym c.fly_and_look.ensures.units; few = omega (arith, kept.few, c.fly_and_look.ensures.units); first = c.fly_and_look.ensures.first })

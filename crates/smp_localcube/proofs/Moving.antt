@@ -1,0 +1,190 @@
+-- What the code may rest on before a move.
+use Rattle.std.proofs.Common.{◌≡◌, ℕ, Bool, true, false, not, nat_eq, ◌&&◌, ◌||◌, ℤ, pos, neg_ℤ, List, Option, Some, None, length, arith, refl, sym, ap, ◌∙◌, subst, inl, inr}
+use Rattle.std.specs.Int.RustNames.{unsigned_abs}
+use Rattle.std.specs.List.{filter}
+use Rattle.std.specs.Prelude.{option_map}
+use Rattle.std.proofs.lemmas.Bool.{and_from, both_ways, cases_Bool, eqb-true, ne_eqb, or_left, or_right}
+use Rattle.std.proofs.lemmas.List.{ext_get_or}
+use Rattle.std.proofs.lemmas.List.FromFn.{length-map-range_with_len}
+use Rattle.smp_near.specs.Nearest.{LivingPoints, is_living}
+use Rattle.smp_prob.specs.Shares.{Shares}
+use Rattle.smp_values.specs.Values.{fractional_units, is_fractional}
+use Rattle.smp_flight.specs.States.{Flight, IsFlight, Tracked, Units}
+use Rattle.smp_moves.specs.Moves.{Next, chosen_line, move}
+use Rattle.smp_flight.specs.Steps.{chosen, end_at_is, next_on}
+use Rattle.smp_flight.proofs.Firsts.{contains_in, fractional_in, in_contains}
+use Rattle.smp_flight.proofs.WholeOrders.{in_order_going}
+use Rattle.smp_moves.proofs.Entries.{frame_order}
+use Rattle.smp_flight.specs.Answers.{IsNextWindow}
+use Rattle.smp_moves.specs.Moves.{IsOrder, Line, Move, entry_of}
+use Rattle.smp_flight.proofs.ByOrder.{ends_at}
+use Rattle.smp_moves.proofs.Evens.{entry_of_turned}
+use Rattle.smp_moves.proofs.Moved.{same_still}
+use Rattle.smp_flight.specs.Laws.Nexts.{flight_over}
+use Rattle.smp_localcube.proofs.Touch.{zero_size}
+use Rattle.smp_localcube.specs.Kept.States.{AreTouched, IsReady, MayTouch, is_changed, touched_in, weights_of}
+use Rattle.smp_localcube.specs.Local.{is_one_of, is_untouched, untouched}
+use Rattle.smp_localcube.specs.Laws.Orders.{filter_in, filter_same, in_filter, same_truth, untouched_at}
+use Rattle.smp_localcube.proofs.Around.{same_points}
+
+-- the head of a step that was found
+pub record HeadOf (f : ℕ → Next) (o : Option ℕ) (a : Next) : Type 0 where
+  pub head : ℕ
+  pub is : o ≡ Some head
+  pub gives : f head ≡ a
+
+pub head_found : (f : ℕ → Next) (o : Option ℕ) (a : Next) → Some a ≡ option_map f o → HeadOf f o a
+head_found f None a e = absurd (cc)
+head_found f (Some k) a e = record { head = k; is = refl; gives = sym (same_next a (f k) e) }
+  where
+    from : Option Next → Next → Next
+    from None d = d
+    from (Some x) d = x
+
+    same_next : (a b : Next) → Some a ≡ Some b → a ≡ b
+    same_next a b e = ap (λ o. from o a) e
+
+module _ (f : Tracked) (room : Shares) (points : LivingPoints) (weights : List ℕ) (ready : IsReady f room points weights) where
+  living_is : (k : ℕ) → is_living points k ≡ is_untouched f.flight.shares (touched_in f) k
+  living_is k =
+      ap (λ p. is_living p k) (same_points points f.flight.shares (touched_in f) ready.living)
+      ∙ untouched_at points.coords f.flight.shares (touched_in f) k
+
+  pub may_touch : MayTouch f.flight.shares f.window points
+  may_touch = record {
+    count = ap length ready.living ∙ length-map-range_with_len (is_untouched f.flight.shares (touched_in f)) 0 (length f.flight.shares.numer);
+    no_window = λ k h. living_is k ∙ elim (cases_Bool (is_fractional f.flight.shares k)) [
+      | inr e ↦ rw e refl
+      | inl e ↦
+          (let there : is_one_of (touched_in f) k ≡ true = in_filter (is_one_of f.window) (fractional_units f.flight.shares) k (fractional_in f.flight.shares k e) h in
+          rw (e, there) refl)
+    ];
+    others = λ k e out. living_is k ∙ and_from (is_fractional f.flight.shares k) (not (is_one_of (touched_in f) k)) e (elim (cases_Bool (is_one_of (touched_in f) k)) [
+      | inr none ↦ rw none refl
+      | inl there ↦ absurd (both_ways (is_one_of f.window k) out (filter_in (is_one_of f.window) (fractional_units f.flight.shares) k there).1)
+    ]);
+  }
+
+-- ---- the touched units after a move
+
+module _ (before after : Tracked) (line : Line) (next : IsNextWindow before line after) (fewer : (k : ℕ) → is_fractional after.flight.shares k ≡ true → is_fractional before.flight.shares k ≡ true) where
+  -- a fractional unit is in the new window where it was touched or is changed
+  touched_from : (k : ℕ) → is_fractional after.flight.shares k ≡ true → is_one_of after.window k ≡ true → (is_one_of (touched_in before) k || is_changed line k) ≡ true
+  touched_from k e h =
+      elim ((next.is k).0 (in_contains after.window k h)).1 [
+        | inl was ↦ or_left (is_one_of (touched_in before) k) (is_changed line k)
+            (in_filter (is_one_of before.window) (fractional_units before.flight.shares) k (fractional_in before.flight.shares k (fewer k e)) (contains_in before.window k was))
+        | inr some ↦ or_right (is_one_of (touched_in before) k) (is_changed line k)
+            (rw (ne_eqb (unsigned_abs (entry_of line k)) 0 (λ h. some (zero_size (entry_of line k) h))) refl)
+      ]
+
+  touched_to : (k : ℕ) → is_fractional after.flight.shares k ≡ true → (is_one_of (touched_in before) k || is_changed line k) ≡ true → is_one_of after.window k ≡ true
+  touched_to k e h =
+      contains_in after.window k ((next.is k).1 (
+        e,
+        elim (cases_Bool (is_one_of (touched_in before) k)) [
+          | inl was ↦ inl (in_contains before.window k (filter_in (is_one_of before.window) (fractional_units before.flight.shares) k was).1)
+          | inr out ↦ inr (λ zero. both_ways (is_changed line k) (ap (λ (x : ℤ). not (nat_eq (unsigned_abs x) 0)) zero) (rw out at h))
+        ],
+      ))
+
+  pub touched_moved : touched_in after ≡ filter (λ k. is_one_of (touched_in before) k || is_changed line k) (fractional_units after.flight.shares)
+  touched_moved =
+      filter_same (is_one_of after.window) (λ k. is_one_of (touched_in before) k || is_changed line k) (fractional_units after.flight.shares)
+      (λ k h.
+      let e = in_order_going after.flight.shares (fractional_units after.flight.shares) (frame_order after.flight.shares) k h in
+      same_truth (is_one_of after.window k) (is_one_of (touched_in before) k || is_changed line k) (touched_from k e) (touched_to k e))
+
+  -- ---- the living points after it
+
+  module _ (still : (k : ℕ) → entry_of line k ≡ pos 0 → is_fractional after.flight.shares k ≡ is_fractional before.flight.shares k) (room : Shares) (points now : LivingPoints) (weights : List ℕ) (ready : IsReady before room points weights) (t : AreTouched points line now) where
+    in_touched : (k : ℕ) → is_fractional after.flight.shares k ≡ true → (is_one_of (touched_in before) k || is_changed line k) ≡ true → is_one_of (touched_in after) k ≡ true
+    in_touched k e h = in_filter (is_one_of after.window) (fractional_units after.flight.shares) k (fractional_in after.flight.shares k e) (touched_to k e h)
+
+    from_touched : (k : ℕ) → is_fractional after.flight.shares k ≡ true → is_changed line k ≡ false → is_one_of (touched_in after) k ≡ true → is_one_of (touched_in before) k ≡ true
+    from_touched k e unchanged h =
+        or_false (is_one_of (touched_in before) k) (subst (λ (c : Bool). (is_one_of (touched_in before) k || c) ≡ true) unchanged (touched_from k e (filter_in (is_one_of after.window) (fractional_units after.flight.shares) k h).1))
+      where
+        or_false : (b : Bool) → (b || false) ≡ true → b ≡ true
+        or_false true e = refl
+        or_false false e = e
+
+    changed_one : (k : ℕ) → is_changed line k ≡ true → is_untouched after.flight.shares (touched_in after) k ≡ false
+    changed_one k changed =
+        elim (cases_Bool (is_fractional after.flight.shares k)) [
+          | inr e ↦ rw e refl
+          | inl e ↦ rw (e, in_touched k e (or_right (is_one_of (touched_in before) k) (is_changed line k) changed)) refl
+        ]
+
+    same_one : (k : ℕ) → is_changed line k ≡ false → is_untouched after.flight.shares (touched_in after) k ≡ is_untouched before.flight.shares (touched_in before) k
+    same_one k unchanged =
+        let zero : entry_of line k ≡ pos 0 = zero_size (entry_of line k) (eqb-true (unsigned_abs (entry_of line k)) 0 (not_false (nat_eq (unsigned_abs (entry_of line k)) 0) unchanged)) in
+        elim (cases_Bool (is_fractional after.flight.shares k)) [
+          | inr e ↦ rw (e, sym (still k zero) ∙ e) refl
+          | inl e ↦
+              (let both : is_one_of (touched_in after) k ≡ is_one_of (touched_in before) k =
+              same_truth (is_one_of (touched_in after) k) (is_one_of (touched_in before) k) (from_touched k e unchanged)
+              (λ h. in_touched k e (or_left (is_one_of (touched_in before) k) (is_changed line k) h)) in
+              rw (e, sym (still k zero) ∙ e, both) refl)
+        ]
+      where
+        not_false : (b : Bool) → not b ≡ false → b ≡ true
+        not_false true e = refl
+        not_false false e = sym e
+
+    living_after : (k : ℕ) → is_living now k ≡ is_untouched after.flight.shares (touched_in after) k
+    living_after k =
+        t.living k
+        ∙ elim (cases_Bool (is_changed line k)) [
+          | inl e ↦ rw e (and_false (is_living points k)) ∙ sym (changed_one k e)
+          | inr e ↦ rw e (and_true (is_living points k)) ∙ living_is before room points weights ready k ∙ sym (same_one k e)
+        ]
+      where
+        and_false : (b : Bool) → (b && not true) ≡ false
+        and_false true = refl
+        and_false false = refl
+
+        and_true : (b : Bool) → (b && not false) ≡ b
+        and_true true = refl
+        and_true false = refl
+
+    pub ready_after : length after.flight.shares.numer ≡ length before.flight.shares.numer → (new : List ℕ) → new ≡ weights_of now.living → IsReady after room now new
+    ready_after same new weighed = record {
+      fits = ready.fits ∙ sym same;
+      few = omega (arith, ready.few, same);
+      placed = ap length t.coords ∙ ready.placed ∙ sym same;
+      living =
+          ext_get_or false now.living (untouched now.coords after.flight.shares (touched_in after)).living
+          (omega (arith, t.count, ap length ready.living, length-map-range_with_len (is_untouched before.flight.shares (touched_in before)) 0 (length before.flight.shares.numer), length-map-range_with_len (is_untouched after.flight.shares (touched_in after)) 0 (length after.flight.shares.numer), same))
+          (λ k _. living_after k ∙ sym (untouched_at now.coords after.flight.shares (touched_in after) k));
+      weighed = weighed;
+    }
+
+-- ---- a move
+
+module _ (units : Units) (f : Flight) (left : ℕ) (order : List ℕ) (ok : IsFlight units f) (ordered : IsOrder f.shares order) (m : Move) (is : next_on units order f ≡ move m) (plus : Bool) where
+  line_still : (plus : Bool) (k : ℕ) → entry_of m.direction k ≡ pos 0 → entry_of (chosen_line m plus) k ≡ pos 0
+  line_still true k zero = zero
+  line_still false k zero = entry_of_turned m.direction k ∙ ap neg_ℤ zero
+
+  pub move_still : (k : ℕ) → entry_of m.direction k ≡ pos 0 → is_fractional (chosen units f m plus).shares k ≡ is_fractional f.shares k
+  move_still k zero =
+      subst (λ (t : Shares). is_fractional t k ≡ is_fractional f.shares k) (sym (end_at_is units.requested.den f.shares (chosen_line m plus)))
+      (same_still units.requested.den f.shares (flight_over units f ok) (chosen_line m plus) (ends_at units f left order ok ordered m is plus).line_ok k (line_still plus k zero))
+
+  pub move_fewer : (k : ℕ) → is_fractional (chosen units f m plus).shares k ≡ true → is_fractional f.shares k ≡ true
+  move_fewer k h = (ends_at units f left order ok ordered m is plus).fewer k h
+
+-- what a flight carries on after a move
+module _ (units : Units) (before after : Tracked) (left : ℕ) (order : List ℕ) (ok : IsFlight units before.flight) (ordered : IsOrder before.flight.shares order) (m : Move) (is : next_on units order before.flight ≡ move m) (plus : Bool) (there : after.flight ≡ chosen units before.flight m plus) (next : IsNextWindow before m.direction after) where
+  flown_fewer : (k : ℕ) → is_fractional after.flight.shares k ≡ true → is_fractional before.flight.shares k ≡ true
+  flown_fewer k h = move_fewer units before.flight left order ok ordered m is plus k (subst (λ (t : Flight). is_fractional t.shares k ≡ true) there h)
+
+  flown_still : (k : ℕ) → entry_of m.direction k ≡ pos 0 → is_fractional after.flight.shares k ≡ is_fractional before.flight.shares k
+  flown_still k zero = ap (λ (t : Flight). is_fractional t.shares k) there ∙ move_still units before.flight left order ok ordered m is plus k zero
+
+  pub flown_touched : touched_in after ≡ filter (λ k. is_one_of (touched_in before) k || is_changed m.direction k) (fractional_units after.flight.shares)
+  flown_touched = touched_moved before after m.direction next flown_fewer
+
+  pub flown_ready : (room : Shares) (points now : LivingPoints) (weights new : List ℕ) → IsReady before room points weights → AreTouched points m.direction now → length after.flight.shares.numer ≡ length before.flight.shares.numer → new ≡ weights_of now.living → IsReady after room now new
+  flown_ready room points now weights new ready touched same weighed = ready_after before after m.direction next flown_fewer flown_still room points now weights ready touched same new weighed

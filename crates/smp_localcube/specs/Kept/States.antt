@@ -1,0 +1,105 @@
+-- What the code keeps of a design and of a state.
+use Rattle.std.specs.Prelude.{◌≡◌, ℕ, ◌+◌, ◌≤◌, Bool, true, false, not, nat_eq, ◌&&◌, if◌then◌else◌, List, ℤ, length}
+use Rattle.std.specs.Prelude.{map, take, Option, Some, IfSome}
+use Rattle.std.specs.Int.RustNames.{unsigned_abs}
+use Rattle.std.specs.List.{filter}
+use Rattle.smp_near.specs.Nearest.{LivingPoints, is_living}
+use Rattle.smp_fractions.specs.Limits.{most_rows}
+use Rattle.smp_prob.specs.Shares.{Shares}
+use Rattle.smp_values.specs.Values.{AllFractional, fractional_units, is_fractional}
+use Rattle.smp_flight.specs.Selections.{Balancing, flying, pairing}
+use Rattle.smp_moves.specs.Moves.{Line, entry_of}
+use Rattle.smp_moves.specs.declared.lines.Line.{Line as LineOfPlaces}
+use Rattle.smp_flight.specs.States.{Flight, Tracked, Units}
+use Rattle.smp_flight.specs.Answers.{IsFoundOn, units_in}
+use Rattle.smp_flight.specs.declared.found.Found.{Found}
+use Rattle.smp_moves.specs.Moves.{Next}
+use Rattle.smp_flight.specs.Steps.{next_on}
+use Rattle.smp_localcube.specs.Local.{Local, head_of, is_one_of, order_around, untouched}
+use Rattle.smp_localcube.specs.declared.orders.Order.{Order}
+use Rattle.smp_localcube.specs.declared.state.Phase.{Phase}
+use Rattle.smp_localcube.specs.declared.state.Phase.TheVariants.{Flying, Pairing}
+
+-- of a design: each unit has a point and may be selected or not
+pub record IsPlaced (dimensions : ℕ) (units : Units) (coords : List (List ℤ)) (count : ℕ) : Type 0 where
+  pub few : (1 ≤ dimensions) × (dimensions ≤ 4)
+  pub count_is : count ≡ length units.sizes
+  pub placed : length coords ≡ length units.sizes
+  pub open_at : AllFractional units.requested
+
+-- the units in the first places of an array
+abbrev pub order_units : Order → List ℕ
+order_units order = take order.number order.units
+
+-- the touched units, in the order of the frame
+abbrev pub touched_in : Tracked → List ℕ
+touched_in f = filter (is_one_of f.window) (fractional_units f.flight.shares)
+
+-- the step of a flight with this head
+abbrev pub step_around : Units → List (List ℤ) → Tracked → ℕ → Next
+step_around units coords f head =
+    next_on units (order_around coords f.flight.shares (touched_in f) head) f.flight
+
+-- whether a line changes a unit
+abbrev pub is_changed : Line → ℕ → Bool
+is_changed line k = not (nat_eq (unsigned_abs (entry_of line k)) 0)
+
+-- The points that are living before a move, and which of them the units of a line may be: no unit of the window is living, and each
+-- other fractional unit is.
+pub record MayTouch (s : Shares) (window : List ℕ) (points : LivingPoints) : Type 0 where
+  pub count : length points.living ≡ length s.numer
+  pub no_window : (k : ℕ) → is_one_of window k ≡ true → is_living points k ≡ false
+  pub others : (k : ℕ) → is_fractional s k ≡ true → is_one_of window k ≡ false → is_living points k ≡ true
+
+-- the units that a line changes are living no more
+pub record AreTouched (before : LivingPoints) (line : Line) (after : LivingPoints) : Type 0 where
+  pub coords : after.coords ≡ before.coords
+  pub count : length after.living ≡ length before.living
+  pub living : (k : ℕ) → is_living after k ≡ (is_living before k && not (is_changed line k))
+
+-- the line in the first places of two arrays, up to a place
+abbrev pub line_to : LineOfPlaces → ℕ → Line
+line_to line place = record { units = take place line.units; entries = take place line.entries }
+
+-- a state by its phase, its flight, its pivotal steps, and how many units were left
+abbrev pub balancing_of : Phase → Flight → Shares → ℕ → Balancing
+balancing_of Flying f s left = flying f left
+balancing_of Pairing f s left = pairing s left
+
+abbrev pub state_of : Phase → Tracked → Shares → ℕ → LivingPoints → Option ℕ → Local
+state_of phase f s left points chosen = record {
+  coords = points.coords;
+  at = balancing_of phase f.flight s left;
+  touched = touched_in f;
+  chosen = chosen;
+}
+
+-- the weight of each unit in a choice: 1 where its point is living
+abbrev pub weights_of : List Bool → List ℕ
+weights_of living = map (λ alive. if alive then 1 else 0) living
+
+-- As long as it flies, there is room for the values of the pivotal steps, the units can be counted, each has a point, the points of
+-- those that no move has changed are living, and these have the weight 1.
+pub record IsReady (f : Tracked) (room : Shares) (points : LivingPoints) (weights : List ℕ) : Type 0 where
+  pub fits : length room.numer ≡ length f.flight.shares.numer
+  pub few : length f.flight.shares.numer ≤ most_rows
+  pub placed : length points.coords ≡ length f.flight.shares.numer
+  pub living : points.living ≡ (untouched points.coords f.flight.shares (touched_in f)).living
+  pub weighed : weights ≡ weights_of points.living
+
+-- the step of a flight that was found by the search of its state
+pub record IsLookedFor (f : Tracked) (coords : List (List ℤ)) (chosen : Option ℕ) (found : Found) : Type 0 where
+  pub head : ℕ
+  pub is_head : head_of (touched_in f) chosen ≡ Some head
+  pub found_on : IsFoundOn f found
+  pub units : units_in found ≡ take (f.flight.rows + 1) (order_around coords f.flight.shares (touched_in f) head)
+
+-- and the step that was looked for is the next one
+pub record IsFlownOn (f : Tracked) (room : Shares) (points : LivingPoints) (weights : List ℕ)
+    (chosen : Option ℕ) (found : Option Found) : Type 0 where
+  pub ready : IsReady f room points weights
+  pub looked : IfSome found (IsLookedFor f points.coords chosen)
+
+abbrev pub IsKept : Phase → Tracked → Shares → LivingPoints → List ℕ → Option ℕ → Option Found → Type 0
+IsKept Flying f room points weights chosen found = IsFlownOn f room points weights chosen found
+IsKept Pairing f room points weights chosen found = Unit {0}

@@ -1,0 +1,148 @@
+//! The local cube as a design.
+
+ghost use Rattle.std.specs.Prelude.{◌≡◌, ◌≤◌, IfOk, length};
+ghost use Rattle.smp_near.specs.Nearest.{all_living};
+ghost use Rattle.smp_prob.specs.Requests.{IsRequest};
+ghost use Rattle.smp_split.specs.Methods.{Starts};
+ghost use Rattle.smp_values.specs.Starts.{IsRequested};
+ghost use Rattle.smp_flight.specs.Landings.{IsBalanced};
+ghost use Rattle.smp_flight.specs.Requests.{AreValues, units_of};
+ghost use Rattle.smp_flight.specs.Selections.{left_in};
+ghost use Rattle.smp_localcube.specs.Kept.States.{IsPlaced};
+ghost use Rattle.smp_localcube.specs.Local.{local_of};
+ghost use Rattle.smp_localcube.specs.Method.{LocalUnits, method_of, started};
+
+use crate::state::{LocalCubeState, Phase};
+use smp_flight::{Shape, start};
+use smp_frac::NoMemory;
+use smp_frame::Numbers;
+use smp_near::Points;
+use smp_places::Amounts;
+use smp_prob::Request;
+use smp_split::{Kind, Splitting};
+use smp_values::{PivotalSteps, Values};
+use std::alloc::Global;
+use std::marker::Model;
+
+/// A design that selects by the local cube, over units that lie at points with `K` whole coordinates, `K` from 1 to 4.
+///
+/// It is seen as its units, their sizes, their columns and the probabilities that are requested of them, and as their points.
+#[derive(Drop)]
+pub struct LocalCube<const K: usize> {
+    shape: Shape,
+    coords: Vec<[i32; K]>,
+    units: usize,
+}
+
+impl<const K: usize> Model for LocalCube<K> {
+    ghost Value = { LocalUnits };
+
+    ghost view = { λ a. record { units = a.shape; coords = a.coords.items } };
+
+    ghost invariant = { λ a. IsPlaced K a.shape a.coords.items a.units };
+}
+
+// The points with these coordinates, all of them living.
+fn points_at<const K: usize>(alloc: Global, coords: &[[i32; K]]) -> Result<Points<K>, NoMemory>
+    requires { (1 ≤ K) × (K ≤ 4) }
+    ensures { IfOk result (λ points. points ≡ all_living coords.now) }
+{
+    Points::new(alloc, coords).map_err(|_| NoMemory)
+}
+
+impl<const K: usize> LocalCube<K> {
+    /// The design of a request: its units are the request's free units, with a list of balancing values and a point for each of them, and each
+    /// has the value that is requested of it.
+    pub fn new(
+        alloc: Global,
+        request: &Request,
+        xs: &[Numbers],
+        coords: &[[i32; K]],
+    ) -> Result<LocalCube<K>, NoMemory>
+        requires request { IsRequest request.now }
+        requires dimensions { (1 ≤ K) × (K ≤ 4) }
+        requires one_each { length xs.now ≡ length request.now.free }
+        requires placed { length coords.now ≡ length request.now.free }
+        requires values { AreValues xs.now }
+        ensures design { IfOk result (λ design. design
+            ≡ record { units = units_of request.now xs.now; coords = coords.now }) }
+        ensures requested { IfOk result (λ design.
+            IsRequested (method_of design).tree request.now (started design)) }
+    {
+        Ok(LocalCube {
+            shape: Shape::new(alloc, request, xs)?,
+            coords: Vec::from_slice(alloc, coords)?,
+            units: request.shape.as_slice().len(),
+        })
+    }
+
+    /// The state before the first step. Over all draws, each unit is selected with the probability that is its value, and where the values
+    /// add up to a whole number, that many units are. The flight keeps each balancing total, and the units that are fractional where the landing
+    /// begins bound the error of each estimate.
+    pub fn start(&self, alloc: Global) -> Result<LocalCubeState<K>, NoMemory>
+        ensures state { IfOk result (λ state. state ≡ started self.now) }
+        ensures starts { IfOk result (Starts (method_of self.now)) }
+        ensures balanced { IfOk result (IsBalanced (local_of self.now.units)) }
+    {
+        self.shape.rows();
+        Ok(LocalCubeState {
+            flight: start(alloc, &self.shape)?,
+            phase: Phase::Flying,
+            left: 0,
+            room: Values::with_room(alloc, self.units)?,
+            steps: PivotalSteps::from_values(Values::with_room(alloc, 0)?),
+            points: points_at(alloc, self.coords.as_slice())?,
+            weights: Amounts::ones(alloc, self.units)?,
+            chosen: None,
+            found: Box::new(alloc, None)?,
+        })
+    }
+
+    /// How many units were fractional where the landing began, and 0 as long as it hasn't begun.
+    pub fn left(&self, state: &LocalCubeState<K>) -> u32
+        ensures { result ≡ left_in state.now.at }
+    {
+        state.left()
+    }
+
+    // The units, their sizes, columns and probabilities.
+    pub(crate) fn shape(&self) -> &Shape
+        ensures { result.now ≡ self.now.units }
+    {
+        &self.shape
+    }
+}
+
+impl<const K: usize> Splitting for LocalCube<K> {
+    type State = LocalCubeState<K>;
+
+    ghost tree = { λ design. (method_of design).tree };
+
+    ghost belongs = { λ design. (method_of design).belongs };
+
+    ghost lawful = { λ design. (method_of design).lawful };
+
+    fn units(&self) -> usize {
+        self.units
+    }
+
+    fn done(&self, state: &LocalCubeState<K>) -> bool {
+        state.is_done()
+    }
+
+    fn kind(&self, state: &LocalCubeState<K>) -> Kind {
+        state.kind(&self.shape)
+    }
+
+    fn bound(&self, state: &LocalCubeState<K>) -> u128 {
+        state.bound(&self.shape)
+    }
+
+    fn advance(&self, state: &mut LocalCubeState<K>, draw: u128) {
+        state.advance(&self.shape, draw);
+    }
+
+    fn selected(&self, state: &LocalCubeState<K>, unit: usize) -> bool {
+        state.is_one(unit)
+    }
+}

@@ -1,0 +1,320 @@
+//! The states of a selection by the local cube.
+
+ghost use Rattle.std.specs.Prelude.{◌≡◌, ◌+◌, ◌<◌, ◌≤◌, true, false, length, take, IfSome, option_map};
+ghost use Rattle.smp_split.specs.Trees.{picked, weight_sum};
+ghost use Rattle.smp_values.specs.Values.{is_fractional, is_one, is_settled};
+ghost use Rattle.smp_moves.specs.Answers.{IsPadded, line_of};
+ghost use Rattle.smp_flight.specs.Answers.{Allows, IsMoveOf, answer_of};
+ghost use Rattle.smp_flight.specs.Selections.{left_in, values_in};
+ghost use Rattle.smp_moves.specs.Moves.{IsLine, IsOrder};
+ghost use Rattle.smp_flight.specs.States.{IsFlight};
+ghost use Rattle.smp_localcube.specs.Local.{IsCarried, IsLocal, Local, head_of, kind_from, order_around, parts_from, untouched};
+ghost use Rattle.smp_localcube.specs.Laws.Splits.{HasHead};
+ghost use Rattle.smp_localcube.specs.Kept.States.{AreTouched, IsKept, IsLookedFor, MayTouch, order_units, state_of};
+ghost use Rattle.smp_localcube.specs.Kept.States.{step_around, touched_in, weights_of};
+
+use crate::orders::{Order, is_among, rising};
+use smp_flight::{FlightState, Found, Line, Next, Shape, fill, find_on, fly, landed, step_on};
+use smp_near::Points;
+use smp_places::Amounts;
+use smp_split::Kind;
+use smp_values::{PivotalSteps, Values};
+use std::marker::{Brand, Model};
+use std::sync::ledger::Blank;
+
+/// Where a selection stands.
+#[derive(Clone, Copy)]
+pub(crate) enum Phase {
+    /// The flight goes on, before the landing or in it.
+    Flying,
+    /// Pivotal steps finish the selection.
+    Pairing,
+}
+
+/// A state of a selection by the local cube.
+///
+/// Its window has the units that moves have changed and left fractional. The points of the units that no move has changed are living, and these
+/// have the weight 1: so a unit is chosen, and a changed one taken out, along one path of a tree. The room for the values of the pivotal steps is
+/// there from the start, so no step takes memory.
+#[derive(Drop)]
+pub struct LocalCubeState<const K: usize> {
+    pub(crate) flight: FlightState,
+    pub(crate) phase: Phase,
+    pub(crate) left: u32,
+    pub(crate) room: Values,
+    pub(crate) steps: PivotalSteps,
+    pub(crate) points: Points<K>,
+    pub(crate) weights: Amounts,
+    pub(crate) chosen: Option<usize>,
+    /// The next step, where it was looked for: in a box, since it takes more bytes than all else here.
+    pub(crate) found: Box<Option<Found>>,
+}
+
+impl<const K: usize> Model for LocalCubeState<K> {
+    ghost Value = { Local };
+
+    ghost view = { λ a. state_of a.phase a.flight a.steps a.left a.points a.chosen };
+
+    ghost invariant = { λ a. IsKept a.phase a.flight a.room a.points a.weights a.chosen a.found.value };
+}
+
+/// The next step of the flight, and none where a unit is to be chosen first. Where it was looked for, nothing is searched again.
+fn next_step<const K: usize>(
+    shape: &Shape,
+    flight: &FlightState,
+    points: &Points<K>,
+    chosen: Option<usize>,
+    found: &Option<Found>,
+) -> Option<Next>
+    requires flight { IsFlight shape.now flight.now.flight }
+    requires carried { IsCarried flight.now.flight.shares (touched_in flight.now) chosen }
+    requires placed { length points.now.coords ≡ length flight.now.flight.shares.numer }
+    requires living { points.now.living
+        ≡ (untouched points.now.coords flight.now.flight.shares (touched_in flight.now)).living }
+    requires looked { IfSome found.now (IsLookedFor flight.now points.now.coords chosen) }
+    ensures is { option_map answer_of result
+        ≡ option_map (step_around shape.now points.now.coords flight.now)
+        (head_of (touched_in flight.now) chosen) }
+    ensures allows { IfSome result
+        (Allows (IsMoveOf shape.now flight.now) shape.now flight.now) }
+{
+    if let Some(found) = found {
+        if let Some(next) = found.step_in(shape, flight) {
+            return Some(next);
+        }
+    }
+    let touched = rising(flight.window(), flight.units());
+    match touched.head(chosen) {
+        None => None,
+        Some(head) => Some(step_from(shape, flight, points, &touched, head)),
+    }
+}
+
+/// The step of a flight with these touched units and this head.
+fn step_from<const K: usize>(
+    shape: &Shape,
+    flight: &FlightState,
+    points: &Points<K>,
+    touched: &Order,
+    head: usize,
+) -> Next
+    requires flight { IsFlight shape.now flight.now.flight }
+    requires touched { order_units touched.now ≡ touched_in flight.now }
+    requires few { touched.now.number ≤ flight.now.flight.rows + 1 }
+    requires order { IsOrder flight.now.flight.shares flight.now.window }
+    requires head { HasHead flight.now.flight.shares (touched_in flight.now) head }
+    requires placed { length points.now.coords ≡ length flight.now.flight.shares.numer }
+    requires living { points.now.living
+        ≡ (untouched points.now.coords flight.now.flight.shares (touched_in flight.now)).living }
+    ensures is { answer_of result
+        ≡ step_around shape.now points.now.coords flight.now head }
+    ensures allows { Allows (IsMoveOf shape.now flight.now) shape.now flight.now result }
+{
+    let order = searched(flight, points, touched, head);
+    step_on(shape, flight, &order.units, order.number)
+}
+
+/// The first units of the search of a flight with these touched units and this head, one more than there are rows in force, or all.
+fn searched<const K: usize>(
+    flight: &FlightState,
+    points: &Points<K>,
+    touched: &Order,
+    head: usize,
+) -> Order
+    requires rows { flight.now.flight.rows ≤ 16 }
+    requires touched { order_units touched.now ≡ touched_in flight.now }
+    requires few { touched.now.number ≤ flight.now.flight.rows + 1 }
+    requires head { is_fractional flight.now.flight.shares head ≡ true }
+    requires placed { length points.now.coords ≡ length flight.now.flight.shares.numer }
+    requires living { points.now.living
+        ≡ (untouched points.now.coords flight.now.flight.shares (touched_in flight.now)).living }
+    ensures are { order_units result ≡ take (flight.now.flight.rows + 1)
+        (order_around
+        points.now.coords
+        flight.now.flight.shares
+        (touched_in flight.now)
+        head) }
+    ensures number { result.number ≤ 17 }
+{
+    let most = flight.rows() + 1;
+    touched.front(head).with_neighbours(points, head, most)
+}
+
+/// The step of a flight, looked for once; none where a unit is to be chosen first.
+fn look<const K: usize>(
+    shape: &Shape,
+    flight: &FlightState,
+    points: &Points<K>,
+    chosen: Option<usize>,
+) -> Option<Found>
+    requires flight { IsFlight shape.now flight.now.flight }
+    requires carried { IsCarried flight.now.flight.shares (touched_in flight.now) chosen }
+    requires placed { length points.now.coords ≡ length flight.now.flight.shares.numer }
+    requires living { points.now.living
+        ≡ (untouched points.now.coords flight.now.flight.shares (touched_in flight.now)).living }
+    ensures { IfSome result (IsLookedFor flight.now points.now.coords chosen) }
+{
+    let touched = rising(flight.window(), flight.units());
+    match touched.head(chosen) {
+        None => None,
+        Some(head) => {
+            let order = searched(flight, points, &touched, head);
+            Some(find_on(shape, flight, &order.units, order.number))
+        }
+    }
+}
+
+/// Keeps a step that was looked for in place of the one before.
+fn keep(kept: &mut Box<Option<Found>>, found: Option<Found>)
+    ensures { kept.new.value ≡ found }
+{
+    **kept = found;
+}
+
+/// Takes the units that a line changes out of those that no move has changed.
+fn touch<const K: usize>(
+    points: &mut Points<K>,
+    weights: &mut Amounts,
+    flight: &FlightState,
+    line: &Line,
+)
+    requires line { IsLine flight.now.flight.shares (line_of line.now) }
+    requires padded { IsPadded line.now }
+    requires may { MayTouch flight.now.flight.shares flight.now.window points.old }
+    requires weighed { weights.old ≡ weights_of points.old.living }
+    ensures touched { AreTouched points.old (line_of line.now) points.new }
+    ensures weighed { weights.new ≡ weights_of points.new.living }
+{
+    for place in 0..line.number {
+        let unit = line.units[place];
+        if line.entries[place] != 0 && !is_among(flight.window(), unit) {
+            points.remove(unit);
+            weights.take_out(unit);
+        }
+    }
+}
+
+impl<const K: usize> LocalCubeState<K> {
+    /// Whether no unit is fractional.
+    pub(crate) fn is_done(&self) -> bool
+        ensures { result ≡ is_settled (values_in self.now.at) }
+    {
+        match self.phase {
+            Phase::Flying => self.flight.fractional() == 0,
+            Phase::Pairing => self.steps.is_done(),
+        }
+    }
+
+    /// Whether the value of a unit is 1.
+    pub(crate) fn is_one(&self, unit: usize) -> bool
+        requires { unit < length (values_in self.now.at).numer }
+        ensures { result ≡ is_one (values_in self.now.at) unit }
+    {
+        match self.phase {
+            Phase::Flying => self.flight.numer(unit) == self.flight.denom(),
+            Phase::Pairing => self.steps.is_one(unit),
+        }
+    }
+
+    /// How many units were fractional where the landing began, or 0.
+    pub(crate) fn left(&self) -> u32
+        ensures { result ≡ left_in self.now.at }
+    {
+        self.left
+    }
+
+    /// The kind of the next step.
+    pub(crate) fn kind(&self, shape: &Shape) -> Kind
+        requires { IsLocal shape.now self.now }
+        ensures { result ≡ kind_from shape.now self.now self.now.at }
+    {
+        match self.phase {
+            Phase::Flying => match next_step(
+                shape,
+                &self.flight,
+                &self.points,
+                self.chosen,
+                &self.found,
+            ) {
+                None => Kind::Choose,
+                Some(next) => match next {
+                    Next::Move(_) => Kind::Flight,
+                    Next::Independent => Kind::Drop,
+                    Next::Wide => Kind::Wide,
+                },
+            },
+            Phase::Pairing => self.steps.kind(),
+        }
+    }
+
+    /// The bound of the next step's draw.
+    pub(crate) fn bound(&self, shape: &Shape) -> u128
+        requires state { IsLocal shape.now self.now }
+        requires going { is_settled (values_in self.now.at) ≡ false }
+        ensures { result ≡ weight_sum (parts_from shape.now self.now self.now.at) }
+    {
+        match self.phase {
+            Phase::Flying => match next_step(
+                shape,
+                &self.flight,
+                &self.points,
+                self.chosen,
+                &self.found,
+            ) {
+                None => self.weights.total() as u128,
+                Some(next) => match next {
+                    Next::Move(mv) => mv.plus_weight + mv.minus_weight,
+                    Next::Independent => 1,
+                    Next::Wide => 1,
+                },
+            },
+            Phase::Pairing => self.steps.bound(),
+        }
+    }
+
+    /// Makes the step that a draw leads to.
+    pub(crate) fn advance(&mut self, shape: &Shape, draw: u128)
+        requires state { IsLocal shape.now self.old }
+        requires going { is_settled (values_in self.old.at) ≡ false }
+        requires within { draw < weight_sum (parts_from shape.now self.old self.old.at) }
+        ensures { self.new ≡ picked self.old (parts_from shape.now self.old self.old.at) draw }
+    {
+        match self.phase {
+            Phase::Flying => {
+                let next = next_step(shape, &self.flight, &self.points, self.chosen, &self.found);
+                match next {
+                    None => {
+                        let unit = self.weights.find(draw);
+                        self.chosen = Some(unit);
+                        let found = look(shape, &self.flight, &self.points, Some(unit));
+                        keep(&mut self.found, found);
+                    }
+                    Some(next) => match next {
+                        Next::Independent => {
+                            self.left = landed(&self.flight, self.left);
+                            self.flight.drop_row(shape);
+                            let found = look(shape, &self.flight, &self.points, self.chosen);
+                            keep(&mut self.found, found);
+                        }
+                        Next::Wide => {
+                            self.left = landed(&self.flight, self.left);
+                            fill(&self.flight, &mut self.room);
+                            self.steps.set(&mut self.room);
+                            self.phase = Phase::Pairing;
+                        }
+                        Next::Move(mv) => {
+                            let plus = draw < mv.plus_weight;
+                            let line = &mv.direction;
+                            touch(&mut self.points, &mut self.weights, &self.flight, line);
+                            fly::<Brand>(shape, &mut self.flight, &mv, plus, Blank::new(1));
+                            self.chosen = None;
+                            let found = look(shape, &self.flight, &self.points, None);
+                            keep(&mut self.found, found);
+                        }
+                    },
+                }
+            }
+            Phase::Pairing => self.steps.advance(draw),
+        }
+    }
+}

@@ -1,0 +1,82 @@
+//! The local cube over the values of units.
+
+ghost use Rattle.std.specs.Prelude.{◌≡◌, ◌-◌, ◌≤◌, IfOk, length, map, take};
+ghost use Rattle.smp_prob.specs.Requests.{IsRequest};
+ghost use Rattle.smp_values.specs.Starts.{IsRequested};
+ghost use Rattle.smp_flight.specs.Requests.{AreValues, units_of};
+ghost use Rattle.smp_localpiv.specs.Coordinates.{points_from};
+ghost use Rattle.smp_localcube.specs.Method.{method_of, started};
+ghost use Rattle.smp_methods.specs.Procedures.{balancing_values};
+
+use smp_frac::NoMemory;
+use smp_frame::Numbers;
+use smp_localcube::{AnyLocalCube, LocalCube};
+use smp_localpiv::points;
+use smp_prob::Request;
+use std::alloc::Global;
+
+/// The design of a request by the local cube: the last `near` of so many values of a unit are the
+/// coordinates of its point, and it balances on the others.
+pub(crate) fn local_cube(
+    alloc: Global,
+    request: &Request,
+    near: usize,
+    columns: usize,
+    values: &[Numbers],
+) -> Result<AnyLocalCube, NoMemory>
+    requires request { IsRequest request.now }
+    requires near { (1 ≤ near) × (near ≤ 4) }
+    requires columns { near ≤ columns }
+    requires paired { length values.now ≡ length request.now.free }
+    requires balancing { AreValues (balancing_values near columns values.now) }
+    ensures design { IfOk result (λ design. design ≡ record {
+      units = units_of request.now (balancing_values near columns values.now);
+      coords = points_from near (columns - near) values.now;
+    }) }
+    ensures requested { IfOk result (λ design.
+        IsRequested (method_of design).tree request.now (started design)) }
+{
+    let place = columns - near;
+    let balancing = fronts(alloc, place, values)?;
+    let xs = balancing.as_slice();
+    Ok(match near {
+        1 => AnyLocalCube::one(located::<1>(alloc, request, xs, place, values)?),
+        2 => AnyLocalCube::two(located::<2>(alloc, request, xs, place, values)?),
+        3 => AnyLocalCube::three(located::<3>(alloc, request, xs, place, values)?),
+        _ => AnyLocalCube::four(located::<4>(alloc, request, xs, place, values)?),
+    })
+}
+
+// The design over points with `K` coordinates, which are values from a place on.
+fn located<const K: usize>(
+    alloc: Global,
+    request: &Request,
+    xs: &[Numbers],
+    place: usize,
+    values: &[Numbers],
+) -> Result<LocalCube<K>, NoMemory>
+    requires request { IsRequest request.now }
+    requires dimensions { (1 ≤ K) × (K ≤ 4) }
+    requires one_each { length xs.now ≡ length request.now.free }
+    requires paired { length values.now ≡ length request.now.free }
+    requires balancing { AreValues xs.now }
+    ensures design { IfOk result (λ design. design
+        ≡ record { units = units_of request.now xs.now; coords = points_from K place values.now }) }
+    ensures requested { IfOk result (λ design.
+        IsRequested (method_of design).tree request.now (started design)) }
+{
+    let coords = points::<K>(alloc, place, values)?;
+    LocalCube::new(alloc, request, xs, coords.as_slice())
+}
+
+// The first values of each unit, up to a place.
+fn fronts(alloc: Global, place: usize, values: &[Numbers]) -> Result<Vec<Numbers>, NoMemory>
+    ensures { IfOk result (λ fronts. fronts.items ≡ map (take place) values.now) }
+{
+    let mut fronts = Vec::new(alloc);
+    for unit in values {
+        let unit = unit.as_slice();
+        fronts.push(Numbers::from_slice(alloc, &unit[..place.min(unit.len())])?)?;
+    }
+    Ok(fronts)
+}
