@@ -169,21 +169,23 @@ class World:
     def __init__(self, r, has_joints):
         self.version = r.randint(1, 2)
         self.has_joints = has_joints
-        self.method = "systematic" if has_joints else r.choice((*sampler.METHODS[self.version], "cube"))
+        methods = (*sampler.METHODS[self.version], "cube", sampler.METHODS[self.version][-1])
+        self.method = "systematic" if has_joints else r.choice(methods)
         count = r.choice((1, 2, 3, 4, 5, 6, 7, 8, 10, 12, 14, 16, 20, 30, 60))
-        self.two = self.method != "local_pivotal" and not has_joints and chance(r, 0.4)
+        self.two = self.method not in sampler.SPREADING and not has_joints and chance(r, 0.4)
         self.given = self.version == 2 and not self.two and chance(r, 0.6)
-        self.columns = self.column_count(r, count)
+        self.balanced = self.balanced_count(r, count)
+        self.columns = self.balanced + (r.choice((1, 2, 2, 3, 4)) if self.method in sampler.SPREADING else 0)
         self.layout(r, count)
         self.fractions = self.probabilities(r, count)
         self.fill(r, count)
         self.describe(r)
 
-    def column_count(self, r, count):
-        """The number of columns of `balance` or `near`."""
-        if self.method == "cube":
-            return r.choice((1, 1, 1, 2, 2, 3) if count <= 10 else (1, 1, 2, 2, 3, 4, 5, 6)) if chance(r, 0.97) else 15
-        return r.choice((1, 2, 2, 3, 4)) if self.method == "local_pivotal" else 0
+    def balanced_count(self, r, count):
+        """The number of columns of `balance`."""
+        if self.method not in sampler.BALANCING:
+            return 0
+        return r.choice((1, 1, 1, 2, 2, 3) if count <= 10 else (1, 1, 2, 2, 3, 4, 5, 6)) if chance(r, 0.97) else 15
 
     def layout(self, r, count):
         """The stratum and the first stage unit of each row, by their places."""
@@ -255,10 +257,10 @@ class World:
             self.keys["n"] = written_number(r, r.randint(least, max(least, every * 2 // 3)))
         if self.method in ("pivotal", "systematic") and chance(r, 0.5):
             self.keys["order"] = written_text(r, "frame" if self.has_joints else r.choice(("random", "random", "frame")))
-        if self.values:
-            asked = [*self.values, *r.choices((*self.values, self.names["size"]), k=max(0, r.randint(-8, 2)))]
-            most = 15 if self.method == "cube" or chance(r, 0.02) else 4
-            self.keys["balance" if self.method == "cube" else "near"] = "[" + ", ".join(written_text(r, name) for name in asked[:most]) + "]"
+        for key, own, most in (("balance", self.values[: self.balanced], 15), ("near", self.values[self.balanced :], 15 if chance(r, 0.02) else 4)):
+            if own:
+                asked = [*own, *r.choices((*self.values, self.names["size"]), k=max(0, r.randint(-8, 2)))]
+                self.keys[key] = "[" + ", ".join(written_text(r, name) for name in asked[:most]) + "]"
         if self.two:
             sized = chance(r, 0.6)
             within = collections.Counter(self.unit_of[number] for number, size in enumerate(self.second_sizes) if size or not sized)

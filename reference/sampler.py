@@ -175,13 +175,15 @@ def read_words(words):
 
 METHODS = {
     1: ("pivotal", "systematic", "minimum_support", "brewer", "local_pivotal", "cube"),
-    2: ("pivotal", "systematic", "minimum_support", "brewer", "local_pivotal", "cube", "elimination"),
+    2: ("pivotal", "systematic", "minimum_support", "brewer", "local_pivotal", "cube", "elimination", "local_cube"),
 }
 SECOND_METHODS = {
     1: ("pivotal", "systematic", "minimum_support", "brewer"),
     2: ("pivotal", "systematic", "minimum_support", "brewer", "elimination"),
 }
 WHOLE_METHODS = ("minimum_support", "brewer", "elimination")
+BALANCING = ("cube", "local_cube")
+SPREADING = ("local_pivotal", "local_cube")
 KEYS = {
     1: ("version", "method", "id", "stratum", "size", "n", "sizes", "order", "balance", "near", "second"),
     2: ("version", "method", "id", "stratum", "size", "n", "sizes", "prob", "order", "balance", "near", "second"),
@@ -189,9 +191,9 @@ KEYS = {
 SECOND_KEYS = ("psu", "method", "n", "size")
 HOW_MANY = ("n", "sizes", "prob")
 
-Design = namedtuple("Design", "method order id stratum psu size second_size prob values n sizes second_method second_n")
+Design = namedtuple("Design", "method order id stratum psu size second_size prob values near n sizes second_method second_n")
 
-QUICK = Design("pivotal", "frame", "id", None, None, "size", None, None, (), None, None, None, None)
+QUICK = Design("pivotal", "frame", "id", None, None, "size", None, None, (), 0, None, None, None, None)
 
 
 def is_integer(value):
@@ -263,12 +265,16 @@ def read_design(content):
         raise Refusal(3, f"error 3.3 unknown key {unknown[0]}")
 
     method = document.get("method")
+
+    def needs(methods):
+        return isinstance(method, str) and method in METHODS[version] and method in methods
+
     needed = [
         ("method", "method" in document),
         ("id", "id" in document),
         ("n", any(key in document for key in HOW_MANY)),
-        ("balance", method != "cube" or "balance" in document),
-        ("near", method != "local_pivotal" or "near" in document),
+        ("balance", not needs(BALANCING) or "balance" in document),
+        ("near", not needs(SPREADING) or "near" in document),
     ] + [("second." + key, not isinstance(second, dict) or key in second) for key in ("psu", "method", "n")]
     for key, there in needed:
         if not there:
@@ -306,9 +312,9 @@ def read_design(content):
         ("prob", "second", "prob" in document and "second" in document),
         ("sizes", "stratum", "sizes" in document and "stratum" not in document),
         ("order", "method", "order" in document and method not in ("pivotal", "systematic")),
-        ("balance", "method", "balance" in document and method != "cube"),
-        ("near", "method", "near" in document and method != "local_pivotal"),
-        ("second", "method", "second" in document and method == "local_pivotal"),
+        ("balance", "method", "balance" in document and method not in BALANCING),
+        ("near", "method", "near" in document and method not in SPREADING),
+        ("second", "method", "second" in document and method in SPREADING),
     ]
     for first, other, there in clashes:
         if there:
@@ -323,7 +329,8 @@ def read_design(content):
         size=document.get("size"),
         second_size=inner.get("size"),
         prob=document.get("prob"),
-        values=tuple(document.get("balance", document.get("near", ()))),
+        values=(*document.get("balance", ()), *document.get("near", ())),
+        near=len(document.get("near", ())),
         n=document.get("n"),
         sizes=document.get("sizes"),
         second_method=inner.get("method"),
@@ -850,8 +857,10 @@ class Cube(namedtuple("Cube", "values columns requested rows left")):
 
     def step(self):
         open_places = fractional_places(self.values, range(len(self.values)))
-        if not open_places:
-            return None
+        return self.step_through(open_places) if open_places else None
+
+    def step_through(self, open_places):
+        """The step whose search goes through all fractional units in this order."""
         found, circuit = search([self.columns[place][: self.rows] for place in open_places], self.rows)
         left = len(open_places) if self.left is None else self.left
         if found == "none":
@@ -873,14 +882,47 @@ class Cube(namedtuple("Cube", "values columns requested rows left")):
         ends = []
         for way in (plus, -minus):
             moved = [value + way * entry for value, entry in zip(values, direction)]
-            ends.append(self._replace(values=changed(self.values, places, moved)))
+            ends.append(self.after(changed(self.values, places, moved)))
         if any(end.denominator() > MOST_OF_A_DENOMINATOR for end in ends):
             return None
         first, second = primitive([minus, plus])
         return [(first, lambda: ends[0]), (second, lambda: ends[1])]
 
+    def after(self, values):
+        """The state after a move to these values."""
+        return self._replace(values=values)
+
     def selected(self):
         return drawn_places(self.values)
+
+
+class LocalCube(namedtuple("LocalCube", "values columns requested rows left points touched chosen")):
+    """The cube among neighbours, a method of the product's own. docs/formats.md, "Steps", the part on the local cube.
+
+    `touched` has the units whose value a move has changed, and `chosen` is the unit chosen since the last move, or None."""
+
+    denominator, step_through, flight, selected = Cube.denominator, Cube.step_through, Cube.flight, Cube.selected
+
+    def step(self):
+        open_places = fractional_places(self.values, range(len(self.values)))
+        if not open_places:
+            return None
+        touched = [place for place in open_places if place in self.touched]
+        head = touched[0] if touched else self.chosen
+        if head is None:
+            return "choose", [(1, lambda place=place: self._replace(chosen=place)) for place in open_places]
+        front = touched or [head]
+        others = [place for place in open_places if place not in front]
+        return self.step_through(front + sorted(others, key=lambda place: (self.distance(head, place), place)))
+
+    def distance(self, head, place):
+        """The squared distance of two points."""
+        return sum((x - y) ** 2 for x, y in zip(self.points[head], self.points[place]))
+
+    def after(self, values):
+        """The state after a move to these values, which lets the chosen unit go."""
+        moved = {place for place, (old, new) in enumerate(zip(self.values, values)) if old != new}
+        return self._replace(values=values, touched=self.touched | moved, chosen=None)
 
 
 class Pivots(namedtuple("Pivots", "values denominator left")):
@@ -893,8 +935,8 @@ class Pivots(namedtuple("Pivots", "values denominator left")):
         return drawn_places(self.values)
 
 
-def start(method, order, request, columns):
-    """The first state of a method over the free units of a request."""
+def start(method, order, request, columns, near=0):
+    """The first state of a method over the free units of a request, whose last `near` columns are coordinates."""
     values = tuple(request.fractions[unit] for unit in request.free)
     places = tuple(range(len(values)))
     own = [columns[unit] for unit in request.free]
@@ -911,8 +953,12 @@ def start(method, order, request, columns):
         return Elimination(tuple(request.shape), frozenset(range(len(values))), request.r)
     if method == "local_pivotal":
         return LocalPivotal(values, request.denominator, tuple(own))
-    sized = tuple((z, *xs) for z, xs in zip(request.shape, own))
-    return Cube(values, sized, request.denominator, 1 + len(own[0]) if own else 1, None)
+    balanced = [xs[: len(xs) - near] for xs in own]
+    sized = tuple((z, *xs) for z, xs in zip(request.shape, balanced))
+    rows = 1 + len(balanced[0]) if own else 1
+    if method == "local_cube":
+        return LocalCube(values, sized, request.denominator, rows, None, tuple(xs[len(xs) - near :] for xs in own), frozenset(), None)
+    return Cube(values, sized, request.denominator, rows, None)
 
 
 def walk(state, draws):
@@ -1061,9 +1107,9 @@ def joint_fractions(strata, count):
 Drawn = namedtuple("Drawn", "rows units left")
 
 
-def drawn_units(request, method, order, columns, draws):
+def drawn_units(request, method, order, columns, draws, near=0):
     """The units that a request draws, certain ones among them, and the last state."""
-    state = walk(start(method, order, request, columns), draws)
+    state = walk(start(method, order, request, columns, near), draws)
     certain = {unit for unit, fraction in enumerate(request.fractions) if fraction == 1}
     return sorted(certain | {request.free[place] for place in state.selected()}), state
 
@@ -1076,7 +1122,7 @@ def select(strata, design, draws):
     rows, units, left = [], [], []
     for stratum in strata:
         draws.open()
-        first, state = drawn_units(stratum.request, design.method, design.order, [unit.values for unit in stratum.units], draws)
+        first, state = drawn_units(stratum.request, design.method, design.order, [unit.values for unit in stratum.units], draws, design.near)
         units.append(first)
         left.append(getattr(state, "left", None) or 0)
         for unit in (stratum.units[place] for place in first):
@@ -1378,14 +1424,14 @@ def estimate(values, fractions):
 
 
 def report(strata, design, drawn, steps):
-    """What `draw` and `replay` put of these strata: how many were drawn, in how many steps, and for the cube how well each stratum is balanced."""
+    """What `draw` and `replay` put of these strata: how many were drawn, in how many steps, and how well each stratum is balanced, where the method balances."""
     rows = sum(len(unit.rows) for stratum in strata for unit in stratum.units)
     text = f"selected {len(drawn.rows)} of {rows}\nsteps {len(steps)}\n"
-    if design.method == "cube":
+    if design.method in BALANCING:
         for stratum, units, left in zip(strata, drawn.units, drawn.left):
             text += f"left {stratum.number} {left}\n"
             fractions = stratum.request.fractions
-            for column in range(len(design.values)):
+            for column in range(len(design.values) - design.near):
                 values = [unit.values[column] for unit in stratum.units]
                 estimated = estimate([values[unit] for unit in units], [fractions[unit] for unit in units])
                 total = sum(value for value, fraction in zip(values, fractions) if fraction > 0)

@@ -185,6 +185,19 @@ class Rows(unittest.TestCase):
         steps = ["choose 4 1", "pivot 2 1", "choose 2 0", "pivot 2 0"]
         self.drawn(text, "id,x\na,0\nb,2\nc,4\nd,9\n", [1, 1, 0, 0], steps, "a,2/1\nc,2/1\n")
 
+    def test_local_cube(self):
+        text = design("local_cube", more='balance = ["y"]\nnear = ["x"]\n', size="").replace("version = 1", "version = 2")
+        frame = "id,x,y\na,0,1\nb,10,2\nc,1,3\nd,11,4\n"
+        report = "selected 2 of 4\nsteps 3\nleft 1 0\nbalance 1 1 10/1 10\n"
+        self.drawn(text, frame, [0, 0, 3], ["choose 4 0", "flight 2 0", "flight 4 3"], "b,2/1\nc,2/1\n", report)
+        steps = ["choose 4 0", "flight 2 0", "flight 4 0", "drop 1 0", "flight 3 2"]
+        report = "selected 2 of 4\nsteps 5\nleft 1 2\nbalance 1 1 6/1 10\n"
+        self.drawn(text, frame, [0, 0, 0, 2], steps, "a,2/1\nb,2/1\n", report)
+        self.refused_draw(text.replace("version = 2", "version = 1"), frame, [], 3, "error 3.5 bad value of method")
+        self.refused_draw(text.replace('near = ["x"]\n', ""), frame, [], 3, "error 3.4 missing key near")
+        self.refused_draw(text.replace('balance = ["y"]\n', ""), frame, [], 3, "error 3.4 missing key balance")
+        self.refused_draw(text + 'second = {psu = "x", method = "pivotal", n = 1}\n', frame, [], 3, "error 3.6 second clashes with method")
+
     def test_cube_to_the_end(self):
         text = design("cube", more='balance = ["x"]\n', size="")
         for sign, end in (("", "10/1 10"), ("-", "-10/1 -10")):
@@ -916,7 +929,8 @@ class Probabilities(unittest.TestCase):
     GIVEN = [["1/2", "1/2", "1/3"], ["2/3", "2/3", "2/3"], ["1", "1/6", "0", "3/4", "2/5"], ["1/2", "1/3", "1/6", "1"], ["1/7"], ["3/5", "4/5", "3/5"]]
 
     def over_tree(self, method, order, request, columns):
-        found = mean(sampler.start(method, order, request, columns), len(request.free), {})
+        near = 1 if method == "local_cube" else 0
+        found = mean(sampler.start(method, order, request, columns, near), len(request.free), {})
         self.assertEqual(found, [request.fractions[unit] for unit in request.free], (method, request))
 
     def of_request(self, method, order, sizes, n, columns):
