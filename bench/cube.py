@@ -1,10 +1,10 @@
 #!/usr/bin/env python3
-"""Times `sampler draw` by the method cube, CSV to CSV, on made-up frames with three balancing columns and equal sizes, and counts its
-instructions where valgrind is there. It is no test.
+"""Times `sampler draw` by the cube and the local cube, CSV to CSV, on made-up frames with three balancing columns, two coordinates and equal
+sizes, and counts its instructions where valgrind is there. It is no test.
 
     bench/cube.py [ROWS ..]       1,000 and 10,000 rows where none are given
 
-A tenth of the rows is drawn, with the tape of the least value of every draw. It prints rows, draws, lines `drop` or `wide`, seconds,
+A tenth of the rows is drawn, with the tape of the least value of every draw. It prints the method, rows, draws, lines `drop` or `wide`, seconds,
 megabytes and millions of instructions.
 """
 import os
@@ -17,20 +17,24 @@ import tempfile
 from draw import TOP, run, write
 from instructions import millions
 
-DESIGN = 'version = 1\nmethod = "cube"\nid = "id"\nbalance = ["area", "herd", "workers"]\nn = {n}\n'
+DESIGN = 'version = 2\nmethod = "{method}"\nid = "id"\nbalance = ["area", "herd", "workers"]\n{near}n = {n}\n'
+NEAR = {"cube": "", "local_cube": 'near = ["east", "north"]\n'}
 
 
-def made_up_frame(rows):
-    state, lines = 1, ["id,area,herd,workers\n"]
+def made_up_frame(rows, located):
+    """A frame of values, and of coordinates where the units are located."""
 
-    def number():
-        nonlocal state
-        state = (state * 6364136223846793005 + 1442695040888963407) % 2**64
-        return state // 2**33
+    def numbers(state):
+        while True:
+            state = (state * 6364136223846793005 + 1442695040888963407) % 2**64
+            yield state // 2**33
 
+    values, places = numbers(1), numbers(2)
+    lines = ["id,area,herd,workers" + ",east,north" * located + "\n"]
     for row in range(rows):
-        area, herd, workers = number() % 10000 + 1, number() % 501, number() % 20 + 1
-        lines.append(f"u{row},{area},{herd},{workers}\n")
+        whole = [next(values) % 10000 + 1, next(values) % 501, next(values) % 20 + 1]
+        whole += [next(places) % 1_000_000 for _ in range(2 * located)]
+        lines.append(f"u{row}," + ",".join(map(str, whole)) + "\n")
     return "".join(lines)
 
 
@@ -48,10 +52,11 @@ def main():
     if program is None:
         subprocess.run([os.path.join(TOP, "sampler")], stdout=subprocess.DEVNULL)
         program = os.path.join(TOP, "crates", "sampler", "out", "sampler")
-    print("rows draws landing seconds megabytes instructions (millions)")
-    for rows in [int(word) for word in sys.argv[1:]] or [1_000, 10_000]:
-        frame = write(work, "frame.csv", made_up_frame(rows))
-        design = write(work, "design.toml", DESIGN.format(n=max(1, rows // 10)))
+    print("method rows draws landing seconds megabytes instructions (millions)")
+    counts = [int(word) for word in sys.argv[1:]] or [1_000, 10_000]
+    for method, rows in [(method, rows) for method in NEAR for rows in counts]:
+        frame = write(work, "frame.csv", made_up_frame(rows, method == "local_cube"))
+        design = write(work, "design.toml", DESIGN.format(method=method, near=NEAR[method], n=max(1, rows // 10)))
         log = os.path.join(work, "log.txt")
         words = [program, "draw", "--design", design, "--frame", frame, "--log", log, "--sample", os.path.join(work, "sample.csv")]
         tape, draws = full_tape(words, work, rows)
@@ -60,7 +65,7 @@ def main():
         with open(log) as steps:
             landing = sum(line.startswith(("drop", "wide")) for line in steps)
         note = "" if code == 0 else f" (ended with code {code})"
-        print(f"{rows} {draws} {landing} {seconds:.3f} {megabytes:.0f} {count}{note}")
+        print(f"{method} {rows} {draws} {landing} {seconds:.3f} {megabytes:.0f} {count}{note}")
 
 
 if __name__ == "__main__":
