@@ -233,7 +233,7 @@ def tree():
     return picture("The tree of a small draw", width, height, parts)
 
 
-# ---- the spread of a local pivotal sample
+# ---- the spread of samples
 
 def made_up_points(count):
     """Points in a square of 1,000,000, by the generator of Lehmer with the factor 16807."""
@@ -249,19 +249,24 @@ def made_up_points(count):
 
 def spread():
     points, side, parts = made_up_points(400), 400, []
+    totals = [sum(point[axis] for point in points) for axis in range(2)]
     with tempfile.TemporaryDirectory() as folder:
         write(folder, "frame", ["id,x,y", *(f"{at},{x},{y}" for at, (x, y) in enumerate(points))])
-        write(folder, "pivotal", ["version = 1", 'method = "pivotal"', 'id = "id"', "n = 40"])
-        write(folder, "local", ["version = 1", 'method = "local_pivotal"', 'id = "id"', 'near = ["x", "y"]', "n = 40"])
-        for left, design, title in [(20, "pivotal", "pivotal, in the order of the frame"), (460, "local", "local pivotal")]:
-            sample = [points[int(it)] for it in drawn(folder, design, "frame", 1)]
+        near, balance = 'near = ["x", "y"]', 'balance = ["x", "y"]'
+        for left, method, title, keys in [(20, "pivotal", "pivotal, in the order of the frame", []), (460, "local_pivotal", "local pivotal", [near]),
+                                          (900, "local_cube", "local cube, balanced on both coordinates", [near, balance])]:
+            write(folder, method, ["version = 2", f'method = "{method}"', 'id = "id"', *keys, "n = 40"])
+            weights = drawn(folder, method, "frame", 1)
+            sample = [points[int(it)] for it in weights]
             away = math.fsum(min(math.dist(point, other) for other in sample) for point in points) / len(points)
+            missed = [abs(float(sum(weights[it] * points[int(it)][axis] for it in weights) / totals[axis] - 1)) for axis in range(2)]
             parts += [box(left, 44, side, side), text(left, 26, title, "start")]
             for kind, radius, some in [("plain", 1.8, points), ("first", 5, sample)]:
                 parts += [dot(left + 8 + x * (side - 16) / 1e6, 52 + y * (side - 16) / 1e6, radius, kind) for x, y in some]
-            parts.append(text(left, 466, f"A point is {away / 10_000:.1f}% of the side away from the nearest drawn one, on average.", "start", "small"))
-    parts.append(text(20, 490, "40 of 400 made-up points with equal probabilities, by the same seed.", "start", "small"))
-    return picture("A pivotal sample and a local pivotal one", 880, 506, parts)
+            parts += [text(left, 466, f"A point is {away / 10_000:.1f}% of the side away from the nearest drawn one, on average.", "start", "small"),
+                      text(left, 482, f"The totals of the coordinates are missed by {missed[0]:.1%} and {missed[1]:.1%}.", "start", "small")]
+    parts.append(text(20, 506, "40 of 400 made-up points with equal probabilities, by the same seed.", "start", "small"))
+    return picture("A pivotal sample, a local pivotal one, and one by the local cube", 1320, 522, parts)
 
 
 # ---- the balance of a draw by the cube

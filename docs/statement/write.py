@@ -27,14 +27,18 @@ METHODS = [
     ("local_pivotal", "local pivotal selection", ["smp_localpiv", "smp_near"]),
     ("cube", "the cube method", ["smp_landing", "smp_flight", "smp_moves", "smp_kernel", "smp_balance", "smp_twostage.specs.Cubes",
                                  "smp_twostage.specs.Lines"]),
+    ("local_cube", "the local cube", ["smp_localcube", "smp_localpiv.specs.Coordinates", "smp_near", "smp_flight", "smp_moves", "smp_kernel"]),
 ]
-# The definitions of the cube alone that stand among those of all methods: on the other pages they are only named.
+# Those that balance.
+BALANCING = ("cube", "local_cube")
+# The definitions of those that balance alone that stand among those of all methods: on the other pages they are only named.
 CUBE_ALONE = {"KeepsBalance"}
 # What is the same by every method and has a page of its own, by crates, files and names: on the methods' pages it stands in short.
 APART = {
     "joint": ["smp_joint", "IsExactJoint", "joints_text", "most_joint_rows"],
     "read": ["smp_plan", "smp_strata", "smp_design", "smp_frame", "smp_prob.specs.Requested", "smp_prob.specs.Given", "smp_prob.specs.Shapes",
              "IsReadPlan", "IsReadFrame", "tape_of"],
+    "balance": ["smp_moves.specs.Balances", "smp_moves.specs.Owed", "smp_balance.specs.Strata", "smp_balance.specs.Totals", "smp_twostage.specs.Cubes"],
     "written": ["smp_weights", "smp_log.specs.Heads", "smp_log.specs.Logs", "smp_log.specs.SectionLogs", "smp_app.specs.Texts",
                 "smp_balance.specs.Lines", "smp_twostage.specs.Lines"],
 }
@@ -47,7 +51,7 @@ DRAW = [
     ("Probabilities", "Each row is selected with the probability that is asked for it, and the weighted total has no bias.",
      {"IsDrawnBy": ["probabilities"]}),
     ("Numbers", "How many are drawn.", {"IsDrawnBy": ["firsts", "around", "seconds"]}),
-    ("Balance", "What the cube keeps, of whatever stratum it draws from.", {"IsDrawnBy": ["balance"]}),
+    ("Balance", "What the method keeps, of whatever stratum it draws from.", {"IsDrawnBy": ["balance"]}),
     ("What is written", "The sample, the log and the report, to the byte: what they are made of is on the page [written.md](written.md).",
      {"IsExactDraw": ["", "written", "put"]}),
 ]
@@ -60,6 +64,11 @@ WRITTEN = [
     ("The log and the sample", "", {"IsExactDraw": ["written"]}),
     ("The report", "", {"IsExactDraw": ["put"]}),
     ("What the report tells of balance", "", None),
+]
+BALANCE = [
+    ("What a selection keeps that flies and then lands", "", ["smp_moves.specs.Balances"]),
+    ("The totals of a stratum, over all of its units", "", ["smp_balance"]),
+    ("In the draw tree of a plan", "", ["smp_twostage"]),
 ]
 JOINT = [
     ("What is listed", "", {"IsExactJoint": ["put"]}),
@@ -97,6 +106,8 @@ OWN_THEMES = [
 ]
 LONG = 250
 WIDE = 140
+# Those whose names stand at the beginning of a doc comment.
+PERSONS = ("Brewer",)
 
 
 # ---- what a page has
@@ -283,9 +294,10 @@ def is_of(at, own):
     return any(at[1] == name or at[0] == name or at[0].startswith(name + ".") for name in own)
 
 
-def owner(at):
-    """The page of the method whose own a definition is, or nothing."""
-    return next((page for page, _, own in METHODS if is_of(at, own)), None)
+def owner(at, method=None):
+    """The page of the method whose own a definition is, this one where it is one of several, or nothing."""
+    pages = [page for page, _, own in METHODS if is_of(at, own)]
+    return method if method in pages else next(iter(pages), None)
 
 
 def page_apart(at):
@@ -312,29 +324,43 @@ data Found : Type 0 where
   at : ℕ → Found
 ```
 
-A definition tells its type behind `:`, here that of a function of a number and a list, and then what it is, by cases; `f x y` is f of x and y. A
-record has fields; where it is a statement (its type ends in `Type 0`) it holds where each of its fields does. A value of a `data` is one of its forms.
-`≡` says that two things are equal; `(m : ℕ) →` is read "for each m", and `A → B` "from A follows B", or a function from A to B; `×` is "and", `⊎` "or", `⊥`
-what never holds, and `Unit {0}` what always does. `λ x. e` is the function that gives e for x, `{A : Type 0}` a parameter that isn't written where the
-function is used, `◌` in a name the place of what it is used on (`◌+◌` is `+`), `s.done` a field of s, `record { .. }` a record with these fields,
-`[]` the empty list and `n ∷ ns` a list with its first; `Some x` is there and `None` isn't. A place in a list is counted from 0. What is indented under
-`module _ (tree : ..) where` has the tree as its first parameter, which isn't written there. Behind the first line of a definition stands its place.
-A name that stands for more than one thing here is that of the definition's own crate, unless the file stands there too."""
+A definition tells its type behind `:`, here that of a function of a number and a list, and then what it is, by cases; `f x y` is f of x and y. A record has
+fields; where it is a statement (its type ends in `Type 0`) it holds where each of its fields does. A value of a `data` is one of its forms. `≡` says that two
+things are equal; `(m : ℕ) →` is read "for each m", and `A → B` "from A follows B", or a function from A to B; `×` is "and", `⊎` "or", `(m : ℕ) ×` "there is
+an m for which", `⊥` what never holds, and `Unit {0}`, whose value is `tt`, what always does. `λ x. e` is the function that gives e for x, `{A : Type 0}` a
+parameter that isn't written where the function is used, `◌` in a name the place of what it is used on (`◌+◌` is `+`), `s.done` a field of s, `record { .. }`
+a record with these fields, `[]` the empty list and `n ∷ ns` a list with its first; `Some x` is there and `None` isn't; `x.0` and `x.1` are the two of a pair.
+A place in a list is counted from 0: `slice_get xs i` is what stands there, if anything does, `slice_index xs i` the number there, 0 past the end, and
+`slice_index_or xs i d` the same with d past the end; `range_with_len a n` has the n numbers from a on. `suc n` is n + 1 and `zero` 0; a number of any sign is
+`pos n`, or `negsuc n`, which is -(n + 1); `a - b` of ℕ is 0 where b is larger, and so is `a / b` where b is 0, where `a % b` is a. `cond c a b` is a where c
+holds, and else b; `elim [ .. ↦ .. ]` a function by cases; `record r { f = e }` is r with another f; `codes "a"` the bytes of an ASCII text; in a `do` each
+line `x ← e` goes on with what e gives, or ends as e does. What is indented under `module _ (tree : ..) where` has the tree as its first parameter, which
+isn't written there. Behind the first line of a definition stands its place. A name that stands for more than one thing here is that of the definition's own
+crate, unless the file stands there too."""
 
 ABOUT_METHOD = """`sampler` proves the record `IsExactDraw` of each call of `draw` that answers Done, over a store that tells its files and a sink that tells what was put
 (clause `headline` in [call.rt](../../crates/smp_app/src/call.rt)). This page has what one has to believe to know what that says where the design's method is
 `{method}`: the definitions that the record reaches, each once, with its comment, its file and its line. The prover reads those files; `docs/statement/write.py`
 makes the page from them. The record stands first, and then what its fields name, from the ground up. Of another method it has nothing. What
 is the same by every method stands in short, by its comment and its type, and has pages of its own: what was read and what is asked
-([read.md](read.md)), and what is written ([written.md](written.md)). What a replay adds is in [replay.md](replay.md)."""
+([read.md](read.md)), and what is written ([written.md](written.md)){balance}. What a replay adds is in [replay.md](replay.md)."""
+# The same of what methods share that balance.
+AND_BALANCE = "; so has what methods keep that balance\n([balance.md](balance.md))"
+
+OWN_BALANCE = "What the definitions above and those on [balance.md](balance.md) name besides: the method as a selection, and where its landing may begin."
 
 ABOUT_READ = """What the field `read` of `IsExactDraw` says, and of a draw by a tape the field `tape_read` of `IsDrawnByTape`: that the plan and the tape are what the bytes in
 the files say. And what a plan is, and what it asks: which strata and first stage units a frame has, how many of each are drawn, and with which
 probability a row. It is the same by every method. [formats.md](../formats.md) has it in words. All of it is here, so that the page can be read alone."""
 
 ABOUT_WRITTEN = """What the fields `written` and `put` of `IsExactDraw` name: the log, the sample and the report, to the byte. They are the same by every method, but that
-only the cube tells of balance. [formats.md](../formats.md) has them in words. Definitions that stand on the page of each method
+only the cube and the local cube tell of balance. [formats.md](../formats.md) has them in words. Definitions that stand on the page of each method
 ([pivotal.md](pivotal.md), say) or on [read.md](read.md) aren't here again."""
+
+ABOUT_BALANCE = """What the field `balance` of `IsDrawnBy` says of the strata that the cube method or the local cube draws: which totals each flight step keeps, where landing
+may begin, and by how much an estimate may miss its total. It is the same by both methods, and said of their draw trees, which stand on
+[cube.md](cube.md) and on [local_cube.md](local_cube.md). The guide has it in words ([guide.md](../guide.md), "Balanced on known totals"). Definitions that stand on the
+page of each method or on [read.md](read.md) aren't here again."""
 
 ABOUT_REPLAY = """`sampler` proves the record `Headline` of each call over a store that tells its files and a sink that tells what was put (clause `headline` in
 [call.rt](../../crates/smp_app/src/call.rt)). A `draw` has a page for each method:
@@ -392,7 +418,7 @@ def doc_above(lines):
             not lines[at - 1].strip() and any(line.strip() for line in lines[at:])):
         at -= 1
     words = [line.strip()[3:].strip() for line in lines[at:] if line.strip().startswith("///")]
-    text = " ".join(word for word in words)
+    text = " ".join(filter(None, words))
     return re.sub(r"\[(`[^`]*`)\](\([^)]*\))?", r"\1", text)
 
 
@@ -400,10 +426,11 @@ def told_member(text):
     """A field or a form of a type, with its doc comment."""
     lines = text.split("\n")
     body = " ".join(line.strip() for line in lines if not line.strip().startswith(("///", "//", "#[")))
-    doc = doc_above([line for line in lines if line.strip().startswith("///")])
-    body = re.sub(r"^(pub(\([a-z]+\))?|ghost) ", "", " ".join(body.split()))
+    first = next(at for at, line in enumerate(lines) if line.strip() and not line.strip().startswith(("///", "//", "#[")))
+    doc = doc_above([line for line in lines[:first] if line.strip().startswith("///")]).rstrip(".")
+    body = re.sub(r"^(pub(\([a-z]+\))?|ghost) ", "", " ".join(body.split())).replace(", }", " }")
     body = re.sub(r"\b(?:[a-z_0-9]+::)+", "", body)
-    return f"`{body}`" + (f" ({doc[0].lower() + doc[1:].rstrip('.')})" if doc and doc.count(". ") == 0 else "")
+    return f"`{body}`" + (f" ({doc if doc.startswith(PERSONS) else doc[0].lower() + doc[1:]})" if doc else "")
 
 
 def told_type(path, name):
@@ -494,17 +521,39 @@ def doubles(page):
     return {name for name in found if len(found[name]) > 1}
 
 
+def own_below(page, method):
+    """What is a method's own and is named by what stands on its page in short, or by what that names."""
+    found, seen = [], set()
+
+    def visit(at):
+        if at in seen or page.definition(at) is None or page.definition(at).is_proof:
+            return
+        seen.add(at)
+        if page_apart(at) is None and owner(at, method):
+            found.extend([at] if owner(at, method) == method else [])
+            return
+        for other in specs.named(page.modules, page.definition(at), page.definition(at).shown()):
+            visit(other)
+
+    for at in page.shown:
+        if page.is_short(at):
+            visit(at)
+    return found
+
+
 def method_page(modules, method, words, double=None):
     """The page of a method."""
     state = {"own": False}
 
     def elsewhere(at):
-        of = owner(at)
+        if page_apart(at):
+            return page_apart(at)
+        of = owner(at, method)
         if of not in (None, method):
             return of
-        if method != "cube" and at[1] in CUBE_ALONE:
+        if method not in BALANCING and at[1] in CUBE_ALONE:
             return "cube"
-        return page_apart(at) or (method if of == method and not state["own"] else None)
+        return method if of == method and not state["own"] else None
 
     page = Page(modules, elsewhere, tuple(APART), double or ())
     page.put("## The statement", "")
@@ -513,21 +562,21 @@ def method_page(modules, method, words, double=None):
     page.types_at = len(page.lines)
     tree = None
     for title, about, told in DRAW:
-        if title == "Balance" and method != "cube":
+        if title == "Balance" and method not in BALANCING:
             continue
         page.put_section(title, with_fields(about, told), page.reached(starts_of(modules, told)))
         tree = list(page.left) if tree is None else tree
     state["own"] = True
-    own = [at for at in tree if owner(at) == method]
+    own = [at for at in tree if owner(at, method) == method]
     page.put_section(f"The draw tree of {words}", "", page.reached(own), OWN_THEMES)
-    rest = [at for at in page.left if owner(at) == method]
-    page.put_section("What balance is", "", page.reached(rest), OWN_THEMES)
+    rest = [at for at in page.left if owner(at, method) == method] + (own_below(page, method) if method in BALANCING else [])
+    page.put_section("What balance is", OWN_BALANCE, page.reached(rest), OWN_THEMES)
     title, about, told = LAST
     page.put_section(title, with_fields(about, told), page.reached(starts_of(modules, told)))
     page.put_left_over()
     if double is None:
         return method_page(modules, method, words, doubles(page))
-    return page, ended(page, f"What is proved of a draw by {words}", ABOUT_METHOD.format(method=method))
+    return page, ended(page, f"What is proved of a draw by {words}", ABOUT_METHOD.format(method=method, balance=AND_BALANCE if method in BALANCING else ""))
 
 
 def other_page(modules, name, known, title, about, first, sections, double=None):
@@ -536,6 +585,8 @@ def other_page(modules, name, known, title, about, first, sections, double=None)
     def elsewhere(at):
         if page_apart(at) == name:
             return None
+        if page_apart(at) in ("balance", "joint"):
+            return page_apart(at)
         return owner(at) or ("cube" if at[1] in CUBE_ALONE else known.get(at))
 
     page = Page(modules, elsewhere, (), double or ())
@@ -551,29 +602,52 @@ def other_page(modules, name, known, title, about, first, sections, double=None)
     return page, ended(page, title, about)
 
 
+def section_of(modules, starts, heading, words, told):
+    """A section with the definitions from which its own are reached: those that fields name, those of these files, those of these crates
+    among the starts, or all of them."""
+    if isinstance(told, dict):
+        return heading, with_fields(words, told), starts_of(modules, told)
+    files = [(file, name) for file in told or [] if file in modules for name in modules[file].definitions]
+    return heading, words, files or [at for at in starts if told is None or at[0].split(".")[0] in told]
+
+
+def check_pointers(made):
+    """That each definition that a page names, and says to be on another, stands there whole."""
+    for page in made.values():
+        for at in page.shown:
+            for other in page.named(at):
+                where = page.elsewhere(other) if page.definition(other) and not page.definition(other).is_proof else None
+                if where in made and other not in page.shown and (other not in made[where].shown or made[where].is_short(other)):
+                    sys.exit(f"docs/statement/write.py: {other[1]} is named as one of {where}.md, and isn't there")
+
+
 def pages():
     """Each page by its name."""
     modules = specs.read_all(os.path.join(TOP, "crates"))
-    found, common, short = {}, None, []
+    found, made, common, short = {}, {}, None, []
     for method, words, _ in METHODS:
         page, found[method] = method_page(modules, method, words)
+        made[method] = page
         shown = {at for at in page.shown if not page.is_short(at)}
         common = shown if common is None else common & shown
         short += [at for at in page.shown if page.is_short(at) and at not in short]
     known = {}
     for name, title, about, sections in [("read", "What was read, and what is asked", ABOUT_READ, READ),
+                                         ("balance", "What balance is", ABOUT_BALANCE, BALANCE),
                                          ("written", "What is written", ABOUT_WRITTEN, WRITTEN)]:
         starts = [at for at in short if page_apart(at) == name]
-        sections = [(heading, with_fields(words, told), starts if told is None else starts_of(modules, told)) for heading, words, told in sections]
+        sections = [section_of(modules, starts, *section) for section in sections]
         page, found[name] = other_page(modules, name, known, title, about, [], sections)
+        made[name] = page
         known.update({at: name for at in page.shown if at not in common})
         known.update({at: METHODS[0][0] for at in common})
     names = ", ".join(f"[{method}.md]({method}.md)" for method, _, _ in METHODS)
     sections = [(heading, with_fields(words, told), starts_of(modules, told)) for heading, words, told in REPLAY]
-    page, found["replay"] = other_page(modules, "replay", known, "What is proved of a replay", ABOUT_REPLAY.format(methods=names), ["Ends", "Headline"], sections)
-    known.update({at: "replay" for at in page.shown if at not in known})
+    made["replay"], found["replay"] = other_page(modules, "replay", known, "What is proved of a replay", ABOUT_REPLAY.format(methods=names), ["Ends", "Headline"], sections)
+    known.update({at: "replay" for at in made["replay"].shown if at not in known})
     sections = [(heading, with_fields(words, told), starts_of(modules, told)) for heading, words, told in JOINT]
-    _, found["joint"] = other_page(modules, "joint", known, "What is proved of joint probabilities", ABOUT_JOINT, ["IsExactJoint"], sections)
+    made["joint"], found["joint"] = other_page(modules, "joint", known, "What is proved of joint probabilities", ABOUT_JOINT, ["IsExactJoint"], sections)
+    check_pointers(made)
     return found
 
 
