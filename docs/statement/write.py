@@ -38,6 +38,7 @@ APART = {
     "joint": ["smp_joint", "IsExactJoint", "joints_text", "most_joint_rows"],
     "read": ["smp_plan", "smp_strata", "smp_design", "smp_frame", "smp_prob.specs.Requested", "smp_prob.specs.Given", "smp_prob.specs.Shapes",
              "IsReadPlan", "IsReadFrame", "tape_of"],
+    "flight": ["smp_kernel", "smp_moves.specs.Moves", "smp_moves.specs.Ends", "smp_flight.specs.States", "smp_flight.specs.Steps", "smp_flight.specs.Moves"],
     "balance": ["smp_moves.specs.Balances", "smp_moves.specs.Owed", "smp_balance.specs.Strata", "smp_balance.specs.Totals", "smp_twostage.specs.Cubes"],
     "written": ["smp_weights", "smp_log.specs.Heads", "smp_log.specs.Logs", "smp_log.specs.SectionLogs", "smp_app.specs.Texts",
                 "smp_balance.specs.Lines", "smp_twostage.specs.Lines"],
@@ -64,6 +65,9 @@ WRITTEN = [
     ("The log and the sample", "", {"IsExactDraw": ["written"]}),
     ("The report", "", {"IsExactDraw": ["put"]}),
     ("What the report tells of balance", "", None),
+]
+FLIGHT = [
+    ("From a state to its step", "", None),
 ]
 BALANCE = [
     ("What a selection keeps that flies and then lands", "", ["smp_moves.specs.Balances"]),
@@ -345,7 +349,7 @@ makes the page from them. The record stands first, and then what its fields name
 is the same by every method stands in short, by its comment and its type, and has pages of its own: what was read and what is asked
 ([read.md](read.md)), and what is written ([written.md](written.md)){balance}. What a replay adds is in [replay.md](replay.md)."""
 # The same of what methods share that balance.
-AND_BALANCE = "; so has what methods keep that balance\n([balance.md](balance.md))"
+AND_BALANCE = "; so have, of the methods that\nbalance, a step of their flight ([flight.md](flight.md)) and what they keep ([balance.md](balance.md))"
 
 OWN_BALANCE = "What the definitions above and those on [balance.md](balance.md) name besides: the method as a selection, and where its landing may begin."
 
@@ -356,6 +360,11 @@ probability a row. It is the same by every method. [formats.md](../formats.md) h
 ABOUT_WRITTEN = """What the fields `written` and `put` of `IsExactDraw` name: the log, the sample and the report, to the byte. They are the same by every method, but that
 only the cube and the local cube tell of balance. [formats.md](../formats.md) has them in words. Definitions that stand on the page of each method
 ([pivotal.md](pivotal.md), say) or on [read.md](read.md) aren't here again."""
+
+ABOUT_FLIGHT = """A step of the flight of the cube method (Deville and Tillé 2004), and of the local cube, which differ in the units that a search goes through: the
+direction that a search finds among columns of whole numbers, how far it can be followed both ways with which weights, and when a number is too wide for it.
+It is said by properties, of which one step alone has all. The draw trees that go by it are on [cube.md](cube.md) and on [local_cube.md](local_cube.md), and
+[formats.md](../formats.md) has it in words. Definitions that stand on the page of each method or on [read.md](read.md) aren't here again."""
 
 ABOUT_BALANCE = """What the field `balance` of `IsDrawnBy` says of the strata that the cube method or the local cube draws: which totals each flight step keeps, where landing
 may begin, and by how much an estimate may miss its total. It is the same by both methods, and said of their draw trees, which stand on
@@ -585,7 +594,7 @@ def other_page(modules, name, known, title, about, first, sections, double=None)
     def elsewhere(at):
         if page_apart(at) == name:
             return None
-        if page_apart(at) in ("balance", "joint"):
+        if page_apart(at) in ("flight", "balance", "joint"):
             return page_apart(at)
         return owner(at) or ("cube" if at[1] in CUBE_ALONE else known.get(at))
 
@@ -595,7 +604,7 @@ def other_page(modules, name, known, title, about, first, sections, double=None)
         page.put_definitions([find(modules, told) for told in first])
     page.types_at = len(page.lines)
     for heading, words, starts in sections:
-        page.put_section(heading, words, page.reached(starts))
+        page.put_section(heading, words, page.reached(starts), OWN_THEMES if name == "flight" else THEMES)
     page.put_left_over()
     if double is None:
         return other_page(modules, name, known, title, about, first, sections, doubles(page))
@@ -633,6 +642,7 @@ def pages():
         short += [at for at in page.shown if page.is_short(at) and at not in short]
     known = {}
     for name, title, about, sections in [("read", "What was read, and what is asked", ABOUT_READ, READ),
+                                         ("flight", "A step of the flight", ABOUT_FLIGHT, FLIGHT),
                                          ("balance", "What balance is", ABOUT_BALANCE, BALANCE),
                                          ("written", "What is written", ABOUT_WRITTEN, WRITTEN)]:
         starts = [at for at in short if page_apart(at) == name]
