@@ -3,9 +3,9 @@
 ghost use Rattle.smp_balance.specs.Totals.{EachIsBalanced};
 ghost use Rattle.smp_balance.specs.Reports.{EachLineTells};
 
-/// The law that every selection from a stratum by the cube, or by the local cube, is balanced: its flight keeps each total in force exactly, its
-/// landing begins only where no direction is left or the next step doesn't fit, and the units that are undecided there bound the error of each
-/// estimate. It runs nothing: its contract is the theorem.
+/// The law that every selection from a stratum by the cube, or by the local cube, is balanced: its flight keeps each total in force
+/// exactly, its landing begins only where no direction is left or the next step doesn't fit, and the units that are undecided there
+/// bound the error of each estimate. It runs nothing: its contract is the theorem.
 pub fn balance_law()
     ensures { EachIsBalanced }
 {}

@@ -182,7 +182,7 @@ impl Method {
     }
 
     /// Whether the method draws a whole number of units alone, so that their inclusion probabilities
-    /// have to add up to one.
+    /// have to add up to a whole number.
     pub fn draws_whole(self) -> bool
         ensures { result ≡ (row self).draws_whole }
     {

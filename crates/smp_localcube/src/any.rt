@@ -119,9 +119,9 @@ impl AnyLocalCube {
         }
     }
 
-    /// The state before the first step. Over all draws, each unit is selected with the probability that is its value, and where the values
-    /// add up to a whole number, that many units are. The flight keeps each balancing total, and the units that are fractional where the landing
-    /// begins bound the error of each estimate.
+    /// The state before the first step. Over all draws, each unit is selected with the probability that is its value, and where the
+    /// values add up to a whole number, that many units are. The flight keeps each balancing total, and the units that are fractional
+    /// where the landing begins bound the error of each estimate.
     pub fn start(&self, alloc: Global) -> Result<AnyLocalCubeState, NoMemory>
         ensures state { IfOk result (λ state. state ≡ started self.now) }
         ensures starts { IfOk result (Starts (method_of self.now)) }

@@ -51,8 +51,8 @@ fn points_at<const K: usize>(alloc: Global, coords: &[[i32; K]]) -> Result<Point
 }
 
 impl<const K: usize> LocalCube<K> {
-    /// The design of a request: its units are the request's free units, with a list of balancing values and a point for each of them, and each
-    /// has the value that is requested of it.
+    /// The design of a request: its units are the request's free units, with a list of balancing values and a point for each of them,
+    /// and each has the value that is requested of it.
     pub fn new(
         alloc: Global,
         request: &Request,
@@ -76,9 +76,9 @@ impl<const K: usize> LocalCube<K> {
         })
     }
 
-    /// The state before the first step. Over all draws, each unit is selected with the probability that is its value, and where the values
-    /// add up to a whole number, that many units are. The flight keeps each balancing total, and the units that are fractional where the landing
-    /// begins bound the error of each estimate.
+    /// The state before the first step. Over all draws, each unit is selected with the probability that is its value, and where the
+    /// values add up to a whole number, that many units are. The flight keeps each balancing total, and the units that are fractional
+    /// where the landing begins bound the error of each estimate.
     pub fn start(&self, alloc: Global) -> Result<LocalCubeState<K>, NoMemory>
         ensures state { IfOk result (λ state. state ≡ started self.now) }
         ensures starts { IfOk result (Starts (method_of self.now)) }

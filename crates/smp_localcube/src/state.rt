@@ -33,9 +33,9 @@ pub(crate) enum Phase {
 
 /// A state of a selection by the local cube.
 ///
-/// Its window has the units that moves have changed and left fractional. The points of the units that no move has changed are living, and these
-/// have the weight 1: so a unit is chosen, and a changed one taken out, along one path of a tree. The room for the values of the pivotal steps is
-/// there from the start, so no step takes memory.
+/// Its window has the units that moves have changed and left fractional. The points of the units that no move has changed are living,
+/// and these have the weight 1: so a unit is chosen, and a changed one taken out, along one path of a tree. The room for the values of
+/// the pivotal steps is there from the start, so no step takes memory.
 #[derive(Drop)]
 pub struct LocalCubeState<const K: usize> {
     pub(crate) flight: FlightState,

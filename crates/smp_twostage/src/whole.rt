@@ -24,8 +24,8 @@ use smp_strata::Plan;
 use std::alloc::Global;
 use std::marker::Model;
 
-/// The selection by a plan, in one stage or in two (Särndal, Swensson and Wretman 1992): a design whose units are the rows of the frame, counted
-/// from 0. It covers all strata of the plan, or one alone. It is seen as the plan and the number of that stratum.
+/// The selection by a plan, in one stage or in two (Särndal, Swensson and Wretman 1992): a design whose units are the rows of the frame,
+/// counted from 0. It covers all strata of the plan, or one alone. It is seen as the plan and the number of that stratum.
 ///
 /// Strata are drawn in order of first appearance. In each its first stage units are drawn, by the plan's method and in its order. Where the
 /// plan has a second method, rows are then drawn by it within each of the units that were drawn, in frame order, one unit after another.
@@ -169,10 +169,10 @@ impl<'a> Whole<'a> {
     /// The whole selection by a plan, before its first step. The methods have to take the columns of values that the plan's units have; the
     /// second one takes none.
     ///
-    /// From this state each row is selected with exactly the probability that the plan gives it, and the estimator of Horvitz and Thompson (1952)
-    /// has no bias. By every method that doesn't balance, as many first stage units of a stratum are selected as their probabilities add up to,
-    /// or, where these have no whole sum, one of the two whole numbers around it. All states are made here, so no later step takes memory; where there is
-    /// too little of it, the answer is [`NoMemory`], the only error.
+    /// From this state each row is selected with exactly the probability that the plan gives it, and the estimator of Horvitz and
+    /// Thompson (1952) has no bias. By every method that doesn't balance, as many first stage units of a stratum are selected as their
+    /// probabilities add up to, or, where these have no whole sum, one of the two whole numbers around it. All states are made here, so
+    /// no later step takes memory; where there is too little of it, the answer is [`NoMemory`], the only error.
     pub fn start(alloc: Global, plan: &'a Plan) -> Result<StartedWhole<'a>, NoMemory>
         requires { CanBeDrawn plan.now }
         ensures plan { IfOk result (λ started. started.whole ≡ all_of plan.now) }
@@ -188,12 +188,12 @@ impl<'a> Whole<'a> {
         Ok(started(plan, None, made, firsts, seats))
     }
 
-    /// The selection of one stratum alone, before its first step. Strata are counted from 0, in order of first appearance. It has one section.
-    /// Its units are still the rows of the frame, and those of other strata are never selected.
+    /// The selection of one stratum alone, before its first step. Strata are counted from 0, in order of first appearance. It has one
+    /// section. Its units are still the rows of the frame, and those of other strata are never selected.
     ///
-    /// It is a part of the whole selection, and makes the steps that the whole makes in this stratum. Each row of the stratum is selected with
-    /// exactly the probability that the plan gives it. No state of another stratum is made. Where there is too little memory, the answer is
-    /// [`NoMemory`], the only error.
+    /// It is a part of the whole selection, and makes the steps that the whole makes in this stratum. Each row of the stratum is
+    /// selected with exactly the probability that the plan gives it. No state of another stratum is made. Where there is too little
+    /// memory, the answer is [`NoMemory`], the only error.
     pub fn only(alloc: Global, plan: &'a Plan, stratum: usize) -> Result<StartedWhole<'a>, NoMemory>
         requires plan { CanBeDrawn plan.now }
         requires stratum { stratum < length plan.now.strata }
@@ -240,8 +240,9 @@ impl<'a> Whole<'a> {
         }
     }
 
-    /// How many first stage units of a stratum were undecided where the landing of its cube, or local cube, began (Deville and Tillé 2004): 0 as
-    /// long as it hasn't begun, 0 where no unit was left for it, and 0 by any other method. Strata are counted from 0, in order of first appearance.
+    /// How many first stage units of a stratum were undecided where the landing of its cube, or local cube, began (Deville and Tillé
+    /// 2004): 0 as long as it hasn't begun, 0 where no unit was left for it, and 0 by any other method. Strata are counted from 0, in
+    /// order of first appearance.
     pub fn left(&self, state: &StagesState<AnyState>, stratum: usize) -> u32
         requires state { BelongsToCovered self.now state.now }
         requires stratum { covers self.now stratum ≡ true }
@@ -253,8 +254,8 @@ impl<'a> Whole<'a> {
             .left(state.stage_state(stage))
     }
 
-    /// Whether a first stage unit of a stratum is selected, in a done state. Strata are counted from 0, and so are the units of each stratum,
-    /// both in order of first appearance.
+    /// Whether a first stage unit of a stratum is selected, in a done state. Strata are counted from 0, and so are the units of each
+    /// stratum, both in order of first appearance.
     pub fn first(&self, state: &StagesState<AnyState>, stratum: usize, unit: usize) -> bool
         requires state { BelongsToCovered self.now state.now }
         requires done { (covered_tree self.now).done state.now ≡ true }
