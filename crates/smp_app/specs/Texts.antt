@@ -70,8 +70,8 @@ sample_text drawn = sample_file (map (weighted_row drawn.plan) (drawn_rows drawn
 abbrev pub migrated_text : Drawn → List ℕ
 migrated_text drawn = codes "migrated " ++ (decimal (length drawn.path) ++ codes " steps\n")
 
--- The report: how many units were drawn, of how many in the strata that are covered, and in how many steps; and where they were drawn by
--- the cube, what it kept and gave up in each stratum.
+-- The report: how many units were drawn, of how many in the strata that are covered, and in how many steps; and where the
+-- method balances, what it kept and gave up in each stratum, or in all that are drawn together.
 abbrev pub report_text : Drawn → List ℕ
 report_text drawn =
     (codes "selected " ++ (decimal (length (drawn_rows drawn))

@@ -21,7 +21,8 @@ use std::alloc::Global;
 ///   `--seed K` in place of `--tape T` it draws with the words of the seed K.
 /// - `replay --design D --frame F --log L --sample S` reads D, F and the log L, of version 1 or 2, and writes to S
 ///   and puts what the draw wrote and put whose log L is. With `--stratum H` it goes through the steps of the stratum
-///   H alone, for which L has to be of version 2, writes its drawn units to S and puts the report of the stratum.
+///   H alone, for which L has to be of version 2, writes its drawn units to S and puts the report of the stratum. Where
+///   all strata are drawn together, they are the stratum 1, and there is no other.
 /// - `migrate --design D --frame F --log L --to M` reads D, F and the log L of version 1, writes the log of version 2
 ///   of the same steps to M, and puts how many there are.
 /// - `probs --design D --frame F` puts the probabilities with which the units of F are to be selected.

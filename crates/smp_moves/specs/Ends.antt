@@ -17,6 +17,7 @@ abbrev pub room : ℕ → ℕ → ℤ → ℕ
 room d a (pos n) = d - a
 room d a (negsuc n) = a
 
+-- what is left of a unit's value in the direction of an entry, and the size of the entry
 abbrev pub reach_at : Shares → ℕ → ℤ → Reach
 reach_at s unit e = record { left = room s.den (slice_index s.numer unit) e; size = unsigned_abs e }
 
@@ -24,6 +25,7 @@ reach_at s unit e = record { left = room s.den (slice_index s.numer unit) e; siz
 abbrev pub nearer : Reach → Reach → Reach
 nearer a b = if nat_lt (b.left * a.size) (a.left * b.size) then b else a
 
+-- the nearest of some units, and of the one that was so far
 abbrev pub reach_from : Shares → Reach → List ℕ → List ℤ → Reach
 reach_from s so_far [] entries = so_far
 reach_from s so_far (u ∷ units) [] = so_far
@@ -48,6 +50,7 @@ abbrev pub advanced : ℕ → Reach → ℤ → ℕ
 advanced a r (pos n) = a * r.size + r.left * n
 advanced a r (negsuc n) = a * r.size - r.left * suc n
 
+-- the same of all units
 abbrev pub advanced_numbers : List ℕ → Line → Reach → List ℕ
 advanced_numbers numer line r = map (λ k. advanced (slice_index numer k) r (entry_of line k)) (range_with_len 0 (length numer))
 
@@ -70,10 +73,12 @@ end_of requested_den s line =
 abbrev pub weights : Reach → Reach → Ratio
 weights up down = lowest (down.left * up.size) (up.left * down.size)
 
+-- the move along a line: its weights, how far it is followed both ways, and the line
 abbrev pub move_along : Shares → Line → Move
 move_along s line =
     let w = weights (reach s line) (reach s (turned line)) in
     record { plus_weight = w.num; minus_weight = w.den; up = extent s line; down = extent s (turned line); direction = line }
 
+-- whether each entry of a line fits its gate
 abbrev pub entries_fit : Line → Bool
 entries_fit line = list_all (λ e. nat_le (unsigned_abs e) most_entry) line.entries

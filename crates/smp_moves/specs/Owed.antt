@@ -24,16 +24,19 @@ pub record Weighed (State : Type 0) : Type 1 where
   pub stuck : State → Type 0
 
 module _ {State : Type 0} (w : Weighed State) where
+  -- whether a unit is fractional at a state
   abbrev pub is_open : State → ℕ → Bool
   is_open s k = fractional (w.denom s k) (w.numer s k)
 
+  -- the total of a row at a state
   abbrev pub weighed_total : State → ℕ → Fraction
   weighed_total s row = value_sum w.tree (w.expanded row) s
 
+  -- what is estimated of it at a leaf
   abbrev pub weighed_estimate : State → ℕ → Fraction
   weighed_estimate leaf row = selected_sum w.tree (w.expanded row) leaf
 
-  -- the sum of what the fractional units count for, without signs
+  -- the sum of what the fractional units count for in a row, without signs
   abbrev pub weighed_bound : State → ℕ → Fraction
   weighed_bound s row =
       sum_below w.tree.units (λ k. cond (is_open s k) (absolute (w.expanded row k)) (whole 0))
