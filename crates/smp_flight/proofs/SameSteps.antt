@@ -10,7 +10,7 @@ use Rattle.smp_moves.specs.Moves.{IsOrder}
 use Rattle.smp_moves.proofs.Entries.{frame_order, order_front, order_within}
 use Rattle.smp_flight.specs.States.{AreFirst, Flight, IsFlight, Tracked, Units, column, columns_of, size}
 use Rattle.smp_flight.specs.Moves.{IsNext, sized}
-use Rattle.smp_flight.specs.Kept.Searches.{search}
+use Rattle.smp_moves.specs.Kept.Searches.{search}
 use Rattle.smp_flight.specs.Steps.{next, next_on, next_on_is}
 use Rattle.smp_flight.specs.Answers.{Allows, IsFirstMove, IsMoveOf, answer_of, IsPaddedIn}
 use Rattle.smp_flight.specs.Kept.Steps.{next_along, next_by, next_of}

@@ -5,7 +5,7 @@ use Rattle.std.proofs.lemmas.List.{take-take}
 use Rattle.std.specs.Int.RustNames.{unsigned_abs}
 use Rattle.smp_kernel.specs.Vectors.{entry, IsZero, Within}
 use Rattle.smp_kernel.specs.Searches.{found}
-use Rattle.smp_flight.specs.Kept.Searches.{search, search_is}
+use Rattle.smp_moves.specs.Kept.Searches.{search, search_is}
 use Rattle.smp_values.specs.Values.{fractional_units}
 use Rattle.smp_values.proofs.Units.{fractional_units_length}
 use Rattle.smp_flight.specs.States.{AreFirst, Flight, IsFlight, Tracked, Units, columns_of}

@@ -3,7 +3,7 @@ use Rattle.std.specs.Prelude.{◌≡◌, ℕ, ◌++◌, ◌<◌, ◌≤◌, List
 use Rattle.std.specs.List.{filter}
 use Rattle.smp_kernel.specs.Searched.{answer, ArePadded}
 use Rattle.smp_kernel.specs.declared.searches.Searched.{Searched}
-use Rattle.smp_flight.specs.Kept.Searches.{search}
+use Rattle.smp_moves.specs.Kept.Searches.{search}
 use Rattle.smp_prob.specs.Shares.{Shares}
 use Rattle.smp_values.specs.Values.{fractional_units, is_fractional}
 use Rattle.smp_values.proofs.Units.{units_from}

@@ -7,7 +7,7 @@ use Rattle.smp_prob.specs.Shares.{Shares}
 use Rattle.smp_flight.specs.States.{Units, Flight, columns_of}
 use Rattle.smp_moves.specs.Moves.{Line, Next, move, independent, wide, turned}
 use Rattle.smp_moves.specs.Ends.{entries_fit, end_of, move_along}
-use Rattle.smp_flight.specs.Kept.Searches.{search}
+use Rattle.smp_moves.specs.Kept.Searches.{search}
 use Rattle.smp_flight.specs.Moves.{sized}
 
 -- the direction of the circuit w of the first of these units

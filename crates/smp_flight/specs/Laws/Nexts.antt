@@ -8,7 +8,7 @@ use Rattle.smp_fractions.specs.Limits.{most_entry, most_denominator}
 use Rattle.smp_kernel.specs.Vectors.{entry, IsZero, Within}
 use Rattle.smp_kernel.specs.Elimination.{cut}
 use Rattle.smp_kernel.specs.Searches.{Search, found, none, too_wide}
-use Rattle.smp_flight.specs.Kept.Searches.{search, search_is}
+use Rattle.smp_moves.specs.Kept.Searches.{search, search_is}
 use Rattle.smp_kernel.proofs.Reduce.{primitive_part_is, length-primitive_part}
 use Rattle.smp_kernel.proofs.Primitive.{not_primitive}
 use Rattle.smp_kernel.proofs.Ring.{zero_of_product, positive_some}
