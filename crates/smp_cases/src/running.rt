@@ -130,7 +130,11 @@ fn draw_all(
         request,
         rows: units,
     };
-    draw(alloc, &rows, &mut state, values)
+    let drawn = draw(alloc, &rows, &mut state, values);
+    // each by a call: left to the end of the function, each way to drop the one would be gone through for each of the other
+    drop(rows);
+    drop(state);
+    drawn
 }
 
 /// Draws `n` units, with probabilities in proportion to size, by a method and the values of a tape, and answers the mask of the
