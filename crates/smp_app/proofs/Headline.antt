@@ -1,8 +1,8 @@
 -- A call that ended well has drawn by the design, the frame and the draws that were read, and a log that was refused differs at its line.
 use Rattle.std.proofs.Common.{◌≡◌, ℕ, zero, suc, ◌+◌, ◌-◌, ◌^◌, ◌<◌, ◌≤◌, Bool, true, false, ◌&&◌, List, [], ◌∷◌, ◌++◌, map, length, Option, Some, None, Result, Ok, Err, refl, sym, ap, subst, ◌∙◌, inl, inr, arith, length-append}
-use Rattle.std.specs.Prelude.{◌==◌, nat_lt, option_map}
+use Rattle.std.specs.Prelude.{◌==◌, option_map}
 use Rattle.std.specs.List.{filter, flat_map, range_with_len}
-use Rattle.std.proofs.lemmas.Bool.{cases_Bool, eqb-true, ltb-false}
+use Rattle.std.proofs.lemmas.Bool.{cases_Bool, eqb-true}
 use Rattle.smp_io.specs.Sink.{with_bytes}
 use Rattle.smp_io.specs.Store.{Files}
 use Rattle.smp_tape.specs.TapeText.{tape_of}
@@ -16,27 +16,11 @@ use Rattle.smp_split.specs.Paths.{Entry, IsFull}
 use Rattle.smp_split.specs.Runs.{Outcome, IsLeaf, IsOutcome, leaf, stopped, run}
 use Rattle.smp_split.proofs.Runs.{run_is}
 use Rattle.smp_split.proofs.Tapes.{runs_full}
-use Rattle.smp_frame.specs.declared.frame.Unit as unit
-use Rattle.smp_frame.specs.Frames.{frame_of}
 use Rattle.smp_stages.specs.Stages.{Progress}
 use Rattle.smp_twostage.specs.Covered.{StartsAlone, state_alone}
-use Rattle.smp_twostage.specs.Selections.{BelongsToCovered, BelongsToWhole, Coverage, all_of, covered_start, covered_tree, is_of_stratum, strata_sections}
-use Rattle.smp_twostage.specs.Plans.{CanBeDrawn}
+use Rattle.smp_twostage.specs.Selections.{BelongsToCovered, BelongsToWhole, Coverage, all_of, covered_start, covered_tree, is_of_section, section_count, strata_sections}
 use Rattle.smp_twostage.specs.Laws.Wholes.{covered_lawful, strata_sectioned, whole_lawful}
-use Rattle.smp_strata.specs.Misfits.{misfit_of}
-use Rattle.smp_strata.specs.declared.misfit.Misfit.{Misfit}
-use Rattle.smp_design.specs.Designs.{design_of}
-use Rattle.smp_design.specs.declared.design.Design.{Design}
-use Rattle.smp_design.specs.declared.design.Second.{Second}
-use Rattle.smp_design.specs.declared.method.Method.{Method}
-use Rattle.smp_design.specs.declared.method.Method.TheVariants.{Systematic}
-use Rattle.smp_prob.specs.declared.orders.Order.{Order}
-use Rattle.smp_prob.specs.declared.orders.Order.TheVariants.{Frame}
-use Rattle.smp_joint.specs.JointRows.{IsSystematicPlan}
-use Rattle.smp_joint.proofs.PlanJoints.{has_joints as joints_hold}
-use Rattle.smp_design.specs.declared.fault.DesignFault.{DesignFault}
 use Rattle.smp_methods.specs.declared.any.AnyState.{AnyState}
-use Rattle.smp_words.specs.declared.command.DesignArguments.{DesignArguments}
 use Rattle.smp_words.specs.declared.command.DrawArguments.{DrawArguments}
 use Rattle.smp_words.specs.declared.command.MigrateArguments.{MigrateArguments}
 use Rattle.smp_words.specs.declared.command.QuickArguments.{QuickArguments}
@@ -53,7 +37,7 @@ use Rattle.smp_log.specs.Logs.{end_text}
 use Rattle.smp_log.specs.LoneSections.{HasSection, IsReplayedAlone, IsSectionAnswer, section_reading, section_told}
 use Rattle.smp_log.specs.SectionLogs.{IsAnyGenuine, IsAnyText, IsSectionedGenuine, placed, section_text, sectioned_head, sectioned_log_text, sections_text}
 use Rattle.smp_log.specs.SectionReading.{any_reading}
-use Rattle.smp_log.specs.Heads.{IsHead, head_of}
+use Rattle.smp_log.specs.Heads.{IsHead}
 use Rattle.smp_log.specs.Told.{path_told}
 use Rattle.smp_log.proofs.Heads.{head_of-is}
 use Rattle.smp_log.proofs.Answered.{exact_reading}
@@ -65,12 +49,12 @@ use Rattle.smp_log.proofs.TwoVersions.{any_told, exact_any}
 use Rattle.smp_status.specs.declared.status.Status.{Status}
 use Rattle.smp_status.specs.declared.status.Status.TheVariants as status
 use Rattle.smp_status.specs.declared.status.Status.TheVariants.{TapeLong}
-use Rattle.smp_status.specs.Codes.{class_of, design_status, frame_status, tape_status}
+use Rattle.smp_status.specs.Codes.{class_of, tape_status}
 use Rattle.smp_plan.specs.Plans.{Plan, parts, quick_design}
 use Rattle.smp_app.specs.Drawn.{Drawn, tree_of, start_of, sections_of, covered, drawn_rows}
-use Rattle.smp_app.specs.Texts.{ids_text, joints_text, log_text, migrated_text, report_text, sample_text, steps_text}
-use Rattle.smp_plan.specs.Inputs.{Given, Held, HeldForJoint, FrameHeld, FrameForJoint, ReadDesign, has_joints, most_joint_rows, unless_large, unless_misfit, unless_no_joints, design_stage, frame_stage, plan_stage}
-use Rattle.smp_app.specs.Commands.{DrawnFile, ByTape, ByLog, ByOldLog, BySection, Draws, Lists, Job, source_of, log_source, job_of, job_for, outputs_by, written_by}
+use Rattle.smp_app.specs.Texts.{ids_text, log_text, migrated_text, report_text, sample_text, steps_text}
+use Rattle.smp_plan.specs.Inputs.{Given, Held, FrameHeld, ReadDesign, design_stage, frame_stage, plan_stage}
+use Rattle.smp_app.specs.Commands.{DrawnFile, ByTape, ByLog, ByOldLog, BySection, Draws, Job, source_of, log_source, job_of, job_for, outputs_by, written_by}
 use Rattle.smp_app.specs.Commands as drawing
 use Rattle.smp_faults.specs.Steps.{◌>>=◌}
 use Rattle.smp_plan.specs.Stops.{Stop, Refused, content, or_fault}
@@ -78,78 +62,14 @@ use Rattle.smp_app.specs.Verdict.{values_taken, values_left, no_words, drawn_at,
 use Rattle.smp_app.specs.Deliveries.{Outputs, with_files}
 use Rattle.smp_app.specs.Draws.{IsDrawFrom, IsDrawnAlone, IsDrawnBy, IsDrawnOf, IsDrawnWhole, IsExactFrom, IsExactRefusal, IsRefused, IsRefusedFrom, OldDiffers, RefusesLog, StratumDiffers, WholeDiffers}
 use Rattle.smp_app.specs.Answers.{Outside, Says, IsWork, Done, Refuses}
-use Rattle.smp_app.specs.Headline.{IsDrawnBySeed, IsDrawnByChance, IsReadFrame, IsReadPlan, IsExactDraw, IsReplayed, IsExactQuick, IsExactReplay, IsExactSection, IsExactMigration, IsExactJoint, IsRefusedLog, Ends, Headline}
+use Rattle.smp_app.specs.Headline.{IsDrawnBySeed, IsDrawnByChance, IsReadFrame, IsReadPlan, IsExactDraw, IsReplayed, IsExactQuick, IsExactReplay, IsExactSection, IsExactMigration, IsRefusedLog, Ends, Headline}
 use Rattle.smp_app.proofs.Alone.{seats_long}
 use Rattle.smp_app.proofs.Ends.{verdict_of}
 use Rattle.smp_app.proofs.Refusals.{stratum_is}
+use Rattle.smp_app.proofs.PlansRead.{Planned, content_is, frame_plan, ok_same, planned, read, read_is, read_once, read_plan, some_same, step}
+use Rattle.smp_app.proofs.Joints.{exact_joint}
 
--- ---- what a stage that goes on has read
-
--- what stands before the last stage, and then it
-record Step {A B : Type 0} (first : Result A Stop) (then_ : A → Result B Stop) (last : B) : Type 0 where
-  value : A
-  first_is : first ≡ Ok value
-  then_is : then_ value ≡ Ok last
-
-step : {A B : Type 0} (first : Result A Stop) (then_ : A → Result B Stop) (last : B) → first >>= then_ ≡ Ok last → Step first then_ last
-step (Ok x) then_ last h = record { value = x; first_is = refl; then_is = h }
-step (Err e) then_ last h = absurd (cc)
-
-content_is : (held : Option (List ℕ)) (name bytes : List ℕ) → content name held ≡ Ok bytes → held ≡ Some bytes
-content_is (Some b) name bytes h = let same : ◌≡◌ {A = Result (List ℕ) Stop} (Ok b) (Ok bytes) = h in cc
-content_is None name bytes h = absurd (cc)
-
-read_is : {A Fault : Type 0} (refusal : Fault → Status) (read : Result A Fault) (x : A) → or_fault refusal read ≡ Ok x → read ≡ Ok x
-read_is {A} refusal (Ok y) x h = let same : ◌≡◌ {A = Result A Stop} (Ok y) (Ok x) = h in cc
-read_is refusal (Err fault) x h = absurd (cc)
-
-plan_is : (plan made : Plan) (found : Option Misfit) → unless_misfit made found ≡ Ok plan → (found ≡ None) × (made ≡ plan)
-plan_is plan made None h = let same : ◌≡◌ {A = Result Plan Stop} (Ok made) (Ok plan) = h in (refl, cc)
-plan_is plan made (Some misfit) h = absurd (cc)
-
--- what was read for a design
-record Designed (name : List ℕ) (fs : Files) (design : ReadDesign) : Type 0 where
-  held : fs name ≡ Some design.bytes
-  read : design_of design.bytes ≡ Ok design.design
-
-designed : (name : List ℕ) (fs : Files) (design : ReadDesign) → design_stage (Held name) fs ≡ Ok design → Designed name fs design
-unfolding design_stage
-designed name fs design h =
-    let bytes = step (content name (fs name)) _ design h in
-    let read = step (or_fault design_status (design_of bytes.value)) _ design bytes.then_is in
-    let same : record { design = read.value; bytes = bytes.value } ≡ design = ok_is _ _ read.then_is in
-    subst (Designed name fs) same
-    (record {
-      held = content_is (fs name) name bytes.value bytes.first_is;
-      read = read_is design_status (design_of bytes.value) read.value read.first_is;
-    })
-  where
-    ok_is : (x y : ReadDesign) → ◌≡◌ {A = Result ReadDesign Stop} (Ok x) (Ok y) → x ≡ y
-    ok_is x y e = cc
-
--- what was read for a plan
-record Planned (design : ReadDesign) (frame : List ℕ) (fs : Files) (plan : Plan) : Type 0 where
-  bytes : List ℕ
-  held : fs frame ≡ Some bytes
-  units : List unit.Unit
-  read : frame_of design.design.columns bytes ≡ Ok units
-  served : misfit_of design.design units ≡ None
-  is : record { design = design.design; units = units; head = head_of design.bytes bytes } ≡ plan
-
-planned : (design : ReadDesign) (frame : List ℕ) (fs : Files) (plan : Plan) → frame_stage design (FrameHeld frame) fs ≡ Ok plan → Planned design frame fs plan
-unfolding frame_stage
-planned design frame fs plan h =
-    let bytes = step (content frame (fs frame)) _ plan h in
-    let units = step (or_fault frame_status (frame_of design.design.columns bytes.value)) _ plan bytes.then_is in
-    let made = plan_is plan _ (misfit_of design.design units.value) units.then_is in
-    record {
-      bytes = bytes.value;
-      held = content_is (fs frame) frame bytes.value bytes.first_is;
-      units = units.value;
-      read = read_is frame_status (frame_of design.design.columns bytes.value) units.value units.first_is;
-      served = made.0;
-      is = made.1;
-    }
+-- ---- what is drawn
 
 -- at a leaf that is told, the draw is that leaf
 at_leaf : (made : Drawn) (left : ℕ) (drawn : Drawn) → drawn_at made left ≡ Ok drawn → made ≡ drawn
@@ -352,28 +272,28 @@ log_long head count steps =
     let body : List ℕ = flat_map (section_text steps) (range_with_len 0 count) in
     omega (arith, sections_long steps 0 count, length-append body (end_text (length steps)), length-append (sectioned_head head) (body ++ end_text (length steps)))
 
-module _ (plan : Plan) (is_head : IsHead plan.head) (h : ℕ) (within : h < length (parts plan).strata) (starts : StartsAlone (parts plan) h (covered_start (alone plan h))) (log : List ℕ) where
+module _ (plan : Plan) (is_head : IsHead plan.head) (h : ℕ) (within : h < section_count (all_of (parts plan))) (starts : StartsAlone (parts plan) h (covered_start (alone plan h))) (log : List ℕ) where
   abbrev own : Coverage
   own = alone plan h
 
   -- the leaf of the section where the whole log is genuine
   module _ (member : BelongsToWhole (parts plan) (start_of plan)) (leaf : Progress AnyState) (short : length log < 2 ^ 64) (genuine : IsSectionedGenuine (tree_of plan) (sections_of plan) (start_of plan) plan.head log leaf) where
-    replays : IsReplayedAlone (tree_of plan) (start_of plan) plan.head log h (covered_tree own) (state_alone (parts plan) h) (is_of_stratum (parts plan) h) leaf
+    replays : IsReplayedAlone (tree_of plan) (start_of plan) plan.head log h (covered_tree own) (state_alone (parts plan) h) (is_of_section (parts plan) h) leaf
     replays =
         let steps : List (ℕ × Entry) = placed (tree_of plan) (sections_of plan) (start_of plan) genuine.path in
         let long : (sections_of plan).count ≤ length (sections_text plan.head (sections_of plan).count steps) = log_long plan.head (sections_of plan).count steps in
         let size : length log ≡ length (sections_text plan.head (sections_of plan).count steps) = ap length genuine.text in
-        replayed_alone (tree_of plan) (BelongsToWhole (parts plan)) (whole_lawful (parts plan)) (sections_of plan) (strata_sectioned (all_of (parts plan))) h within (covered_tree own) (state_alone (parts plan) h) (is_of_stratum (parts plan) h) starts.part
+        replayed_alone (tree_of plan) (BelongsToWhole (parts plan)) (whole_lawful (parts plan)) (sections_of plan) (strata_sectioned (all_of (parts plan))) h within (covered_tree own) (state_alone (parts plan) h) (is_of_section (parts plan) h) starts.part
         (BelongsToCovered own) (covered_lawful own) (start_of plan) member (subst (BelongsToCovered own) starts.state starts.member) plan.head is_head log leaf genuine (omega (arith, long, size, short)) short
 
     section_there : HasSection (covered_tree own) (covered_start own) plan.head (h + 1) log (state_alone (parts plan) h leaf)
     section_there = subst (λ (s : Progress AnyState). HasSection (covered_tree own) s plan.head (h + 1) log (state_alone (parts plan) h leaf)) (sym starts.state) replays.section
 
-    rows_same : filter ((covered_tree own).selected (state_alone (parts plan) h leaf)) (range_with_len 0 (covered_tree own).units) ≡ filter (is_of_stratum (parts plan) h) (selected_units (tree_of plan) leaf)
+    rows_same : filter ((covered_tree own).selected (state_alone (parts plan) h leaf)) (range_with_len 0 (covered_tree own).units) ≡ filter (is_of_section (parts plan) h) (selected_units (tree_of plan) leaf)
     rows_same =
-        let units : (covered_tree own).units ≡ (tree_of plan).units = seats_long (parts plan) (Some h) ∙ sym (seats_long (parts plan) None) in
+        let units : (covered_tree own).units ≡ (tree_of plan).units = seats_long own ∙ sym (seats_long (all_of (parts plan))) in
         ap (λ n. filter ((covered_tree own).selected (state_alone (parts plan) h leaf)) (range_with_len 0 n)) units
-        ∙ filter_both ((covered_tree own).selected (state_alone (parts plan) h leaf)) (is_of_stratum (parts plan) h) ((tree_of plan).selected leaf) 0 (tree_of plan).units (λ k l. replays.selected k (omega (arith, l)))
+        ∙ filter_both ((covered_tree own).selected (state_alone (parts plan) h leaf)) (is_of_section (parts plan) h) ((tree_of plan).selected leaf) 0 (tree_of plan).units (λ k l. replays.selected k (omega (arith, l)))
 
   module _ (drawn : Drawn) where
     -- the section of what is drawn
@@ -382,7 +302,7 @@ module _ (plan : Plan) (is_head : IsHead plan.head) (h : ℕ) (within : h < leng
       section : HasSection (covered_tree own) (covered_start own) plan.head (h + 1) log drawn.leaf
       path_is : drawn.path ≡ section.genuine.path
       rows : BelongsToWhole (parts plan) (start_of plan) → (leaf : Progress AnyState) → length log < 2 ^ 64 → IsSectionedGenuine (tree_of plan) (sections_of plan) (start_of plan) plan.head log leaf
-          → selected_units (covered_tree own) drawn.leaf ≡ filter (is_of_stratum (parts plan) h) (selected_units (tree_of plan) leaf)
+          → selected_units (covered_tree own) drawn.leaf ≡ filter (is_of_section (parts plan) h) (selected_units (tree_of plan) leaf)
 
     section_log : drawn_by_section plan h log ≡ Ok drawn → SectionLog
     section_log staged =
@@ -401,67 +321,6 @@ module _ (plan : Plan) (is_head : IsHead plan.head) (h : ℕ) (within : h < leng
         }
 
 -- ---- a draw that ended well
-
--- what was read for the plan of a job
-record Read (design_name frame_name : List ℕ) (fs : Files) (plan : Plan) : Type 0 where
-  design : ReadDesign
-  designed : Designed design_name fs design
-  framed : Planned design frame_name fs plan
-
-read : (design_name frame_name : List ℕ) (fs : Files) (plan : Plan) → design_stage (Held design_name) fs >>= (λ d. frame_stage d (FrameHeld frame_name) fs) ≡ Ok plan → Read design_name frame_name fs plan
-read design_name frame_name fs plan h =
-    let design = step (design_stage (Held design_name) fs) (λ d. frame_stage d (FrameHeld frame_name) fs) plan h in
-    record {
-      design = design.value;
-      designed = designed design_name fs design.value design.first_is;
-      framed = planned design.value frame_name fs plan design.then_is;
-    }
-
--- so the plan is what was read
-frame_plan : (design : ReadDesign) (frame_name : List ℕ) (fs : Files) (plan : Plan) → Planned design frame_name fs plan → (plan.design ≡ design.design) × IsReadFrame frame_name design.bytes fs plan
-frame_plan design frame_name fs plan framed =
-    subst (λ (p : Plan). (p.design ≡ design.design) × IsReadFrame frame_name design.bytes fs p) framed.is
-    (refl, record { frame_bytes = framed.bytes; frame_held = framed.held; frame_read = framed.read; served = framed.served; head = refl })
-
-read_plan : (design_name frame_name : List ℕ) (fs : Files) (plan : Plan) → Read design_name frame_name fs plan → IsReadPlan design_name frame_name fs plan
-read_plan design_name frame_name fs plan from =
-    let framed = frame_plan from.design frame_name fs plan from.framed in
-    record {
-      design_bytes = from.design.bytes;
-      design_held = from.designed.held;
-      design_read = from.designed.read ∙ ap (λ (d : Design). ok_design d) (sym framed.0);
-      frame_is = framed.1;
-    }
-  where
-    ok_design : Design → Result Design DesignFault
-    ok_design d = Ok d
-
--- the same files are read as one plan
-read_once : (design frame : List ℕ) (fs : Files) (p q : Plan) → IsReadPlan design frame fs p → IsReadPlan design frame fs q → p ≡ q
-read_once design frame fs p q first again =
-    let bytes : first.design_bytes ≡ again.design_bytes = held_once (sym first.design_held ∙ again.design_held) in
-    let held : first.frame_is.frame_bytes ≡ again.frame_is.frame_bytes = held_once (sym first.frame_is.frame_held ∙ again.frame_is.frame_held) in
-    let designs : p.design ≡ q.design = ok_once (sym first.design_read ∙ ap design_of bytes ∙ again.design_read) in
-    let units : p.units ≡ q.units = ok_once (sym first.frame_is.frame_read ∙ ap (λ (d : Design). frame_of d.columns first.frame_is.frame_bytes) designs ∙ ap (frame_of q.design.columns) held ∙ again.frame_is.frame_read) in
-    let heads : p.head ≡ q.head = first.frame_is.head ∙ ap (λ bs. head_of bs first.frame_is.frame_bytes) bytes ∙ ap (head_of again.design_bytes) held ∙ sym again.frame_is.head in
-    plans_same p q designs units heads
-  where
-    held_once : {x y : List ℕ} → Some x ≡ Some y → x ≡ y
-    held_once {x} {y} same = let one : ◌≡◌ {A = Option (List ℕ)} (Some x) (Some y) = same in cc
-
-    ok_once : {A E : Type 0} {x y : A} → ◌≡◌ {A = Result A E} (Ok x) (Ok y) → x ≡ y
-    ok_once same = cc
-
-    plans_same : (p q : Plan) → p.design ≡ q.design → p.units ≡ q.units → p.head ≡ q.head → p ≡ q
-    plans_same p q designs units heads =
-        let of : Design → List unit.Unit → List ℕ → Plan = λ d us h. record { design = d; units = us; head = h } in
-        ap (λ (d : Design). of d p.units p.head) designs ∙ ap (λ (us : List unit.Unit). of q.design us p.head) units ∙ ap (of q.design q.units) heads
-
-ok_same : (x y : Outputs) → ◌≡◌ {A = Result Outputs Stop} (Ok x) (Ok y) → x ≡ y
-ok_same x y h = cc
-
-some_same : (x y : Job) → Some x ≡ Some y → x ≡ y
-some_same x y h = cc
 
 -- the outputs of a job that draws are those of what it draws
 outputs_are : (words : List (List ℕ)) (job : Job) (fs : Files) (before now : Outside) (source : drawing.Source) (files : List DrawnFile) (put : Drawn → List ℕ) (plan : Plan) (drawn : Drawn)
@@ -680,7 +539,7 @@ module _ (a : ReplayArguments) (fs : Files) (before now : Outside) (words : List
       section : HasSection (covered_tree (alone plan h)) (covered_start (alone plan h)) plan.head (h + 1) log drawn.leaf
       path_is : drawn.path ≡ section.genuine.path
       rows : BelongsToWhole (parts plan) (start_of plan) → (leaf : Progress AnyState) → IsSectionedGenuine (tree_of plan) (sections_of plan) (start_of plan) plan.head log leaf → length log < 2 ^ 64
-          → drawn_rows drawn ≡ filter (is_of_stratum (parts plan) h) (selected_units (tree_of plan) leaf)
+          → drawn_rows drawn ≡ filter (is_of_section (parts plan) h) (selected_units (tree_of plan) leaf)
 
     pub exact_section_replay : a.stratum ≡ Some (h + 1) → Done words before now → before.files ≡ Some fs → IsExactSection a h fs before now
     exact_section_replay number done told_files =
@@ -752,114 +611,6 @@ module _ (a : MigrateArguments) (fs : Files) (before now : Outside) (words : Lis
         put = d.shown;
         read = subst (IsReadPlan a.design a.frame fs) (sym old.same.by_plan) from;
       }
-
--- ---- joint probabilities that were listed
-
--- a design that has them draws so
-draws_so : (method : Method) (order : Order) (second : Option Second) → has_joints method order second ≡ true → (method ≡ Systematic) × ((order ≡ Frame) × (second ≡ None))
-draws_so Systematic Frame None h = (refl, (refl, refl))
-draws_so method order second h = absurd (cc)
-
-joints_so : (made design : ReadDesign) → unless_no_joints made ≡ Ok design → (has_joints made.design.method made.design.order made.design.second ≡ true) × (made ≡ design)
-joints_so made design h =
-    elim (cases_Bool (has_joints made.design.method made.design.order made.design.second)) [
-      | inl e ↦ (let same : ◌≡◌ {A = Result ReadDesign Stop} (Ok made) (Ok design) = rw e at h in (e, cc))
-      | inr e ↦ absurd (let same : ◌≡◌ {A = Result ReadDesign Stop} (Err (Refused status.NoJoint)) (Ok design) = rw e at h in cc)
-    ]
-
-few_so : (name : List ℕ) (units few : List unit.Unit) → unless_large (FrameForJoint name) units ≡ Ok few → (length few ≤ most_joint_rows) × (units ≡ few)
-few_so name units few h =
-    elim (cases_Bool (nat_lt most_joint_rows (length units))) [
-      | inl e ↦ absurd (let same : ◌≡◌ {A = Result (List unit.Unit) Stop} (Err (Refused (status.JointLarge (length units)))) (Ok few) = rw e at h in cc)
-      | inr e ↦
-          (let ok : ◌≡◌ {A = Result (List unit.Unit) Stop} (Ok units) (Ok few) = rw e at h in
-          let same : units ≡ few = cc in
-          (subst (λ (us : List unit.Unit). length us ≤ most_joint_rows) same (ltb-false most_joint_rows (length units) e), same))
-    ]
-
--- what was read for them
-record DesignedForJoint (name : List ℕ) (fs : Files) (design : ReadDesign) : Type 0 where
-  read : Designed name fs design
-  has : has_joints design.design.method design.design.order design.design.second ≡ true
-
-designed_for_joint : (name : List ℕ) (fs : Files) (design : ReadDesign) → design_stage (HeldForJoint name) fs ≡ Ok design → DesignedForJoint name fs design
-unfolding design_stage
-designed_for_joint name fs design h =
-    let bytes = step (content name (fs name)) _ design h in
-    let read = step (or_fault design_status (design_of bytes.value)) _ design bytes.then_is in
-    let made : ReadDesign = record { design = read.value; bytes = bytes.value } in
-    let so = joints_so made design read.then_is in
-    subst (DesignedForJoint name fs) so.1
-    (record {
-      read = record {
-        held = content_is (fs name) name bytes.value bytes.first_is;
-        read = read_is design_status (design_of bytes.value) read.value read.first_is;
-      };
-      has = so.0;
-    })
-
-record PlannedForJoint (design : ReadDesign) (frame : List ℕ) (fs : Files) (plan : Plan) : Type 0 where
-  read : Planned design frame fs plan
-  few : length plan.units ≤ most_joint_rows
-
-planned_for_joint : (design : ReadDesign) (frame : List ℕ) (fs : Files) (plan : Plan) → frame_stage design (FrameForJoint frame) fs ≡ Ok plan → PlannedForJoint design frame fs plan
-unfolding frame_stage
-planned_for_joint design frame fs plan h =
-    let bytes = step (content frame (fs frame)) _ plan h in
-    let units = step (or_fault frame_status (frame_of design.design.columns bytes.value)) _ plan bytes.then_is in
-    let kept = step (unless_large (FrameForJoint frame) units.value) _ plan units.then_is in
-    let so = few_so frame units.value kept.value kept.first_is in
-    let made = plan_is plan _ (misfit_of design.design kept.value) kept.then_is in
-    let framed : frame_of design.design.columns bytes.value ≡ Ok units.value = read_is frame_status (frame_of design.design.columns bytes.value) units.value units.first_is in
-    record {
-      read = record {
-        bytes = bytes.value;
-        held = content_is (fs frame) frame bytes.value bytes.first_is;
-        units = kept.value;
-        read = subst (λ (us : List unit.Unit). frame_of design.design.columns bytes.value ≡ Ok us) so.1 framed;
-        served = made.0;
-        is = made.1;
-      };
-      few = subst (λ (p : Plan). length p.units ≤ most_joint_rows) made.1 so.0;
-    }
-
-module _ (a : DesignArguments) (fs : Files) (before now : Outside) (words : List (List ℕ)) (asked : command_of words ≡ Some (commands.Joint a)) where
-  abbrev joint_job : Job
-  joint_job = record { design = HeldForJoint a.design; frame = FrameForJoint a.frame; work = Lists joints_text }
-
-  joint_asked : job_for words ≡ Some joint_job
-  joint_asked = ap (option_map job_of) asked
-
-  -- the plan of what was read, and what it lists
-  joint_of_plan : (plan : Plan) → plan_stage (HeldForJoint a.design) (FrameForJoint a.frame) fs ≡ Ok plan → CanBeDrawn (parts plan) → now.written ≡ with_bytes (joints_text plan) before.written → now.files ≡ Some fs
-      → IsExactJoint a fs before now
-  joint_of_plan plan planned_is drawable put same =
-      let design = step (design_stage (HeldForJoint a.design) fs) (λ d. frame_stage d (FrameForJoint a.frame) fs) plan planned_is in
-      let designed_so = designed_for_joint a.design fs design.value design.first_is in
-      let planned_so = planned_for_joint design.value a.frame fs plan design.then_is in
-      let framed = frame_plan design.value a.frame fs plan planned_so.read in
-      let so = draws_so plan.design.method plan.design.order plan.design.second (subst (λ (d : Design). has_joints d.method d.order d.second ≡ true) (sym framed.0) designed_so.has) in
-      let systematic : IsSystematicPlan (parts plan) = record { method = so.0; order = so.1.0; second = ap (option_map (λ (second : Second). second.method)) so.1.1 } in
-      record {
-        plan = plan;
-        read = read_plan a.design a.frame fs plan (record { design = design.value; designed = designed_so.read; framed = planned_so.read });
-        systematic = systematic;
-        few = planned_so.few;
-        joints = joints_hold (parts plan) drawable systematic;
-        put = put;
-        same = same;
-      }
-
-  pub exact_joint : Done words before now → before.files ≡ Some fs → IsExactJoint a fs before now
-  exact_joint done told =
-      let same : done.job ≡ joint_job = some_same _ _ (sym done.asked ∙ joint_asked) in
-      let work : IsWork words joint_job fs before now = subst (λ (j : Job). IsWork words j fs before now) same (done.done fs told) in
-      let plan = work.exact.plan in
-      let staged : outputs_stage joint_job fs ≡ Ok (record { files = []; put = joints_text plan }) = rw work.exact.planned refl in
-      let outputs : work.outputs ≡ record { files = []; put = joints_text plan } = ok_same _ _ (sym work.accepted ∙ verdict_of words joint_job joint_asked fs ∙ staged) in
-      joint_of_plan plan work.exact.planned work.exact.from_plan
-      (work.written ∙ ap (λ (o : Outputs). with_bytes o.put before.written) outputs)
-      (work.files ∙ ap (λ (o : Outputs). Some (with_files o.files fs)) outputs)
 
 -- ---- a log that was refused
 

@@ -3,7 +3,11 @@ pub mod Cubes
 pub mod Deliveries
 pub mod Ends
 pub mod Headline
+pub mod Joints
+pub mod PlansRead
 pub mod Refusals
+pub mod RowSums
 pub mod Selections
 pub mod Stages
+pub mod Together
 pub mod Written

@@ -1,22 +1,21 @@
 -- Where a log is refused, it differs at that line.
-use Rattle.std.proofs.Common.{◌≡◌, ℕ, ◌+◌, ◌-◌, length, inl, inr, List, Option, Some, None, Result, Ok, Err, refl, sym, ap, subst}
+use Rattle.std.proofs.Common.{◌≡◌, ℕ, ◌+◌, ◌-◌, length, inl, inr, List, Option, Some, None, Result, Ok, Err, ap, subst}
 use Rattle.std.specs.Prelude.{IfErr, nat_le}
 use Rattle.std.proofs.lemmas.Bool.{cases_Bool}
 use Rattle.smp_io.specs.Store.{Files}
 use Rattle.smp_split.specs.Paths.{Entry}
 use Rattle.smp_methods.specs.declared.any.AnyState.{AnyState}
 use Rattle.smp_stages.specs.Stages.{Progress}
-use Rattle.smp_log.specs.Answers.{IsAnswer, log_reading}
+use Rattle.smp_log.specs.Answers.{IsAnswer}
 use Rattle.smp_log.specs.Genuine.{IsGenuine}
 use Rattle.smp_log.specs.Heads.{IsHead}
-use Rattle.smp_log.specs.LoneSections.{IsSectionAnswer, section_reading, section_told}
+use Rattle.smp_log.specs.LoneSections.{IsSectionAnswer, section_told}
 use Rattle.smp_log.specs.SectionLogs.{IsAnyGenuine}
-use Rattle.smp_log.specs.SectionReading.{any_reading}
 use Rattle.smp_log.specs.Told.{path_told}
 use Rattle.smp_log.proofs.Answered.{exact_reading}
 use Rattle.smp_log.proofs.LoneExact.{exact_section}
 use Rattle.smp_log.proofs.TwoVersions.{exact_any}
-use Rattle.smp_twostage.specs.Selections.{BelongsToCovered, BelongsToWhole, Coverage, all_of, covered_start, covered_tree}
+use Rattle.smp_twostage.specs.Selections.{BelongsToCovered, BelongsToWhole, Coverage, all_of, covered_start, covered_tree, section_count}
 use Rattle.smp_twostage.specs.Laws.Wholes.{covered_lawful, strata_sectioned, whole_lawful}
 use Rattle.smp_status.specs.declared.status.Status.{Status}
 use Rattle.smp_status.specs.declared.status.Status.TheVariants as status
@@ -142,7 +141,7 @@ in_log Differs name bytes log fs answer read same =
 -- the stratum of a number is the one before it, counted from 0
 pub stratum_is : (plan : Plan) (number h : ℕ) → stratum_at plan number ≡ Ok h → h ≡ number - 1
 stratum_is plan number h e =
-    let strata : ℕ = length (parts plan).strata in
+    let strata : ℕ = section_count (all_of (parts plan)) in
     elim (cases_Bool (nat_le number strata)) [
       | inl there ↦ (let same : ◌≡◌ {A = Result ℕ Stop} (Ok (number - 1)) (Ok h) = rw there at e in cc)
       | inr beyond ↦ absurd (let same : ◌≡◌ {A = Result ℕ Stop} (Err (Refused (status.NoStratum number strata))) (Ok h) = rw beyond at e in cc)

@@ -1,5 +1,5 @@
 -- What is selected by a tape or by a seed is what the verdict draws, with the requested probabilities.
-use Rattle.std.proofs.Common.{◌≡◌, ℕ, ◌<◌, List, length, Option, Some, None, Result, Ok, Err, true, false, refl, sym, ap, subst, ◌∙◌, arith, inr}
+use Rattle.std.proofs.Common.{◌≡◌, ℕ, ◌<◌, Bool, List, length, Option, Some, None, Result, Ok, Err, true, false, refl, sym, ap, subst, ◌∙◌, arith, inr}
 use Rattle.std.specs.Prelude.{◌^◌, IfOk, IfSome, OnOk, is_some, option_map}
 use Rattle.std.specs.List.{count_by, range_with_len, slice_get}
 use Rattle.std.proofs.lemmas.List.Elements.{All-get_or}
@@ -11,7 +11,7 @@ use Rattle.smp_split.specs.Means.{mean, inclusion_probability}
 use Rattle.smp_fractions.proofs.Fractions.{same_sym, same_trans}
 use Rattle.smp_prob.specs.declared.requests.Request.{Request}
 use Rattle.smp_prob.specs.Given.{expected_size}
-use Rattle.smp_design.specs.Words.{balances}
+use Rattle.smp_design.specs.Words.{balances, draws_together}
 use Rattle.smp_tape.specs.Sources.{Source}
 use Rattle.smp_tape.specs.declared.draws.DrawFault.{DrawFault}
 use Rattle.smp_log.specs.Answers.{AnswersAs}
@@ -36,7 +36,7 @@ use Rattle.smp_strata.specs.Plans.{Parts, first_probs}
 use Rattle.smp_strata.specs.declared.strata.FirstUnit.{FirstUnit}
 use Rattle.smp_strata.specs.declared.strata.Stratum.{Stratum}
 use Rattle.smp_twostage.specs.Selections as selections
-use Rattle.smp_twostage.specs.Selections.{BelongsToCovered, BelongsToWhole, Coverage, all_of, covered_start, covered_tree, one_of, place_of, strata_sections, whole_tree}
+use Rattle.smp_twostage.specs.Selections.{BelongsToCovered, BelongsToWhole, Coverage, all_of, covered_start, covered_tree, one_of, place_of, section_count, section_count_by, strata_sections, whole_tree}
 use Rattle.smp_twostage.specs.Covered.{StartsAlone}
 use Rattle.smp_twostage.specs.Starts.{StartsWhole, first_selected, known, row_fraction, second_selected, weighted}
 use Rattle.smp_twostage.specs.Laws.Places.{place_is_seat}
@@ -147,11 +147,15 @@ module _ (plan : Parts) (only : Option ℕ) (started : StartedWhole) (start : Is
   pub belongs : BelongsToCovered started.whole started.state
   belongs = subst (λ (c : Coverage). BelongsToCovered c started.state) (sym start.whole) (starts_member plan only started.state start.starts)
 
+one_by : (together : Bool) (plan : Parts) (h : ℕ) → section_count_by together (one_of plan h) ≡ 1
+one_by true plan h = refl
+one_by false plan h = refl
+
 is_one_by : (only : Option ℕ) (plan : Parts) → IfSome only (λ h. (strata_sections (record { plan = plan; only = only })).count ≡ 1)
 is_one_by None plan = tt
-is_one_by (Some h) plan = refl
+is_one_by (Some h) plan = one_by (draws_together plan.method) plan h
 
--- one stratum alone is one section
+-- one section alone is one
 pub is_one : (plan : Parts) (only : Option ℕ) (started : StartedWhole) → IsStart plan only started → IfSome only (λ h. (strata_sections started.whole).count ≡ 1)
 is_one plan only started start = subst (λ (c : Coverage). IfSome only (λ h. (strata_sections c).count ≡ 1)) (sym start.whole) (is_one_by only plan)
 
@@ -279,7 +283,7 @@ module _ (plan : FramePlan) (planned : IsPlanned plan) where
         around = subst AroundBy planned.parts_are around_own;
         seconds = subst SecondsBy planned.parts_are seconds_own;
         probabilities = probabilities_own;
-        balance = keeps_balance plan planned path to (starts.paths path to leads done) starts.cubes;
+        balance = keeps_balance plan planned path to (starts.paths path to leads done) state starts;
       }
 
       drawn_by : IsDrawnWhole (plan_view plan) here
@@ -306,7 +310,7 @@ module _ (plan : FramePlan) (planned : IsPlanned plan) where
       })
 
   -- a walk of one stratum alone that came to a leaf
-  walked_alone : (h : ℕ) → h < length plan.plan.strata → (started : StartedWhole) → IsStart plan.plan (Some h) started → (to : Progress AnyState) → BelongsToCovered started.whole to → (path lines : List Entry) → IsFullPath (covered_tree started.whole) started.state path to → lines ≡ path
+  walked_alone : (h : ℕ) → h < section_count (all_of plan.plan) → (started : StartedWhole) → IsStart plan.plan (Some h) started → (to : Progress AnyState) → BelongsToCovered started.whole to → (path lines : List Entry) → IsFullPath (covered_tree started.whole) started.state path to → lines ≡ path
       → IsWalked view started.whole (record { plan = view; only = Some h; leaf = to; path = lines })
   walked_alone h within started begun to here path lines full same =
       let own = started.whole in
@@ -325,7 +329,7 @@ module _ (plan : FramePlan) (planned : IsPlanned plan) where
         by_plan = record {
           plan_is = refl;
           only = refl;
-          there = omega (arith, within, ap (λ (p : Parts). length p.strata) planned.parts_are);
+          there = omega (arith, within, ap (λ (p : Parts). section_count (all_of p)) planned.parts_are);
           lawful = reached_lawful (covered_tree (alone view h)) (BelongsToCovered (alone view h)) (covered_lawful (alone view h)) (covered_start (alone view h)) own_starts.member;
           starts = own_starts;
           full = subst (λ (s : Progress AnyState). IsFullPath (covered_tree (alone view h)) s path to) begins (subst (λ (c : Coverage). IsFullPath (covered_tree c) start path to) seen full);
@@ -353,7 +357,7 @@ module _ (plan : Plan) (leaf : Progress AnyState) (path : List Entry) where
   member_of None by = by.member
   member_of (Some h) by = by.starts.member
 
-  there_of : (only : Option ℕ) → IsDrawnOf only plan (drawn_of_only only) → IfSome only (λ h. h < length (parts plan).strata)
+  there_of : (only : Option ℕ) → IsDrawnOf only plan (drawn_of_only only) → IfSome only (λ h. h < section_count (all_of (parts plan)))
   there_of None by = tt
   there_of (Some h) by = by.there
 
@@ -361,8 +365,8 @@ module _ (plan : FramePlan) (planned : IsPlanned plan) (only : Option ℕ) (leaf
   abbrev drawn_here : Drawn
   drawn_here = record { plan = plan_view plan; only = only; leaf = leaf; path = path }
 
-  pub own_strata : IfSome only (λ h. h < length plan.plan.strata)
-  own_strata = subst (λ (p : Parts). IfSome only (λ h. h < length p.strata)) (sym planned.parts_are) (there_of (plan_view plan) leaf path only by)
+  pub own_strata : IfSome only (λ h. h < section_count (all_of plan.plan))
+  own_strata = subst (λ (p : Parts). IfSome only (λ h. h < section_count (all_of p))) (sym planned.parts_are) (there_of (plan_view plan) leaf path only by)
 
   -- where one stratum is drawn
   pub one_log : (strata_sections (covered drawn_here)).count ≡ 1 → one_section_text plan.head path ≡ log_text drawn_here

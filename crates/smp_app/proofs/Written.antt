@@ -1,5 +1,5 @@
 -- Texts that are written row by row.
-use Rattle.std.proofs.Common.{◌≡◌, ℕ, ◌+◌, ◌-◌, ◌*◌, ◌<◌, ◌≤◌, suc, zero, Bool, cond, true, ℤ, pos, negsuc, ◌*ℤ◌, List, [], ◌∷◌, ◌++◌, length, get_or, drop, Option, Some, Result, Ok, Err, IfOk, arith, sym, ap, subst, ◌∙◌, drop-cons, true≢false}
+use Rattle.std.proofs.Common.{◌≡◌, ℕ, ◌+◌, ◌-◌, ◌*◌, ◌<◌, ◌≤◌, suc, zero, Bool, cond, true, false, ℤ, pos, negsuc, ◌*ℤ◌, List, [], ◌∷◌, ◌++◌, length, get_or, drop, Option, Some, Result, Ok, Err, IfOk, arith, sym, ap, subst, ◌∙◌, drop-cons, true≢false}
 use Rattle.std.specs.List.{count_by, flat_map, range_with_len}
 use Rattle.std.specs.Prelude.{nat_eq, option_map}
 use Rattle.std.proofs.lemmas.Int.{ints}
@@ -10,11 +10,12 @@ use Rattle.smp_fractions.proofs.Fractions.{same_trans, numerator_positive, inver
 use Rattle.smp_frac.specs.declared.fractions.Frac.{Frac}
 use Rattle.smp_frac.specs.Fractions.{fraction, fraction_text}
 use Rattle.smp_frac.proofs.Texts.{fraction_text-same}
+use Rattle.smp_design.specs.Words.{draws_together}
 use Rattle.smp_frame.specs.declared.frame.Unit as unit
 use Rattle.smp_strata.specs.Plans.{Parts}
 use Rattle.smp_strata.specs.Seats.{IsSeat, seat_fraction}
 use Rattle.smp_strata.specs.declared.strata.Seat.{Seat}
-use Rattle.smp_twostage.specs.Selections.{Coverage, covered_tree, is_of_stratum, place_of, seats_by}
+use Rattle.smp_twostage.specs.Selections.{Coverage, covered_seats, covered_tree, is_in_section, is_of_section, place_of}
 use Rattle.smp_twostage.specs.Starts.{is_positive, row_fraction}
 use Rattle.smp_twostage.specs.Laws.Places.{place_is_seat}
 use Rattle.smp_twostage.proofs.Numbers.{passing}
@@ -76,12 +77,21 @@ module _ (plan : Plan) (r : ℕ) (u : unit.Unit) (within : r < length plan.units
   pub id_is : u.id ≡ row_id plan r
   id_is = sym (get_or-map (λ (v : unit.Unit). v.id) plan.units r u [] within ∙ ap (λ (v : unit.Unit). v.id) (sym is))
 
--- the stratum of a row is that of its seat
-pub stands_in_its : (plan : FramePlan) → IsPlanned plan → (r : ℕ) → r < length plan.frame → (seat : Seat) → ((other : Seat) → IsSeat plan.plan.strata r other → other ≡ seat) → (h : ℕ) → is_of_stratum (parts (plan_view plan)) h r ≡ nat_eq seat.stratum h
-stands_in_its plan planned r within seat once h =
-    let seated = planned.drawable.sound.seated.seats r (omega (arith, within, ap (λ (p : Parts). p.rows) planned.parts_are)) in
-    let same : place_of plan.plan.strata r ≡ seat = once (place_of plan.plan.strata r) (place_is_seat plan.plan.strata r seated.seat seated.is) in
-    ap (λ (p : Parts). is_of_stratum p h r) (sym planned.parts_are) ∙ ap (λ (at : Seat). nat_eq at.stratum h) same
+module _ (plan : FramePlan) (planned : IsPlanned plan) (h r : ℕ) where
+  section_by : (together : Bool) → draws_together plan.plan.method ≡ together → is_of_section (parts (plan_view plan)) h r ≡ is_in_section together plan.plan h r
+  section_by together is = ap (λ (p : Parts). is_of_section p h r) (sym planned.parts_are) ∙ ap (λ (b : Bool). is_in_section b plan.plan h r) is
+
+  -- where all strata are drawn together, each row is of the section
+  pub stands_in_all : draws_together plan.plan.method ≡ true → is_of_section (parts (plan_view plan)) h r ≡ true
+  stands_in_all together = section_by true together
+
+  -- else it is one of the stratum of its seat
+  pub stands_in_its : draws_together plan.plan.method ≡ false → r < length plan.frame → (seat : Seat) → ((other : Seat) → IsSeat plan.plan.strata r other → other ≡ seat)
+      → is_of_section (parts (plan_view plan)) h r ≡ nat_eq seat.stratum h
+  stands_in_its apart within seat once =
+      let seated = planned.drawable.sound.seated.seats r (omega (arith, within, ap (λ (p : Parts). p.rows) planned.parts_are)) in
+      let same : place_of plan.plan.strata r ≡ seat = once (place_of plan.plan.strata r) (place_is_seat plan.plan.strata r seated.seat seated.is) in
+      section_by false apart ∙ ap (λ (at : Seat). nat_eq at.stratum h) same
 
 module _ (plan : FramePlan) (planned : IsPlanned plan) (r : ℕ) (within : r < length plan.frame) (f : Frac) (asked : (seat : Seat) → IsSeat plan.plan.strata r seat → Same (fraction f) (seat_fraction plan.plan.strata seat)) where
   inside : r < plan.plan.rows
@@ -128,10 +138,10 @@ module _ (plan : FramePlan) (selection : Selection) (is : IsSelection (plan_view
 
   there : (drawn_row < length plan.frame) × ((covered_tree own).selected selection.state drawn_row ≡ true)
   there =
-      let passed = passing ((covered_tree own).selected selection.state) 0 0 (length (seats_by (parts (plan_view plan)) selection.only)) i (rw is.rows at within) in
+      let passed = passing ((covered_tree own).selected selection.state) 0 0 (length (covered_seats own)) i (rw is.rows at within) in
       let found : get_or (drawn_rows (selection_view (plan_view plan) selection)) i 0 ≡ drawn_row = ap (λ (items : List ℕ). get_or items i 0) (sym is.rows) in
       subst (λ k. (k < length plan.frame) × ((covered_tree own).selected selection.state k ≡ true)) found
-      (omega (arith, passed.0, seats_long (parts (plan_view plan)) selection.only), passed.1)
+      (omega (arith, passed.0, seats_long own), passed.1)
 
   -- a drawn row is one of the frame, and has a positive probability
   pub drawn_below : drawn_row < length plan.frame

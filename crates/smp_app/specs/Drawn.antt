@@ -7,7 +7,7 @@ use Rattle.smp_split.specs.Counts.{selected_units}
 use Rattle.smp_split.specs.Sectioning.{Sectioning}
 use Rattle.smp_methods.specs.declared.any.AnyState.{AnyState}
 use Rattle.smp_stages.specs.Stages.{Progress}
-use Rattle.smp_twostage.specs.Selections.{Coverage, all_of, covered_start, covered_tree, is_of_stratum, strata_sections}
+use Rattle.smp_twostage.specs.Selections.{Coverage, all_of, covered_start, covered_tree, is_of_section, strata_sections}
 use Rattle.smp_plan.specs.Plans.{Plan, parts}
 
 -- the draw tree, whose units are the rows of the frame, and the state from which a draw starts
@@ -17,11 +17,11 @@ tree_of plan = covered_tree (all_of (parts plan))
 abbrev pub start_of : Plan → Progress AnyState
 start_of plan = covered_start (all_of (parts plan))
 
--- its sections: the strata
+-- its sections: the strata, or all of them where they are drawn together
 abbrev pub sections_of : Plan → Sectioning (Progress AnyState)
 sections_of plan = strata_sections (all_of (parts plan))
 
--- what is drawn by a plan, of all strata or of one alone: a leaf of the draw tree of these strata, and the path that leads there
+-- what is drawn by a plan, of all strata or of one section alone: a leaf of the draw tree of these strata, and the path that leads there
 pub record Drawn : Type 0 where
   pub plan : Plan
   pub only : Option ℕ
@@ -32,11 +32,11 @@ pub record Drawn : Type 0 where
 abbrev pub covered : Drawn → Coverage
 covered drawn = record { plan = parts drawn.plan; only = drawn.only }
 
--- how many rows stand in them
+-- how many rows stand in the strata that are drawn: in all, or in section h alone
 abbrev pub rows_by : Plan → Option ℕ → ℕ
 rows_by plan None = length plan.units
 rows_by plan (Some h) =
-    count_by (is_of_stratum (parts plan) h) (range_with_len 0 (length plan.units))
+    count_by (is_of_section (parts plan) h) (range_with_len 0 (length plan.units))
 
 -- the rows that are drawn, in frame order
 abbrev pub drawn_rows : Drawn → List ℕ

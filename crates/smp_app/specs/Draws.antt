@@ -7,10 +7,12 @@ use Rattle.smp_fractions.specs.Bounds.{IsAround}
 use Rattle.smp_fractions.specs.Fractions.{Same, integer, sum_below}
 use Rattle.smp_prob.specs.Given.{expected_size}
 use Rattle.smp_split.specs.Means.{mean, inclusion_probability}
+use Rattle.smp_balance.specs.FrameTotals.{IsBalancedFrame}
+use Rattle.smp_balance.specs.Frames.{TellsVariable}
 use Rattle.smp_balance.specs.Totals.{AreBalanced}
 use Rattle.smp_balance.specs.Reports.{TellsColumn}
 use Rattle.smp_design.specs.declared.design.Second as second
-use Rattle.smp_design.specs.Words.{balances}
+use Rattle.smp_design.specs.Words.{balances, draws_together}
 use Rattle.smp_log.specs.Genuine.{DiffersAt, IsFullPath, IsGenuine}
 use Rattle.smp_log.specs.LoneSections.{SectionDiffers}
 use Rattle.smp_log.specs.SectionLogs.{IsAnyGenuine}
@@ -23,12 +25,12 @@ use Rattle.smp_strata.specs.Plans.{first_probs}
 use Rattle.smp_strata.specs.declared.strata.FirstUnit as first
 use Rattle.smp_strata.specs.declared.strata.Stratum.{Stratum}
 use Rattle.smp_stages.specs.Paths.{GoesByStages}
-use Rattle.smp_twostage.specs.Cubes.{IsDrawnByCube, balancing, leaf_of}
+use Rattle.smp_twostage.specs.Cubes.{IsDrawnByCube, IsDrawnTogether, balancing, frame_of, leaf_of}
 use Rattle.smp_twostage.specs.Covered.{StartsAlone}
-use Rattle.smp_twostage.specs.Lines.{drawn_stratum}
+use Rattle.smp_twostage.specs.Lines.{drawn_rows, drawn_stratum}
 use Rattle.smp_twostage.specs.Plans.{CanBeDrawn}
-use Rattle.smp_twostage.specs.Selections.{BelongsToWhole, covered_start, covered_tree, tree_of as stage_tree}
-use Rattle.smp_twostage.specs.Selections.{first_number, stages_of, states_of}
+use Rattle.smp_twostage.specs.Selections.{BelongsToWhole, all_of, covered_stages, covered_start, covered_states, covered_tree}
+use Rattle.smp_twostage.specs.Selections.{first_number, section_count, tree_of as stage_tree}
 use Rattle.smp_twostage.specs.Starts.{first_selected, known, second_selected, weighted}
 use Rattle.smp_plan.specs.Plans.{Plan, parts, row_probability}
 use Rattle.smp_app.specs.Drawn.{tree_of, start_of, sections_of, Drawn, covered}
@@ -48,7 +50,8 @@ firsts_drawn drawn h s =
 abbrev pub Goes : Drawn → Type 0
 Goes drawn =
     let plan = parts drawn.plan in
-    GoesByStages stage_tree (stages_of plan) (states_of plan) drawn.path drawn.leaf.states
+    GoesByStages stage_tree (covered_stages (all_of plan)) (covered_states (all_of plan)) drawn.path
+    drawn.leaf.states
 
 -- What is drawn of a stratum by the cube, or by the local cube. The part of the path that is drawn in it leads through the method's tree,
 -- from the requested probabilities to a leaf. On this part, as on every path of the method from there, each flight step keeps every
@@ -62,11 +65,23 @@ pub record IsCubeDraw (drawn : Drawn) (goes : Goes drawn) (h : ℕ) (s : Stratum
   pub told : (column : ℕ)
       → TellsColumn (drawn_stratum (covered drawn) drawn.leaf.states h s) (leaf_of drawn_so) column
 
--- The path is made of the stages' own paths; and where the method balances, each stratum is drawn so.
+-- What is drawn of all strata together. The path leads through the method's tree, from the requested probabilities to a leaf. On it, as on
+-- every path of the method from there, each flight step keeps every balancing total in force exactly, over all strata, and the landing
+-- begins only where no direction is left or the next step doesn't fit; `IsBalancedFrame` says what else holds.
+pub record IsTogetherDraw (drawn : Drawn) (goes : Goes drawn) : Type 0 where
+  pub drawn_so : IsDrawnTogether (parts drawn.plan) (goes.part 0) drawn.leaf.states
+  pub balanced : IsBalancedFrame (frame_of (parts drawn.plan))
+  -- The report tells the estimates at that leaf and the known totals.
+  pub told : (column : ℕ)
+      → TellsVariable (drawn_rows (covered drawn) drawn.leaf.states) (frame_of (parts drawn.plan)) drawn_so.leaf column
+
+-- The path is made of the stages' own paths; and where the method balances, each stratum is drawn so, or all strata together.
 pub record KeepsBalance (drawn : Drawn) : Type 0 where
   pub goes : Goes drawn
-  pub cubes : balances drawn.plan.design.method ≡ true → (h : ℕ) (s : Stratum)
+  pub cubes : balances drawn.plan.design.method ≡ true
+      → draws_together drawn.plan.design.method ≡ false → (h : ℕ) (s : Stratum)
       → slice_get (parts drawn.plan).strata h ≡ Some s → IsCubeDraw drawn goes h s
+  pub together : draws_together drawn.plan.design.method ≡ true → IsTogetherDraw drawn goes
 
 -- ---- what is drawn by a plan
 
@@ -112,16 +127,16 @@ pub record IsDrawnBy (plan : Plan) (drawn : Drawn) : Type 0 where
       → first_selected (parts drawn.plan) drawn.leaf.states h k ≡ true
       → count_by (second_selected (parts drawn.plan) drawn.leaf.states h k)
       (range_with_len 0 (length u.rows)) ≡ asked.n
-  -- What the cube and the local cube keep; of a plan by any other method only that the path is made of the stages' own paths.
+  -- What the methods that balance keep; of a plan by any other method only that the path is made of the stages' own paths.
   pub balance : KeepsBalance drawn
 
--- What is drawn of stratum h alone, by a tree that splits lawfully too. The draw starts from the stratum's state in the start of the whole
--- draw, and makes the steps that the whole makes in the stratum; each row of it is selected with exactly the probability that is asked for
--- it, and no other row is. Its path leads from there to a leaf.
+-- What is drawn of section h alone, of a stratum or of all that are drawn together, by a tree that splits lawfully too. The draw starts
+-- from the section's state in the start of the whole draw, and makes the steps that the whole makes in it; each row of it is selected with
+-- exactly the probability that is asked for it, and no other row is. Its path leads from there to a leaf.
 pub record IsDrawnAlone (plan : Plan) (h : ℕ) (drawn : Drawn) : Type 0 where
   pub plan_is : drawn.plan ≡ plan
   pub only : drawn.only ≡ Some h
-  pub there : h < length (parts plan).strata
+  pub there : h < section_count (all_of (parts plan))
   pub lawful : Lawful (covered_tree (alone plan h))
       (IsReached (covered_tree (alone plan h)) (covered_start (alone plan h)))
   pub starts : StartsAlone (parts plan) h (covered_start (alone plan h))
@@ -164,7 +179,7 @@ WholeDiffers plan log line =
 abbrev pub OldDiffers : Plan → List ℕ → ℕ → Type 0
 OldDiffers plan log line = DiffersAt (IsGenuine (tree_of plan) (start_of plan) plan.head) log line
 
--- the line of a log with which no genuine section of stratum h goes on
+-- the line of a log with which no genuine section h goes on
 abbrev pub StratumDiffers : ℕ → Plan → List ℕ → ℕ → Type 0
 StratumDiffers h plan log line =
     SectionDiffers (covered_tree (alone plan h)) (covered_start (alone plan h)) plan.head (h + 1)

@@ -28,7 +28,7 @@ use Rattle.smp_log.specs.Genuine.{IsGenuine}
 use Rattle.smp_log.specs.Heads.{head_of}
 use Rattle.smp_log.specs.LoneSections.{HasSection}
 use Rattle.smp_log.specs.SectionLogs.{IsAnyGenuine, IsSectionedGenuine}
-use Rattle.smp_twostage.specs.Selections.{BelongsToWhole, covered_start, covered_tree, is_of_stratum}
+use Rattle.smp_twostage.specs.Selections.{BelongsToWhole, covered_start, covered_tree, is_of_section}
 use Rattle.smp_joint.specs.JointRows.{HasJoints, IsSystematicPlan}
 use Rattle.smp_status.specs.declared.status.Status.{Status}
 use Rattle.smp_status.specs.declared.status.Status.TheVariants as status
@@ -86,9 +86,9 @@ pub record IsExactDraw (a : DrawArguments) (fs : Files) (before now : Outside) :
   pub drawn : Drawn
   pub is_drawn : IsDrawnByChance a.chance fs drawn
   -- Over draws that are uniform below each bound that is asked for, the probability that a row is selected is exactly the one that is
-  -- requested of it; as many are drawn as the design asks for; and in each stratum that is drawn by the cube or the local cube, each
-  -- flight step keeps every balancing total in force exactly, and landing starts only where no direction is left or the next step
-  -- doesn't fit.
+  -- requested of it; as many are drawn as the design asks for; and in each stratum that is drawn by the cube or the local cube, or in
+  -- all strata together, each flight step keeps every balancing total in force exactly, and landing starts only where no direction is
+  -- left or the next step doesn't fit.
   pub by_plan : IsDrawnBy drawn.plan drawn
   -- The log and the sample of that leaf are written, and no other file has changed. The log has the plan's head and, a stratum after the
   -- other, every step that leads to the leaf.
@@ -141,29 +141,29 @@ pub record IsExactReplay (a : ReplayArguments) (fs : Files) (before now : Outsid
   -- The plan is what was read.
   pub read : IsReadPlan a.design a.frame fs drawn.plan
 
--- Where the log is genuine as a whole, the rows that are drawn of stratum h alone are those of the stratum at its leaf. A file has less
+-- Where the log is genuine as a whole, the rows that are drawn of section h alone are those of the section at its leaf. A file has less
 -- than 2^64 bytes.
 abbrev pub IsAsInWhole : Drawn → ℕ → List ℕ → Type 0
 IsAsInWhole drawn h log =
     BelongsToWhole (parts drawn.plan) (start_of drawn.plan) → (leaf : Progress AnyState)
     → IsSectionedGenuine (tree_of drawn.plan) (sections_of drawn.plan) (start_of drawn.plan)
     drawn.plan.head log leaf → length log < 2 ^ 64
-    → drawn_rows drawn ≡ filter (is_of_stratum (parts drawn.plan) h)
+    → drawn_rows drawn ≡ filter (is_of_section (parts drawn.plan) h)
     (selected_units (tree_of drawn.plan) leaf)
 
--- What a `replay` of stratum h, counted from 0, that ended well has done.
+-- What a `replay` of section h, counted from 0, that ended well has done: of a stratum, or of all that are drawn together.
 pub record IsExactSection (a : ReplayArguments) (h : ℕ) (fs : Files) (before now : Outside)
     : Type 0 where
   pub drawn : Drawn
-  -- A genuine section of the stratum stands in the log, as a draw writes it whose path in the stratum comes to this leaf.
+  -- The genuine section stands in the log, as a draw writes it whose path in the section comes to this leaf.
   pub log : List ℕ
   pub log_held : fs a.log ≡ Some log
   pub section : HasSection (covered_tree (alone drawn.plan h)) (covered_start (alone drawn.plan h))
       drawn.plan.head (h + 1) log drawn.leaf
   pub path_is : drawn.path ≡ section.genuine.path
-  -- The plan has the stratum, each row of it has its probability, and the steps are those of the whole draw in the stratum.
+  -- The plan has the section, each row of it has its probability, and the steps are those of the whole draw in it.
   pub by_plan : IsDrawnAlone drawn.plan h drawn
-  -- Where the log is that of a whole draw, the rows are those of the stratum in it.
+  -- Where the log is that of a whole draw, the rows are those of the section in it.
   pub rows : IsAsInWhole drawn h log
   -- The sample of that leaf is written, no other file has changed, and the report of it was put.
   pub written : now.files
@@ -233,9 +233,9 @@ pub record Ends (answer : Status) (words : List (List ℕ)) (before : Outside) (
   pub told : before.files ≡ Some fs
 
 -- A call that answers Done has done what its command asks for: such a draw, whose log `replay` accepts; such a quick draw; such a replay,
--- of all strata or of the one whose number the words have, counted from 1; such a migration; such a list of joint probabilities. Where it
--- answers that a log differs at a line, the lines before this one are the most whole lines with which some genuine log begins, of either
--- version for `replay`, of version 1 for `migrate`; with a stratum the line is the first with which no genuine section of it goes on.
+-- of all strata or of the section whose number the words have, counted from 1; such a migration; such a list of joint probabilities. Where
+-- it answers that a log differs at a line, the lines before this one are the most whole lines with which some genuine log begins, of either
+-- version for `replay`, of version 1 for `migrate`; with a section's number the line is the first with which no such section goes on.
 pub record Headline (answer : Status) (words : List (List ℕ)) (before now : Outside) : Type 0 where
   pub draw : (a : DrawArguments) (fs : Files)
       → Ends answer words before status.Done (commands.Draw a) fs → IsExactDraw a fs before now

@@ -26,7 +26,7 @@ use Rattle.smp_status.specs.declared.status.Status.TheVariants.{Usage, TapeShort
 use Rattle.smp_status.specs.declared.status.Status.TheVariants as status
 use Rattle.smp_status.specs.Codes.{tape_status}
 use Rattle.smp_app.specs.Deliveries.{Outputs}
-use Rattle.smp_twostage.specs.Selections.{Coverage, covered_start, covered_tree, one_of}
+use Rattle.smp_twostage.specs.Selections.{Coverage, all_of, covered_start, covered_tree, one_of, section_count}
 use Rattle.smp_plan.specs.Plans.{Plan, parts}
 use Rattle.smp_app.specs.Drawn.{Drawn, tree_of, start_of, sections_of}
 use Rattle.smp_plan.specs.Inputs.{plan_stage}
@@ -97,17 +97,17 @@ drawn_by_old_log plan log =
     told_by plan None (path_told (tree_of plan) (start_of plan) log)
     (log_reading (tree_of plan) (start_of plan) plan.head log)
 
--- the stratum of a number, counted from 0, where the plan has one
+-- the section of a number, counted from 0, where the plan has one: a stratum, or all where they are drawn together
 abbrev pub stratum_at : Plan → ℕ → Result ℕ Stop
 stratum_at plan number =
-    let strata = length (parts plan).strata in
+    let strata = section_count (all_of (parts plan)) in
     if nat_le number strata then Ok (number - 1) else Err (Refused (NoStratum number strata))
 
--- stratum h of a plan alone
+-- section h of a plan alone
 abbrev pub alone : Plan → ℕ → Coverage
 alone plan h = one_of (parts plan) h
 
--- the section of stratum h in a log of version 2
+-- section h in a log of version 2
 abbrev pub drawn_by_section : Plan → ℕ → List ℕ → Result Drawn Stop
 drawn_by_section plan h log =
     let tree = covered_tree (alone plan h) in

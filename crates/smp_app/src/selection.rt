@@ -3,7 +3,7 @@ ghost use Rattle.smp_tape.specs.TapeSources.{tape_source};
 ghost use Rattle.smp_split.specs.Runs.{and_then, run};
 ghost use Rattle.smp_log.specs.Answers.{AnswersAs};
 ghost use Rattle.smp_log.specs.Genuine.{IsFullPath};
-ghost use Rattle.smp_twostage.specs.Selections.{BelongsToCovered, covered_tree, strata_sections};
+ghost use Rattle.smp_twostage.specs.Selections.{BelongsToCovered, all_of, covered_tree, section_count, strata_sections};
 ghost use Rattle.smp_app.specs.Commands.{source_names};
 ghost use Rattle.smp_app.specs.Drawn.{tree_of, start_of};
 ghost use Rattle.smp_app.specs.Draws.{IfLine, IsRefusedBy};
@@ -30,7 +30,7 @@ use smp_sieve::{ChaChaWords, Sieve};
 use smp_split::{Lines, Splitting, WalkFault, selected_units, walk};
 use smp_stages::StagesState;
 use smp_tape::{DrawFault, Draws, Tape};
-use smp_twostage::{StartedWhole, Whole};
+use smp_twostage::{StartedWhole, Whole, section_count};
 use std::alloc::Global;
 
 /// Why a walk came to no leaf.
@@ -323,16 +323,17 @@ fn select_by_seed<'a>(
     selection_at(alloc, plan, walked, 0, 0)
 }
 
-// The stratum of a number, counted from 1. A number that passes that of the strata is refused.
+// The section of a number, counted from 1: a stratum, or all strata where they are drawn together. A number that passes that of the
+// sections is refused.
 fn stratum_at(plan: &FramePlan, number: u32) -> Result<usize, Status>
     requires planned { IsPlanned plan.now }
     requires number { 1 ≤ number }
     ensures follows { Follows result (stratum_at (plan_view plan.now) number) }
     ensures kinds { IfErr result (λ error. IsOfContent (class_of error) error) }
-    ensures within { IfOk result (λ stratum. stratum < length plan.now.plan.strata) }
+    ensures within { IfOk result (λ stratum. stratum < section_count (all_of plan.now.plan)) }
     ensures small { IfOk result (λ stratum. stratum < 2 ^ 32) }
 {
-    let strata = plan.plan.strata();
+    let strata = section_count(&plan.plan);
     if number as usize > strata {
         return Err(Status::NoStratum {
             number,
@@ -366,7 +367,7 @@ fn select_by_log<'a>(
 }
 
 /// Selects by a plan, with the values of a tape or by the steps of a log, which is read first, or with the words of a
-/// seed. Where one stratum of a log is asked for that the plan hasn't, that comes before the log is read.
+/// seed. Where one section of a log is asked for that the plan hasn't, that comes before the log is read.
 #[tactic(auto, unfolding(crate::specs::Verdict::drawn_stage))]
 pub fn selection_from<'a, K: Store>(
     alloc: Global,

@@ -6,7 +6,7 @@ ghost use Rattle.smp_app.specs.Kept.Stages as Stages;
 ghost use Rattle.smp_plan.specs.Planned.{IsPlanned, plan_view};
 ghost use Rattle.smp_app.specs.Kept.Stages.{IsSelection, selection_view};
 ghost use Rattle.smp_frac.specs.Fractions.{fraction, fraction_text};
-ghost use Rattle.smp_twostage.specs.Selections.{BelongsToCovered, covered_start};
+ghost use Rattle.smp_twostage.specs.Selections.{BelongsToCovered, all_of, covered_start, section_count};
 ghost use Rattle.smp_weights.specs.Rows.{AddsRow, row};
 
 use crate::job::{DrawnText, PlanText};
@@ -68,7 +68,7 @@ fn started_again<'a>(
     only: Option<usize>,
 ) -> Result<StartedWhole<'a>, NoMemory>
     requires planned { IsPlanned plan.now }
-    requires only { IfSome only (λ stratum. stratum < length plan.now.plan.strata) }
+    requires only { IfSome only (λ stratum. stratum < section_count (all_of plan.now.plan)) }
     ensures whole { IfOk result (λ started. started.whole
         ≡ record { plan = plan.now.plan; only = only }) }
     ensures state { IfOk result (λ started. started.state
@@ -158,6 +158,7 @@ fn row_count(plan: &FramePlan, only: Option<usize>) -> usize
     }
 }
 
+// How many rows stand in a section: in its stratum, or in all where they are drawn together.
 fn rows_in(plan: &FramePlan, stratum: usize) -> usize
     requires { IsPlanned plan.now }
     ensures { result ≡ rows_by (plan_view plan.now) (Some stratum) }
@@ -165,7 +166,7 @@ fn rows_in(plan: &FramePlan, stratum: usize) -> usize
     let units = plan.frame.units().len();
     let mut rows = 0;
     for row in 0..units {
-        if plan.plan.seat(row).stratum == stratum {
+        if plan.plan.method().draws_together() || plan.plan.seat(row).stratum == stratum {
             rows += 1;
         }
     }

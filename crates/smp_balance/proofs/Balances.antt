@@ -1,15 +1,14 @@
 -- Every selection from a stratum is balanced where that from its free units is.
-use Rattle.std.proofs.Common.{◌≡◌, ℕ, zero, suc, ◌-◌, ◌^◌, ◌<◌, ◌≤◌, cond, true, ℤ, List, [], ◌∷◌, length, get_or, arith, refl, sym, ap, ◌∙◌, subst, inl, inr, ◌⊎◌}
+use Rattle.std.proofs.Common.{◌≡◌, ℕ, zero, suc, ◌-◌, ◌^◌, ◌<◌, ◌≤◌, cond, ℤ, List, [], ◌∷◌, length, get_or, arith, refl, sym, ap, ◌∙◌, subst, inl, inr, ◌⊎◌}
 use Rattle.std.specs.Prelude.{slice_index}
 use Rattle.std.proofs.lemmas.Bool.{cases_eq}
 use Rattle.std.proofs.lemmas.List.{get_or-map, length-map}
-use Rattle.smp_fractions.specs.Fractions.{Fraction, Same, AtMost, whole, plus, times, sum_below}
-use Rattle.smp_fractions.specs.Bounds.{absolute, DifferByAtMost}
-use Rattle.smp_fractions.proofs.Fractions.{same_refl, same_sym, same_trans, plus_same, plus_assoc, plus_left_comm, plus-zero, sum-zero}
-use Rattle.smp_fractions.proofs.Bounds.{plus_most, same_most, most_of_same, differ_same, differ_by_same}
+use Rattle.smp_fractions.specs.Fractions.{Fraction, Same, whole, plus, times, sum_below}
+use Rattle.smp_fractions.specs.Bounds.{absolute}
+use Rattle.smp_fractions.proofs.Fractions.{same_refl, same_sym, same_trans, plus_same, plus-zero, sum-zero}
 use Rattle.smp_kernel.specs.Vectors.{Within}
 use Rattle.smp_prob.specs.Inclusions.{inclusion}
-use Rattle.smp_split.specs.Trees.{Tree, picked}
+use Rattle.smp_split.specs.Trees.{Tree}
 use Rattle.smp_values.specs.Values.{is_fractional, is_one, value_at}
 use Rattle.smp_flight.specs.States as flights
 use Rattle.smp_flight.specs.States.{Units, column}
@@ -18,13 +17,8 @@ use Rattle.smp_flight.specs.Totals as free
 use Rattle.smp_flight.specs.Totals.{expanded, addend, row_total, target}
 use Rattle.smp_flight.proofs.Making.{rows_are, units_are}
 use Rattle.smp_flight.proofs.Nexts.{started_flight}
-use Rattle.smp_flight.specs.Selections.{Balancing, IsBalancing, IsSelection, Selection, rows_in, starting, values_in}
-use Rattle.smp_moves.specs.Balances.{IsBeforeLanding, LandsAt}
+use Rattle.smp_flight.specs.Selections.{Balancing, IsBalancing, IsSelection, Selection, starting, values_in}
 use Rattle.smp_moves.specs.Owed.{balance_of as weighed_balance, weighed_bound, weighed_estimate, weighed_total}
-use Rattle.smp_moves.proofs.Owed.{lands_or_not}
-use Rattle.smp_split.specs.Paths.{Entry, IsStep, Leads}
-use Rattle.smp_split.specs.declared.kind.Kind.TheVariants as kind
-use Rattle.smp_values.specs.Values.{fractional_count}
 use Rattle.smp_flight.specs.Landings.{weighed_of}
 use Rattle.smp_flight.specs.Landings as landings
 use Rattle.smp_flight.proofs.Seen.{total_is as seen_total}
@@ -36,80 +30,62 @@ use Rattle.smp_localcube.specs.Method.{LocalUnits, started}
 use Rattle.smp_localcube.specs.Laws.Splits.{is_local_cube}
 use Rattle.smp_localcube.proofs.Starts.{local_balances}
 use Rattle.smp_balance.specs.Strata.{StratumUnits, AreStratumUnits, values_of, column_count, row_count, free_values, free_units}
-use Rattle.smp_balance.specs.Totals.{AreBalanced, EachIsBalanced, IsBalanced, balance_of, counted, total, known_of, known, estimate, error_bound}
+use Rattle.smp_balance.specs.Totals.{AreBalanced, EachIsBalanced, IsBalanced, counted, total, known_of, known, estimate, error_bound}
 use Rattle.smp_rows.proofs.Sums.{at_free, sum_apart}
+use Rattle.smp_balance.proofs.Added.{is_added}
 use Rattle.smp_balance.proofs.Terms.{fixed_at, known_at, total_term, estimate_term, known_term, error_term}
 
--- the same added to both leaves them as far apart
-differ_plus : (e a b c : Fraction) → DifferByAtMost e a b → DifferByAtMost e (plus a c) (plus b c)
-differ_plus e a b c d = record { above = shifted a b d.above; below = shifted b a d.below }
-  where
-    swapped : (b : Fraction) → Same (plus (plus b c) e) (plus (plus b e) c)
-    swapped b = same_trans (plus_assoc b c e) (same_trans (plus_left_comm b c e) (same_trans (plus_left_comm c b e) (same_trans (plus_same (same_refl b) (commuted c e)) (same_sym (plus_assoc b e c)))))
-      where
-        commuted : (c e : Fraction) → Same (plus c e) (plus e c)
-        commuted c e = same_trans (plus_same (same_refl c) (same_sym (plus-zero e))) (same_trans (plus_left_comm c e (whole 0)) (plus_same (same_refl e) (plus-zero c)))
-
-    shifted : (a b : Fraction) → AtMost a (plus b e) → AtMost (plus a c) (plus (plus b c) e)
-    shifted a b h = same_most (same_refl (plus a c)) (swapped b) (plus_most a (plus b e) c c h (most_of_same c c (same_refl c)))
-
--- and the bound may be written otherwise
-differ_bound : {e f a b : Fraction} → Same e f → DifferByAtMost e a b → DifferByAtMost f a b
-differ_bound {e} {f} {a} {b} h d = record {
-  above = same_most (same_refl a) (plus_same (same_refl b) (same_sym h)) d.above;
-  below = same_most (same_refl b) (plus_same (same_refl a) (same_sym h)) d.below;
-}
+-- what the certain units of a stratum add to a row
+abbrev pub fixed : StratumUnits → ℕ → Fraction
+fixed s row = sum_below (length s.values) (λ k. fixed_at s row k (inclusion s.request k))
 
 module _ (s : StratumUnits) (ok : AreStratumUnits s) where
   -- ---- the sums over all units, by those over the free ones
 
-  abbrev fixed : ℕ → Fraction
-  fixed row = sum_below (length s.values) (λ k. fixed_at s ok row k (inclusion s.request k))
-
-  apart : (f g h : ℕ → Fraction) → ((k : ℕ) → k < length s.values → Same (f k) (plus (at_free g (inclusion s.request k)) (h k))) → Same (sum_below (length s.values) f) (plus (sum_below (length s.request.shape) g) (sum_below (length s.values) h))
+  pub apart : (f g h : ℕ → Fraction) → ((k : ℕ) → k < length s.values → Same (f k) (plus (at_free g (inclusion s.request k)) (h k))) → Same (sum_below (length s.values) f) (plus (sum_below (length s.request.shape) g) (sum_below (length s.values) h))
   apart f g h each =
       subst (λ (m : ℕ). Same (sum_below (length s.values) f) (plus (sum_below m g) (sum_below (length s.values) h))) (sym ok.request.paired)
       (sum_apart s.request (length s.values) ok.inside ok.stands g f h each)
 
-  total_of : (at : Balancing) (row : ℕ) → Same (total s at row) (plus (row_total (free_units s) (values_in at) row) (fixed row))
+  total_of : (at : Balancing) (row : ℕ) → Same (total s at row) (plus (row_total (free_units s) (values_in at) row) (fixed s row))
   total_of at row =
-      apart (λ k. times (counted s row k) _) (λ u. times (expanded (free_units s) row u) (value_at (values_in at) u)) (λ k. fixed_at s ok row k (inclusion s.request k))
+      apart (λ k. times (counted s row k) _) (λ u. times (expanded (free_units s) row u) (value_at (values_in at) u)) (λ k. fixed_at s row k (inclusion s.request k))
       (λ k _. total_term s ok (value_at (values_in at)) row k (inclusion s.request k) refl)
 
   -- what is estimated of the free units
   abbrev free_estimate : Balancing → ℕ → Fraction
   free_estimate leaf row = sum_below (length s.request.shape) (λ u. cond (is_one (values_in leaf) u) (expanded (free_units s) row u) (whole 0))
 
-  estimate_of : (leaf : Balancing) (row : ℕ) → Same (estimate s leaf row) (plus (free_estimate leaf row) (fixed row))
+  estimate_of : (leaf : Balancing) (row : ℕ) → Same (estimate s leaf row) (plus (free_estimate leaf row) (fixed s row))
   estimate_of leaf row =
-      apart (λ k. cond _ (counted s row k) (whole 0)) (λ u. cond (is_one (values_in leaf) u) (expanded (free_units s) row u) (whole 0)) (λ k. fixed_at s ok row k (inclusion s.request k))
+      apart (λ k. cond _ (counted s row k) (whole 0)) (λ u. cond (is_one (values_in leaf) u) (expanded (free_units s) row u) (whole 0)) (λ k. fixed_at s row k (inclusion s.request k))
       (λ k _. estimate_term s ok (is_one (values_in leaf)) row k (inclusion s.request k) refl)
 
-  known_of_is : (row k : ℕ) → known_of s row k ≡ known_at s ok row k (inclusion s.request k)
+  pub known_of_is : (row k : ℕ) → known_of s row k ≡ known_at s row k (inclusion s.request k)
   known_of_is zero k = refl
   known_of_is (suc j) k = refl
 
-  known_is : (row : ℕ) → Same (known s row) (plus (target (free_units s) row) (fixed row))
+  known_is : (row : ℕ) → Same (known s row) (plus (target (free_units s) row) (fixed s row))
   known_is row =
-      apart (known_of s row) (addend (free_units s) row) (λ k. fixed_at s ok row k (inclusion s.request k))
+      apart (known_of s row) (addend (free_units s) row) (λ k. fixed_at s row k (inclusion s.request k))
       (λ k _. rw (known_of_is row k) (known_term s ok row k (inclusion s.request k) refl))
 
   error_is : (at : Balancing) (row : ℕ) → Same (error_bound s at row) (free.error_bound (free_units s) (values_in at) row)
   error_is at row =
       same_trans
       (apart (λ k. cond _ (absolute (counted s row k)) (whole 0)) (λ u. cond (is_fractional (values_in at) u) (absolute (expanded (free_units s) row u)) (whole 0)) (λ k. whole 0)
-      (λ k _. error_term s ok (values_in at) row k (inclusion s.request k) refl))
+      (λ k _. error_term s ok (is_fractional (values_in at)) row k (inclusion s.request k) refl))
       (same_trans (plus_same (same_refl (free.error_bound (free_units s) (values_in at) row)) (sum-zero (length s.values) (λ k. whole 0) (λ k _. same_refl (whole 0)))) (plus-zero (free.error_bound (free_units s) (values_in at) row)))
 
   -- ---- the free units
 
-  one_each : length (free_values s) ≡ length s.request.free
+  pub one_each : length (free_values s) ≡ length s.request.free
   one_each = length-map s.request.free (values_of s)
 
-  free_at : (u : ℕ) → u < length s.request.free → get_or (free_values s) u [] ≡ values_of s (slice_index s.request.free u)
+  pub free_at : (u : ℕ) → u < length s.request.free → get_or (free_values s) u [] ≡ values_of s (slice_index s.request.free u)
   free_at u l = get_or-map (values_of s) s.request.free u 0 [] l
 
-  same_length : (u : ℕ) → u < length s.request.free → length (get_or (free_values s) u []) ≡ column_count s
+  pub same_length : (u : ℕ) → u < length s.request.free → length (get_or (free_values s) u []) ≡ column_count s
   same_length u l = ap length (free_at u l) ∙ ok.values.same (slice_index s.request.free u) (ok.inside u l)
 
   few_values : (n : ℕ) → length s.request.free ≡ n → length (get_or (free_values s) 0 []) ≤ 15
@@ -138,6 +114,10 @@ module _ (s : StratumUnits) (ok : AreStratumUnits s) where
   none_free : (f g : ℕ → Fraction) → length s.request.free ≡ 0 → Same (sum_below (length s.request.shape) f) (sum_below (length s.request.shape) g)
   none_free f g none = subst (λ (n : ℕ). Same (sum_below n f) (sum_below n g)) (sym (ok.request.paired ∙ none)) (same_refl (whole 0))
 
+  no_bound : (at : Balancing) (row : ℕ) → length s.request.free ≡ 0 → Same (whole 0) (free.error_bound (free_units s) (values_in at) row)
+  no_bound at row none =
+      subst (λ (n : ℕ). Same (whole 0) (sum_below n (λ u. cond (is_fractional (values_in at) u) (absolute (expanded (free_units s) row u)) (whole 0)))) (sym (ok.request.paired ∙ none)) (same_refl (whole 0))
+
   some_or_none : (1 ≤ length s.request.free) ⊎ (length s.request.free ≡ 0)
   some_or_none = elim (cases_eq (length s.request.free) 0) [ inl none ↦ inr none | inr some ↦ inl (omega (arith, some)) ]
 
@@ -153,10 +133,11 @@ module _ (s : StratumUnits) (ok : AreStratumUnits s) where
       first_none [] h = refl
       first_none (x ∷ xs) h = absurd (omega arith)
 
-  -- ---- the clauses, of a selection from the free units that is balanced
+  -- a row past those of the free units is one where there are none
+  past_free : (row : ℕ) → flights.row_count (free_units s) ≤ row → row < row_count s → length s.request.free ≡ 0
+  past_free row past l = elim some_or_none [ inl some ↦ absurd (let within = free_row row l some in omega (arith, within, past)) | inr none ↦ none ]
 
-  with_fixed : {a b : Fraction} (row : ℕ) → Same a b → Same (plus a (fixed row)) (plus b (fixed row))
-  with_fixed row h = plus_same h (same_refl (fixed row))
+  -- ---- a selection from the free units that is balanced
 
   module _ {State : Type 0} (tree : Tree State) (seen : State → Balancing) (order : State → List ℕ) where
     abbrev draws : Selection State
@@ -173,75 +154,18 @@ module _ (s : StratumUnits) (ok : AreStratumUnits s) where
       free_bound_is : (t : State) (row : ℕ) → weighed_bound (weighed_of draws) t row ≡ free.error_bound (free_units s) (values_in (seen t)) row
       free_bound_is t row = rw is.units refl
 
-      flights_keep : (path : List Entry) (t : State) (entry : Entry) → Leads tree from path t → IsStep tree t entry → entry.0 ≡ kind.Flight → (row : ℕ) → row < rows_in (seen t) →
-          Same (total s (seen (picked t (tree.parts t) entry.2)) row) (total s (seen t) row)
-      flights_keep path t entry leads step k row l =
-          let next : State = picked t (tree.parts t) entry.2 in
-          let kept : Same (row_total (free_units s) (values_in (seen next)) row) (row_total (free_units s) (values_in (seen t)) row) =
-          rw (free_total_is (picked t (tree.parts t) entry.2) row, free_total_is t row) at (of_free.flights path t entry leads step k row l) in
-          same_trans (total_of (seen next) row) (same_trans (with_fixed row kept) (same_sym (total_of (seen t) row)))
-
-      totals_are_known : (path : List Entry) (t : State) → Leads tree from path t → IsBeforeLanding path → (row : ℕ) → row < row_count s → Same (total s (seen t) row) (known s row)
-      totals_are_known path t leads before row l =
-          let free_total : Same (row_total (free_units s) (values_in (seen t)) row) (target (free_units s) row) =
-          elim some_or_none [
-            | inl some ↦ rw (free_total_is t row) at (of_free.totals path t leads before row (free_row row l some))
-            | inr none ↦ none_free (λ u. times (expanded (free_units s) row u) (value_at (values_in (seen t)) u)) (addend (free_units s) row) none
-          ] in
-          same_trans (total_of (seen t) row) (same_trans (with_fixed row free_total) (same_sym (known_is row)))
-
-      exact_without_landing : (path : List Entry) (leaf : State) → Leads tree from path leaf → IsBeforeLanding path → tree.done leaf ≡ true → (row : ℕ) → row < row_count s →
-          Same (estimate s (seen leaf) row) (known s row)
-      exact_without_landing path leaf leads before done row l =
-          let exact : Same (free_estimate (seen leaf) row) (target (free_units s) row) =
-          elim some_or_none [
-            | inl some ↦ rw (free_estimate_is leaf row) at (of_free.exact path leaf leads before done row (free_row row l some))
-            | inr none ↦ none_free (λ u. cond (is_one (values_in (seen leaf)) u) (expanded (free_units s) row u) (whole 0)) (addend (free_units s) row) none
-          ] in
-          same_trans (estimate_of (seen leaf) row) (same_trans (with_fixed row exact) (same_sym (known_is row)))
-
-      differ_none : (row : ℕ) (at leaf : Balancing) → length s.request.free ≡ 0 → DifferByAtMost (free.error_bound (free_units s) (values_in at) row) (free_estimate leaf row) (target (free_units s) row)
-      differ_none row at leaf none =
-          let zero_bound : Same (free.error_bound (free_units s) (values_in at) row) (whole 0) =
-          subst (λ (n : ℕ). Same (sum_below n (λ u. cond (is_fractional (values_in at) u) (absolute (expanded (free_units s) row u)) (whole 0))) (whole 0)) (sym (ok.request.paired ∙ none)) (same_refl (whole 0)) in
-          differ_bound (same_sym zero_bound)
-          (differ_same (free_estimate leaf row) (target (free_units s) row)
-          (none_free (λ u. cond (is_one (values_in leaf) u) (expanded (free_units s) row u) (whole 0)) (addend (free_units s) row) none))
-
-      -- a landing of the stratum is one of the free units
-      of_landing : (before : List Entry) (t : State) → LandsAt (balance_of s draws) from before t → LandsAt (weighed_balance (weighed_of draws)) from before t
-      of_landing before t lands = record { leads = lands.leads; flight = lands.flight; going = lands.going; begins = lands.begins }
-
-      few_are_left : (before : List Entry) (t : State) → LandsAt (balance_of s draws) from before t → tree.kind t ≡ kind.Drop → (fractional_count (values_in (seen t)) ≤ rows_in (seen t)) × (rows_in (seen t) ≤ row_count s)
-      few_are_left before t lands drops =
-          let few : (fractional_count (values_in (seen t)) ≤ rows_in (seen t)) × (rows_in (seen t) ≤ flights.row_count (free_units s)) = of_free.few before t (of_landing before t lands) drops in
-          (few.0, omega (arith, few.1, fewer_rows))
-
-      error_is_bounded : (before after : List Entry) (t leaf : State) → LandsAt (balance_of s draws) from before t → Leads tree t after leaf → tree.done leaf ≡ true → (row : ℕ) → row < row_count s →
-          DifferByAtMost (error_bound s (seen t) row) (estimate s (seen leaf) row) (known s row)
-      error_is_bounded before after t leaf lands leads done row l =
-          let apart_free : DifferByAtMost (free.error_bound (free_units s) (values_in (seen t)) row) (free_estimate (seen leaf) row) (target (free_units s) row) =
-          elim some_or_none [
-            | inl some ↦ rw (free_bound_is t row, free_estimate_is leaf row) at (of_free.error before after t leaf (of_landing before t lands) leads done row (free_row row l some))
-            | inr none ↦ differ_none row (seen t) (seen leaf) none
-          ] in
-          differ_bound (same_sym (error_is (seen t) row))
-          (differ_by_same (estimate_of (seen leaf) row) (known_is row)
-          (differ_plus (free.error_bound (free_units s) (values_in (seen t)) row) (free_estimate (seen leaf) row) (target (free_units s) row) (fixed row) apart_free))
-
       is_balanced : IsBalanced s draws from
-      is_balanced = record {
-        flights = flights_keep;
-        totals = totals_are_known;
-        exact = exact_without_landing;
-        lands = λ path to leads. lands_or_not (balance_of s draws) path from to leads;
-        landing = λ before t lands. of_free.landing before t (of_landing before t lands);
-        drops = of_free.drops;
-        few = few_are_left;
-        error = error_is_bounded;
-        none_left = of_free.none_left;
-        left = λ before after entry t to lands leads. of_free.left before after entry t to (of_landing before t lands) leads;
-      }
+      is_balanced =
+          is_added (weighed_balance (weighed_of draws)) (λ t. total s (seen t)) (known s) (λ t. estimate s (seen t)) (λ t. error_bound s (seen t)) (fixed s) (row_count s)
+          (λ t row. rw (free_total_is t row) (total_of (seen t) row))
+          known_is
+          (λ t row. rw (free_estimate_is t row) (estimate_of (seen t) row))
+          (λ t row. rw (free_bound_is t row) (same_sym (error_is (seen t) row)))
+          fewer_rows
+          (λ t row past l. rw (free_total_is t row) (none_free (λ u. times (expanded (free_units s) row u) (value_at (values_in (seen t)) u)) (addend (free_units s) row) (past_free row past l)))
+          (λ t row past l. rw (free_estimate_is t row) (none_free (λ u. cond (is_one (values_in (seen t)) u) (expanded (free_units s) row u) (whole 0)) (addend (free_units s) row) (past_free row past l)))
+          (λ t row past l. rw (free_bound_is t row) (no_bound (seen t) row (past_free row past l)))
+          from of_free
 
   -- ---- both methods
 

@@ -1,5 +1,11 @@
 pub mod Absolute
 pub mod Terms
+pub mod Added
 pub mod Balances
 pub mod Told
 pub mod Reports
+pub mod FrameRows
+pub mod Runs
+pub mod FrameSums
+pub mod FrameTerms
+pub mod Together

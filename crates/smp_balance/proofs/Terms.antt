@@ -9,9 +9,9 @@ use Rattle.smp_balance.proofs.Absolute.{absolute_same}
 use Rattle.smp_kernel.specs.Vectors.{entry}
 use Rattle.smp_prob.specs.declared.inclusions.Inclusion.{Inclusion}
 use Rattle.smp_prob.specs.declared.inclusions.Inclusion.TheVariants.{Certain, Free, Never}
-use Rattle.smp_prob.specs.Shares.{Shares, shares_of}
+use Rattle.smp_prob.specs.Shares.{shares_of}
 use Rattle.smp_prob.specs.Inclusions.{inclusion, is_taken, fraction_at, free_fraction, asked_fraction}
-use Rattle.smp_values.specs.Values.{is_fractional, value_at}
+use Rattle.smp_values.specs.Values.{value_at}
 use Rattle.smp_rows.specs.Rows.{row_value}
 use Rattle.smp_rows.specs.Laws.Rows.{free_within}
 use Rattle.smp_flight.specs.States.{column}
@@ -22,16 +22,28 @@ use Rattle.smp_balance.specs.Strata.{StratumUnits, AreStratumUnits, values_of, v
 use Rattle.smp_balance.specs.Totals.{can_be_selected, counted, is_undecided, known_value}
 use Rattle.smp_rows.proofs.Sums.{free_is, at_free}
 
-cond_same : (b : Bool) {a c : Fraction} → Same a c → Same (cond b a (whole 0)) (cond b c (whole 0))
+pub cond_same : (b : Bool) {a c : Fraction} → Same a c → Same (cond b a (whole 0)) (cond b c (whole 0))
 cond_same true h = h
 cond_same false h = same_refl (whole 0)
 
 -- the balancing values of a unit stand in its column behind the size
-entry_with : (sizes : List ℕ) (xs : List (List ℤ)) (u j : ℕ) → length xs ≡ length sizes → u < length sizes → entry (get_or (columns_with sizes xs) u []) (suc j) ≡ entry (get_or xs u []) j
+pub entry_with : (sizes : List ℕ) (xs : List (List ℤ)) (u j : ℕ) → length xs ≡ length sizes → u < length sizes → entry (get_or (columns_with sizes xs) u []) (suc j) ≡ entry (get_or xs u []) j
 entry_with [] xs u j e l = absurd (omega arith)
 entry_with (z ∷ sizes) [] u j e l = absurd (omega arith)
 entry_with (z ∷ sizes) (x ∷ xs) zero j e l = refl
 entry_with (z ∷ sizes) (x ∷ xs) (suc u) j e l = entry_with sizes xs u j (omega arith) (le_of_suc-le-suc l)
+
+module _ (s : StratumUnits) where
+  -- what a certain unit adds, whatever is drawn
+  abbrev pub fixed_at : ℕ → ℕ → Inclusion → Fraction
+  fixed_at row k Certain = counted s row k
+  fixed_at row k (Free u) = whole 0
+  fixed_at row k Never = whole 0
+
+  -- what a unit that stands so adds to what is known
+  abbrev pub known_at : ℕ → ℕ → Inclusion → Fraction
+  known_at zero k stand = fraction_at s.request stand
+  known_at (suc j) k stand = integer (cond (can_be_selected stand) (value_in s j k) (pos 0))
 
 module _ (s : StratumUnits) (ok : AreStratumUnits s) where
   abbrev free_at : ℕ → ℕ
@@ -44,13 +56,13 @@ module _ (s : StratumUnits) (ok : AreStratumUnits s) where
       entry_with s.request.shape (free_values s) u j (length-map s.request.free (values_of s) ∙ sym ok.request.paired) (omega (arith, l, ok.request.paired))
       ∙ ap (λ (x : List ℤ). entry x j) (get_or-map (values_of s) s.request.free u 0 [] l)
 
-  free_asked : (u : ℕ) → u < length s.request.free → Same (value_at (shares_of s.request) u) (free_fraction s.request u)
+  pub free_asked : (u : ℕ) → u < length s.request.free → Same (value_at (shares_of s.request) u) (free_fraction s.request u)
   free_asked u l = (starts_requested s.request (free_values s) ok.request).values u l
 
   asked_at : (k : ℕ) (stand : Inclusion) → inclusion s.request k ≡ stand → asked_fraction s.request k ≡ fraction_at s.request stand
   asked_at k stand is = ap (fraction_at s.request) is
 
-  some_asked : (u : ℕ) → u < length s.request.free → (free_fraction s.request u).num ≢ pos 0
+  pub some_asked : (u : ℕ) → u < length s.request.free → (free_fraction s.request u).num ≢ pos 0
   some_asked u l none =
       let shape : 1 ≤ slice_index s.request.shape u = ok.request.positive u (omega (arith, l, ok.request.paired)) in
       let drawn : 1 ≤ s.request.r = ok.request.drawn (omega (arith, l)) in
@@ -74,34 +86,23 @@ module _ (s : StratumUnits) (ok : AreStratumUnits s) where
       subst (λ (z : ℤ). Same (counted s (suc j) k) (times (integer z) (inverse (value_at (shares_of s.request) u)))) value
       (times_same (same_refl (integer (known_value s j k))) weight)
 
-  -- ---- what a certain unit adds, whatever is drawn
-
-  abbrev pub fixed_at : ℕ → ℕ → Inclusion → Fraction
-  fixed_at row k Certain = counted s row k
-  fixed_at row k (Free u) = whole 0
-  fixed_at row k Never = whole 0
-
   -- ---- what any unit adds
 
   pub total_term : (value : ℕ → Fraction) (row k : ℕ) (stand : Inclusion) → inclusion s.request k ≡ stand →
-      Same (times (counted s row k) (row_value value stand)) (plus (at_free (λ u. times (expanded (free_units s) row u) (value u)) stand) (fixed_at row k stand))
+      Same (times (counted s row k) (row_value value stand)) (plus (at_free (λ u. times (expanded (free_units s) row u) (value u)) stand) (fixed_at s row k stand))
   total_term value row k Certain is = same_trans (times-one (counted s row k)) (same_sym (zero-plus (counted s row k)))
   total_term value row k Never is = same_trans (times-zero (counted s row k)) (same_sym zero-plus-zero)
   total_term value row k (Free u) is =
       same_trans (times_same (counted_is row k u is) (same_refl (value u))) (same_sym (plus-zero (times (expanded (free_units s) row u) (value u))))
 
   pub estimate_term : (selected : ℕ → Bool) (row k : ℕ) (stand : Inclusion) → inclusion s.request k ≡ stand →
-      Same (cond (is_taken selected stand) (counted s row k) (whole 0)) (plus (at_free (λ u. cond (selected u) (expanded (free_units s) row u) (whole 0)) stand) (fixed_at row k stand))
+      Same (cond (is_taken selected stand) (counted s row k) (whole 0)) (plus (at_free (λ u. cond (selected u) (expanded (free_units s) row u) (whole 0)) stand) (fixed_at s row k stand))
   estimate_term selected row k Certain is = same_sym (zero-plus (counted s row k))
   estimate_term selected row k Never is = same_sym zero-plus-zero
   estimate_term selected row k (Free u) is =
       same_trans (cond_same (selected u) (counted_is row k u is)) (same_sym (plus-zero (cond (selected u) (expanded (free_units s) row u) (whole 0))))
 
-  abbrev pub known_at : ℕ → ℕ → Inclusion → Fraction
-  known_at zero k stand = fraction_at s.request stand
-  known_at (suc j) k stand = integer (cond (can_be_selected stand) (value_in s j k) (pos 0))
-
-  pub known_term : (row k : ℕ) (stand : Inclusion) → inclusion s.request k ≡ stand → Same (known_at row k stand) (plus (at_free (addend (free_units s) row) stand) (fixed_at row k stand))
+  pub known_term : (row k : ℕ) (stand : Inclusion) → inclusion s.request k ≡ stand → Same (known_at s row k stand) (plus (at_free (addend (free_units s) row) stand) (fixed_at s row k stand))
   known_term zero k Certain is = same_sym (zero-plus (whole 1))
   known_term zero k Never is = same_sym zero-plus-zero
   known_term zero k (Free u) is =
@@ -118,10 +119,10 @@ module _ (s : StratumUnits) (ok : AreStratumUnits s) where
       subst (λ (z : ℤ). Same (integer z) (plus (integer (entry (column (free_units s) u) (suc j))) (whole 0))) value
       (same_sym (plus-zero (integer (entry (column (free_units s) u) (suc j)))))
 
-  pub error_term : (values : Shares) (row k : ℕ) (stand : Inclusion) → inclusion s.request k ≡ stand →
-      Same (cond (is_undecided values stand) (absolute (counted s row k)) (whole 0)) (plus (at_free (λ u. cond (is_fractional values u) (absolute (expanded (free_units s) row u)) (whole 0)) stand) (whole 0))
-  error_term values row k Certain is = same_sym zero-plus-zero
-  error_term values row k Never is = same_sym zero-plus-zero
-  error_term values row k (Free u) is =
-      same_trans (cond_same (is_fractional values u) (absolute_same (counted s row k) (expanded (free_units s) row u) (counted_is row k u is)))
-      (same_sym (plus-zero (cond (is_fractional values u) (absolute (expanded (free_units s) row u)) (whole 0))))
+  pub error_term : (open_ : ℕ → Bool) (row k : ℕ) (stand : Inclusion) → inclusion s.request k ≡ stand →
+      Same (cond (is_undecided open_ stand) (absolute (counted s row k)) (whole 0)) (plus (at_free (λ u. cond (open_ u) (absolute (expanded (free_units s) row u)) (whole 0)) stand) (whole 0))
+  error_term open_ row k Certain is = same_sym zero-plus-zero
+  error_term open_ row k Never is = same_sym zero-plus-zero
+  error_term open_ row k (Free u) is =
+      same_trans (cond_same (open_ u) (absolute_same (counted s row k) (expanded (free_units s) row u) (counted_is row k u is)))
+      (same_sym (plus-zero (cond (open_ u) (absolute (expanded (free_units s) row u)) (whole 0))))

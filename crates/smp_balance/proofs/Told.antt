@@ -95,14 +95,18 @@ asked_positive request ok k can = lowest_terms-positive (asked_fraction request 
 
 -- ---- one after another
 
-pub next_mapped : {A : Type 0} (f : ℕ → A) (us : List ℕ) (i : ℕ) (done : List A) (x : A) (whole : List A) → i < length us → x ≡ f (get_or us i 0)
+pub next_mapped : {A B : Type 0} (f : B → A) (us : List B) (none : B) (i : ℕ) (done : List A) (x : A) (whole : List A) → i < length us → x ≡ f (get_or us i none)
     → done ++ map f (drop i us) ≡ whole → (done ++ x ∷ []) ++ map f (drop (i + 1) us) ≡ whole
-next_mapped f us i done x whole l is so_far =
+next_mapped f us none i done x whole l is so_far =
     let on : i + 1 ≡ suc i = omega arith in
     append_assoc done (x ∷ []) (map f (drop (i + 1) us))
     ∙ ap (λ n. done ++ x ∷ map f (drop n us)) on
     ∙ ap (λ y. done ++ y ∷ map f (drop (suc i) us)) is
-    ∙ ap (λ front. done ++ map f front) (sym (drop-cons us i 0 l)) ∙ so_far
+    ∙ ap (λ front. done ++ map f front) (sym (drop-cons us i none l)) ∙ so_far
+
+pub last_mapped : {A B : Type 0} (f : B → A) (us : List B) (i : ℕ) (done whole : List A) → length us ≤ i → done ++ map f (drop i us) ≡ whole → done ≡ whole
+last_mapped f us i done whole ended so_far =
+    sym (append-nil done) ∙ ap (λ rest. done ++ map f rest) (sym (drop_all i us ended)) ∙ so_far
 
 pub next_line : (line : ℕ → List ℕ) (us : List ℕ) (i k : ℕ) (old new whole : List ℕ) → i < length us → get_or us i 0 ≡ k → new ≡ old ++ line k
     → old ++ flat_map line (drop i us) ≡ whole → new ++ flat_map line (drop (i + 1) us) ≡ whole

@@ -4,7 +4,6 @@ use Rattle.smp_fractions.specs.Fractions.{Fraction, whole, integer, times, inver
 use Rattle.smp_fractions.specs.Bounds.{absolute}
 use Rattle.smp_prob.specs.declared.inclusions.Inclusion.{Inclusion}
 use Rattle.smp_prob.specs.declared.inclusions.Inclusion.TheVariants.{Free, Never}
-use Rattle.smp_prob.specs.Shares.{Shares}
 use Rattle.smp_prob.specs.Inclusions.{inclusion, is_taken, asked_fraction}
 use Rattle.smp_values.specs.Values.{fractional_count, is_fractional, is_one, value_at}
 use Rattle.smp_rows.specs.Rows.{row_value}
@@ -61,17 +60,17 @@ abbrev pub estimate : StratumUnits → Balancing → ℕ → Fraction
 estimate s leaf row =
     sum_below (length s.values) (λ k. cond (is_selected s leaf k) (counted s row k) (whole 0))
 
--- whether a unit that stands so is undecided, where the free units have these values
-abbrev pub is_undecided : Shares → Inclusion → Bool
-is_undecided values (Free u) = is_fractional values u
-is_undecided values other = false
+-- whether a unit that stands so is undecided, where these free units are
+abbrev pub is_undecided : (ℕ → Bool) → Inclusion → Bool
+is_undecided fractional (Free u) = fractional u
+is_undecided fractional other = false
 
 -- the sum of |x| over the probability, over the units that are undecided at a state; in the first row, their number
 abbrev pub error_bound : StratumUnits → Balancing → ℕ → Fraction
 error_bound s state row =
     sum_below (length s.values)
-    (λ k. cond (is_undecided (values_in state) (inclusion s.request k)) (absolute (counted s row k))
-    (whole 0))
+    (λ k. cond (is_undecided (is_fractional (values_in state)) (inclusion s.request k))
+    (absolute (counted s row k)) (whole 0))
 
 -- ---- what is balanced
 

@@ -2,6 +2,7 @@
 
 ghost use Rattle.smp_balance.specs.Totals.{EachIsBalanced};
 ghost use Rattle.smp_balance.specs.Reports.{EachLineTells};
+ghost use Rattle.smp_balance.specs.FrameTotals.{EachFrameIsBalanced};
 
 /// The law that every selection from a stratum by the cube, or by the local cube, is balanced: its flight keeps each total in force
 /// exactly, its landing begins only where no direction is left or the next step doesn't fit, and the units that are undecided there
@@ -14,4 +15,10 @@ pub fn balance_law()
 /// unless it is wide, and what is known of it.
 pub fn report_law()
     ensures { EachLineTells }
+{}
+
+/// The law that every selection by the cube over all strata is balanced, as `balance_law` says it of a stratum, over all units of all
+/// strata: the size of each stratum, and the variables over all of them. It holds of 15 strata at most, with 16 rows at most.
+pub fn frame_law()
+    ensures { EachFrameIsBalanced }
 {}

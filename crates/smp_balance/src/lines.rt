@@ -166,7 +166,10 @@ fn push_balance_line(
 }
 
 // A fraction, with a minus where it is below zero, or `wide`.
-fn estimate_text(alloc: Global, estimate: Result<Signed, Wide>) -> Result<String, AllocError>
+pub(crate) fn estimate_text(
+    alloc: Global,
+    estimate: Result<Signed, Wide>,
+) -> Result<String, AllocError>
     ensures { IfOk result (λ text. string_bytes text ≡ estimate_text estimate) }
 {
     match estimate {

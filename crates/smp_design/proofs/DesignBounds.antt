@@ -23,7 +23,7 @@ use Rattle.smp_faults.specs.Steps.{or_fault}
 use Rattle.smp_faults.specs.Memory.{Reads}
 use Rattle.smp_design.specs.Faults.{is_memory, good, none_found}
 use Rattle.smp_design.specs.Values.{last_version, version, method}
-use Rattle.smp_design.specs.Words.{row, is_balance, is_near}
+use Rattle.smp_design.specs.Words.{row, is_balance, is_near, takes_second}
 use Rattle.smp_design.proofs.Went.{went, is_there, is_good, found_none, goes_on}
 use Rattle.smp_design.proofs.ValueBounds.{Few, version-range}
 use Rattle.smp_design.proofs.KnownKeys.{prob_in_2}
@@ -70,6 +70,11 @@ one_of false false false h k l = absurd (cc)
 not_both : (a b : Bool) → (a && b) ≡ false → a ≡ true → b ≡ false
 not_both true b h k = h
 not_both false b h k = absurd (cc)
+
+none_of : (a b : Bool) → not (not a && not b) ≡ false → (a ≡ false) × (b ≡ false)
+none_of false false h = (refl, refl)
+none_of true b h = absurd (cc)
+none_of false true h = absurd (cc)
 
 not_first : (a b : Bool) → (a && b) ≡ false → b ≡ true → a ≡ false
 not_first true b h k = absurd (cc)
@@ -129,6 +134,8 @@ parts_are_design version t m unit sample columns second is missing method_is u s
     (ap (λ b. b && not (is_near (row m).needs)) v.near_there ∙ clash.near)
     (λ balance. v.balance_there ∙ both _ (has (codes "balance") t) missing.balance (ap is_balance needs_is ∙ balance))
     (λ near. v.near_there ∙ both _ (has (codes "near") t) missing.near (ap is_near needs_is ∙ near))) in
+    let takes_one : is_some second.second ≡ true → (is_near (row m).needs ≡ false) × ((row m).together ≡ false) =
+    λ there. none_of (is_near (row m).needs) (row m).together (not_both (has (codes "second") t) (not (takes_second (row m))) clash.second (sym w.there ∙ there)) in
     record {
       version = is.within;
       size = s.size;
@@ -147,7 +154,8 @@ parts_are_design version t m unit sample columns second is missing method_is u s
       near_values = f.near;
       second_size = w.size;
       second_method = w.method;
-      second_first = on_some second.second _ (λ there. not_both (has (codes "second") t) (is_near (row m).needs) clash.second (sym w.there ∙ there));
+      second_first = on_some second.second _ (λ there. (takes_one there).0);
+      second_apart = on_some second.second _ (λ there. (takes_one there).1);
       psu = w.psu;
       second_sizes = w.sizes;
     }

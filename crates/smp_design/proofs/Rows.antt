@@ -1,13 +1,13 @@
 -- What the columns of a method's row say.
-use Rattle.std.proofs.Common.{◌≡◌, ◌⊎◌, ℕ, ◌-◌, ◌≤◌, true, false, nat_eq, nat_le, refl, inl, inr, arith}
+use Rattle.std.proofs.Common.{◌≡◌, ◌⊎◌, ℕ, ◌+◌, ◌-◌, ◌≤◌, true, false, nat_eq, nat_le, refl, ap, inl, inr, arith}
 use Rattle.std.specs.Prelude.{◌&&◌, not}
 use Rattle.std.proofs.lemmas.Bool.{and_from, and_parts, eq-eqb, le-leb, leb-true}
 use Rattle.smp_design.specs.declared.method.Method.{Method}
-use Rattle.smp_design.specs.declared.method.Method.TheVariants.{Cube, LocalCube}
+use Rattle.smp_design.specs.declared.method.Method.TheVariants.{Cube, LocalCube, StratifiedCube, Systematic}
 use Rattle.smp_design.specs.declared.method.Needs.{Needs}
 use Rattle.smp_design.specs.declared.method.Needs.TheVariants.{Nothing, Balance, Near, Both}
 use Rattle.smp_design.specs.Bounds.{AreNear, least_values, most_values}
-use Rattle.smp_design.specs.Words.{row, balances, fits_columns, in_second, is_balance, is_nothing, most_balance, most_near, needs_columns, takes_columns}
+use Rattle.smp_design.specs.Words.{row, balances, draws_together, fits_columns, in_second, is_balance, is_nothing, most_balance, most_near, needs_columns, takes_columns}
 
 -- what a method with both needs takes
 pub record TakesBoth (near columns : ℕ) : Type 0 where
@@ -72,9 +72,39 @@ takes_unless_needed method needed = takes_nothing method (nothing_is (row method
     nothing_is Nothing e = refl
     nothing_is other e = absurd (cc)
 
--- the methods that balance
-pub is_cube : (method : Method) → balances method ≡ true → (method ≡ Cube) ⊎ (method ≡ LocalCube)
+-- the methods that balance the strata one by one
+pub is_cube : (method : Method) → balances method ≡ true → draws_together method ≡ false → (method ≡ Cube) ⊎ (method ≡ LocalCube)
 unfolding row
-is_cube Cube balance = inl refl
-is_cube LocalCube balance = inr refl
-is_cube other balance = absurd (cc)
+is_cube Cube balance apart = inl refl
+is_cube LocalCube balance apart = inr refl
+is_cube other balance apart = absurd (cc)
+
+-- the method that draws all strata together
+pub is_together : (method : Method) → draws_together method ≡ true → method ≡ StratifiedCube
+unfolding row
+is_together StratifiedCube together = refl
+is_together other together = absurd (cc)
+
+-- it balances
+pub together_balances : (method : Method) → draws_together method ≡ true → balances method ≡ true
+unfolding row
+together_balances StratifiedCube together = refl
+together_balances other together = absurd (cc)
+
+-- it isn't one of a second stage, whose units have no values
+pub second_apart : (method : Method) → in_second method ≡ true → draws_together method ≡ false
+unfolding row
+second_apart StratifiedCube second = absurd (cc)
+second_apart other second = refl
+
+-- systematic selection draws each stratum by itself
+pub systematic_apart : (method : Method) → method ≡ Systematic → draws_together method ≡ false
+unfolding row
+systematic_apart method is = ap draws_together is
+
+-- a design has few columns of values
+pub few_columns : (needs : Needs) → most_values needs ≤ most_balance + most_near
+few_columns Nothing = omega arith
+few_columns Balance = omega arith
+few_columns Near = omega arith
+few_columns Both = omega arith

@@ -16,7 +16,7 @@ use Rattle.smp_design.specs.Designs.{unit_columns, sample_size, value_columns, s
 use Rattle.smp_design.specs.Keys.{has, lacks, needs, missing_key, rival_keys, clash}
 use Rattle.smp_design.specs.Faults.{good}
 use Rattle.smp_design.specs.Values.{number, method, second_method, order, names, quotas, optional}
-use Rattle.smp_design.specs.Words.{row, in_second, is_balance, is_near}
+use Rattle.smp_design.specs.Words.{row, in_second, is_balance, is_near, takes_second}
 use Rattle.smp_design.proofs.Went.{went, is_good, neither, first_fails, goes_on}
 use Rattle.smp_design.proofs.ValueBounds.{Few, number-range, quotas-range, names-few, second_method-is, optional-holds, optional-there}
 
@@ -61,7 +61,7 @@ pub record NoClash (t : Members) (m : Method) : Type 0 where
   pub order : (has (codes "order") t && not (row m).takes_order) ≡ false
   pub balance : (has (codes "balance") t && not (is_balance (row m).needs)) ≡ false
   pub near : (has (codes "near") t && not (is_near (row m).needs)) ≡ false
-  pub second : (has (codes "second") t && is_near (row m).needs) ≡ false
+  pub second : (has (codes "second") t && not (takes_second (row m))) ≡ false
 
 pub no_clash : (t : Members) (m : Method) → clash t m ≡ None → NoClash t m
 unfolding clash
@@ -71,7 +71,7 @@ no_clash t m h =
     let b = first_fails (has (codes "order") t && not (row m).takes_order) (codes "order", codes "method") _ a.others in
     let c = first_fails (has (codes "balance") t && not (is_balance (row m).needs)) (codes "balance", codes "method") _ b.others in
     let d = first_fails (has (codes "near") t && not (is_near (row m).needs)) (codes "near", codes "method") _ c.others in
-    let e = first_fails (has (codes "second") t && is_near (row m).needs) (codes "second", codes "method") _ d.others in
+    let e = first_fails (has (codes "second") t && not (takes_second (row m))) (codes "second", codes "method") _ d.others in
     record { rivals = no_rivals t both.first; strata = a.fails; order = b.fails; balance = c.fails; near = d.fails; second = e.fails }
 
 -- the columns of the units

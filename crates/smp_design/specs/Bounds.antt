@@ -11,7 +11,7 @@ use Rattle.smp_design.specs.declared.method.Needs.TheVariants.{Nothing, Balance,
 use Rattle.smp_design.specs.declared.design.Design.{Design}
 use Rattle.smp_design.specs.declared.design.Quota as quota
 use Rattle.smp_design.specs.Values.{last_version}
-use Rattle.smp_design.specs.Words.{row, in_second, is_near, most_balance, most_near}
+use Rattle.smp_design.specs.Words.{row, draws_together, in_second, is_near, most_balance, most_near}
 
 -- a whole number from 1 to `most`
 abbrev pub From1To : ℕ → ℕ → Type 0
@@ -74,5 +74,6 @@ pub record IsDesign (d : Design) : Type 0 where
   pub second_size : IfSome d.second (λ s. InRange s.n)
   pub second_method : IfSome d.second (λ s. IsTrue (in_second s.method))
   pub second_first : OnSome d.second (is_near (row d.method).needs ≡ false)
+  pub second_apart : OnSome d.second (draws_together d.method ≡ false)
   pub psu : is_some d.columns.psu ≡ is_some d.second
   pub second_sizes : IfNone d.second (d.columns.second_size ≡ None)

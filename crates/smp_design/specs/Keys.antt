@@ -11,7 +11,7 @@ use Rattle.smp_design.specs.declared.method.Method.{Method}
 use Rattle.smp_design.specs.declared.method.Needs.{Needs}
 use Rattle.smp_design.specs.declared.method.Needs.TheVariants.{Nothing}
 use Rattle.smp_design.specs.Values
-use Rattle.smp_design.specs.Words.{row, is_balance, is_near}
+use Rattle.smp_design.specs.Words.{row, is_balance, is_near, takes_second}
 
 -- the version of a design
 abbrev pub version_of : Members → Option ℕ
@@ -122,5 +122,5 @@ clash t method = or_else (rival_keys t) (first_where (
     ∷ (has (codes "order") t && not (row method).takes_order, (codes "order", codes "method"))
     ∷ (has (codes "balance") t && not (is_balance (row method).needs), (codes "balance", codes "method"))
     ∷ (has (codes "near") t && not (is_near (row method).needs), (codes "near", codes "method"))
-    ∷ (has (codes "second") t && is_near (row method).needs, (codes "second", codes "method"))
+    ∷ (has (codes "second") t && not (takes_second (row method)), (codes "second", codes "method"))
     ∷ []))

@@ -18,33 +18,37 @@ pub record Row : Type 0 where
   pub takes_order : Bool
   -- whether it draws a whole number of units alone, so that their probabilities have to add up to a whole number
   pub draws_whole : Bool
+  -- whether it draws the units of all strata together, in one selection
+  pub together : Bool
   -- the version of designs that it came with
   pub since : ℕ
 
 -- the table of the methods, a row for each
 unfoldable pub row : Method → Row
 row the.Pivotal =
-    record { word = codes "pivotal"; needs = Nothing; takes_order = true; draws_whole = false; since = 1 }
+    record { word = codes "pivotal"; needs = Nothing; takes_order = true; draws_whole = false; together = false; since = 1 }
 row the.Systematic =
-    record { word = codes "systematic"; needs = Nothing; takes_order = true; draws_whole = false; since = 1 }
+    record { word = codes "systematic"; needs = Nothing; takes_order = true; draws_whole = false; together = false; since = 1 }
 row the.MinimumSupport =
-    record { word = codes "minimum_support"; needs = Nothing; takes_order = false; draws_whole = true; since = 1 }
+    record { word = codes "minimum_support"; needs = Nothing; takes_order = false; draws_whole = true; together = false; since = 1 }
 row the.Brewer =
-    record { word = codes "brewer"; needs = Nothing; takes_order = false; draws_whole = true; since = 1 }
+    record { word = codes "brewer"; needs = Nothing; takes_order = false; draws_whole = true; together = false; since = 1 }
 row the.LocalPivotal =
-    record { word = codes "local_pivotal"; needs = Near; takes_order = false; draws_whole = false; since = 1 }
+    record { word = codes "local_pivotal"; needs = Near; takes_order = false; draws_whole = false; together = false; since = 1 }
 row the.Cube =
-    record { word = codes "cube"; needs = Balance; takes_order = false; draws_whole = false; since = 1 }
+    record { word = codes "cube"; needs = Balance; takes_order = false; draws_whole = false; together = false; since = 1 }
 row the.Elimination =
-    record { word = codes "elimination"; needs = Nothing; takes_order = false; draws_whole = true; since = 2 }
+    record { word = codes "elimination"; needs = Nothing; takes_order = false; draws_whole = true; together = false; since = 2 }
 row the.LocalCube =
-    record { word = codes "local_cube"; needs = Both; takes_order = false; draws_whole = false; since = 2 }
+    record { word = codes "local_cube"; needs = Both; takes_order = false; draws_whole = false; together = false; since = 2 }
+row the.StratifiedCube =
+    record { word = codes "stratified_cube"; needs = Balance; takes_order = false; draws_whole = false; together = true; since = 2 }
 
 -- all methods
 abbrev pub methods : List Method
 methods =
     the.Pivotal ∷ the.Systematic ∷ the.MinimumSupport ∷ the.Brewer ∷ the.LocalPivotal ∷ the.Cube ∷
-    the.Elimination ∷ the.LocalCube ∷ []
+    the.Elimination ∷ the.LocalCube ∷ the.StratifiedCube ∷ []
 
 -- what a word means: the first of some things whose word it is
 abbrev pub meaning : {A : Type 0} → (A → List ℕ) → List A → List ℕ → Option A
@@ -101,6 +105,14 @@ in_second method = is_nothing (row method).needs
 -- whether the method balances the sample
 abbrev pub balances : Method → Bool
 balances method = is_balance (row method).needs
+
+-- whether the method draws the units of all strata together, in one selection
+abbrev pub draws_together : Method → Bool
+draws_together method = (row method).together
+
+-- whether a design may have a second stage: not where the units have to lie somewhere, and not where all strata are drawn together
+abbrev pub takes_second : Row → Bool
+takes_second r = not (is_near r.needs) && not r.together
 
 -- the word of an order
 abbrev pub order_word : Order → List ℕ

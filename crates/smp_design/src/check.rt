@@ -160,7 +160,7 @@ fn clash(table: &Table, method: Method) -> Option<(&'static str, &'static str)>
         Some(("balance", "method"))
     } else if has(table, "near") && !row.needs.is_near() {
         Some(("near", "method"))
-    } else if has(table, "second") && row.needs.is_near() {
+    } else if has(table, "second") && !row.takes_second() {
         Some(("second", "method"))
     } else {
         None

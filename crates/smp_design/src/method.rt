@@ -1,6 +1,6 @@
 //! The methods of drawing, what a design may say of each, and the words for methods and orders.
 
-ghost use Rattle.std.specs.Prelude.{◌≡◌, ◌↔◌, ℕ, List, Some};
+ghost use Rattle.std.specs.Prelude.{◌≡◌, ◌↔◌, ◌&&◌, not, ℕ, List, Some};
 ghost use Rattle.smp_design.specs.Values;
 ghost use Rattle.smp_design.specs.Words;
 ghost use Rattle.smp_design.specs.Words.{row, method_of, order_word};
@@ -32,23 +32,26 @@ pub enum Method {
     Elimination,
     /// The cube method among neighbours.
     LocalCube,
+    /// The cube method over all strata together.
+    StratifiedCube,
 }
 
 /// The table of the methods, handed to a macro with what else is said: each method with its word, the
 /// columns of values that it needs, whether the design may have an order, whether it draws a whole
-/// number of units alone, and the version of designs that it came with.
+/// number of units alone, whether it draws all strata together, and the version of designs that it came with.
 #[macro_export]
 macro_rules! each_method {
     ($table:ident: $($said:tt)*) => {
         $table!(of [
-            Pivotal("pivotal", Nothing, true, false, 1),
-            Systematic("systematic", Nothing, true, false, 1),
-            MinimumSupport("minimum_support", Nothing, false, true, 1),
-            Brewer("brewer", Nothing, false, true, 1),
-            LocalPivotal("local_pivotal", Near, false, false, 1),
-            Cube("cube", Balance, false, false, 1),
-            Elimination("elimination", Nothing, false, true, 2),
-            LocalCube("local_cube", Both, false, false, 2)
+            Pivotal("pivotal", Nothing, true, false, false, 1),
+            Systematic("systematic", Nothing, true, false, false, 1),
+            MinimumSupport("minimum_support", Nothing, false, true, false, 1),
+            Brewer("brewer", Nothing, false, true, false, 1),
+            LocalPivotal("local_pivotal", Near, false, false, false, 1),
+            Cube("cube", Balance, false, false, false, 1),
+            Elimination("elimination", Nothing, false, true, false, 2),
+            LocalCube("local_cube", Both, false, false, false, 2),
+            StratifiedCube("stratified_cube", Balance, false, false, true, 2)
         ] $($said)*)
     };
 }
@@ -60,12 +63,13 @@ macro_rules! table {
     };
     (
         of [$($method:ident(
-            $word:literal, $needs:ident, $order:literal, $whole:literal, $since:literal
+            $word:literal, $needs:ident, $order:literal, $whole:literal, $together:literal,
+            $since:literal
         )),*]
         row $of:expr
     ) => {
         match $of {
-            $(Method::$method => Row::new($word, Needs::$needs, $order, $whole, $since),)*
+            $(Method::$method => Row::new($word, Needs::$needs, $order, $whole, $together, $since),)*
         }
     };
 }
@@ -131,6 +135,8 @@ pub(crate) struct Row {
     pub(crate) takes_order: bool,
     // Whether the method draws a whole number of units alone.
     draws_whole: bool,
+    // Whether the method draws the units of all strata together.
+    together: bool,
     // The version of designs that the method came with.
     since: u32,
 }
@@ -141,12 +147,14 @@ impl Row {
         needs: Needs,
         takes_order: bool,
         draws_whole: bool,
+        together: bool,
         since: u32,
     ) -> Row
         ensures word { result.word ≡ word.entry }
         ensures needs { result.needs ≡ needs }
         ensures takes_order { result.takes_order ≡ takes_order }
         ensures draws_whole { result.draws_whole ≡ draws_whole }
+        ensures together { result.together ≡ together }
         ensures since { result.since ≡ since }
     {
         Row {
@@ -154,8 +162,18 @@ impl Row {
             needs,
             takes_order,
             draws_whole,
+            together,
             since,
         }
+    }
+}
+
+impl Row {
+    // Whether a design by the method may have a second stage.
+    pub(crate) fn takes_second(self) -> bool
+        ensures { result ≡ (not (Words.is_near self.needs) && not self.together) }
+    {
+        !self.needs.is_near() && !self.together
     }
 }
 
@@ -212,6 +230,13 @@ impl Method {
         self.row().needs.is_balance()
     }
 
+    /// Whether the method draws the units of all strata together, in one selection.
+    pub fn draws_together(self) -> bool
+        ensures { result ≡ Words.draws_together self }
+    {
+        self.row().together
+    }
+
     // The row of the method, whose word means no other method.
     #[tactic(auto, unfolding(crate::specs::Words::row), using(crate::proofs::ReadBack::method_read_back))]
     pub(crate) fn row(self) -> Row
@@ -221,6 +246,7 @@ impl Method {
         ensures needs { result.needs ≡ (row self).needs }
         ensures takes_order { result.takes_order ≡ (row self).takes_order }
         ensures draws_whole { result.draws_whole ≡ (row self).draws_whole }
+        ensures together { result.together ≡ (row self).together }
         ensures since { result.since ≡ (row self).since }
     {
         each_method!(table: row self)

@@ -1,5 +1,5 @@
 -- The joint probabilities of the rows of a plan that draws systematically, in the order of the frame and in one stage.
-use Rattle.std.proofs.Common.{◌≡◌, ◌≢◌, ℕ, zero, suc, ◌<◌, ◌≤◌, Bool, cond, List, [], ◌∷◌, ◌++◌, length, map, take, Option, Some, None, arith, refl, sym, ap, subst, ◌∙◌, inl, inr}
+use Rattle.std.proofs.Common.{◌≡◌, ◌≢◌, ℕ, zero, suc, ◌<◌, ◌≤◌, Bool, false, cond, List, [], ◌∷◌, ◌++◌, length, map, take, Option, Some, None, arith, refl, sym, ap, subst, ◌∙◌, inl, inr}
 use Rattle.std.specs.Prelude.{option_map}
 use Rattle.std.specs.List.{slice_get}
 use Rattle.std.proofs.Math.Seq.{take-suc, take-length}
@@ -11,6 +11,9 @@ use Rattle.smp_fractions.proofs.Fractions.{same_trans, times_same}
 use Rattle.smp_prob.specs.declared.orders.Order.TheVariants.{Frame}
 use Rattle.smp_prob.specs.declared.requests.Request.{Request}
 use Rattle.smp_split.specs.Means.{joint_probability}
+use Rattle.smp_design.specs.Words.{draws_together}
+use Rattle.smp_design.proofs.Rows.{systematic_apart}
+use Rattle.smp_methods.specs.declared.any.AnyState.{AnyState}
 use Rattle.smp_values.proofs.Requests.{adds_to_draws}
 use Rattle.smp_values.specs.InOrder.{started}
 use Rattle.smp_methods.specs.declared.any.AnyDesign.TheVariants as designs
@@ -19,7 +22,7 @@ use Rattle.smp_stages.specs.declared.places.Place.{Place}
 use Rattle.smp_stages.specs.declared.places.Seat.TheVariants as seat
 use Rattle.smp_stages.specs.declared.places.Stage.{Stage}
 use Rattle.smp_stages.specs.Laws.Reads.{some_within}
-use Rattle.smp_stages.specs.Stages.{IsUnderWay}
+use Rattle.smp_stages.specs.Stages.{IsUnderWay, Progress, progress}
 use Rattle.smp_strata.specs.Plans.{Parts}
 use Rattle.smp_strata.specs.Seats.{first_fraction, unit_fraction}
 use Rattle.smp_prob.specs.Inclusions.{asked_fraction}
@@ -28,14 +31,14 @@ use Rattle.smp_strata.specs.declared.strata.Seat.{Seat}
 use Rattle.smp_strata.specs.declared.strata.Stratum.{Stratum}
 use Rattle.smp_twostage.specs.Kept.{EachStarts, IsPlanned, StageStarts}
 use Rattle.smp_twostage.specs.Plans.{CanBeDrawn}
-use Rattle.smp_twostage.specs.Selections.{Selecting, all_of, belongs_to, first_number, first_stage, place_of, seat_by, seats_of, stage_within, stages_below, stages_in, stages_of, stages_within, start_of, states_of, tree_of, whole_tree}
-use Rattle.smp_twostage.specs.Laws.Covered.{covered_staged}
+use Rattle.smp_twostage.specs.Selections.{Selecting, belongs_to, first_number, first_stage, place_of, seat_by, seats_of, stage_within, stages_below, stages_in, stages_of, stages_within, states_of, tree_of}
 use Rattle.smp_twostage.specs.Laws.Numbering.{first_there}
 use Rattle.smp_twostage.specs.Laws.Places.{StandsIn}
-use Rattle.smp_twostage.specs.Laws.Staged.{place_stands, seat_at}
+use Rattle.smp_twostage.specs.Laws.Staged.{place_stands, seat_at, whole_staged}
 use Rattle.smp_twostage.specs.Laws.Wholes.{stage_lawful}
 use Rattle.smp_twostage.proofs.Columns.{is_planned}
 use Rattle.smp_twostage.proofs.Starts.{each_belongs}
+use Rattle.smp_twostage.proofs.StartsBy.{stages_so, states_so, tree_so}
 use Rattle.smp_twostage.proofs.Values.{unit_value_is}
 use Rattle.smp_stages.specs.Stages.{seat_value, unit_value}
 use Rattle.smp_joint.specs.JointRows.{joint_in, HasJoints, IsSystematicPlan, joint_fraction}
@@ -141,7 +144,11 @@ module _ (plan : Parts) (drawable : CanBeDrawn plan) (so : IsSystematicPlan plan
         (subst (λ (t : Stage Selecting). StageStarts t.design (first_state t.design.design)) (sym its.is) (starts_first i its.stratum its.there)));
   }
 
-  under_way : IsUnderWay tree_of belongs_to (stages_of plan) (start_of plan)
+  -- the start, where the strata are drawn one by one
+  abbrev strata_start : Progress AnyState
+  strata_start = progress tree_of (stages_of plan) (states_of plan)
+
+  under_way : IsUnderWay tree_of belongs_to (stages_of plan) (strata_start)
   under_way = record { states = each_belongs (stages_of plan) (states_of plan) each; at = refl }
 
   -- ---- two rows
@@ -154,13 +161,13 @@ module _ (plan : Parts) (drawable : CanBeDrawn plan) (so : IsSystematicPlan plan
   sits row l = seat_at plan drawable row l ∙ ap (λ m. Some (seat_by m (first_number plan (place_of plan.strata row).stratum) (place_of plan.strata row))) so.second
 
   -- the value of a row before the first step
-  value_is : (row : ℕ) → row < plan.rows → Same ((whole_tree plan).value (start_of plan) row) (first_fraction plan.strata (place_of plan.strata row).stratum (place_of plan.strata row).unit)
+  value_is : (row : ℕ) → row < plan.rows → Same ((tree_so false plan).value (strata_start) row) (first_fraction plan.strata (place_of plan.strata row).stratum (place_of plan.strata row).unit)
   value_is row l =
       let place = place_of plan.strata row in
       let here : StandsIn plan.strata row place = place_stands plan drawable row l in
-      let value : (whole_tree plan).value (start_of plan) row ≡ unit_value tree_of (stages_of plan) (states_of plan) (in_stage place) = ap (seat_value (unit_value tree_of (stages_of plan) (states_of plan))) (sits row l) in
+      let value : (tree_so false plan).value (strata_start) row ≡ unit_value tree_of (stages_of plan) (states_of plan) (in_stage place) = ap (seat_value (unit_value tree_of (stages_of plan) (states_of plan))) (sits row l) in
       let asked : first_fraction plan.strata place.stratum place.unit ≡ asked_fraction here.stratum.request place.unit = ap (λ o. unit_fraction o place.unit) here.is_stratum in
-      subst (λ (f : Fraction). Same ((whole_tree plan).value (start_of plan) row) f) (sym asked)
+      subst (λ (f : Fraction). Same ((tree_so false plan).value (strata_start) row) f) (sym asked)
       (subst (λ (f : Fraction). Same f (asked_fraction here.stratum.request place.unit)) (sym value)
       (unit_value_is (stages_of plan) (states_of plan) each (first_number plan place.stratum) place.unit (first_stage plan here.stratum) (first_there plan place.stratum here.stratum here.is_stratum)))
 
@@ -181,7 +188,7 @@ module _ (plan : Parts) (drawable : CanBeDrawn plan) (so : IsSystematicPlan plan
     of_two = times (first_fraction plan.strata p.stratum p.unit) (first_fraction plan.strata q.stratum q.unit)
 
     abbrev IsJoint : Fraction → Type 0
-    IsJoint f = Same (joint_probability (whole_tree plan) (start_of plan) j k) f
+    IsJoint f = Same (joint_probability (tree_so false plan) (strata_start) j k) f
 
     joint_one : p.stratum ≡ q.stratum → IsJoint (joint_fraction plan j k)
     joint_one same =
@@ -191,8 +198,8 @@ module _ (plan : Parts) (drawable : CanBeDrawn plan) (so : IsSystematicPlan plan
         ap (λ (b : Bool). cond b (joint_in (slice_get plan.strata p.stratum) p.unit q.unit) of_two) (eq-eqb p.stratum q.stratum same) ∙ ap (λ o. joint_in o p.unit q.unit) p_stands.is_stratum in
         subst IsJoint (sym asked)
         (same_trans
-        (stage_together tree_of belongs_to stage_lawful (stages_of plan) (seats_of plan) (covered_staged (all_of plan) drawable) j k (in_stage p) (in_stage q) (sits j hj) (sits k hk)
-        (first_number plan p.stratum) (first_stage plan s) there refl (ap (first_number plan) (sym same)) (start_of plan) (first_state (first_stage plan s).design.design) under_way (state_at (first_number plan p.stratum) (first_stage plan s) there))
+        (stage_together tree_of belongs_to stage_lawful (stages_of plan) (seats_of plan) (whole_staged plan drawable) j k (in_stage p) (in_stage q) (sits j hj) (sits k hk)
+        (first_number plan p.stratum) (first_stage plan s) there refl (ap (first_number plan) (sym same)) (strata_start) (first_state (first_stage plan s).design.design) under_way (state_at (first_number plan p.stratum) (first_stage plan s) there))
         (joint_in_stage p.stratum s p_stands.is_stratum p.unit q.unit))
 
     joint_two : p.stratum ≢ q.stratum → IsJoint (joint_fraction plan j k)
@@ -202,16 +209,21 @@ module _ (plan : Parts) (drawable : CanBeDrawn plan) (so : IsSystematicPlan plan
         let asked : joint_fraction plan j k ≡ of_two = ap (λ (b : Bool). cond b (joint_in (slice_get plan.strata p.stratum) p.unit q.unit) of_two) (ne_eqb p.stratum q.stratum differ) in
         subst IsJoint (sym asked)
         (same_trans
-        (stages_apart tree_of belongs_to stage_lawful (stages_of plan) (seats_of plan) (covered_staged (all_of plan) drawable) j k (in_stage p) (in_stage q) (sits j hj) (sits k hk)
-        (λ e. differ (sym (number_is plan so.second p.stratum (omega (arith, p_in))) ∙ e ∙ number_is plan so.second q.stratum (omega (arith, q_in)))) (start_of plan) under_way)
+        (stages_apart tree_of belongs_to stage_lawful (stages_of plan) (seats_of plan) (whole_staged plan drawable) j k (in_stage p) (in_stage q) (sits j hj) (sits k hk)
+        (λ e. differ (sym (number_is plan so.second p.stratum (omega (arith, p_in))) ∙ e ∙ number_is plan so.second q.stratum (omega (arith, q_in)))) (strata_start) under_way)
         (times_same (value_is j hj) (value_is k hk)))
 
     joint_rows : IsJoint (joint_fraction plan j k)
     joint_rows = elim (cases_eq p.stratum q.stratum) [ inl same ↦ joint_one same | inr differ ↦ joint_two differ ]
 
+  -- systematic selection draws each stratum by itself
+  apart : draws_together plan.method ≡ false
+  apart = systematic_apart plan.method so.method
+
   pub has_joints : HasJoints plan
   has_joints = record {
-    joint = joint_rows;
+    joint = λ j k hj hk.
+        subst (λ b. Same (joint_probability (tree_so b plan) (progress tree_of (stages_so b plan) (states_so b plan)) j k) (joint_fraction plan j k)) (sym apart) (joint_rows j k hj hk);
     sums = λ h n s is sum unit l.
         (let over = (planned h s is).stratum.over in
         unit_sum s.request over.sound over.rising (length s.units) (λ u m. over.free u 0 m) over.apart n unit l sum);

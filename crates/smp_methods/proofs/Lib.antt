@@ -3,3 +3,4 @@ pub mod Moved
 pub mod Columns
 pub mod Wholes
 pub mod Ways
+pub mod OneStratum

@@ -1,5 +1,5 @@
 -- A selection by a method starts one among all methods.
-use Rattle.std.proofs.Common.{◌≡◌, ℕ, false, ℤ, List, arith, refl, ap, sym, subst, ◌∙◌, inl, inr}
+use Rattle.std.proofs.Common.{◌≡◌, ℕ, false, ℤ, List, [], ◌∷◌, Option, Some, None, arith, refl, ap, sym, subst, ◌∙◌, inl, inr}
 use Rattle.std.specs.Prelude.{IsTrue}
 use Rattle.std.proofs.lemmas.Bool.{cases_Bool}
 use Rattle.smp_fractions.specs.Fractions.{Same, whole, over}
@@ -7,29 +7,45 @@ use Rattle.smp_fractions.proofs.Around.{around_over, around_same}
 use Rattle.smp_fractions.proofs.Fractions.{same_trans}
 use Rattle.smp_prob.specs.declared.requests.Request.{Request}
 use Rattle.smp_split.specs.Counts.{AddsUp, LeavesSelect, LeavesSelectAround}
-use Rattle.smp_split.specs.Methods.{Starts}
+use Rattle.smp_split.specs.Methods.{HasCount, HasMeans, Method, Starts}
 use Rattle.smp_split.specs.Trees.{Tree}
 use Rattle.smp_split.proofs.Embeds.{adds_up_inside, embedded_adds_up, embedded_around, embedded_count}
-use Rattle.smp_split.proofs.Methods.{starts}
+use Rattle.smp_split.proofs.Methods.{has_means}
 use Rattle.smp_values.specs.Starts.{IsRequested, IsWhole}
 use Rattle.smp_values.proofs.Requests.{adds_to_draws}
-use Rattle.smp_design.specs.declared.method.Method.{Method}
-use Rattle.smp_design.specs.Words.{row, balances}
+use Rattle.smp_design.specs.declared.method.Method as named
+use Rattle.smp_stratcube.specs.Cube.{started}
+use Rattle.smp_stratcube.specs.Layers.{Layer, layer_of}
+use Rattle.smp_stratcube.specs.Method as stratified_cube
+use Rattle.smp_stratcube.specs.Requests.{AreRequested}
+use Rattle.smp_stratcube.specs.Units.{units_of}
+use Rattle.smp_design.specs.Words.{row, balances, draws_together}
+use Rattle.smp_design.specs.declared.method.Method.TheVariants.{StratifiedCube}
+use Rattle.smp_design.proofs.Rows.{is_together}
 use Rattle.smp_methods.specs.declared.any.AnyDesign.{AnyDesign}
 use Rattle.smp_methods.specs.declared.any.AnyState.{AnyState}
+use Rattle.smp_methods.specs.declared.any.AnyState.TheVariants as states
 use Rattle.smp_methods.specs.declared.procedure.Procedure.{Procedure}
-use Rattle.smp_methods.specs.Designs.{Variant, design_of, drawn_by, embedded_method, first_state, method_among, method_of, name_of, state_among, variant, variant_of}
-use Rattle.smp_methods.specs.Kept.Alone.{AroundAlone, RequestedAlone, StartsAlone}
-use Rattle.smp_methods.specs.Procedures.{NeedsWhole}
-use Rattle.smp_methods.specs.Starts.{IsStarted, SelectsAround}
+use Rattle.smp_methods.specs.Designs.{Variant, design_by, design_of, design_of_strata, drawn_by, embedded_method, first_state, method_among, method_of, name_of, state_among, variant, variant_of}
+use Rattle.smp_methods.specs.Kept.Alone.{AroundAlone, CountAlone, MeansAlone, RequestedAlone, StrataAlone}
+use Rattle.smp_methods.specs.Procedures.{NeedsWhole, balancing_values}
+use Rattle.smp_methods.specs.Starts.{AreStarted, IsStarted, SelectsAround}
+use Rattle.smp_methods.proofs.OneStratum.{one_count}
 use Rattle.smp_methods.proofs.Ways.{drawn_by_method}
 use Rattle.smp_methods.proofs.Wholes.{is_needed}
 
 -- what a method says of its start holds of the design among all methods
-starts_among : (v : Variant) → StartsAlone v → Starts (method_among v) (state_among v)
-starts_among (variant name method design into out back) start =
-    starts (embedded_method into out back method) (into design) (rw (back design) start.member)
-    (λ n adds. embedded_count into out method.tree back method.belongs n design (start.count n (adds_up_inside into out method.tree back method.belongs n design adds)))
+means_among : (v : Variant) → MeansAlone v → HasMeans (method_among v) (state_among v)
+means_among (variant name method design into out back) means =
+    has_means (embedded_method into out back method) (into design) (rw (back design) means.member)
+
+count_in : {State : Type 0} (into : State → AnyState) (out : AnyState → Option State) (back : (state : State) → out (into state) ≡ Some state) (method : Method State) (design : State)
+    → HasCount method.tree design → HasCount (embedded_method into out back method).tree (into design)
+count_in into out back method design count n adds =
+    embedded_count into out method.tree back method.belongs n design (count n (adds_up_inside into out method.tree back method.belongs n design adds))
+
+count_among : (v : Variant) → CountAlone v → draws_together (name_of v) ≡ false → HasCount (method_among v).tree (state_among v)
+count_among (variant name method design into out back) count apart = count_in into out back method design (count apart)
 
 requested_among : (v : Variant) (request : Request) → RequestedAlone request v → IsRequested (method_among v).tree request (state_among v)
 requested_among (variant name method design into out back) request here = record {
@@ -60,21 +76,69 @@ module _ (request : Request) (design : AnyDesign) (starts : Starts (method_of de
     | inr any ↦ around_among (variant_of design) around any unbalanced
   ]
 
+-- ---- how many units are selected
+
+-- the design of one stratum alone
+one_stratum : (layer : Layer) → MeansAlone (variant_of (design_of_strata (layer ∷ []))) → StrataAlone (design_of_strata (layer ∷ []))
+    → HasCount (method_of (design_of_strata (layer ∷ []))).tree (first_state (design_of_strata (layer ∷ [])))
+one_stratum layer means strata =
+    count_in states.StratifiedCube (elim [ states.StratifiedCube state ↦ Some state | other ↦ None ]) (λ _. refl)
+    (stratified_cube.method_of (units_of (layer ∷ []))) (started (units_of (layer ∷ []))) (one_count layer means.member.are strata.0)
+
+module _ (way : Procedure) (request : Request) (values : List (List ℤ)) (design : AnyDesign) (made : design ≡ design_of way request values) (means : MeansAlone (variant_of design)) where
+  by_strata : StrataAlone design → way.method ≡ StratifiedCube → HasCount (method_of design).tree (first_state design)
+  by_strata strata is =
+      let layer : Layer = layer_of request (balancing_values way.near way.columns values) in
+      let same : design ≡ design_of_strata (layer ∷ []) = made ∙ ap (λ m. design_by m way.order way.near way.columns request values) is in
+      subst (λ (d : AnyDesign). HasCount (method_of d).tree (first_state d)) (sym same)
+      (one_stratum layer (subst (λ (d : AnyDesign). MeansAlone (variant_of d)) same means) (subst StrataAlone same strata))
+
+  starts_all : CountAlone (variant_of design) → StrataAlone design → Starts (method_of design) (first_state design)
+  starts_all count strata = record {
+    means = means_among (variant_of design) means;
+    count = elim (cases_Bool (draws_together way.method)) [
+      | inl together ↦ by_strata strata (is_together way.method together)
+      | inr apart ↦
+          count_among (variant_of design) count
+          (ap draws_together (ap drawn_by made ∙ drawn_by_method way.method way.order way.near way.columns request values) ∙ apart)
+    ];
+  }
+
 -- the design of the request by the method, at its first state
 pub is_started : (way : Procedure) (request : Request) (values : List (List ℤ)) (design : AnyDesign) (state : AnyState)
-    → NeedsWhole way request → design ≡ design_of way request values → RequestedAlone request (variant_of design) → state ≡ first_state design → StartsAlone (variant_of design) → AroundAlone (variant_of design)
+    → NeedsWhole way request → design ≡ design_of way request values → RequestedAlone request (variant_of design) → state ≡ first_state design → MeansAlone (variant_of design) → CountAlone (variant_of design) → StrataAlone design
+    → AroundAlone (variant_of design)
     → IsStarted way request values (record { design = design; state = state })
-is_started way request values design state whole made requested there starts around =
+is_started way request values design state whole made requested there means count strata around =
     let own : AnyDesign = design_of way request values in
-    let start : Starts (method_of own) (first_state own) = subst (λ (d : AnyDesign). Starts (method_of d) (first_state d)) made (starts_among (variant_of design) starts) in
+    let start : Starts (method_of own) (first_state own) = subst (λ (d : AnyDesign). Starts (method_of d) (first_state d)) made (starts_all way request values design made means count strata) in
     let asked : IsRequested (method_of own).tree request (first_state own) =
     subst (λ (d : AnyDesign). IsRequested (method_of d).tree request (first_state d)) made (requested_among (variant_of design) request requested) in
     let same : state ≡ first_state own = there ∙ ap first_state made in
-    let named : drawn_by own ≡ way.method = drawn_by_method way.method way.order way.near way.columns request values in
+    let by_way : drawn_by own ≡ way.method = drawn_by_method way.method way.order way.near way.columns request values in
     record {
       design = made;
       state = same;
       starts = subst (λ (s : AnyState). Starts (method_of own) s) (sym same) start;
       requested = subst (λ (s : AnyState). IsRequested (method_of own).tree request s) (sym same) asked;
-      around = subst (λ (s : AnyState). SelectsAround own s) (sym same) (selects_around request own start asked (subst (λ (m : Method). IsTrue (row m).draws_whole → IsWhole request) (sym named) (is_needed (row way.method).draws_whole (IsWhole request) whole)) (subst (λ (d : AnyDesign). AroundAlone (variant_of d)) made around));
+      around = subst (λ (s : AnyState). SelectsAround own s) (sym same) (selects_around request own start asked (subst (λ (m : named.Method). IsTrue (row m).draws_whole → IsWhole request) (sym by_way) (is_needed (row way.method).draws_whole (IsWhole request) whole)) (subst (λ (d : AnyDesign). AroundAlone (variant_of d)) made around));
+    }
+
+-- ---- all strata together
+
+pub are_started : (layers : List Layer) (design : AnyDesign) (state : AnyState) → design ≡ design_of_strata layers → AreRequested layers (started (units_of layers)) → state ≡ first_state design
+    → MeansAlone (variant_of design) → StrataAlone design → AreStarted layers (record { design = design; state = state })
+are_started layers design state made requested there means strata =
+    let own : AnyDesign = design_of_strata layers in
+    let same : state ≡ first_state own = there ∙ ap first_state made in
+    let its : HasMeans (method_of own) (first_state own) =
+    means_among (variant_of own) (subst (λ (d : AnyDesign). MeansAlone (variant_of d)) made means) in
+    let kept : StrataAlone own = subst StrataAlone made strata in
+    record {
+      design = made;
+      state = same;
+      means = subst (λ (s : AnyState). HasMeans (method_of own) s) (sym same) its;
+      requested = requested;
+      counts = kept.0;
+      balanced = kept.1;
     }

@@ -1,6 +1,6 @@
 -- The design of a request by any procedure, and what it owes. Each method has a row in each of two
 -- lists: how it starts, and what is asked of it.
-use Rattle.std.specs.Prelude.{◌≡◌, ℕ, ◌-◌, ℤ, List, Option, Some, None, refl}
+use Rattle.std.specs.Prelude.{◌≡◌, ℕ, ◌-◌, ℤ, List, [], ◌∷◌, Option, Some, None, refl}
 use Rattle.smp_prob.specs.declared.orders.Order.{Order}
 use Rattle.smp_prob.specs.declared.requests.Request.{Request}
 use Rattle.smp_split.specs.Embeds.{embedded, BelongsInside}
@@ -19,6 +19,10 @@ use Rattle.smp_flight.specs.Selections.{left_in, starting}
 use Rattle.smp_landing.specs.Method as cube
 use Rattle.smp_localpiv.specs.Coordinates.{points_from}
 use Rattle.smp_localcube.specs.Method as local_cube
+use Rattle.smp_stratcube.specs.Cube as stratified
+use Rattle.smp_stratcube.specs.Layers.{Layer, layer_of}
+use Rattle.smp_stratcube.specs.Method as stratified_cube
+use Rattle.smp_stratcube.specs.Units as strata
 use Rattle.smp_methods.specs.Procedures.{balancing_values}
 use Rattle.smp_methods.specs.declared.procedure.Procedure.{Procedure}
 use Rattle.smp_methods.specs.declared.any.AnyDesign.{AnyDesign}
@@ -26,9 +30,13 @@ use Rattle.smp_methods.specs.declared.any.AnyDesign.TheVariants as designs
 use Rattle.smp_methods.specs.declared.any.AnyState.{AnyState}
 use Rattle.smp_methods.specs.declared.any.AnyState.TheVariants as states
 
+-- the design of all strata together, by the cube
+abbrev pub design_of_strata : List Layer → AnyDesign
+design_of_strata layers = designs.StratifiedCube (strata.units_of layers)
+
 -- The design of a request by a method, with the requested values: with the units in this order, where so many columns of values are
 -- read, the last `near` of them as coordinates. The values of the free units serve as coordinates, or as balancing values, or as
--- these and then those.
+-- these and then those. By the cube over all strata it is that of one stratum.
 abbrev pub design_by : named.Method → Order → ℕ → ℕ → Request → List (List ℤ) → AnyDesign
 design_by method.Pivotal order near columns request values =
     designs.Pivotal (pivotal.started request order)
@@ -47,6 +55,8 @@ design_by method.LocalCube order near columns request values = designs.LocalCube
   units = units_of request (balancing_values near columns values);
   coords = points_from near (columns - near) values;
 })
+design_by method.StratifiedCube order near columns request values =
+    design_of_strata (layer_of request (balancing_values near columns values) ∷ [])
 
 -- the same, by a procedure
 abbrev pub design_of : Procedure → Request → List (List ℤ) → AnyDesign
@@ -83,6 +93,9 @@ variant_of (designs.Elimination s) =
 variant_of (designs.LocalCube design) =
     variant method.LocalCube (local_cube.method_of design) (local_cube.started design) states.LocalCube
     (elim [ states.LocalCube state ↦ Some state | other ↦ None ]) (λ _. refl)
+variant_of (designs.StratifiedCube units) =
+    variant method.StratifiedCube (stratified_cube.method_of units) (stratified.started units) states.StratifiedCube
+    (elim [ states.StratifiedCube state ↦ Some state | other ↦ None ]) (λ _. refl)
 
 -- a method put into a larger type of states
 module _ {Inner Outer : Type 0} (into : Inner → Outer) (out : Outer → Option Inner)
@@ -116,8 +129,10 @@ first_state design = state_among (variant_of design)
 abbrev pub method_of : AnyDesign → Method AnyState
 method_of design = method_among (variant_of design)
 
--- how many units were undecided where the landing of the cube, or of the local cube, began, and 0 by any other method
+-- how many units were undecided where the landing of the cube, of the local cube or of the cube over all strata began, and 0 by any
+-- other method
 abbrev pub left_at : AnyDesign → AnyState → ℕ
 left_at (designs.Cube units) (states.Cube state) = left_in state
 left_at (designs.LocalCube design) (states.LocalCube state) = left_in state.at
+left_at (designs.StratifiedCube units) (states.StratifiedCube state) = stratified.left_in state
 left_at design state = 0

@@ -3,17 +3,23 @@
 ghost use Rattle.std.specs.Prelude.{◌≡◌, ◌<◌, false, length, IfOk, OnOk};
 ghost use Rattle.smp_prob.specs.Requests.{IsRequest};
 ghost use Rattle.smp_split.specs.Trees.{weight_sum};
-ghost use Rattle.smp_methods.specs.Designs.{design_of, first_state, left_at, method_of, variant_of};
-ghost use Rattle.smp_methods.specs.Kept.Alone.{AroundAlone, RequestedAlone, StartsAlone, StepsAlone};
+ghost use Rattle.smp_stratcube.specs.Cube as stratified;
+ghost use Rattle.smp_stratcube.specs.Layers.{AreLayers};
+ghost use Rattle.smp_stratcube.specs.Requests.{AreRequested};
+ghost use Rattle.smp_stratcube.specs.Units.{units_of};
+ghost use Rattle.smp_methods.specs.Designs.{design_of, design_of_strata, first_state, left_at, method_of, variant_of};
+ghost use Rattle.smp_methods.specs.Kept.Alone.{AroundAlone, CountAlone, MeansAlone, RequestedAlone, StepsAlone, StrataAlone};
 ghost use Rattle.smp_methods.specs.Procedures.{NeedsWhole, TakesValues};
 
 use crate::Procedure;
 use crate::local::local_cube;
+use crate::stratified::stratified_cube;
 use smp_design::{Method, each_method};
 use smp_frac::NoMemory;
 use smp_frame::Numbers;
 use smp_prob::Request;
 use smp_split::{Kind, Splitting};
+use smp_stratcube::{Layers, StratCube};
 use std::alloc::Global;
 
 /// The design of a request by a procedure, in the variant of its method. Its units are the
@@ -28,6 +34,7 @@ pub enum AnyDesign {
     Cube(smp_landing::Cube),
     Elimination(smp_elim::Elimination),
     LocalCube(smp_localcube::AnyLocalCube),
+    StratifiedCube(smp_stratcube::StratCube),
 }
 
 /// A state of a design, in the variant of its method.
@@ -41,6 +48,7 @@ pub enum AnyState {
     Cube(smp_landing::CubeState),
     Elimination(smp_elim::EliminationState),
     LocalCube(smp_localcube::AnyLocalCubeState),
+    StratifiedCube(smp_stratcube::StratCubeState),
 }
 
 // What the design of a method says, whichever method it is: of itself; a state that it makes; or of
@@ -72,7 +80,7 @@ macro_rules! by_method {
 
 impl AnyDesign {
     /// The design of a request by a procedure. Each free unit has the value that is requested.
-    #[tactic(auto, using(crate::proofs::Columns::few_points, crate::proofs::Columns::cube_values, crate::proofs::Columns::local_near, crate::proofs::Columns::local_within, crate::proofs::Columns::local_values, crate::proofs::Columns::all_balanced), unfolding(smp_design::specs::Words::row))]
+    #[tactic(auto, using(crate::proofs::Columns::few_points, crate::proofs::Columns::cube_values, crate::proofs::Columns::local_near, crate::proofs::Columns::local_within, crate::proofs::Columns::local_values, crate::proofs::Columns::all_balanced, crate::proofs::Columns::strata_values, crate::proofs::Columns::strata_balanced), unfolding(smp_design::specs::Words::row))]
     pub(crate) fn new(
         alloc: Global,
         procedure: Procedure,
@@ -115,27 +123,45 @@ impl AnyDesign {
             Method::LocalCube => {
                 AnyDesign::LocalCube(local_cube(alloc, request, near, columns, values)?)
             }
+            Method::StratifiedCube => {
+                AnyDesign::StratifiedCube(stratified_cube(alloc, request, values)?)
+            }
         })
+    }
+
+    /// The design of all these strata together.
+    pub(crate) fn of_strata(alloc: Global, layers: &Layers) -> Result<AnyDesign, NoMemory>
+        requires { AreLayers layers.now }
+        ensures design { IfOk result (λ design. design ≡ design_of_strata layers.now) }
+        ensures requested { IfOk result (λ design.
+            AreRequested layers.now (stratified.started (units_of layers.now))) }
+    {
+        Ok(AnyDesign::StratifiedCube(StratCube::new(alloc, layers)?))
     }
 
     /// The state before the first step.
     #[tactic(auto, unfolding(smp_design::specs::Words::row))]
     pub(crate) fn start(&self, alloc: Global) -> Result<AnyState, NoMemory>
         ensures state { IfOk result (λ state. state ≡ first_state self.now) }
-        ensures starts { OnOk result (StartsAlone (variant_of self.now)) }
+        ensures means { OnOk result (MeansAlone (variant_of self.now)) }
+        ensures count { OnOk result (CountAlone (variant_of self.now)) }
+        ensures strata { OnOk result (StrataAlone self.now) }
         ensures around { OnOk result (AroundAlone (variant_of self.now)) }
     {
         by_method!(self, design => state design.start(alloc)?)
     }
 
-    /// How many units were undecided where the landing of the cube, or of the local cube, began: 0 as
-    /// long as it hasn't begun, and by any other method.
+    /// How many units were undecided where the landing of the cube, of the local cube or of the cube over
+    /// all strata began: 0 as long as it hasn't begun, and by any other method.
     pub fn left(&self, state: &AnyState) -> u32
         ensures { result ≡ left_at self.now state.now }
     {
         match (self, state) {
             (AnyDesign::Cube(design), AnyState::Cube(inner)) => design.left(inner),
             (AnyDesign::LocalCube(design), AnyState::LocalCube(inner)) => design.left(inner),
+            (AnyDesign::StratifiedCube(design), AnyState::StratifiedCube(inner)) => {
+                design.left(inner)
+            }
             _ => 0,
         }
     }

@@ -10,6 +10,7 @@ mod any;
 mod local;
 mod procedure;
 mod start;
+mod stratified;
 
 pub use any::{AnyDesign, AnyState};
 pub use procedure::Procedure;

@@ -2,13 +2,15 @@
 
 ghost use Rattle.std.specs.Prelude.{◌≡◌, length, IfOk};
 ghost use Rattle.smp_prob.specs.Requests.{IsRequest};
+ghost use Rattle.smp_stratcube.specs.Layers.{AreLayers};
 ghost use Rattle.smp_methods.specs.Procedures.{NeedsWhole, TakesValues};
-ghost use Rattle.smp_methods.specs.Starts.{IsStarted};
+ghost use Rattle.smp_methods.specs.Starts.{AreStarted, IsStarted};
 
 use crate::{AnyDesign, AnyState, Procedure};
 use smp_frac::NoMemory;
 use smp_frame::Numbers;
 use smp_prob::Request;
+use smp_stratcube::Layers;
 use std::alloc::Global;
 
 /// The design of a request, and the state before its first step.
@@ -38,6 +40,17 @@ impl Started {
         ensures { IfOk result (IsStarted procedure request.now values.now) }
     {
         let design = AnyDesign::new(alloc, procedure, request, values)?;
+        let state = design.start(alloc)?;
+        Ok(Started { design, state })
+    }
+
+    /// Starts to draw the free units of some strata together, by the cube over all strata.
+    #[tactic(auto, using(crate::proofs::Starts::are_started))]
+    pub fn of_strata(alloc: Global, layers: &Layers) -> Result<Started, NoMemory>
+        requires { AreLayers layers.now }
+        ensures { IfOk result (AreStarted layers.now) }
+    {
+        let design = AnyDesign::of_strata(alloc, layers)?;
         let state = design.start(alloc)?;
         Ok(Started { design, state })
     }

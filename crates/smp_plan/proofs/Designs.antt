@@ -1,20 +1,29 @@
 -- The plan of a design can be drawn, and the design of `quick` is one.
-use Rattle.std.proofs.Common.{◌≡◌, ℕ, ◌≤◌, true, List, [], length, Option, Some, None, IfSome, arith, refl, sym, subst}
-use Rattle.std.specs.Prelude.{is_some, option_map}
+use Rattle.std.proofs.Common.{◌≡◌, ℕ, ◌+◌, ◌≤◌, Bool, true, false, true≢false, List, [], ◌∷◌, length, Option, Some, None, IfSome, arith, refl, sym, subst, ◌∙◌}
+use Rattle.std.specs.Prelude.{OnSome, is_some, nat_lt, option_map}
+use Rattle.std.proofs.lemmas.Bool.{ltb-false}
+use Rattle.std.proofs.lemmas.List.{length-map}
+use Rattle.std.proofs.lemmas.List.FromFn.{length-range_with_len}
 use Rattle.smp_prob.specs.declared.orders.Order.{Order}
 use Rattle.smp_frame.specs.declared.frame.Unit as unit
 use Rattle.std.specs.List.Sorted.{IsStrictlySortedBy}
 use Rattle.smp_fractions.specs.Limits.{most_rows}
 use Rattle.smp_design.specs.Bounds.{AreNear, Ascend, IsDesign, least_values, most_values}
-use Rattle.smp_design.specs.Words.{row, in_second}
-use Rattle.smp_design.proofs.Rows.{takes_nothing, takes_own}
+use Rattle.smp_design.specs.Words.{row, draws_together, in_second}
+use Rattle.smp_design.proofs.Rows.{is_together, takes_nothing, takes_own}
 use Rattle.smp_design.specs.declared.design.Design.{Design}
 use Rattle.smp_design.specs.declared.design.Second.{Second}
 use Rattle.smp_design.specs.declared.method.Method.{Method}
+use Rattle.smp_design.specs.declared.method.Method.TheVariants.{StratifiedCube}
 use Rattle.smp_methods.specs.Procedures.{procedure_of}
 use Rattle.smp_strata.specs.Bounds.{IsPlan}
-use Rattle.smp_strata.specs.Plans.{Parts, parts_of}
-use Rattle.smp_twostage.specs.Plans.{CanBeDrawn, TakesRows}
+use Rattle.smp_strata.specs.Clusters.{strata_numbers, stratum_names}
+use Rattle.smp_strata.specs.Misfits.{misfit_of, row_limit_by}
+use Rattle.smp_strata.specs.Plans.{Parts, parts_of, stratum_of}
+use Rattle.smp_strata.specs.declared.misfit.Misfit.TheVariants.{RowLimit}
+use Rattle.smp_strata.proofs.Founds.{when_false}
+use Rattle.smp_strata.proofs.MisfitOrder.{served}
+use Rattle.smp_twostage.specs.Plans.{CanBeDrawn, IsTogether, TakesRows}
 use Rattle.smp_plan.specs.Plans.{quick_design}
 
 takes : (m : Method) (order : Order) (near columns : ℕ) → least_values (row m).needs ≤ columns → columns ≤ most_values (row m).needs → AreNear (row m).needs near columns → is_some (procedure_of m order near columns) ≡ true
@@ -27,13 +36,52 @@ second_takes : (second : Option Second) → IfSome second (λ s. in_second s.met
 second_takes (Some second) h = takes_rows second.method h
 second_takes None h = tt
 
-module _ (design : Design) (units : List unit.Unit) (is : IsDesign design) where
+no_second : (m : Method) (second : Option Second) → OnSome second (draws_together m ≡ false) → draws_together m ≡ true → option_map (λ s. s.method) second ≡ None
+no_second m None apart together = refl
+no_second m (Some second) apart together = absurd (true≢false (sym together ∙ apart))
+
+-- where all strata are drawn together, the rows of the balancing equations are few
+few_rows : (together : Bool) (strata variables : ℕ) → row_limit_by together strata variables ≡ None → together ≡ true → strata + variables ≤ 16
+few_rows true strata variables fits joined =
+    ltb-false 16 (strata + variables) (when_false (nat_lt 16 (strata + variables)) (RowLimit strata variables) fits)
+few_rows false strata variables fits joined = absurd (cc)
+
+-- a method that draws all strata together has a column
+one_column : 1 ≤ least_values (row StratifiedCube).needs
+unfolding row
+one_column = omega arith
+
+some_column : (m : Method) → draws_together m ≡ true → 1 ≤ least_values (row m).needs
+some_column m together = subst (λ m. 1 ≤ least_values (row m).needs) (sym (is_together m together)) one_column
+
+-- a frame has a stratum
+some_names : (units : List unit.Unit) → 1 ≤ length units → 1 ≤ length (stratum_names units)
+some_names [] some = absurd (omega (arith, some))
+some_names (u ∷ units) some = omega arith
+
+module _ (design : Design) (units : List unit.Unit) (is : IsDesign design) (some : 1 ≤ length units) (few : length units ≤ most_rows) (fits : misfit_of design units ≡ None) where
+  strata_count : length (parts_of design units).strata ≡ length (stratum_names units)
+  strata_count =
+      length-map (strata_numbers units) (stratum_of design units) ∙ length-range_with_len 0 (length (stratum_names units))
+
+  together : draws_together design.method ≡ true → IsTogether (length design.columns.values) (parts_of design units)
+  together joined = record {
+    one_stage = no_second design.method design.second is.second_apart joined;
+    some = (let names = some_names units some in omega (arith, names, strata_count));
+    values = omega (arith, is.some_values, some_column design.method joined);
+    rows =
+        (let few = few_rows (draws_together design.method) (length (stratum_names units)) (length design.columns.values) (served design units fits).rows joined in
+        omega (arith, few, strata_count));
+    few = few;
+  }
+
   parts_drawn : IsPlan (length design.columns.values) (parts_of design units) → CanBeDrawn (parts_of design units)
   parts_drawn sound = record {
     columns = length design.columns.values;
     sound = sound;
     method = takes design.method design.order design.near (length design.columns.values) is.some_values is.few_values is.near_values;
     second = second_takes design.second is.second_method;
+    together = together;
   }
 
   -- the plan of a design and a frame
@@ -61,6 +109,7 @@ quick_is_design n some few = record {
   second_size = tt;
   second_method = tt;
   second_first = tt;
+  second_apart = tt;
   psu = refl;
   second_sizes = refl;
 }

@@ -89,6 +89,7 @@ module _ (design : ReadDesign) (frame : FrameSource) (bytes : List ℕ) (units :
   misfit_read (misfits.TooMany stratum n positive) gives = refused_so (misfits.TooMany stratum n positive) IsRefusal refl refl (λ fs told. staged fs told ∙ gives) tt
   misfit_read (misfits.Denominator stratum) gives = refused_so (misfits.Denominator stratum) IsRefusal refl refl (λ fs told. staged fs told ∙ gives) tt
   misfit_read (misfits.NotWhole stratum sum) gives = refused_so (misfits.NotWhole stratum sum) IsRefusal refl refl (λ fs told. staged fs told ∙ gives) tt
+  misfit_read (misfits.RowLimit strata variables) gives = refused_so (misfits.RowLimit strata variables) IsRefusal refl refl (λ fs told. staged fs told ∙ gives) tt
   misfit_read (misfits.SecondTooMany psu n positive) gives = refused_so (misfits.SecondTooMany psu n positive) IsRefusal refl refl (λ fs told. staged fs told ∙ gives) tt
 
 -- of too many rows

@@ -23,12 +23,19 @@ owed method = record { belongs = method.belongs; lawful = method.lawful }
 abbrev pub owing : {State : Type 0} → (tree : Tree State) → Owes tree → Method State
 owing tree owes = record { tree = tree; belongs = owes.belongs; lawful = owes.lawful }
 
--- What holds of a state from which a selection starts. Over all draws, the mean of the sum of any numbers c over the selected units is the
--- sum of c times the value; so each unit's probability of selection is its value; and where the values add up to a whole number, each leaf
--- selects that many units.
-pub record Starts {State : Type 0} (method : Method State) (state : State) : Type 0 where
+-- What holds of a state of a method's own. Over all draws, the mean of the sum of any numbers c over the selected units is the sum of c
+-- times the value; so each unit's probability of selection is its value.
+pub record HasMeans {State : Type 0} (method : Method State) (state : State) : Type 0 where
   pub member : method.belongs state
   pub mean : (c : ℕ → Fraction) → Same (mean method.tree c state) (value_sum method.tree c state)
   pub probability : (unit : ℕ) → unit < method.tree.units
       → Same (inclusion_probability method.tree state unit) (method.tree.value state unit)
-  pub count : (n : ℕ) → AddsUp method.tree n state → LeavesSelect method.tree n state
+
+-- where the values add up to a whole number, each leaf selects that many units
+abbrev pub HasCount : {State : Type 0} → Tree State → State → Type 0
+HasCount tree state = (n : ℕ) → AddsUp tree n state → LeavesSelect tree n state
+
+-- What holds of a state from which a selection starts: its means, and how many units are selected.
+pub record Starts {State : Type 0} (method : Method State) (state : State) : Type 0 where
+  pub means : HasMeans method state
+  pub count : HasCount method.tree state

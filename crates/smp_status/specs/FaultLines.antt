@@ -55,6 +55,9 @@ misfit_line (misfits.Denominator stratum) = Some (codes "error 5.6 denominator t
 misfit_line (misfits.NotWhole stratum sum) =
     Some (codes "error 5.7 sum " ++ (decimal sum.num
     ++ (codes "/" ++ (decimal sum.den ++ (codes " isn't whole: " ++ (stratum ++ codes "\n"))))))
+misfit_line (misfits.RowLimit strata variables) =
+    Some (codes "error 5.8 " ++ (decimal strata
+    ++ (codes " strata and " ++ (decimal variables ++ codes " variables pass 16 rows\n"))))
 misfit_line misfits.NoMemory = None
 
 abbrev pub usage_line : List ℕ

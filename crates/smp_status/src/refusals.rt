@@ -195,6 +195,9 @@ fn misfit_line(alloc: Global, misfit: &Misfit) -> Result<Option<String>, AllocEr
             sum.den,
             stratum.as_str()
         )?)),
+        Misfit::RowLimit { strata, variables } => Ok(Some(format!(in alloc;
+            "error 5.8 {strata} strata and {variables} variables pass 16 rows\n"
+        )?)),
         Misfit::NoMemory => Ok(None),
     }
 }

@@ -4,9 +4,9 @@ use Rattle.std.specs.Prelude.{IsSome, OnSome}
 use Rattle.smp_design.specs.Bounds.{HasOnlyProbabilities, IsDesign}
 use Rattle.smp_design.specs.declared.design.Design.{Design}
 use Rattle.smp_frame.specs.declared.frame.Unit as unit
-use Rattle.smp_strata.specs.Misfits.{Reports, denominator, misfit_by, misfit_of, no_size, not_whole, probs_misfit, psu_too_large, second_too_many, sizes_misfit, too_many, unit_in_two}
+use Rattle.smp_strata.specs.Misfits.{Reports, denominator, misfit_by, misfit_of, no_size, not_whole, probs_misfit, psu_too_large, row_limit, second_too_many, sizes_misfit, too_many, unit_in_two}
 use Rattle.smp_strata.specs.declared.misfit.Misfit.{Misfit}
-use Rattle.smp_strata.specs.declared.misfit.Misfit.TheVariants.{UnitInTwo, PsuTooLarge, NoSize, TooMany, SecondTooMany, Denominator, NotWhole, NoMemory}
+use Rattle.smp_strata.specs.declared.misfit.Misfit.TheVariants.{UnitInTwo, PsuTooLarge, NoSize, TooMany, SecondTooMany, Denominator, NotWhole, RowLimit, NoMemory}
 use Rattle.smp_strata.proofs.Founds.{neither}
 
 -- what is answered of one search is answered of another, where the same is found
@@ -18,6 +18,7 @@ passed A B (TooMany stratum n positive) x y r h = h _ r
 passed A B (SecondTooMany psu n positive) x y r h = h _ r
 passed A B (Denominator stratum) x y r h = h _ r
 passed A B (NotWhole stratum sum) x y r h = h _ r
+passed A B (RowLimit strata variables) x y r h = h _ r
 passed A B NoMemory x y r h = tt
 
 module _ (design : Design) (units : List unit.Unit) where
@@ -29,9 +30,13 @@ module _ (design : Design) (units : List unit.Unit) where
   unfolding misfit_of
   kind_2 a m e = rw (a, e) refl
 
-  pub other_kind : unit_in_two design.second units ≡ None → psu_too_large design units ≡ None → (x : Option Misfit) → misfit_by design.columns.prob design units ≡ x → misfit_of design units ≡ x
+  pub kind_3 : unit_in_two design.second units ≡ None → psu_too_large design units ≡ None → (m : Misfit) → misfit_by design.columns.prob design units ≡ Some m → misfit_of design units ≡ Some m
   unfolding misfit_of
-  other_kind a b x e = rw (a, b, e) refl
+  kind_3 a b m e = rw (a, b, e) refl
+
+  pub last_kind : unit_in_two design.second units ≡ None → psu_too_large design units ≡ None → misfit_by design.columns.prob design units ≡ None → (x : Option Misfit) → row_limit design units ≡ x → misfit_of design units ≡ x
+  unfolding misfit_of
+  last_kind a b d x e = rw (a, b, d, e) refl
 
   -- ---- sizes
 
@@ -71,6 +76,7 @@ module _ (design : Design) (units : List unit.Unit) where
     pub together : unit_in_two design.second units ≡ None
     pub small : psu_too_large design units ≡ None
     pub by_column : ServedBy design.columns.prob
+    pub rows : row_limit design units ≡ None
 
   by_column : (prob : Option (List ℕ)) → misfit_by prob design units ≡ None → ServedBy prob
   by_column None e =
@@ -84,7 +90,8 @@ module _ (design : Design) (units : List unit.Unit) where
   served e =
       let a = neither (unit_in_two design.second units) _ e in
       let b = neither (psu_too_large design units) _ a.1 in
-      record { together = a.0; small = b.0; by_column = by_column design.columns.prob b.1 }
+      let d = neither (misfit_by design.columns.prob design units) _ b.1 in
+      record { together = a.0; small = b.0; by_column = by_column design.columns.prob d.0; rows = d.1 }
 
   pub is_sized : IsServed → design.columns.prob ≡ None → IsSized
   is_sized served e = subst ServedBy e served.by_column

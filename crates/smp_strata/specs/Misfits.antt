@@ -1,5 +1,5 @@
 -- Why a frame doesn't serve a design: the first misfit, in the order of their kinds.
-use Rattle.std.specs.Prelude.{◌≡◌, ℕ, nat_lt, nat_eq, ◌==◌, ◌&&◌, not, Bool, if◌then◌else◌, List, [], ◌∷◌}
+use Rattle.std.specs.Prelude.{◌≡◌, ℕ, ◌+◌, nat_lt, nat_eq, ◌==◌, ◌&&◌, not, Bool, if◌then◌else◌, List, [], ◌∷◌}
 use Rattle.std.specs.Prelude.{Option, Some, None, Result, Ok, Err, length, ⊤}
 use Rattle.std.specs.List.{list_any, range_with_len}
 use Rattle.std.specs.Str.{bytes_eq}
@@ -10,14 +10,14 @@ use Rattle.smp_prob.specs.Given.{common_multiple, expected_size, largest_multipl
 use Rattle.smp_design.specs.declared.design.Design.{Design}
 use Rattle.smp_design.specs.declared.design.Second as second
 use Rattle.smp_design.specs.Keys.{or_else}
-use Rattle.smp_design.specs.Words.{row}
+use Rattle.smp_design.specs.Words.{row, draws_together}
 use Rattle.smp_frame.specs.declared.frame.Unit as unit
-use Rattle.smp_strata.specs.Clusters.{clusters, first_row, strata_numbers, stratum_name}
+use Rattle.smp_strata.specs.Clusters.{clusters, first_row, strata_numbers, stratum_name, stratum_names}
 use Rattle.smp_strata.specs.Rows.{rows_of, stratum_at, psu_at, is_large}
 use Rattle.smp_strata.specs.Plans.{sample_size, first_probs, first_sizes, second_sizes}
 use Rattle.smp_strata.specs.declared.misfit.Misfit.{Misfit}
 use Rattle.smp_strata.specs.declared.misfit.Misfit.TheVariants.{UnitInTwo, PsuTooLarge, NoSize, TooMany, SecondTooMany, Denominator}
-use Rattle.smp_strata.specs.declared.misfit.Misfit.TheVariants.{NotWhole, NoMemory}
+use Rattle.smp_strata.specs.declared.misfit.Misfit.TheVariants.{NotWhole, RowLimit, NoMemory}
 
 -- the first that is there, of what may be found at each entry of a list
 abbrev pub first_found : {A B : Type 0} → (A → Option B) → List A → Option B
@@ -119,6 +119,21 @@ not_whole design units =
     (strata_numbers units)
     else None
 
+-- ---- strata that are drawn together
+
+-- the most rows of the balancing equations of all strata: one for the size of each stratum, and one for each variable
+abbrev pub most_equations : ℕ
+most_equations = 16
+
+-- more rows than that, where all strata are drawn together
+abbrev pub row_limit_by : Bool → ℕ → ℕ → Option Misfit
+row_limit_by together strata variables =
+    when (together && nat_lt most_equations (strata + variables)) (RowLimit strata variables)
+
+abbrev pub row_limit : Design → List unit.Unit → Option Misfit
+row_limit design units =
+    row_limit_by (draws_together design.method) (length (stratum_names units)) (length design.columns.values)
+
 -- ---- the first
 
 -- the first misfit among those of a design without a column of probabilities, among those of one with it, and by which of the two it is
@@ -140,7 +155,8 @@ unfoldable pub misfit_of : Design → List unit.Unit → Option Misfit
 misfit_of design units =
     or_else (unit_in_two design.second units)
     (or_else (psu_too_large design units)
-    (misfit_by design.columns.prob design units))
+    (or_else (misfit_by design.columns.prob design units)
+    (row_limit design units)))
 
 -- the first misfit is answered, or that there is none; want of memory says nothing
 abbrev pub Reports : {A : Type 0} → Result A Misfit → Option Misfit → Type 0

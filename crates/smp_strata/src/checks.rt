@@ -1,6 +1,6 @@
 //! Why a frame doesn't serve a design: each kind of misfit is looked for in the whole frame.
 
-ghost use Rattle.std.specs.Prelude.{◌≡◌, ◌<◌, ◌≤◌, None, Some, true, All, IfOk, length, map, nat_eq, slice_index, slice_index_or, [], ℕ};
+ghost use Rattle.std.specs.Prelude.{◌≡◌, ◌^◌, ◌<◌, ◌≤◌, None, Some, true, All, IfOk, length, map, nat_eq, slice_index, slice_index_or, [], ℕ};
 ghost use Rattle.std.specs.List.{range_with_len};
 ghost use Rattle.std.specs.Str.{bytes_eq};
 ghost use Rattle.smp_fractions.specs.Limits.{most_rows};
@@ -10,7 +10,7 @@ ghost use Rattle.smp_strata.specs.Rows as Rows;
 ghost use Rattle.smp_strata.specs.Rows.{psu_at, stratum_at};
 ghost use Rattle.smp_strata.specs.Clusters.{clusters as clusters_of, first_row};
 ghost use Rattle.smp_strata.specs.Draws.{IsAllocated};
-ghost use Rattle.smp_strata.specs.Misfits.{Reports, first_apart, first_found, misfit_of, probs_misfit, psu_short, psu_too_large, second_too_many, short, sizes_misfit, unit_in_two, when};
+ghost use Rattle.smp_strata.specs.Misfits.{Reports, first_apart, first_found, misfit_by, misfit_of, probs_misfit, psu_short, psu_too_large, row_limit_by, second_too_many, short, sizes_misfit, unit_in_two, when};
 ghost use Rattle.smp_strata.specs.declared.misfit.Misfit.TheVariants as misfits;
 ghost use Rattle.smp_strata.specs.Kept.Layouts.{AreRows, IsLaidOut, homes_of, prob_misfit, prob_misfit_at, probs_in, short_at};
 ghost use Rattle.smp_strata.specs.Kept.Sized.{AreSizes, HasSizes};
@@ -315,6 +315,51 @@ fn sizes_that_fit(
     })
 }
 
+// The sizes of a frame that serves a design without given probabilities, or that the probabilities can be asked.
+fn sizes_by(
+    alloc: Global,
+    units: &[Unit],
+    design: &Design,
+    clusters: &[Group],
+    strata: &Strata,
+) -> Result<Option<Sizes>, Misfit>
+    requires layout { IsLaidOut design.now units.now clusters.now strata.now }
+    requires small { psu_too_large design.now units.now ≡ None }
+    ensures misfit { Reports result (misfit_by design.now.columns.prob design.now units.now) }
+    ensures sizes { IfOk result (HasSizes design.now units.now clusters.now) }
+    ensures allocated { IfOk result (λ _. IsAllocated design.now units.now) }
+{
+    match design.columns.prob {
+        None => {
+            let sizes = sizes_that_fit(alloc, units, design, clusters, strata)?;
+            Ok(Some(sizes))
+        }
+        Some(_) => {
+            probs_fit(alloc, units, design, clusters, strata)?;
+            Ok(None)
+        }
+    }
+}
+
+// The most rows of the balancing equations of all strata.
+const MAX_EQUATIONS: usize = 16;
+
+// There are few enough rows of balancing equations, where all strata are drawn together.
+fn rows_fit(together: bool, strata: usize, variables: usize) -> Result<(), Misfit>
+    requires strata { strata < 2 ^ 32 }
+    requires variables { variables < 2 ^ 32 }
+    ensures { Reports result (row_limit_by together strata variables) }
+{
+    if together && strata + variables > MAX_EQUATIONS {
+        Err(Misfit::RowLimit {
+            strata: strata as u32,
+            variables: variables as u32,
+        })
+    } else {
+        Ok(())
+    }
+}
+
 /// The sizes of a frame that serves a design, or the first misfit. There are no sizes where probabilities are given.
 pub(crate) fn checked(
     alloc: Global,
@@ -332,14 +377,7 @@ pub(crate) fn checked(
     let columns = design.columns.values.as_slice().len();
     no_unit_in_two(alloc, units, design.second, clusters)?;
     none_too_large(alloc, units, columns, &clusters.rows)?;
-    match design.columns.prob {
-        None => {
-            let sizes = sizes_that_fit(alloc, units, design, &clusters.rows, strata)?;
-            Ok(Some(sizes))
-        }
-        Some(_) => {
-            probs_fit(alloc, units, design, &clusters.rows, strata)?;
-            Ok(None)
-        }
-    }
+    let sizes = sizes_by(alloc, units, design, &clusters.rows, strata)?;
+    rows_fit(design.method.draws_together(), strata.names.len(), columns)?;
+    Ok(sizes)
 }

@@ -54,6 +54,13 @@ pub enum Misfit {
         /// What they add up to.
         sum: Frac,
     },
+    /// The method draws all strata together, and the rows of its balancing equations are more than 16.
+    RowLimit {
+        /// How many strata there are.
+        strata: u32,
+        /// How many columns are balanced.
+        variables: u32,
+    },
     /// Memory ran out.
     NoMemory,
 }

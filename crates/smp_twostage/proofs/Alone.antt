@@ -1,5 +1,5 @@
 -- The selection of one stratum alone is a part of the whole.
-use Rattle.std.proofs.Common.{◌≡◌, ℕ, zero, suc, ◌+◌, ◌<◌, ◌≤◌, Bool, true, false, List, [], ◌∷◌, ◌++◌, length, map, take, drop, Option, Some, None, arith, refl, sym, ap, subst, ◌∙◌, inl, inr, length-append, append_assoc, append-nil}
+use Rattle.std.proofs.Common.{◌≡◌, ℕ, zero, suc, ◌+◌, ◌<◌, ◌≤◌, true, false, List, [], ◌∷◌, ◌++◌, length, map, take, drop, Option, Some, None, arith, refl, sym, ap, subst, ◌∙◌, inl, inr, length-append, append_assoc, append-nil}
 use Rattle.std.specs.Prelude.{option_map}
 use Rattle.std.specs.List.{slice_get}
 use Rattle.std.proofs.lemmas.Bool.{cases_Bool, eqb-true}
@@ -11,28 +11,28 @@ use Rattle.smp_fractions.proofs.Fractions.{same_refl, same_trans}
 use Rattle.smp_split.specs.Sectioning.{IsPartOf}
 use Rattle.smp_prob.specs.declared.requests.Request.{Request}
 use Rattle.smp_design.specs.declared.method.Method.{Method}
+use Rattle.smp_design.specs.Words.{draws_together}
 use Rattle.smp_methods.specs.declared.any.AnyState.{AnyState}
 use Rattle.smp_methods.specs.Designs.{first_state}
-use Rattle.smp_stages.specs.declared.places.Place.{Place}
-use Rattle.smp_stages.specs.declared.places.Seat as seats
 use Rattle.smp_stages.specs.declared.places.Seat.TheVariants as seat
 use Rattle.smp_stages.specs.declared.places.Stage.{Stage}
-use Rattle.smp_stages.specs.OwnStages.{AreTheirOwn, later, run_of, seat_later, stage_later}
+use Rattle.smp_stages.specs.OwnStages.{AreTheirOwn, run_of, seat_later, sections_by, stage_later}
 use Rattle.smp_stages.specs.Starts.{StartsInStages}
-use Rattle.smp_stages.specs.Stages.{Progress, progress, seat_selected, seat_value, unit_selected, unit_value}
+use Rattle.smp_stages.specs.Stages.{IsUnderWay, Progress, progress, seat_selected, seat_value, unit_selected, unit_value}
 use Rattle.smp_stages.proofs.OwnStages.{is_part}
 use Rattle.smp_strata.specs.Plans.{Parts}
 use Rattle.smp_strata.specs.declared.strata.FirstUnit.{FirstUnit}
 use Rattle.smp_strata.specs.declared.strata.Seat.{Seat}
 use Rattle.smp_strata.specs.declared.strata.Stratum.{Stratum}
-use Rattle.smp_twostage.specs.Covered.{StartsAlone, alone_fraction, state_alone}
+use Rattle.smp_twostage.specs.Covered.{StartsAlone}
 use Rattle.smp_twostage.specs.Kept.{EachStarts}
 use Rattle.smp_twostage.specs.Plans.{CanBeDrawn}
-use Rattle.smp_twostage.specs.Selections.{BelongsToWhole, Selecting, all_of, belongs_to, covered_stages, covered_tree, first_number, first_stage, is_of_stratum, one_of, parts_by, place_of, seat_alone, seat_by, seats_by, seats_of, stage_by, stage_within, stages_below, stages_in, stages_of, stages_within, start_of, states_of, strata_sections, tree_of, whole_tree}
-use Rattle.smp_twostage.specs.Starts.{row_fraction}
-use Rattle.smp_twostage.specs.Laws.Covered.{alone_staged, length_alone, made_at, strata_are_sections}
+use Rattle.smp_twostage.specs.Selections.{BelongsToWhole, Selecting, all_of, belongs_to, first_number, first_stage, is_of_stratum, parts_by, place_of, seat_alone, seat_by, seats_by, seats_of, section_count_by, stage_by, stage_within, stages_before_by, stages_below, stages_by, stages_in, stages_of, stages_within, states_of, tree_of}
+use Rattle.smp_twostage.specs.Laws.Covered.{alone_staged, length_alone, made_at, strata_are}
 use Rattle.smp_twostage.specs.Laws.Numbering.{less_or_same}
-use Rattle.smp_twostage.specs.Laws.Staged.{length_seats, place_stands, seat_at}
+use Rattle.smp_twostage.specs.Laws.Staged.{length_seats, seat_at}
+use Rattle.smp_twostage.proofs.AloneBy.{AloneBy, own_fraction, own_state, starts_alone_by, tree_alone}
+use Rattle.smp_twostage.proofs.StartsBy.{tree_so}
 use Rattle.smp_twostage.proofs.Values.{alone_value_is}
 
 -- ---- the list of the one stratum
@@ -120,7 +120,7 @@ module _ (plan : Parts) (drawable : CanBeDrawn plan) (h : ℕ) (s : Stratum) (is
   part_is : part ≡ stages_in plan 0 (slice_get plan.strata h)
   part_is = ap (λ (strata : List Stratum). stages_of (record plan { strata = strata })) (taken plan.strata h s is) ∙ ap (stages_in plan 0) (sym is)
 
-  pub alone_made : (done new : List (Stage Selecting)) → done ≡ [] → new ≡ done ++ stages_in plan (length done) (Some s) → new ≡ covered_stages (one_of plan h)
+  pub alone_made : (done new : List (Stage Selecting)) → done ≡ [] → new ≡ done ++ stages_in plan (length done) (Some s) → new ≡ stages_of (parts_by plan (Some h))
   alone_made done new none more = more ∙ ap (λ (xs : List (Stage Selecting)). xs ++ stages_in plan (length xs) (Some s)) none ∙ ap (stages_in plan 0) (sym is) ∙ sym part_is
 
   part_later : map (stage_later number) part ≡ stages_in plan number (slice_get plan.strata h)
@@ -163,10 +163,10 @@ module _ (plan : Parts) (drawable : CanBeDrawn plan) (h : ℕ) (s : Stratum) (is
     others = λ row l other. no_seat row (omega (arith, l, length_seats plan drawable)) other;
   }
 
-  alone_part : IsPartOf (whole_tree plan) (BelongsToWhole plan) (strata_sections (all_of plan)) h (covered_tree (one_of plan h)) (state_alone plan h) (is_of_stratum plan h)
-  alone_part =
+  alone_part : draws_together plan.method ≡ false → IsPartOf (tree_so false plan) (BelongsToWhole plan) (sections_by (stages_before_by false (all_of plan)) (section_count_by false (all_of plan))) h (tree_alone false plan h) (own_state false plan h) (is_of_stratum plan h)
+  alone_part apart =
       let size : first_number plan (suc h) ≡ number + length part = omega (arith, length-append (stages_below plan h) (stages_in plan number (slice_get plan.strata h)), part_length) in
-      is_part tree_of belongs_to (stages_of plan) (seats_of plan) (BelongsToWhole plan) (λ state here. here.member) (first_number plan) (length plan.strata) (strata_are_sections (all_of plan)) h within
+      is_part tree_of belongs_to (stages_of plan) (seats_of plan) (BelongsToWhole plan) (λ state here. subst (λ b. IsUnderWay tree_of belongs_to (stages_by b (all_of plan)) state) apart here.member) (first_number plan) (length plan.strata) (strata_are plan None) h within
       part (seats_by plan (Some h)) (is_of_stratum plan h) their_own (alone_staged plan drawable h) size
 
   -- ---- the start
@@ -186,22 +186,25 @@ module _ (plan : Parts) (drawable : CanBeDrawn plan) (h : ℕ) (s : Stratum) (is
     abbrev value_of : ℕ → Fraction
     value_of row = seat_value (unit_value tree_of part (states_of (parts_by plan (Some h)))) (slice_get (seats_by plan (Some h)) row)
 
-    values : (row : ℕ) → row < plan.rows → Same (value_of row) (alone_fraction plan h row)
+    values : (row : ℕ) → row < plan.rows → Same (value_of row) (own_fraction false plan h row)
     values row l =
         elim (cases_Bool (is_of_stratum plan h row)) [
           | inl its ↦ rw (its_seat row l its, its) (alone_value_is plan drawable h (states_of (parts_by plan (Some h))) each row l its)
           | inr other ↦ rw (no_seat row l other, other) (same_refl (whole 0))
         ]
 
-    starts_at : StartsInStages tree_of belongs_to part (seats_by plan (Some h)) (states_of (parts_by plan (Some h))) (progress tree_of part (states_of (parts_by plan (Some h)))) → StartsAlone plan h (progress tree_of part (states_of (parts_by plan (Some h))))
-    starts_at starts = record {
-      member = record { drawable = drawable; member = starts.member };
+    starts_at : StartsInStages tree_of belongs_to part (seats_by plan (Some h)) (states_of (parts_by plan (Some h))) (progress tree_of part (states_of (parts_by plan (Some h)))) → draws_together plan.method ≡ false → AloneBy false plan h (progress tree_of part (states_of (parts_by plan (Some h))))
+    starts_at starts apart = record {
+      member = starts.member;
       values = values;
       probability = λ row l. same_trans (starts.probability row (omega (arith, l, length_alone plan drawable h))) (values row l);
       others = λ row l other state. ap (seat_selected (unit_selected tree_of part state.states)) (no_seat row l other);
-      part = alone_part;
+      part = alone_part apart;
       state = ap (progress tree_of part) (sym states_run);
     }
 
-    pub starts_alone : (start : Progress AnyState) → start ≡ progress tree_of part (states_of (parts_by plan (Some h))) → StartsInStages tree_of belongs_to part (seats_by plan (Some h)) (states_of (parts_by plan (Some h))) start → StartsAlone plan h start
-    starts_alone start at starts = subst (StartsAlone plan h) (sym at) (starts_at (subst (StartsInStages tree_of belongs_to part (seats_by plan (Some h)) (states_of (parts_by plan (Some h)))) at starts))
+    pub starts_alone : (start : Progress AnyState) → start ≡ progress tree_of part (states_of (parts_by plan (Some h))) → StartsInStages tree_of belongs_to part (seats_by plan (Some h)) (states_of (parts_by plan (Some h))) start → draws_together plan.method ≡ false → StartsAlone plan h start
+    starts_alone start at starts apart =
+        starts_alone_by plan drawable h start
+        (subst (λ b. AloneBy b plan h start) (sym apart)
+        (subst (AloneBy false plan h) (sym at) (starts_at (subst (StartsInStages tree_of belongs_to part (seats_by plan (Some h)) (states_of (parts_by plan (Some h)))) at starts) apart)))

@@ -15,7 +15,7 @@ use Rattle.smp_design.specs.declared.method.Method.{Method}
 use Rattle.smp_methods.specs.declared.procedure.Procedure.{Procedure}
 use Rattle.smp_methods.specs.Procedures.{procedure_of, TakesValues}
 use Rattle.smp_methods.proofs.Columns.{procedure_takes}
-use Rattle.smp_strata.specs.Bounds.{IsFirst, IsStratum}
+use Rattle.smp_strata.specs.Bounds.{IsFirst, IsOver, IsStratum}
 use Rattle.smp_strata.specs.Plans.{Parts}
 use Rattle.smp_strata.specs.declared.strata.FirstUnit.{FirstUnit}
 use Rattle.smp_strata.specs.declared.strata.Stratum.{Stratum}
@@ -69,9 +69,15 @@ module _ (plan : Parts) (s : Stratum) (planned : IsPlanned plan s) where
       at : (k : ℕ) → k < length s.units → P (values_of (valued s) k)
       at k l = by_unit k (slice_get s.units k) refl l
 
+  pub free_counted : All (λ v. length v ≡ planned.columns) (free_values (valued s))
+  free_counted = free_at (λ v. length v ≡ planned.columns) (λ u first counted. counted)
+
+  pub free_near : All (Within (2 ^ 31 - 1)) (free_values (valued s))
+  free_near = free_at (Within (2 ^ 31 - 1)) (λ u first counted. near_within u.values first.near)
+
   pub takes_free : (way : Procedure) → procedure_of plan.method plan.order plan.near (column_count (valued s)) ≡ Some way → TakesValues way (free_values (valued s))
   takes_free way is =
-      procedure_takes plan.near planned.columns (free_values (valued s)) (free_at (λ v. length v ≡ planned.columns) (λ u first counted. counted)) (free_at (Within (2 ^ 31 - 1)) (λ u first counted. near_within u.values first.near))
+      procedure_takes plan.near planned.columns (free_values (valued s)) free_counted free_near
       plan.method plan.order way (ap (procedure_of plan.method plan.order plan.near) (sym columns_are) ∙ is)
 
 -- rows have no values
@@ -94,3 +100,16 @@ module _ (plan : Parts) (drawable : CanBeDrawn plan) (h : ℕ) (s : Stratum) (is
         whole = λ needed. subst (λ (t : Stratum). IsWhole t.request) here (All-get_or (λ (t : Stratum). IsWhole t.request) plan.strata h s within (drawable.sound.whole needed));
         counted = subst (λ (t : Stratum). All (λ u. length u.values ≡ drawable.columns) t.units) here (All-get_or (λ (t : Stratum). All (λ u. length u.values ≡ drawable.columns) t.units) plan.strata h s within drawable.sound.columns);
       }
+
+  pub has_columns : column_count (valued s) ≡ drawable.columns
+  unfolding is_planned
+  has_columns = columns_are plan s is_planned
+
+  pub planned_columns : is_planned.columns ≡ drawable.columns
+  unfolding is_planned
+  planned_columns = refl
+
+-- the request of each stratum is over its units
+pub are_over : (plan : Parts) → CanBeDrawn plan → All (λ (s : Stratum). IsOver (length s.units) s.request) plan.strata
+are_over plan drawable =
+    All-weaker (IsStratum plan.second) (λ (s : Stratum). IsOver (length s.units) s.request) (λ s is. is.over) plan.strata drawable.sound.strata

@@ -20,7 +20,7 @@ use Rattle.smp_localcube.specs.Local.{Local, local_of}
 use Rattle.smp_localcube.specs.Method.{LocalUnits, started}
 use Rattle.smp_design.specs.declared.method.Method.{Method}
 use Rattle.smp_design.specs.declared.method.Method.TheVariants.{Cube, LocalCube}
-use Rattle.smp_design.specs.Words.{balances}
+use Rattle.smp_design.specs.Words.{balances, draws_together}
 use Rattle.smp_design.proofs.Rows.{is_cube}
 use Rattle.smp_methods.specs.declared.any.AnyDesign.{AnyDesign}
 use Rattle.smp_methods.specs.declared.any.AnyState.{AnyState}
@@ -36,12 +36,12 @@ use Rattle.smp_strata.specs.declared.strata.FirstUnit.{FirstUnit}
 use Rattle.smp_strata.specs.declared.strata.Stratum.{Stratum}
 use Rattle.smp_balance.specs.Totals.{is_selected}
 use Rattle.smp_twostage.specs.Cubes.{IsDrawnByCube, IsDrawnFrom, balancing, by_cube, by_local_cube, leaf_of, local_units}
-use Rattle.smp_twostage.specs.Starts.{first_selected}
 use Rattle.smp_twostage.specs.Plans.{CanBeDrawn}
 use Rattle.smp_balance.specs.Strata.{column_count, free_units, free_values, values_of}
 use Rattle.smp_twostage.specs.Selections.{balance_count, tree_of, first_number, first_stage, stages_of, states_of, valued}
 use Rattle.smp_twostage.specs.Laws.Numbering.{first_there}
 use Rattle.smp_twostage.proofs.Columns.{is_planned}
+use Rattle.smp_twostage.proofs.StartsBy.{first_so}
 
 -- ---- the values that are balanced are those of the stratum before its coordinates
 
@@ -145,9 +145,9 @@ module _ (plan : Parts) (drawable : CanBeDrawn plan) (path : List Entry) (ends :
           ended = sym (closed cubes.inside) ∙ subst (λ (t : AnyState). outer.done t ≡ true) same done;
         }
 
-  pub drawn_by_cube : balances plan.method ≡ true → IsDrawnByCube plan h s (goes.part at) ends
-  drawn_by_cube balance =
-      elim (is_cube plan.method balance) [
+  pub drawn_by_cube : balances plan.method ≡ true → draws_together plan.method ≡ false → IsDrawnByCube plan h s (goes.part at) ends
+  drawn_by_cube balance apart =
+      elim (is_cube plan.method balance apart) [
         | inl m ↦ by_cube m (drawn_from (cube_of (free_units (balancing plan s))) (starting (free_units (balancing plan s))) states.Cube (cube_out plan s) (λ _. refl) (cube_tree_is plan s m) (cube_start_is plan s m) (λ _. refl) refl)
         | inr m ↦ by_local_cube m (drawn_from (local_of (free_units (balancing plan s))) (started (local_units plan s)) states.LocalCube (local_out plan s) (λ _. refl) (local_tree_is plan s m) (local_start_is plan s m) (λ _. refl) refl)
       ]
@@ -167,13 +167,13 @@ module _ (plan : Parts) (ends : List AnyState) (h : ℕ) (s : Stratum) (is : sli
     is_first : is_drawn tree_of (stages_of plan) ends (first_number plan h) ≡ true
     is_first = ap (λ o. drawn_within tree_of (stages_of plan) ends (within_of o)) (first_there plan h s is)
 
-    selected_so : (k : ℕ) → first_selected plan ends h k ≡ selected_by (method_of (design_so plan s plan.method)).tree k
+    selected_so : (k : ℕ) → first_so false plan ends h k ≡ selected_by (method_of (design_so plan s plan.method)).tree k
     selected_so k =
         ap (λ b. b && unit_selected tree_of (stages_of plan) ends (record { stage = first_number plan h; unit = k })) is_first
         ∙ read_there k
 
   -- those that are certain, and those whose value is 1 at the leaf
-  pub cube_selected : (part : List Entry) (drawn : IsDrawnByCube plan h s part ends) (k : ℕ) → first_selected plan ends h k ≡ is_selected (balancing plan s) (leaf_of drawn) k
+  pub cube_selected : (part : List Entry) (drawn : IsDrawnByCube plan h s part ends) (k : ℕ) → first_so false plan ends h k ≡ is_selected (balancing plan s) (leaf_of drawn) k
   cube_selected part (by_cube m d) k =
       selected_so (states.Cube d.leaf) d.leaf_is k ∙ ap (λ tree. selected_by (states.Cube d.leaf) d.leaf_is tree k) (cube_tree_is plan s m)
   cube_selected part (by_local_cube m d) k =

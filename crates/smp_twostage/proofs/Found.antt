@@ -8,17 +8,17 @@ use Rattle.smp_stages.specs.Stages.{first_among}
 use Rattle.smp_stages.proofs.Sections.{before_rises, section}
 use Rattle.smp_twostage.specs.Kept.{first_numbers}
 use Rattle.smp_twostage.specs.Laws.Covered.{strata_are_sections}
-use Rattle.smp_twostage.specs.Selections.{Coverage, covered_parts, covered_stages, first_number, strata_count}
+use Rattle.smp_twostage.specs.Selections.{Coverage, covered_stages, section_count, stages_before}
 use Rattle.smp_twostage.proofs.Inside.{first_at, length_firsts}
 
 module _ (c : Coverage) (firsts : List ℕ) (are : firsts ≡ first_numbers c) (at : ℕ) where
   abbrev number : ℕ → ℕ
-  number = first_number (covered_parts c)
+  number = stages_before c
 
   rising : IsNonDecreasingBy (λ x. x) firsts
   rising i j d l m =
       let count = length_firsts c firsts are in
-      omega (arith, first_at c firsts are i d (omega (arith, l, m, count)), first_at c firsts are j d (omega (arith, m, count)), before_rises (covered_stages c) number (strata_count c) (strata_are_sections c) i j l (omega (arith, m, count)))
+      omega (arith, first_at c firsts are i d (omega (arith, l, m, count)), first_at c firsts are j d (omega (arith, m, count)), before_rises (covered_stages c) number (section_count c) (strata_are_sections c) i j l (omega (arith, m, count)))
 
   pub parted : IsPartitionedBy (λ first. leb first at) firsts
   parted = IsPartitionedBy-leb (λ x. x) firsts at rising
@@ -29,7 +29,7 @@ module _ (c : Coverage) (firsts : List ℕ) (are : firsts ≡ first_numbers c) (
         let count = length_firsts c firsts are in
         omega (arith, leb-true (get_or firsts h 0) at (is.0 h 0 (omega arith) l), first_at c firsts are h 0 (omega (arith, l, bound, count)))
 
-    behind_point : (h : ℕ) → point ≤ h → h ≤ strata_count c → at < number h
+    behind_point : (h : ℕ) → point ≤ h → h ≤ section_count c → at < number h
     behind_point h l m =
         let count = length_firsts c firsts are in
         omega (arith, leb-false (get_or firsts h 0) at (is.1 h 0 l (omega (arith, m, count))), first_at c firsts are h 0 m)
@@ -42,14 +42,14 @@ module _ (c : Coverage) (firsts : List ℕ) (are : firsts ≡ first_numbers c) (
           | inr most ↦ absurd (omega (arith, behind_point 0 most (omega arith), (strata_are_sections c).first))
         ]
 
-    pub stratum_is : point - 1 ≡ section number (strata_count c) at
+    pub stratum_is : point - 1 ≡ section number (section_count c) at
     stratum_is =
         let count = length_firsts c firsts are in
-        first_unique (λ h. nat_lt at (number (suc h))) 0 (strata_count c) (point - 1) (section number (strata_count c) at)
+        first_unique (λ h. nat_lt at (number (suc h))) 0 (section_count c) (point - 1) (section number (section_count c) at)
         (record {
           above = omega arith;
           within = omega (arith, bound, count);
           passed = λ h _ l. le-ltb at (number (suc h)) (before_point (suc h) (omega (arith, l)));
           here = λ l. lt-ltb at (number (suc (point - 1))) (behind_point (suc (point - 1)) (omega arith) (omega (arith, l)));
         })
-        (first_is (λ h. nat_lt at (number (suc h))) (strata_count c) 0)
+        (first_is (λ h. nat_lt at (number (suc h))) (section_count c) 0)

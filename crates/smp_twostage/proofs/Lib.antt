@@ -12,3 +12,13 @@ pub mod Alone
 pub mod Starts
 pub mod Numbers
 pub mod Told
+pub mod OverAll
+pub mod Frames
+pub mod RowsTold
+pub mod Together
+pub mod StartsBy
+pub mod AloneBy
+pub mod DrawnTogether
+pub mod StartsTogether
+pub mod Layers
+pub mod CoveredSo

@@ -1,8 +1,9 @@
 -- Only rows that can be selected are selected.
-use Rattle.std.proofs.Common.{◌≡◌, ℕ, zero, suc, ◌+◌, ◌*◌, ◌<◌, ◌≤◌, mul-pos, Bool, true, false, true≢false, ℤ, pos, negsuc, List, length, Option, Some, None, arith, refl, sym, ap, subst, ◌∙◌, inl, inr}
+use Rattle.std.proofs.Common.{◌≡◌, ℕ, zero, suc, ◌+◌, ◌*◌, ◌<◌, ◌≤◌, mul-pos, Bool, true, false, true≢false, ℤ, pos, negsuc, List, [], ◌∷◌, length, Option, Some, None, arith, refl, sym, ap, subst, ◌∙◌, inl, inr}
 use Rattle.std.specs.Prelude.{is_some, slice_index, option_and_then}
 use Rattle.std.specs.List.{slice_get}
 use Rattle.std.proofs.lemmas.Bool.{and_parts, cases_Bool}
+use Rattle.std.proofs.lemmas.Option.{slice_get_within}
 use Rattle.smp_fractions.specs.Fractions.{Fraction, times}
 use Rattle.smp_prob.specs.declared.requests.Request.{Request}
 use Rattle.smp_prob.specs.declared.inclusions.Inclusion.{Inclusion}
@@ -10,24 +11,28 @@ use Rattle.smp_prob.specs.declared.inclusions.Inclusion.TheVariants.{Certain, Fr
 use Rattle.smp_prob.specs.Requests.{IsRequest}
 use Rattle.smp_prob.specs.Inclusions.{asked_fraction, fraction_at, is_taken, inclusion}
 use Rattle.smp_design.specs.declared.method.Method.{Method}
+use Rattle.smp_design.specs.Words.{draws_together}
 use Rattle.smp_rows.specs.Laws.Rows.{free_within}
 use Rattle.smp_methods.specs.declared.any.AnyState.{AnyState}
 use Rattle.smp_methods.specs.Designs.{method_of}
 use Rattle.smp_stages.specs.declared.places.Place.{Place}
 use Rattle.smp_stages.specs.declared.places.Stage.{Stage}
-use Rattle.smp_stages.specs.Stages.{Progress, read, seat_selected, unit_selected}
+use Rattle.smp_stages.specs.Stages.{Progress, read, seat_selected, staged_tree, unit_selected}
 use Rattle.smp_strata.specs.Bounds.{IsWholeOver}
 use Rattle.smp_strata.specs.Plans.{Parts}
 use Rattle.smp_strata.specs.Seats.{first_at, first_fraction, place_fraction, stage_fraction, unit_fraction}
 use Rattle.smp_strata.specs.declared.strata.Seat.{Seat}
 use Rattle.smp_twostage.specs.Plans.{CanBeDrawn}
-use Rattle.smp_twostage.specs.Selections.{Coverage, Selecting, tree_of, covered_tree, first_number, first_stage, is_of_stratum, parts_by, place_of, seat_alone, seat_by, second_stage, stages_of}
+use Rattle.smp_twostage.specs.Selections.{Coverage, Selecting, tree_of, covered_tree, first_number, first_stage, is_of_stratum, is_together, parts_by, place_of, seat_alone, seat_by, seat_together}
+use Rattle.smp_twostage.specs.Selections.{seats_in, second_stage, stage_of_strata, stages_by, stages_of, units_before}
 use Rattle.smp_twostage.specs.Starts.{is_positive, row_fraction}
 use Rattle.smp_twostage.specs.Laws.Covered.{its_place, made_at}
 use Rattle.smp_twostage.specs.Laws.Numbering.{first_there, second_there}
 use Rattle.smp_twostage.specs.Laws.Places.{StandsIn}
 use Rattle.smp_twostage.specs.Laws.Staged.{first_is, none_in, place_stands, seat_at, seconds_in}
-use Rattle.smp_twostage.proofs.Columns.{is_planned}
+use Rattle.smp_twostage.proofs.Columns.{are_over, is_planned}
+use Rattle.smp_twostage.proofs.DrawnTogether.{taken_behind}
+use Rattle.smp_twostage.proofs.OverAll.{free_before, stands_over}
 
 positive_number : (n : ℕ) → 1 ≤ n → is_positive (pos n) ≡ true
 positive_number zero some = absurd (omega (arith, some))
@@ -60,6 +65,20 @@ module _ (request : Request) (sound : IsRequest request) (chosen : ℕ → Bool)
   taken_positive : (unit : ℕ) → is_taken chosen (inclusion request unit) ≡ true → is_positive (asked_fraction request unit).num ≡ true
   taken_positive unit = taken_at (inclusion request unit) (free_within request unit)
 
+-- what the second stage does to the probability of a row
+module _ (plan : Parts) (row : ℕ) (here : StandsIn plan.strata row (place_of plan.strata row)) where
+  abbrev seat : Seat
+  seat = place_of plan.strata row
+
+  place_is : place_fraction (first_at plan.strata seat.stratum seat.unit) seat.place ≡ stage_fraction here.unit.second seat.place
+  place_is =
+      ap (λ o. place_fraction (option_and_then (λ s. slice_get s.units seat.unit) o) seat.place) here.is_stratum
+      ∙ ap (λ o. place_fraction o seat.place) here.is_unit
+
+  without : (request : Option Request) → is_some request ≡ false → is_positive (stage_fraction request seat.place).num ≡ true
+  without None none = refl
+  without (Some request) none = absurd (cc)
+
 -- ---- a row that is selected, where all strata are drawn or one alone
 
 -- the strata that are drawn, of which that of the row has this number
@@ -88,15 +107,6 @@ module _ (plan : Parts) (drawable : CanBeDrawn plan) (drawn : Parts) (second_sam
         subst (λ o. is_positive (unit_fraction o place.unit).num ≡ true) (sym here.is_stratum)
         (selected_unit at place.unit (first_stage drawn here.stratum) (first_there drawn number here.stratum found) (is_planned plan drawable place.stratum here.stratum here.is_stratum).stratum.over.sound selected)
 
-    place_is : place_fraction (first_at plan.strata place.stratum place.unit) place.place ≡ stage_fraction here.unit.second place.place
-    place_is =
-        ap (λ o. place_fraction (option_and_then (λ s. slice_get s.units place.unit) o) place.place) here.is_stratum
-        ∙ ap (λ o. place_fraction o place.place) here.is_unit
-
-    without : (request : Option Request) → is_some request ≡ false → is_positive (stage_fraction request place.place).num ≡ true
-    without None none = refl
-    without (Some request) none = absurd (cc)
-
     second_positive : (method : Method) → plan.second ≡ Some method → (request : Option Request) → here.unit.second ≡ request → is_some request ≡ true → is_selected (record { stage = suc (at + place.unit); unit = place.place }) ≡ true
         → is_positive (stage_fraction request place.place).num ≡ true
     second_positive method second (Some request) asks some selected =
@@ -109,22 +119,51 @@ module _ (plan : Parts) (drawable : CanBeDrawn plan) (drawn : Parts) (second_sam
     by_method : (method : Option Method) → plan.second ≡ method → seat_selected is_selected (Some (seat_by method at place)) ≡ true → is_positive (row_fraction plan row).num ≡ true
     by_method None second selected =
         positive_times (first_fraction plan.strata place.stratum place.unit) (place_fraction (first_at plan.strata place.stratum place.unit) place.place) (first_positive selected)
-        (ap (λ (f : Fraction). is_positive f.num) place_is ∙ without here.unit.second (none_in plan drawable second place.stratum place.unit here.stratum here.unit here.is_stratum here.is_unit))
+        (ap (λ (f : Fraction). is_positive f.num) (place_is plan row here) ∙ without plan row here here.unit.second (none_in plan drawable second place.stratum place.unit here.stratum here.unit here.is_stratum here.is_unit))
     by_method (Some method) second selected =
         let both = and_parts _ _ selected in
         positive_times (first_fraction plan.strata place.stratum place.unit) (place_fraction (first_at plan.strata place.stratum place.unit) place.place) (first_positive both.0)
-        (ap (λ (f : Fraction). is_positive f.num) place_is
+        (ap (λ (f : Fraction). is_positive f.num) (place_is plan row here)
         ∙ second_positive method second here.unit.second refl (seconds_in plan drawable method second place.stratum here.stratum here.is_stratum place.unit here.unit here.is_unit) both.1)
+
+-- ---- a row that is selected, where all strata are drawn together
+
+module _ (plan : Parts) (drawable : CanBeDrawn plan) (row : ℕ) (here : StandsIn plan.strata row (place_of plan.strata row)) where
+  abbrev its : Seat
+  its = place_of plan.strata row
+
+  taken_over : (state : Option AnyState) → read tree_of false (λ tree s. tree.selected s (units_before plan.strata its.stratum + its.unit)) (Some (stage_of_strata plan)) state ≡ true → is_positive (first_fraction plan.strata its.stratum its.unit).num ≡ true
+  taken_over (Some state) selected =
+      let chosen : ℕ → Bool = (method_of (stage_of_strata plan).design.design).tree.selected state in
+      let before : ℕ = free_before plan.strata its.stratum in
+      let is : is_taken chosen (inclusion (stage_of_strata plan).design.request (units_before plan.strata its.stratum + its.unit)) ≡ is_taken (λ unit. chosen (before + unit)) (inclusion here.stratum.request its.unit) =
+      ap (is_taken chosen) (stands_over plan.strata (are_over plan drawable) its.stratum its.unit here.stratum here.is_stratum (slice_get_within here.stratum.units its.unit here.unit here.is_unit))
+      ∙ taken_behind chosen before (inclusion here.stratum.request its.unit) in
+      subst (λ o. is_positive (unit_fraction o its.unit).num ≡ true) (sym here.is_stratum)
+      (taken_positive here.stratum.request (is_planned plan drawable its.stratum here.stratum here.is_stratum).stratum.over.sound (λ unit. chosen (before + unit)) its.unit (sym is ∙ selected))
+  taken_over None selected = absurd (true≢false (sym selected))
+
+  positive_together : (states : List AnyState) → plan.second ≡ None → seat_selected (unit_selected tree_of (stage_of_strata plan ∷ []) states) (Some (seat_together plan row)) ≡ true → is_positive (row_fraction plan row).num ≡ true
+  positive_together states one_stage selected =
+      positive_times (first_fraction plan.strata its.stratum its.unit) (place_fraction (first_at plan.strata its.stratum its.unit) its.place) (taken_over (slice_get states 0) selected)
+      (ap (λ (f : Fraction). is_positive f.num) (place_is plan row here)
+      ∙ without plan row here here.unit.second (none_in plan drawable one_stage its.stratum its.unit here.stratum here.unit here.is_stratum here.is_unit))
+
+-- ---- by the plan
 
 module _ (plan : Parts) (drawable : CanBeDrawn plan) (leaf : Progress AnyState) (row : ℕ) (l : row < plan.rows) where
   abbrev stands : StandsIn plan.strata row (place_of plan.strata row)
   stands = place_stands plan drawable row l
 
-  positive_by : (only : Option ℕ) → (covered_tree (record { plan = plan; only = only })).selected leaf row ≡ true → is_positive (row_fraction plan row).num ≡ true
-  positive_by None selected =
+  abbrev IsSelected : Bool → Option ℕ → Type 0
+  IsSelected together only =
+      (staged_tree tree_of (stages_by together (record { plan = plan; only = only })) (seats_in together (record { plan = plan; only = only }))).selected leaf row ≡ true
+
+  one_by_one : (only : Option ℕ) → IsSelected false only → is_positive (row_fraction plan row).num ≡ true
+  one_by_one None selected =
       by_method plan drawable plan refl (place_of plan.strata row).stratum leaf.states row stands stands.is_stratum plan.second refl
       (ap (seat_selected (unit_selected tree_of (stages_of plan) leaf.states)) (sym (seat_at plan drawable row l)) ∙ selected)
-  positive_by (Some h) selected =
+  one_by_one (Some h) selected =
       let test = seat_selected (unit_selected tree_of (stages_of (parts_by plan (Some h))) leaf.states) in
       let seated : test (Some (seat_alone plan h row)) ≡ true = ap test (sym (made_at (seat_alone plan h) plan.rows row l)) ∙ selected in
       elim (cases_Bool (is_of_stratum plan h row)) [
@@ -132,6 +171,12 @@ module _ (plan : Parts) (drawable : CanBeDrawn plan) (leaf : Progress AnyState) 
         | inr other ↦ absurd (true≢false (sym (let no : false ≡ true = rw other at seated in no)))
       ]
 
+  by_test : (together : Bool) → draws_together plan.method ≡ together → (only : Option ℕ) → IsSelected together only → is_positive (row_fraction plan row).num ≡ true
+  by_test true is only selected =
+      positive_together plan drawable row stands leaf.states (drawable.together is).one_stage
+      (ap (seat_selected (unit_selected tree_of (stage_of_strata plan ∷ []) leaf.states)) (sym (made_at (seat_together plan) plan.rows row l)) ∙ selected)
+  by_test false is only selected = one_by_one only selected
+
 -- a row that is selected has a positive probability
 pub covered_positive : (c : Coverage) → CanBeDrawn c.plan → (leaf : Progress AnyState) (row : ℕ) → row < c.plan.rows → (covered_tree c).selected leaf row ≡ true → is_positive (row_fraction c.plan row).num ≡ true
-covered_positive c drawable leaf row l selected = positive_by c.plan drawable leaf row l c.only selected
+covered_positive c drawable leaf row l selected = by_test c.plan drawable leaf row l (is_together c) refl c.only selected

@@ -8,16 +8,17 @@ use Rattle.std.proofs.lemmas.Option.{slice_get_within}
 use Rattle.smp_prob.specs.declared.requests.Request.{Request}
 use Rattle.smp_design.specs.declared.method.Method.{Method}
 use Rattle.smp_stages.specs.declared.places.Seat as seats
-use Rattle.smp_stages.specs.declared.places.Seat.TheVariants.{Nowhere}
+use Rattle.smp_stages.specs.declared.places.Seat.TheVariants.{First, Nowhere}
 use Rattle.smp_strata.specs.Plans.{Parts}
 use Rattle.smp_strata.specs.Seats.{IsSeat}
 use Rattle.smp_strata.specs.declared.strata.Seat.{Seat}
 use Rattle.smp_twostage.specs.Plans.{CanBeDrawn}
-use Rattle.smp_twostage.specs.Selections.{first_number, is_of_stratum, parts_by, place_of, seat_alone, seat_by, seat_of, stages_of}
+use Rattle.smp_twostage.specs.Selections.{first_number, is_of_stratum, parts_by, place_of, place_together, seat_alone, seat_by, seat_of, seat_together, stages_of, units_before}
 use Rattle.smp_twostage.specs.Laws.Covered.{alone_there}
 use Rattle.smp_twostage.specs.Laws.Numbering.{second_there}
 use Rattle.smp_twostage.specs.Laws.Places.{StandsIn, place_is_seat}
 use Rattle.smp_twostage.specs.Laws.Staged.{place_stands, seconds_in}
+use Rattle.smp_twostage.proofs.Columns.{is_planned}
 
 module _ (plan : Parts) (drawable : CanBeDrawn plan) (row : ℕ) (l : row < plan.rows) (p : Seat) (once : (s : Seat) → IsSeat plan.strata row s → s ≡ p) where
   place_is : place_of plan.strata row ≡ p
@@ -50,6 +51,21 @@ module _ (plan : Parts) (drawable : CanBeDrawn plan) (row : ℕ) (l : row < plan
       let here : seat ≡ seat_of plan (place_of plan.strata row) = is ∙ ap (seat_of plan) (sym place_is) in
       more ∙ ap (λ xs. xs ++ seat ∷ []) so_far ∙ ap (λ s. map (λ r. seat_of plan (place_of plan.strata r)) (range_with_len 0 row) ++ s ∷ []) here
       ∙ sym (map-range_with_len_more (λ r. seat_of plan (place_of plan.strata r)) 0 row row (omega arith))
+
+  -- ---- where all strata are drawn together
+
+  pub unit_few : p.unit < 200000
+  unit_few =
+      let stratum = (is_planned plan drawable p.stratum stands.stratum stands.is_stratum).stratum in
+      omega (arith, slice_get_within stands.stratum.units p.unit stands.unit stands.is_unit, stratum.few)
+
+  pub next_together : (done new : List seats.Seat) (before : ℕ) → done ≡ map (seat_together plan) (range_with_len 0 row) → before ≡ units_before plan.strata p.stratum
+      → new ≡ done ++ First (record { stage = 0; unit = before + p.unit }) ∷ [] → new ≡ map (seat_together plan) (range_with_len 0 (row + 1))
+  next_together done new before so_far is more =
+      let here : First (record { stage = 0; unit = before + p.unit }) ≡ seat_together plan row =
+      ap (λ n. First (record { stage = 0; unit = n + p.unit })) is ∙ ap (λ (q : Seat). First (place_together plan.strata q.stratum q.unit)) (sym place_is) in
+      more ∙ ap (λ xs. xs ++ First (record { stage = 0; unit = before + p.unit }) ∷ []) so_far ∙ ap (λ (s : seats.Seat). map (seat_together plan) (range_with_len 0 row) ++ s ∷ []) here
+      ∙ sym (map-range_with_len_more (seat_together plan) 0 row row (omega arith))
 
   -- ---- where stratum h is drawn alone
 

@@ -27,10 +27,10 @@ use Rattle.smp_strata.specs.declared.strata.Stratum.{Stratum}
 use Rattle.smp_twostage.specs.Kept.{EachStarts, StageStarts}
 use Rattle.smp_twostage.specs.Plans.{CanBeDrawn}
 use Rattle.smp_balance.specs.Strata.{column_count, free_values}
-use Rattle.smp_twostage.specs.Selections.{Selecting, first_number, first_stage, stages_of, tree_of, whole_tree, valued}
-use Rattle.smp_twostage.specs.Starts.{FirstSelectsAround}
+use Rattle.smp_twostage.specs.Selections.{Selecting, first_number, first_stage, stages_of, tree_of, valued}
 use Rattle.smp_twostage.specs.Laws.Numbering.{first_there}
 use Rattle.smp_twostage.proofs.Columns.{is_planned}
+use Rattle.smp_twostage.proofs.StartsBy.{FirstSelectsAroundSo, tree_so}
 
 module _ (plan : Parts) (drawable : CanBeDrawn plan) (other : balances plan.method ≡ false) (states : List AnyState) (each : EachStarts (stages_of plan) states)
     (h : ℕ) (s : Stratum) (is : slice_get plan.strata h ≡ Some s) where
@@ -62,8 +62,8 @@ module _ (plan : Parts) (drawable : CanBeDrawn plan) (other : balances plan.meth
       rows_around (length s.units) s.request (λ u l. over.free u 0 l) over.apart (method_of own.design).tree starts.member.paired (method_of own.design).belongs first.0
       (around_unless way s.request (free_values (valued s)) first.0 other starts.around)
 
-  module _ (start_paths : AtEachLeaf (whole_tree plan) (progress tree_of (stages_of plan) states) (λ path leaf. GoesByStages tree_of (stages_of plan) states path leaf.states)) where
-    pub firsts_around : FirstSelectsAround plan (progress tree_of (stages_of plan) states) h s
+  module _ (start_paths : AtEachLeaf (tree_so false plan) (progress tree_of (stages_of plan) states) (λ path leaf. GoesByStages tree_of (stages_of plan) states path leaf.states)) where
+    pub firsts_around : FirstSelectsAroundSo false plan (progress tree_of (stages_of plan) states) h s
     firsts_around path leaf leads done =
         let goes = start_paths path leaf leads done in
         let within = slice_get_within (stages_of plan) at (first_stage plan s) there in

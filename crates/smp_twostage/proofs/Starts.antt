@@ -1,5 +1,5 @@
 -- What holds of the whole selection from its start.
-use Rattle.std.proofs.Common.{◌≡◌, ℕ, zero, suc, ◌+◌, ◌*◌, ◌<◌, ◌≤◌, max, true, true≢false, ℤ, pos, negsuc, neg_ℤ, ◌*ℤ◌, List, [], ◌∷◌, length, map, Option, Some, None, arith, refl, sym, ap, subst, ◌∙◌}
+use Rattle.std.proofs.Common.{◌≡◌, ℕ, zero, suc, ◌+◌, ◌*◌, ◌<◌, ◌≤◌, max, true, false, true≢false, ℤ, pos, negsuc, neg_ℤ, ◌*ℤ◌, List, [], ◌∷◌, length, map, Option, Some, None, arith, refl, sym, ap, subst, ◌∙◌}
 use Rattle.std.specs.Prelude.{is_some}
 use Rattle.std.specs.List.{count_by, range_with_len, slice_get}
 use Rattle.smp_fractions.specs.Fractions.{Fraction, Same, whole, integer, inverse, times, sum_below}
@@ -9,6 +9,7 @@ use Rattle.smp_prob.specs.declared.inclusions.Inclusion.{Inclusion}
 use Rattle.smp_prob.specs.declared.inclusions.Inclusion.TheVariants.{Certain, Free, Never}
 use Rattle.smp_prob.specs.Inclusions.{fraction_at, inclusion}
 use Rattle.smp_design.specs.declared.method.Method.{Method}
+use Rattle.smp_design.specs.Words.{draws_together}
 use Rattle.smp_split.specs.Counts.{LeavesSelect, selected_count}
 use Rattle.smp_split.specs.Paths.{AtEachLeaf}
 use Rattle.smp_rows.proofs.Asked.{rows_select}
@@ -26,14 +27,15 @@ use Rattle.smp_strata.specs.Plans.{Parts}
 use Rattle.smp_strata.specs.Seats.{first_at, first_fraction, place_fraction, stage_fraction, unit_fraction}
 use Rattle.smp_strata.specs.declared.strata.FirstUnit.{FirstUnit}
 use Rattle.smp_strata.specs.declared.strata.Stratum.{Stratum}
-use Rattle.smp_twostage.specs.Kept.{EachStarts, StageStarts}
+use Rattle.smp_twostage.specs.Kept.{EachFirst, EachStarts, StageStarts}
 use Rattle.smp_twostage.specs.Plans.{CanBeDrawn}
-use Rattle.smp_twostage.specs.Selections.{Selecting, tree_of, belongs_to, first_stage, second_stage, stages_of, seats_of, states_of, first_number, place_of, whole_tree}
-use Rattle.smp_twostage.specs.Starts.{StartsWhole, FirstSelects, SecondSelects, known, row_fraction, weighted}
+use Rattle.smp_twostage.specs.Selections.{Selecting, tree_of, belongs_to, first_stage, second_stage, stages_of, seats_of, states_of, first_number, place_of}
+use Rattle.smp_twostage.specs.Starts.{StartsWhole, known, row_fraction, weighted}
 use Rattle.smp_twostage.specs.Laws.Numbering.{first_there, second_there}
 use Rattle.smp_twostage.specs.Laws.Staged.{length_seats, none_in, seconds_in}
 use Rattle.smp_twostage.proofs.Cubes.{drawn_by_cube}
 use Rattle.smp_twostage.proofs.Sizes.{firsts_around}
+use Rattle.smp_twostage.proofs.StartsBy.{FirstSelectsSo, SecondSelectsSo, StartsBy, starts_whole_by, tree_so}
 use Rattle.smp_twostage.proofs.Values.{row_value_is}
 
 pub each_belongs : (stages : List (Stage Selecting)) (states : List AnyState) → EachStarts stages states → EachBelongs tree_of belongs_to stages states
@@ -106,6 +108,12 @@ row_positive plan row =
     times_positive (first_fraction plan.strata seat.stratum seat.unit) (place_fraction (first_at plan.strata seat.stratum seat.unit) seat.place)
     (first_positive (slice_get plan.strata seat.stratum) seat.unit) (place_positive (first_at plan.strata seat.stratum seat.unit) seat.place)
 
+-- so a row whose value is its probability is known, weighted by it
+pub weighs_row : (plan : Parts) (row : ℕ) (asked value : Fraction) (x : ℤ) → Same asked (row_fraction plan row) → Same value (row_fraction plan row) → Same (times (weighted asked x) value) (integer (known asked x))
+weighs_row plan row asked value x same is =
+    let probability : IsProbability asked = probability_same asked (row_fraction plan row) same (row_positive plan row) in
+    same_trans (times_same (same_refl (weighted asked x)) (same_trans is (same_sym same))) (weighs_any asked probability.0 probability.1 x)
+
 -- ---- how many units are selected
 
 module _ (plan : Parts) (drawable : CanBeDrawn plan) (states : List AnyState) (each : EachStarts (stages_of plan) states)
@@ -120,7 +128,7 @@ module _ (plan : Parts) (drawable : CanBeDrawn plan) (states : List AnyState) (e
       rows_select stage.design.units stage.design.request (method_of stage.design.design).tree first here.serves (method_of stage.design.design).belongs n here.member.paired (here.adds_up fills.whole) fills.fills
 
   selected_so : (i n : ℕ) (stage : Stage Selecting) → slice_get (stages_of plan) i ≡ Some stage → IsFor stage.design.request stage.design.units n
-      → AtEachLeaf (whole_tree plan) start (λ path leaf. is_drawn tree_of (stages_of plan) leaf.states i ≡ true
+      → AtEachLeaf (tree_so false plan) start (λ path leaf. is_drawn tree_of (stages_of plan) leaf.states i ≡ true
       → count_by (λ unit. selected_in tree_of (stages_of plan) leaf.states (record { stage = i; unit = unit })) (range_with_len 0 stage.design.units) ≡ n)
   selected_so i n stage is_stage fills path leaf leads done drawn =
       let within = slice_get_within (stages_of plan) i stage is_stage in
@@ -134,12 +142,12 @@ module _ (plan : Parts) (drawable : CanBeDrawn plan) (states : List AnyState) (e
   first_drawn : (h : ℕ) (s : Stratum) → slice_get plan.strata h ≡ Some s → (leaves : List AnyState) → is_drawn tree_of (stages_of plan) leaves (first_number plan h) ≡ true
   first_drawn h s is leaves = rw (first_there plan h s is) refl
 
-  firsts : (h n : ℕ) (s : Stratum) → slice_get plan.strata h ≡ Some s → IsFor s.request (length s.units) n → FirstSelects plan start h s n
+  firsts : (h n : ℕ) (s : Stratum) → slice_get plan.strata h ≡ Some s → IsFor s.request (length s.units) n → FirstSelectsSo false plan start h s n
   firsts h n s is fills path leaf leads done =
       selected_so (first_number plan h) n (first_stage plan s) (first_there plan h s is) fills path leaf leads done (first_drawn h s is leaf.states)
 
   seconds : (method : Option Method) → plan.second ≡ method → (h k n : ℕ) (s : Stratum) (u : FirstUnit) (request : Request) → slice_get plan.strata h ≡ Some s → slice_get s.units k ≡ Some u → u.second ≡ Some request
-      → IsFor request (length u.rows) n → SecondSelects plan start h k u n
+      → IsFor request (length u.rows) n → SecondSelectsSo false plan start h k u n
   seconds (Some method) second h k n s u request is_s is_u asks fills path leaf leads done first =
       let there = second_there plan h s is_s method second (seconds_in plan drawable method second h s is_s) k u is_u request asks in
       let drawn : is_drawn tree_of (stages_of plan) leaf.states (suc (first_number plan h + k)) ≡ true = ap (λ o. drawn_within tree_of (stages_of plan) leaf.states (within_of o)) there ∙ (and_parts _ _ first).1 in
@@ -154,13 +162,11 @@ module _ (plan : Parts) (drawable : CanBeDrawn plan) (states : List AnyState) (e
   known_term : (asked : ℕ → Fraction) → ((row : ℕ) → row < plan.rows → Same (asked row) (row_fraction plan row)) → (x : ℕ → ℤ) → (row : ℕ) → row < plan.rows
       → Same (times (weighted (asked row) (x row)) (seat_value (unit_value tree_of (stages_of plan) states) (slice_get (seats_of plan) row))) (integer (known (asked row) (x row)))
   known_term asked same x row l =
-      let value = same_trans (row_value_is plan drawable states each row l) (same_sym (same row l)) in
-      let probability : IsProbability (asked row) = probability_same (asked row) (row_fraction plan row) (same row l) (row_positive plan row) in
-      same_trans (times_same (same_refl (weighted (asked row) (x row))) value) (weighs_any (asked row) probability.0 probability.1 (x row))
+      weighs_row plan row (asked row) (seat_value (unit_value tree_of (stages_of plan) states) (slice_get (seats_of plan) row)) (x row) (same row l) (row_value_is plan drawable states each row l)
 
-  starts_at : states ≡ states_of plan → StartsWhole plan start
-  starts_at states_are = record {
-    member = record { drawable = drawable; member = starts.member };
+  starts_at : states ≡ states_of plan → draws_together plan.method ≡ false → StartsBy false plan start
+  starts_at states_are apart = record {
+    member = starts.member;
     values = row_value_is plan drawable states each;
     probability = λ row l. same_trans (starts.probability row (omega (arith, l, length_seats plan drawable))) (row_value_is plan drawable states each row l);
     unbiased = λ asked same x.
@@ -171,8 +177,10 @@ module _ (plan : Parts) (drawable : CanBeDrawn plan) (states : List AnyState) (e
     firsts = firsts;
     seconds = seconds plan.second refl;
     around = λ other h s is. firsts_around plan drawable other states each h s is starts.paths;
-    cubes = λ balance path ends goes h s is. drawn_by_cube plan drawable path ends goes h s is balance;
-    paths = subst (λ (qs : List AnyState). AtEachLeaf (whole_tree plan) start (λ path leaf. GoesByStages tree_of (stages_of plan) qs path leaf.states)) states_are starts.paths;
+    cubes = λ balance apart path ends goes h s is. drawn_by_cube plan drawable path ends goes h s is balance apart;
+    drawn = λ together. absurd (true≢false (sym together ∙ apart));
+    balanced = λ together. absurd (true≢false (sym together ∙ apart));
+    paths = subst (λ (qs : List AnyState). AtEachLeaf (tree_so false plan) start (λ path leaf. GoesByStages tree_of (stages_of plan) qs path leaf.states)) states_are starts.paths;
   }
 
 -- the states are those from which the stages start
@@ -185,8 +193,14 @@ states_are (s ∷ stages) (t ∷ states) each =
     let rest = states_are stages states (record { paired = omega (arith, each.paired); each = λ i. each.each (suc i) }) in
     ap (λ (u : AnyState). u ∷ states) is ∙ ap (λ (us : List AnyState). first_state s.design.design ∷ us) rest
 
+-- each is in its first state, which is one of its own
+pub each_first : (stages : List (Stage Selecting)) (states : List AnyState) → EachStarts stages states → EachFirst stages states
+each_first stages states each = record { are = states_are stages states each; belong = each_belongs stages states each }
+
 pub starts_whole : (plan : Parts) → CanBeDrawn plan → (states : List AnyState) → EachStarts (stages_of plan) states
-    → (state : Progress AnyState) → state ≡ progress tree_of (stages_of plan) states → StartsInStages tree_of belongs_to (stages_of plan) (seats_of plan) states state → StartsWhole plan state
-starts_whole plan drawable states each state is starts =
-    subst (StartsWhole plan) (sym is)
-    (starts_at plan drawable states each (subst (StartsInStages tree_of belongs_to (stages_of plan) (seats_of plan) states) is starts) (states_are (stages_of plan) states each))
+    → (state : Progress AnyState) → state ≡ progress tree_of (stages_of plan) states → StartsInStages tree_of belongs_to (stages_of plan) (seats_of plan) states state → draws_together plan.method ≡ false → StartsWhole plan state
+starts_whole plan drawable states each state is starts apart =
+    starts_whole_by plan drawable state
+    (subst (λ b. StartsBy b plan state) (sym apart)
+    (subst (StartsBy false plan) (sym is)
+    (starts_at plan drawable states each (subst (StartsInStages tree_of belongs_to (stages_of plan) (seats_of plan) states) is starts) (states_are (stages_of plan) states each) apart)))

@@ -1,10 +1,11 @@
 -- What is told of a stratum that is drawn by the cube can be told.
-use Rattle.std.proofs.Common.{◌≡◌, ℕ, ◌+◌, ◌-◌, ◌^◌, ◌<◌, ◌≤◌, Bool, true, false, true≢false, ℤ, List, length, map, take, Option, Some, None, refl, sym, ap, ◌∙◌, subst, arith, length-take}
-use Rattle.std.specs.List.{range_with_len, slice_get}
+use Rattle.std.proofs.Common.{◌≡◌, ℕ, ◌+◌, ◌-◌, ◌^◌, ◌<◌, ◌≤◌, Bool, true, false, true≢false, ℤ, List, [], ◌∷◌, length, map, get_or, take, Option, Some, None, refl, sym, ap, ◌∙◌, subst, arith, length-take}
+use Rattle.std.specs.Prelude.{◌||◌}
+use Rattle.std.specs.List.{slice_get}
 use Rattle.std.specs.Int.RustNames.{unsigned_abs}
 use Rattle.std.proofs.lemmas.Bool.{and_parts, eqb-true}
 use Rattle.std.proofs.lemmas.List.{length-map}
-use Rattle.std.proofs.lemmas.List.Elements.{All-from_get_or, All-map, All-take, All-weaker, filter_passes}
+use Rattle.std.proofs.lemmas.List.Elements.{All-from_get_or, All-map, All-take, All-weaker}
 use Rattle.smp_prob.specs.declared.inclusions.Inclusion.{Inclusion}
 use Rattle.smp_prob.specs.declared.inclusions.Inclusion.TheVariants.{Certain, Free, Never}
 use Rattle.smp_prob.specs.Inclusions.{is_taken, inclusion}
@@ -21,21 +22,22 @@ use Rattle.smp_methods.specs.Designs.{method_of}
 use Rattle.smp_methods.proofs.Wholes.{takes_some}
 use Rattle.smp_methods.proofs.Columns.{are_values}
 use Rattle.smp_stages.specs.declared.places.Stage.{Stage}
-use Rattle.smp_stages.specs.Stages.{is_drawn, read, unit_selected}
+use Rattle.smp_stages.specs.declared.places.Place.{Place}
+use Rattle.smp_stages.specs.Stages.{is_drawn, read, selected_in, unit_selected}
 use Rattle.smp_strata.specs.Bounds.{IsFirst}
 use Rattle.smp_strata.specs.Plans.{Parts}
 use Rattle.smp_strata.specs.declared.strata.FirstUnit.{FirstUnit}
 use Rattle.smp_strata.specs.declared.strata.Stratum.{Stratum}
-use Rattle.smp_twostage.specs.Covered.{covered_first, covered_number}
+use Rattle.smp_twostage.specs.Covered.{covered_first}
 use Rattle.smp_twostage.specs.Cubes.{balancing}
 use Rattle.smp_twostage.specs.Kept.{IsPlanned}
 use Rattle.smp_twostage.specs.Lines.{drawn_stratum}
 use Rattle.smp_twostage.specs.Plans.{CanBeDrawn}
-use Rattle.smp_twostage.specs.Selections.{Coverage, Selecting, balance_count, covered_parts, covers, first_number, first_stage, is_only, parts_by, stages_of, tree_of}
-use Rattle.smp_twostage.specs.Starts.{first_selected}
+use Rattle.smp_twostage.specs.Selections.{Coverage, Selecting, balance_count, covered_number, covered_parts, covers, first_number, first_place_by, first_stage, is_only, is_together, parts_by, place_together, stage_of_strata, stages_by, stages_of, tree_of}
 use Rattle.smp_twostage.specs.Laws.Covered.{alone_there}
 use Rattle.smp_twostage.specs.Laws.Numbering.{first_there}
-use Rattle.smp_twostage.proofs.Columns.{columns_are, is_planned, near_within}
+use Rattle.smp_twostage.proofs.Columns.{are_over, columns_are, is_planned, near_within}
+use Rattle.smp_twostage.proofs.OverAll.{free_before, stands_behind, stands_over}
 use Rattle.smp_twostage.proofs.Numbers.{passing}
 
 -- ---- a first stage unit that is selected can be
@@ -45,16 +47,17 @@ taken_open chosen Certain taken = refl
 taken_open chosen (Free unit) taken = refl
 taken_open chosen Never taken = absurd (true≢false (sym taken))
 
-module _ (parts : Parts) (states : List AnyState) where
-  open_at : (stage : Stage Selecting) (unit : ℕ) (state : Option AnyState) → read tree_of false (λ tree s. tree.selected s unit) (Some stage) state ≡ true → can_be_selected (inclusion stage.design.request unit) ≡ true
-  open_at stage unit (Some state) selected = taken_open ((method_of stage.design.design).tree.selected state) (inclusion stage.design.request unit) selected
-  open_at stage unit None selected = absurd (true≢false (sym selected))
+open_at : (stage : Stage Selecting) (unit : ℕ) (state : Option AnyState) → read tree_of false (λ tree s. tree.selected s unit) (Some stage) state ≡ true → can_be_selected (inclusion stage.design.request unit) ≡ true
+open_at stage unit (Some state) selected = taken_open ((method_of stage.design.design).tree.selected state) (inclusion stage.design.request unit) selected
+open_at stage unit None selected = absurd (true≢false (sym selected))
 
-  first_open : (n : ℕ) (s : Stratum) → slice_get parts.strata n ≡ Some s → (k : ℕ) → first_selected parts states n k ≡ true → can_be_selected (inclusion s.request k) ≡ true
-  first_open n s is k selected =
-      let both = and_parts (is_drawn tree_of (stages_of parts) states (first_number parts n)) (unit_selected tree_of (stages_of parts) states (record { stage = first_number parts n; unit = k })) selected in
-      open_at (first_stage parts s) k (slice_get states (first_number parts n))
-      (ap (λ o. read tree_of false (λ tree t. tree.selected t k) o (slice_get states (first_number parts n))) (sym (first_there parts n s is)) ∙ both.1)
+-- a unit of a stage that is selected there
+stage_open : (stages : List (Stage Selecting)) (states : List AnyState) (place : Place) (stage : Stage Selecting) → slice_get stages place.stage ≡ Some stage → selected_in tree_of stages states place ≡ true
+    → can_be_selected (inclusion stage.design.request place.unit) ≡ true
+stage_open stages states place stage is selected =
+    let both = and_parts (is_drawn tree_of stages states place.stage) (unit_selected tree_of stages states place) selected in
+    open_at stage place.unit (slice_get states place.stage)
+    (ap (λ o. read tree_of false (λ tree t. tree.selected t place.unit) o (slice_get states place.stage)) (sym is) ∙ both.1)
 
 -- ---- the strata that are covered
 
@@ -65,9 +68,24 @@ module _ (plan : Parts) (h : ℕ) (s : Stratum) (is : slice_get plan.strata h �
       let same : h ≡ one = eqb-true h one covered in
       alone_there plan one s (ap (slice_get plan.strata) (sym same) ∙ is)
 
-covered_open : (c : Coverage) (states : List AnyState) (h : ℕ) (s : Stratum) → slice_get c.plan.strata h ≡ Some s → covers c h ≡ true → (k : ℕ) → covered_first c states h k ≡ true → can_be_selected (inclusion s.request k) ≡ true
-covered_open c states h s is covered k selected =
-    first_open (covered_parts c) states (covered_number c h) s (there_by c.plan h s is c.only (and_parts _ _ covered).1) k selected
+-- a unit that stands among all can be selected where it can in its stratum
+open_behind : (before : ℕ) (stands : Inclusion) → can_be_selected (stands_behind before stands) ≡ true → can_be_selected stands ≡ true
+open_behind before Certain can = refl
+open_behind before (Free unit) can = refl
+open_behind before Never can = can
+
+module _ (c : Coverage) (drawable : CanBeDrawn c.plan) (states : List AnyState) (h : ℕ) (s : Stratum) (is : slice_get c.plan.strata h ≡ Some s) (k : ℕ) (l : k < length s.units) where
+  open_by : (together : Bool) → (together || is_only c.only h) ≡ true → selected_in tree_of (stages_by together c) states (first_place_by together c h k) ≡ true → can_be_selected (inclusion s.request k) ≡ true
+  open_by true covered selected =
+      let can = stage_open (stage_of_strata c.plan ∷ []) states (place_together c.plan.strata h k) (stage_of_strata c.plan) refl selected in
+      open_behind (free_before c.plan.strata h) (inclusion s.request k)
+      (ap can_be_selected (sym (stands_over c.plan.strata (are_over c.plan drawable) h k s is l)) ∙ can)
+  open_by false covered selected =
+      stage_open (stages_of (covered_parts c)) states (record { stage = first_number (covered_parts c) (covered_number c h); unit = k }) (first_stage (covered_parts c) s)
+      (first_there (covered_parts c) (covered_number c h) s (there_by c.plan h s is c.only covered)) selected
+
+  pub covered_open : covers c h ≡ true → covered_first c states h k ≡ true → can_be_selected (inclusion s.request k) ≡ true
+  covered_open covered selected = open_by (is_together c) (and_parts _ _ covered).1 selected
 
 -- ---- the stratum, as the cube draws from it
 
@@ -108,8 +126,8 @@ module _ (c : Coverage) (drawable : CanBeDrawn c.plan) (balance : balances c.pla
     few = (let few = (is_planned c.plan drawable h s is).stratum.few in omega (arith, few, length-map s.units (cut c.plan drawable balance h s is)));
     columns = refl;
     units =
-        All-weaker (λ k. covered_first c states h k ≡ true) (λ k. can_be_selected (inclusion s.request k) ≡ true) (λ k selected. covered_open c states h s is covered k selected)
-        (drawn_stratum c states h s).units (filter_passes (covered_first c states h) (range_with_len 0 (length s.units)));
+        All-from_get_or (λ k. can_be_selected (inclusion s.request k) ≡ true) (drawn_stratum c states h s).units 0
+        (λ i l. let its = passing (covered_first c states h) 0 0 (length s.units) i l in covered_open c drawable states h s is (get_or (drawn_stratum c states h s).units i 0) (omega (arith, its.0)) covered its.1);
     within =
         All-from_get_or (λ k. k < length (map (λ u. take (balance_count c.plan s) u.values) s.units)) (drawn_stratum c states h s).units 0
         (λ i l. let below = (passing (covered_first c states h) 0 0 (length s.units) i l).0 in omega (arith, below, length-map s.units (cut c.plan drawable balance h s is)));

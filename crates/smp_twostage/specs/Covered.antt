@@ -1,56 +1,52 @@
 -- The strata that a selection covers: what is read of each, and what the selection of one stratum alone starts with.
-use Rattle.std.specs.Prelude.{◌≡◌, ℕ, ◌<◌, Bool, false, if◌then◌else◌, List, Option, Some, None}
+use Rattle.std.specs.Prelude.{◌≡◌, ℕ, ◌<◌, Bool, false, if◌then◌else◌, List}
+use Rattle.std.specs.List.{slice_get}
 use Rattle.smp_fractions.specs.Fractions.{Fraction, Same, whole}
 use Rattle.smp_split.specs.Means.{inclusion_probability}
 use Rattle.smp_split.specs.Sectioning.{IsPartOf}
 use Rattle.smp_methods.specs.declared.any.AnyState.{AnyState}
 use Rattle.smp_stages.specs.OwnStages.{own_progress}
-use Rattle.smp_stages.specs.Stages.{Progress}
+use Rattle.smp_stages.specs.Stages.{Progress, selected_in}
 use Rattle.smp_strata.specs.Plans.{Parts}
-use Rattle.smp_twostage.specs.Selections.{Coverage, BelongsToCovered, BelongsToWhole, all_of, covered_parts, covered_stages, covered_tree}
-use Rattle.smp_twostage.specs.Selections.{first_number, is_of_stratum, one_of, start_of, strata_sections, tree_of, whole_tree}
-use Rattle.smp_twostage.specs.Starts.{first_selected, left_in, row_fraction}
+use Rattle.smp_twostage.specs.Selections.{Coverage, BelongsToCovered, BelongsToWhole, all_of, covered_stages, covered_tree, first_place}
+use Rattle.smp_twostage.specs.Selections.{is_of_section, one_of, stages_before, start_of, strata_sections, tree_of, whole_tree}
+use Rattle.smp_twostage.specs.Starts.{left_by, row_fraction}
 
 -- ---- what is read of a stratum
 
--- the number of a stratum among those that are covered
-abbrev pub number_by : Option ℕ → ℕ → ℕ
-number_by None h = h
-number_by (Some only) h = 0
-
-abbrev pub covered_number : Coverage → ℕ → ℕ
-covered_number c h = number_by c.only h
-
--- whether a first stage unit of a stratum is selected, and how many of them were undecided where the landing of its cube began
+-- whether a first stage unit of a stratum is selected, and how many of them were undecided where the landing of its cube began; where all
+-- strata are drawn together, how many of all strata
 abbrev pub covered_first : Coverage → List AnyState → ℕ → ℕ → Bool
-covered_first c states h k = first_selected (covered_parts c) states (covered_number c h) k
+covered_first c states h k = selected_in tree_of (covered_stages c) states (first_place c h k)
 
 abbrev pub covered_left : Coverage → List AnyState → ℕ → ℕ
-covered_left c states h = left_in (covered_parts c) states (covered_number c h)
+covered_left c states h =
+    left_by (slice_get (covered_stages c) (first_place c h 0).stage)
+    (slice_get states (first_place c h 0).stage)
 
--- ---- one stratum alone
+-- ---- one section alone: a stratum, or all strata that are drawn together
 
--- the probability that a plan gives a row of stratum h, and 0 for each other row
+-- the probability that a plan gives a row of section h, and 0 for each other row
 abbrev pub alone_fraction : Parts → ℕ → ℕ → Fraction
-alone_fraction plan h row = if is_of_stratum plan h row then row_fraction plan row else whole 0
+alone_fraction plan h row = if is_of_section plan h row then row_fraction plan row else whole 0
 
--- the state of stratum h in a state of the whole selection
+-- the state of section h in a state of the whole selection
 abbrev pub state_alone : Parts → ℕ → Progress AnyState → Progress AnyState
-state_alone plan h s = own_progress tree_of (first_number plan h) (covered_stages (one_of plan h)) s
+state_alone plan h s = own_progress tree_of (stages_before (all_of plan) h) (covered_stages (one_of plan h)) s
 
--- What holds of the start of a selection of stratum h alone.
+-- What holds of the start of a selection of section h alone.
 pub record StartsAlone (plan : Parts) (h : ℕ) (start : Progress AnyState) : Type 0 where
   pub member : BelongsToCovered (one_of plan h) start
-  -- Each row of the stratum has the value that the plan gives it, and exactly that probability of selection. Each other row has 0.
+  -- Each row of the section has the value that the plan gives it, and exactly that probability of selection. Each other row has 0.
   pub values : (row : ℕ) → row < plan.rows
       → Same ((covered_tree (one_of plan h)).value start row) (alone_fraction plan h row)
   pub probability : (row : ℕ) → row < plan.rows
       → Same (inclusion_probability (covered_tree (one_of plan h)) start row)
       (alone_fraction plan h row)
-  -- No row of another stratum is selected.
-  pub others : (row : ℕ) → row < plan.rows → is_of_stratum plan h row ≡ false
+  -- No row of another section is selected.
+  pub others : (row : ℕ) → row < plan.rows → is_of_section plan h row ≡ false
       → (s : Progress AnyState) → (covered_tree (one_of plan h)).selected s row ≡ false
-  -- It is a part of the whole selection: in the stratum's section both make the same steps, from the state that the start has of it.
+  -- It is a part of the whole selection: in the section both make the same steps, from the state that the start has of it.
   pub part : IsPartOf (whole_tree plan) (BelongsToWhole plan) (strata_sections (all_of plan)) h
-      (covered_tree (one_of plan h)) (state_alone plan h) (is_of_stratum plan h)
+      (covered_tree (one_of plan h)) (state_alone plan h) (is_of_section plan h)
   pub state : start ≡ state_alone plan h (start_of plan)

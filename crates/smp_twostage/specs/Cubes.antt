@@ -1,5 +1,5 @@
 -- What the cube draws of a stratum, on the way to a leaf of the whole selection.
-use Rattle.std.specs.Prelude.{◌≡◌, ℕ, true, List, Some}
+use Rattle.std.specs.Prelude.{◌≡◌, ℕ, true, List, Some, map}
 use Rattle.std.specs.List.{slice_get}
 use Rattle.smp_split.specs.Paths.{Entry, Leads}
 use Rattle.smp_flight.specs.Selections.{Balancing, Selection, starting}
@@ -7,13 +7,15 @@ use Rattle.smp_localpiv.specs.Coordinates.{points_from}
 use Rattle.smp_landing.specs.Cube.{cube_of}
 use Rattle.smp_localcube.specs.Local.{local_of}
 use Rattle.smp_localcube.specs.Method.{LocalUnits, started}
-use Rattle.smp_balance.specs.Strata.{free_units, free_values}
+use Rattle.smp_stratcube.specs.Cube as together
+use Rattle.smp_stratcube.specs.Units as strata
+use Rattle.smp_balance.specs.Strata.{StratumUnits, free_units, free_values}
 use Rattle.smp_design.specs.declared.method.Method.TheVariants as method
 use Rattle.smp_methods.specs.declared.any.AnyState.{AnyState}
 use Rattle.smp_methods.specs.declared.any.AnyState.TheVariants as states
 use Rattle.smp_strata.specs.Plans.{Parts}
 use Rattle.smp_strata.specs.declared.strata.Stratum.{Stratum}
-use Rattle.smp_twostage.specs.Selections.{balance_count, first_number, valued}
+use Rattle.smp_twostage.specs.Selections.{balance_count, first_number, layers_of, valued}
 pub use Rattle.smp_twostage.specs.Selections.{balancing}
 
 -- The stratum's part of a path leads through the tree of a selection, from a state to a leaf, and it ends the selection in the stratum.
@@ -46,3 +48,20 @@ abbrev pub leaf_of : {plan : Parts} {h : ℕ} {s : Stratum} {part : List Entry} 
     → IsDrawnByCube plan h s part ends → Balancing
 leaf_of (by_cube is drawn) = drawn.leaf
 leaf_of (by_local_cube is drawn) = drawn.leaf.at
+
+-- ---- all strata together
+
+-- all strata as they are balanced
+abbrev pub frame_of : Parts → List StratumUnits
+frame_of plan = map (balancing plan) plan.strata
+
+-- the units of all strata that are free, as they are balanced together
+abbrev pub units_together : Parts → strata.Units
+units_together plan = strata.units_of (layers_of plan)
+
+-- The path leads from the requested probabilities to a leaf of the cube over all strata, and it ends the selection.
+pub record IsDrawnTogether (plan : Parts) (part : List Entry) (ends : List AnyState) : Type 0 where
+  pub leaf : together.Balancing
+  pub leaf_is : slice_get ends 0 ≡ Some (states.StratifiedCube leaf)
+  pub leads : Leads (together.strat_tree (units_together plan)) (together.started (units_together plan)) part leaf
+  pub ended : (together.strat_tree (units_together plan)).done leaf ≡ true

@@ -1,7 +1,8 @@
 -- The whole selection by a plan, in stages. Strata are drawn in order of first appearance. In each its first stage units are drawn,
 -- and then, where there is a second stage, rows within each of those that were drawn, certain ones among them (Särndal, Swensson and
--- Wretman 1992).
-use Rattle.std.specs.Prelude.{ℕ, zero, Bool, true, suc, ◌+◌, ◌-◌, nat_eq, nat_lt, ◌&&◌, if◌then◌else◌, List, [], ◌∷◌}
+-- Wretman 1992). A method that draws all strata together has one stage for them.
+use Rattle.std.specs.Prelude.{ℕ, zero, Bool, true, false, suc, ◌+◌, ◌-◌, nat_eq, nat_lt, ◌&&◌, ◌||◌, if◌then◌else◌}
+use Rattle.std.specs.Prelude.{List, [], ◌∷◌}
 use Rattle.std.specs.Prelude.{◌++◌, length, map, take, drop, Option, Some, None, option_map, unwrap_or}
 use Rattle.std.specs.List.{slice_get, list_any, position_or_len, range_with_len}
 use Rattle.smp_balance.specs.Strata.{StratumUnits, column_count, free_values}
@@ -11,19 +12,22 @@ use Rattle.smp_split.specs.Sectioning.{Sectioning}
 use Rattle.smp_split.specs.Trees.{Tree}
 use Rattle.smp_rows.specs.Rows.{rows_tree, BelongsToRows}
 use Rattle.smp_design.specs.declared.method.Method.{Method}
+use Rattle.smp_design.specs.Words.{draws_together}
 use Rattle.smp_methods.specs.declared.any.AnyDesign.{AnyDesign}
 use Rattle.smp_methods.specs.declared.any.AnyState.{AnyState}
 use Rattle.smp_methods.specs.Procedures.{procedure}
-use Rattle.smp_methods.specs.Designs.{design_of, first_state, method_of}
+use Rattle.smp_methods.specs.Designs.{design_of, design_of_strata, first_state, method_of}
 use Rattle.smp_strata.specs.Plans.{Parts}
 use Rattle.smp_strata.specs.declared.strata.FirstUnit as unit
 use Rattle.smp_strata.specs.declared.strata.Seat as place
 use Rattle.smp_strata.specs.declared.strata.Stratum as stratum
+use Rattle.smp_stages.specs.declared.places.Place.{Place}
 use Rattle.smp_stages.specs.declared.places.Seat.{Seat}
 use Rattle.smp_stages.specs.declared.places.Seat.TheVariants.{Nowhere, First, Second}
 use Rattle.smp_stages.specs.declared.places.Stage.{Stage}
 use Rattle.smp_stages.specs.OwnStages.{sections_by}
 use Rattle.smp_stages.specs.Stages.{Progress, IsUnderWay, progress, staged_tree}
+use Rattle.smp_stratcube.specs.Layers.{Layer, layer_of}
 use Rattle.smp_twostage.specs.Plans.{CanBeDrawn}
 
 -- ---- how the units of one stage are drawn
@@ -119,6 +123,54 @@ stages_of plan = stages_below plan (length plan.strata)
 abbrev pub first_number : Parts → ℕ → ℕ
 first_number plan h = length (stages_below plan h)
 
+-- ---- strata that are drawn together
+
+-- how many first stage units the first h strata have, and all
+abbrev pub units_before : List stratum.Stratum → ℕ → ℕ
+units_before [] h = 0
+units_before (s ∷ strata) zero = 0
+units_before (s ∷ strata) (suc h) = length s.units + units_before strata h
+
+abbrev pub unit_count : List stratum.Stratum → ℕ
+unit_count strata = units_before strata (length strata)
+
+-- the certain units of all strata, and the free ones, by their numbers among the units of all: the strata stand one after another, and so
+-- many units stand before them
+abbrev pub certain_from : ℕ → List stratum.Stratum → List ℕ
+certain_from before [] = []
+certain_from before (s ∷ strata) =
+    map (λ unit. before + unit) s.request.certain ++ certain_from (before + length s.units) strata
+
+abbrev pub free_from : ℕ → List stratum.Stratum → List ℕ
+free_from before [] = []
+free_from before (s ∷ strata) =
+    map (λ unit. before + unit) s.request.free ++ free_from (before + length s.units) strata
+
+-- Where the units of all strata stand. It has no shapes: the probability of a free unit is what the request of its stratum says.
+abbrev pub request_over : List stratum.Stratum → Request
+request_over strata = record {
+  certain = certain_from 0 strata;
+  free = free_from 0 strata;
+  shape = [];
+  r = 0;
+  total = 0;
+}
+
+-- the free units of each stratum, with their balancing values
+abbrev pub layers_of : Parts → List Layer
+layers_of plan = map (λ s. layer_of s.request (free_values (balancing plan s))) plan.strata
+
+-- the stage of all strata: their first stage units, drawn together
+abbrev pub stage_of_strata : Parts → Stage Selecting
+stage_of_strata plan = record {
+  design = record {
+    units = unit_count plan.strata;
+    request = request_over plan.strata;
+    design = design_of_strata (layers_of plan);
+  };
+  within = None;
+}
+
 -- ---- where the rows are selected
 
 -- The seat of the row at this place of the plan, where its stratum's first stage has the number `at`: its first stage unit, and with a
@@ -162,6 +214,18 @@ place_of strata row =
 abbrev pub seats_of : Parts → List Seat
 seats_of plan = map (λ row. seat_of plan (place_of plan.strata row)) (range_with_len 0 plan.rows)
 
+-- where unit k of stratum h stands where all strata are drawn together, in the one stage; the seat of a row then, and those of all rows
+abbrev pub place_together : List stratum.Stratum → ℕ → ℕ → Place
+place_together strata h k = record { stage = 0; unit = units_before strata h + k }
+
+abbrev pub seat_together : Parts → ℕ → Seat
+seat_together plan row =
+    let p = place_of plan.strata row in
+    First (place_together plan.strata p.stratum p.unit)
+
+abbrev pub seats_together : Parts → List Seat
+seats_together plan = map (seat_together plan) (range_with_len 0 plan.rows)
+
 -- the states from which the stages start
 abbrev pub states_of : Parts → List AnyState
 states_of plan = map (λ stage. first_state stage.design.design) (stages_of plan)
@@ -181,15 +245,20 @@ all_of plan = record { plan = plan; only = None }
 abbrev pub one_of : Parts → ℕ → Coverage
 one_of plan h = record { plan = plan; only = Some h }
 
--- whether stratum h of the plan is drawn, and how many are
+-- whether stratum h is drawn, by the number of the one that is drawn alone
 abbrev pub is_only : Option ℕ → ℕ → Bool
 is_only None h = true
 is_only (Some only) h = nat_eq h only
 
-abbrev pub covers : Coverage → ℕ → Bool
-covers c h = nat_lt h (length c.plan.strata) && is_only c.only h
+-- whether all strata are drawn together
+abbrev pub is_together : Coverage → Bool
+is_together c = draws_together c.plan.method
 
--- how many strata are drawn, of so many
+-- whether stratum h of the plan is drawn: where all strata are drawn together, each is
+abbrev pub covers : Coverage → ℕ → Bool
+covers c h = nat_lt h (length c.plan.strata) && (is_together c || is_only c.only h)
+
+-- how many strata are drawn one by one, of so many
 abbrev pub count_by : Option ℕ → ℕ → ℕ
 count_by None n = n
 count_by (Some h) n = 1
@@ -205,16 +274,49 @@ parts_by plan (Some h) = record plan { strata = take 1 (drop h plan.strata) }
 abbrev pub covered_parts : Coverage → Parts
 covered_parts c = parts_by c.plan c.only
 
--- the stages, and the state before the first step
+-- the stages: one of all strata, or those of the strata that are drawn
+abbrev pub stages_by : Bool → Coverage → List (Stage Selecting)
+stages_by true c = stage_of_strata c.plan ∷ []
+stages_by false c = stages_of (covered_parts c)
+
 abbrev pub covered_stages : Coverage → List (Stage Selecting)
-covered_stages c = stages_of (covered_parts c)
+covered_stages c = stages_by (is_together c) c
+
+-- the states from which they start, and the state before the first step
+abbrev pub covered_states : Coverage → List AnyState
+covered_states c = map (λ stage. first_state stage.design.design) (covered_stages c)
 
 abbrev pub covered_start : Coverage → Progress AnyState
-covered_start c = progress tree_of (covered_stages c) (states_of (covered_parts c))
+covered_start c = progress tree_of (covered_stages c) (covered_states c)
+
+-- the number of a stratum among those that are drawn one by one
+abbrev pub number_by : Option ℕ → ℕ → ℕ
+number_by None h = h
+number_by (Some only) h = 0
+
+abbrev pub covered_number : Coverage → ℕ → ℕ
+covered_number c h = number_by c.only h
+
+-- where unit k of stratum h stands in the stages
+abbrev pub first_place_by : Bool → Coverage → ℕ → ℕ → Place
+first_place_by true c h k = place_together c.plan.strata h k
+first_place_by false c h k =
+    record { stage = first_number (covered_parts c) (covered_number c h); unit = k }
+
+abbrev pub first_place : Coverage → ℕ → ℕ → Place
+first_place c = first_place_by (is_together c) c
 
 -- whether a row is one of stratum h
 abbrev pub is_of_stratum : Parts → ℕ → ℕ → Bool
 is_of_stratum plan h row = nat_eq (place_of plan.strata row).stratum h
+
+-- whether a row is one of section h: of its stratum, or any where all strata are drawn together
+abbrev pub is_in_section : Bool → Parts → ℕ → ℕ → Bool
+is_in_section true plan h row = true
+is_in_section false plan h row = is_of_stratum plan h row
+
+abbrev pub is_of_section : Parts → ℕ → ℕ → Bool
+is_of_section plan h row = is_in_section (draws_together plan.method) plan h row
 
 -- the seat of a row where stratum h is drawn alone, whose first stage has the number 0; rows of other strata have none
 abbrev pub seat_alone : Parts → ℕ → ℕ → Seat
@@ -226,8 +328,13 @@ abbrev pub seats_by : Parts → Option ℕ → List Seat
 seats_by plan None = seats_of plan
 seats_by plan (Some h) = map (seat_alone plan h) (range_with_len 0 plan.rows)
 
+-- the same, in the one stage where all strata are drawn together
+abbrev pub seats_in : Bool → Coverage → List Seat
+seats_in true c = seats_together c.plan
+seats_in false c = seats_by c.plan c.only
+
 abbrev pub covered_seats : Coverage → List Seat
-covered_seats c = seats_by c.plan c.only
+covered_seats c = seats_in (is_together c) c
 
 -- the draw tree, whose units are the rows of the frame
 abbrev pub covered_tree : Coverage → Tree (Progress AnyState)
@@ -238,9 +345,23 @@ pub record BelongsToCovered (c : Coverage) (state : Progress AnyState) : Type 0 
   pub drawable : CanBeDrawn c.plan
   pub member : IsUnderWay tree_of belongs_to (covered_stages c) state
 
--- each stratum that is drawn is a section
+-- Each stratum that is drawn is a section, or all strata are one: how many sections there are, and how many stages stand before one.
+abbrev pub section_count_by : Bool → Coverage → ℕ
+section_count_by true c = 1
+section_count_by false c = strata_count c
+
+abbrev pub section_count : Coverage → ℕ
+section_count c = section_count_by (is_together c) c
+
+abbrev pub stages_before_by : Bool → Coverage → ℕ → ℕ
+stages_before_by true c h = h
+stages_before_by false c h = first_number (covered_parts c) h
+
+abbrev pub stages_before : Coverage → ℕ → ℕ
+stages_before c = stages_before_by (is_together c) c
+
 abbrev pub strata_sections : Coverage → Sectioning (Progress AnyState)
-strata_sections c = sections_by (first_number (covered_parts c)) (strata_count c)
+strata_sections c = sections_by (stages_before c) (section_count c)
 
 -- ---- the whole selection
 

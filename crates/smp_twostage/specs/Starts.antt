@@ -6,7 +6,7 @@ use Rattle.smp_fractions.specs.Bounds.{IsAround}
 use Rattle.smp_fractions.specs.Fractions.{Fraction, Same, integer, inverse, times, sum_below}
 use Rattle.smp_split.specs.Means.{mean, inclusion_probability}
 use Rattle.smp_split.specs.Paths.{AtEachLeaf, Entry}
-use Rattle.smp_design.specs.Words.{balances}
+use Rattle.smp_design.specs.Words.{balances, draws_together}
 use Rattle.smp_prob.specs.declared.requests.Request.{Request}
 use Rattle.smp_methods.specs.declared.any.AnyState.{AnyState}
 use Rattle.smp_strata.specs.Draws.{IsFor, expected_firsts}
@@ -18,8 +18,10 @@ use Rattle.smp_methods.specs.Designs.{left_at}
 use Rattle.smp_stages.specs.declared.places.Stage.{Stage}
 use Rattle.smp_stages.specs.Stages.{Progress, selected_in}
 use Rattle.smp_stages.specs.Paths.{GoesByStages}
-use Rattle.smp_twostage.specs.Cubes.{IsDrawnByCube}
-use Rattle.smp_twostage.specs.Selections.{Selecting, BelongsToWhole, tree_of, stages_of, states_of, first_number, place_of, whole_tree}
+use Rattle.smp_balance.specs.FrameTotals.{IsBalancedFrame}
+use Rattle.smp_twostage.specs.Cubes.{IsDrawnByCube, IsDrawnTogether, frame_of}
+use Rattle.smp_twostage.specs.Selections.{Selecting, BelongsToWhole, all_of, covered_stages, covered_states, first_number, first_place}
+use Rattle.smp_twostage.specs.Selections.{place_of, tree_of, whole_tree}
 
 -- the probability that a plan gives a row
 abbrev pub row_fraction : Parts → ℕ → Fraction
@@ -47,22 +49,17 @@ weighted asked x = times (integer (known asked x)) (inverse asked)
 -- the stages are in these states
 abbrev pub first_selected : Parts → List AnyState → ℕ → ℕ → Bool
 first_selected plan states h k =
-    selected_in tree_of (stages_of plan) states (record { stage = first_number plan h; unit = k })
+    selected_in tree_of (covered_stages (all_of plan)) states (first_place (all_of plan) h k)
 
 abbrev pub second_selected : Parts → List AnyState → ℕ → ℕ → ℕ → Bool
 second_selected plan states h k row =
-    selected_in tree_of (stages_of plan) states
-    (record { stage = suc (first_number plan h + k); unit = row })
+    selected_in tree_of (covered_stages (all_of plan)) states
+    (record { stage = suc ((first_place (all_of plan) h k).stage + k); unit = row })
 
--- how many of the units of stratum h were undecided where the landing of its cube began, and 0 by any other method
+-- how many units were undecided where the landing of a stage's cube began, and 0 by any other method
 abbrev pub left_by : Option (Stage Selecting) → Option AnyState → ℕ
 left_by (Some stage) (Some state) = left_at stage.design.design state
 left_by stage state = 0
-
-abbrev pub left_in : Parts → List AnyState → ℕ → ℕ
-left_in plan states h =
-    left_by (slice_get (stages_of plan) (first_number plan h))
-    (slice_get states (first_number plan h))
 
 -- at each leaf n of the first stage units of stratum h are selected
 abbrev pub FirstSelects : Parts → Progress AnyState → ℕ → stratum.Stratum → ℕ → Type 0
@@ -113,9 +110,17 @@ pub record StartsWhole (plan : Parts) (start : Progress AnyState) : Type 0 where
       → FirstSelectsAround plan start h s
   -- A path to a leaf is made of the stages' own paths, one after another.
   pub paths : AtEachLeaf (whole_tree plan) start
-      (λ path leaf. GoesByStages tree_of (stages_of plan) (states_of plan) path leaf.states)
+      (λ path leaf. GoesByStages tree_of (covered_stages (all_of plan)) (covered_states (all_of plan)) path leaf.states)
   -- Where the method balances, each stratum's part of it is one of the method's own paths.
-  pub cubes : balances plan.method ≡ true → (path : List Entry) (ends : List AnyState)
-      (goes : GoesByStages tree_of (stages_of plan) (states_of plan) path ends)
+  pub cubes : balances plan.method ≡ true → draws_together plan.method ≡ false
+      → (path : List Entry) (ends : List AnyState)
+      (goes : GoesByStages tree_of (covered_stages (all_of plan)) (covered_states (all_of plan)) path ends)
       → (h : ℕ) (s : stratum.Stratum) → slice_get plan.strata h ≡ Some s
       → IsDrawnByCube plan h s (goes.part (first_number plan h)) ends
+  -- Where it draws all strata together, the whole path is one of its own, and it is balanced over all strata.
+  pub together : draws_together plan.method ≡ true
+      → (path : List Entry) (ends : List AnyState)
+      (goes : GoesByStages tree_of (covered_stages (all_of plan)) (covered_states (all_of plan)) path ends)
+      → IsDrawnTogether plan (goes.part 0) ends
+  pub balanced : draws_together plan.method ≡ true
+      → IsBalancedFrame (frame_of plan)

@@ -5,7 +5,10 @@
 //! which stages these are, and `specs/Starts.antt` what holds of a selection from its start: each row's probability of selection is exactly
 //! the one that the plan gives it, and the estimator of Horvitz and Thompson has no bias.
 //!
-//! Each stratum is a section of it. One stratum can be drawn alone: `specs/Covered.antt` says that this selection is a part of the whole one.
+//! A method that draws all strata together has one stage for them, whose units are the first stage units of all strata, and one section.
+//!
+//! Else each stratum is a section of it. One stratum can be drawn alone: `specs/Covered.antt` says that this selection is a part of the
+//! whole one.
 //!
 //! [`balance_lines`] is what the report tells of the strata where they are drawn by the cube or the local cube, as `specs/Lines.antt` says.
 #![tactic(auto)]
@@ -17,4 +20,4 @@ mod whole;
 
 pub use lines::balance_lines;
 pub use stage::StageDesign;
-pub use whole::{StartedWhole, Whole};
+pub use whole::{StartedWhole, Whole, section_count};

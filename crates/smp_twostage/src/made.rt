@@ -1,15 +1,19 @@
 //! The stages of a plan, each with the state that it starts from.
 
-ghost use Rattle.std.specs.Prelude.{◌≡◌, ◌<◌, ◌++◌, ◌∷◌, [], true, is_some, None, Some, All, IfOk, OnOk, length, map, slice_index_or};
+ghost use Rattle.std.specs.Prelude.{◌≡◌, ◌<◌, ◌≤◌, ◌+◌, ◌^◌, suc, ◌++◌, ◌∷◌, [], true, is_some, None, Some, All, IfOk, OnOk, length, map, slice_index_or};
+ghost use Rattle.std.specs.List.{range_with_len};
 ghost use Rattle.smp_prob.specs.Requests.{IsRequest};
 ghost use Rattle.smp_prob.specs.Inclusions.{IsRising};
-ghost use Rattle.smp_methods.specs.Designs.{design_of};
+ghost use Rattle.smp_design.specs.Words.{draws_together};
+ghost use Rattle.smp_methods.specs.Designs.{design_of, design_of_strata, first_state};
 ghost use Rattle.smp_methods.specs.Procedures.{NeedsWhole, procedure, procedure_of, TakesValues};
+ghost use Rattle.smp_methods.specs.Starts.{AreStarted};
 ghost use Rattle.smp_strata.specs.Bounds.{IsFirst};
-ghost use Rattle.smp_twostage.specs.Kept.{EachStarts, IsPlanned, StageStarts, first_numbers};
+ghost use Rattle.smp_twostage.specs.Kept.{EachFirst, EachStarts, IsPlanned, StageStarts};
 ghost use Rattle.smp_twostage.specs.Plans.{CanBeDrawn, TakesRows};
 ghost use Rattle.smp_balance.specs.Strata as Strata;
-ghost use Rattle.smp_twostage.specs.Selections.{all_of, covered_stages, first_stage, one_of, valued};
+ghost use Rattle.smp_twostage.specs.Selections as Selections;
+ghost use Rattle.smp_twostage.specs.Selections.{first_number, first_stage, layers_of, parts_by, stage_of_strata, valued};
 ghost use Rattle.smp_twostage.specs.Selections.{stage_by, stages_in, stages_of, stages_within};
 
 use crate::StageDesign;
@@ -17,9 +21,10 @@ use smp_design::{Method, Order};
 use smp_frac::NoMemory;
 use smp_frame::Numbers;
 use smp_methods::{AnyState, Procedure, Started};
-use smp_prob::Request;
+use smp_prob::{Places, Request, Shapes};
 use smp_stages::{Place, Stage};
 use smp_strata::{FirstUnit, Plan, Stratum};
+use smp_stratcube::Layers;
 use std::alloc::Global;
 
 // The design of a stage, and the state that it starts from.
@@ -89,6 +94,80 @@ pub(crate) fn column_count(stratum: &Stratum) -> usize
         Some(first) => first.values.as_slice().len(),
         None => 0,
     }
+}
+
+// The free units of each stratum, with their values.
+fn layers_of(alloc: Global, plan: &Plan) -> Result<Layers, NoMemory>
+    requires plan { CanBeDrawn plan.now }
+    requires together { draws_together plan.now.method ≡ true }
+    ensures { IfOk result (λ layers. layers ≡ Selections.layers_of plan.now) }
+{
+    let mut layers = Layers::new(alloc);
+    for number in 0..plan.strata() {
+        let stratum = plan.stratum(number);
+        let values = free_values(alloc, stratum)?;
+        layers.push(&stratum.request, values.as_slice())?;
+    }
+    Ok(layers)
+}
+
+// Appends some numbers, each behind so many.
+fn push_behind(numbers: &mut Vec<usize>, before: usize, more: &[usize]) -> Result<(), NoMemory>
+    requires { All (λ number. before + number < 2 ^ 64) more.now }
+    ensures { OnOk result (numbers.new.items
+        ≡ numbers.old.items ++ map (λ number. before + number) more.now) }
+{
+    for number in more {
+        numbers.push(before + *number)?;
+    }
+    Ok(())
+}
+
+// Where the units of all strata stand.
+fn request_over(alloc: Global, plan: &Plan) -> Result<Request, NoMemory>
+    requires plan { CanBeDrawn plan.now }
+    requires few { length plan.now.strata ≤ 16 }
+    ensures { IfOk result (λ request. request ≡ Selections.request_over plan.now.strata) }
+{
+    let mut certain = Vec::new(alloc);
+    let mut free = Vec::new(alloc);
+    let mut before = 0;
+    for number in 0..plan.strata() {
+        let stratum = plan.stratum(number);
+        push_behind(&mut certain, before, stratum.request.certain.as_slice())?;
+        push_behind(&mut free, before, stratum.request.free.as_slice())?;
+        before += stratum.units.as_slice().len();
+    }
+    Ok(Request {
+        certain: Places::from_vec(certain),
+        free: Places::from_vec(free),
+        shape: Shapes::from_slice(alloc, &[])?,
+        r: 0,
+        total: 0,
+    })
+}
+
+// How many first stage units the strata before this one have.
+pub(crate) fn units_before(plan: &Plan, stratum: usize) -> usize
+    requires plan { CanBeDrawn plan.now }
+    requires few { length plan.now.strata ≤ 16 }
+    requires stratum { stratum ≤ length plan.now.strata }
+    ensures { result ≡ Selections.units_before plan.now.strata stratum }
+{
+    let mut before = 0;
+    for number in 0..stratum {
+        before += plan.stratum(number).units.as_slice().len();
+    }
+    before
+}
+
+// How many first stage units all strata have.
+fn unit_count(plan: &Plan) -> usize
+    requires plan { CanBeDrawn plan.now }
+    requires few { length plan.now.strata ≤ 16 }
+    ensures { result ≡ Selections.unit_count plan.now.strata }
+{
+    units_before(plan, plan.strata())
 }
 
 // The design of a request over so many units, and the state that it starts from.
@@ -225,6 +304,31 @@ impl<'a> Made<'a> {
         }
     }
 
+    /// Adds the one stage of all strata, where they are drawn together.
+    pub(crate) fn push_together(&mut self, alloc: Global, plan: &Plan) -> Result<(), NoMemory>
+        requires none { self.old.stages.items ≡ [] }
+        requires no_states { self.old.states.items ≡ [] }
+        requires plan { CanBeDrawn plan.now }
+        requires together { draws_together plan.now.method ≡ true }
+        ensures stages { OnOk result (self.new.stages.items ≡ stage_of_strata plan.now ∷ []) }
+        ensures each { OnOk result (EachFirst self.new.stages.items self.new.states.items) }
+        ensures starts { OnOk result (AreStarted (layers_of plan.now) (record {
+          design = design_of_strata (layers_of plan.now);
+          state = first_state (design_of_strata (layers_of plan.now));
+        })) }
+    {
+        let layers = layers_of(alloc, plan)?;
+        let request = request_over(alloc, plan)?;
+        let Started { design, state } = Started::of_strata(alloc, &layers)?;
+        let design = StageDesign::of_strata(unit_count(plan), request, design);
+        let kept = self.stages.push(Stage {
+            design,
+            within: None,
+        });
+        self.states.push(state)?;
+        Ok(kept?)
+    }
+
     /// Adds the stages of all strata, and gives the number of each stratum's first stage, and then that of all stages.
     pub(crate) fn push_strata(
         &mut self,
@@ -236,7 +340,8 @@ impl<'a> Made<'a> {
         requires plan { CanBeDrawn plan.now }
         ensures stages { OnOk result (self.new.stages.items ≡ stages_of plan.now) }
         ensures each { OnOk result (EachStarts self.new.stages.items self.new.states.items) }
-        ensures firsts { IfOk result (λ firsts. firsts.items ≡ first_numbers (all_of plan.now)) }
+        ensures firsts { IfOk result (λ firsts. firsts.items
+            ≡ map (first_number plan.now) (range_with_len 0 (suc (length plan.now.strata)))) }
     {
         let mut firsts = Vec::new(alloc);
         for number in 0..plan.strata() {
@@ -259,10 +364,11 @@ impl<'a> Made<'a> {
         requires plan { CanBeDrawn plan.now }
         requires stratum { stratum < length plan.now.strata }
         ensures stages { OnOk result
-            (self.new.stages.items ≡ covered_stages (one_of plan.now stratum)) }
+            (self.new.stages.items ≡ stages_of (parts_by plan.now (Some stratum))) }
         ensures each { OnOk result (EachStarts self.new.stages.items self.new.states.items) }
         ensures firsts { IfOk result
-            (λ firsts. firsts.items ≡ first_numbers (one_of plan.now stratum)) }
+            (λ firsts. firsts.items ≡ map (first_number (parts_by plan.now (Some stratum)))
+            (range_with_len 0 2)) }
     {
         let mut firsts = Vec::new(alloc);
         firsts.push(0)?;

@@ -3,30 +3,51 @@
 ghost use Rattle.std.specs.Prelude.{◌≡◌};
 ghost use Rattle.smp_methods.specs.Designs.{left_at, method_of};
 ghost use Rattle.smp_rows.specs.Laws.Rows.{rows_lawful};
+ghost use Rattle.smp_twostage.specs.Kept.{asked_view};
 ghost use Rattle.smp_twostage.specs.Selections.{belongs_to, tree_of};
 
 use smp_methods::{AnyDesign, AnyState};
-use smp_prob::Request;
-use smp_rows::Rows;
+use smp_prob::{Inclusion, Request};
 use smp_split::{Kind, Splitting};
 use std::marker::Model;
+
+// Where the units of a stage stand: by the request of a stratum, or of a second stage; or by one over all strata, which the stage holds.
+#[derive(Drop)]
+enum Asked<'a> {
+    Stratum(&'a Request),
+    Strata(Request),
+}
+
+impl<'a> Asked<'a> {
+    fn get(&self) -> &Request
+        ensures { result.now ≡ asked_view self.now }
+    {
+        match self {
+            Asked::Stratum(request) => request,
+            Asked::Strata(request) => request,
+        }
+    }
+}
 
 /// The design of one stage over all of its units: the free ones are drawn by a method, the certain ones are always selected, and those of
 /// probability 0 never.
 #[derive(Drop)]
 pub struct StageDesign<'a> {
-    rows: Rows<'a, AnyDesign>,
+    units: usize,
+    asked: Asked<'a>,
+    design: AnyDesign,
 }
 
 impl<'a> Model for StageDesign<'a> {
+    ghost use Rattle.smp_twostage.specs.Kept.{asked_view};
     ghost use Rattle.smp_twostage.specs.Selections.{Selecting};
 
     ghost Value = { Selecting };
 
     ghost view = { λ s. record {
-      units = s.rows.rows;
-      request = s.rows.request.now;
-      design = s.rows.design;
+      units = s.units;
+      request = asked_view s.asked;
+      design = s.design;
     } };
 }
 
@@ -36,11 +57,20 @@ impl<'a> StageDesign<'a> {
         ensures { result ≡ record { units = units; request = request.now; design = design } }
     {
         StageDesign {
-            rows: Rows {
-                design,
-                request,
-                rows: units,
-            },
+            units,
+            asked: Asked::Stratum(request),
+            design,
+        }
+    }
+
+    /// The design of all strata over so many units, which stand as this request says.
+    pub(crate) fn of_strata(units: usize, request: Request, design: AnyDesign) -> StageDesign<'a>
+        ensures { result ≡ record { units = units; request = request; design = design } }
+    {
+        StageDesign {
+            units,
+            asked: Asked::Strata(request),
+            design,
         }
     }
 
@@ -48,7 +78,7 @@ impl<'a> StageDesign<'a> {
     pub(crate) fn left(&self, state: &AnyState) -> u32
         ensures { result ≡ left_at self.now.design state.now }
     {
-        self.rows.design.left(state)
+        self.design.left(state)
     }
 }
 
@@ -63,26 +93,30 @@ impl<'a> Splitting for StageDesign<'a> {
         (method_of s.design).belongs (method_of s.design).lawful };
 
     fn units(&self) -> usize {
-        self.rows.units()
+        self.units
     }
 
     fn done(&self, state: &AnyState) -> bool {
-        self.rows.done(state)
+        self.design.done(state)
     }
 
     fn kind(&self, state: &AnyState) -> Kind {
-        self.rows.kind(state)
+        self.design.kind(state)
     }
 
     fn bound(&self, state: &AnyState) -> u128 {
-        self.rows.bound(state)
+        self.design.bound(state)
     }
 
     fn advance(&self, state: &mut AnyState, draw: u128) {
-        self.rows.advance(state, draw);
+        self.design.advance(state, draw);
     }
 
     fn selected(&self, state: &AnyState, unit: usize) -> bool {
-        self.rows.selected(state, unit)
+        match self.asked.get().inclusion(unit) {
+            Inclusion::Certain => true,
+            Inclusion::Free(unit) => self.design.selected(state, unit),
+            Inclusion::Never => false,
+        }
     }
 }

@@ -1,20 +1,21 @@
 //! The whole selection.
 
-ghost use Rattle.std.specs.Prelude.{◌≡◌, ◌∷◌, [], ◌<◌, ◌^◌, suc, ◌+◌, true, is_some, None, Some, IfOk, length, map};
-ghost use Rattle.std.specs.List.{slice_get};
+ghost use Rattle.std.specs.Prelude.{◌≡◌, ◌∷◌, [], ◌<◌, ◌≤◌, ◌^◌, suc, ◌+◌, true, is_some, None, Some, IfOk, length, map};
+ghost use Rattle.std.specs.List.{range_with_len, slice_get};
 ghost use Rattle.smp_methods.specs.Designs.{left_at};
 ghost use Rattle.smp_stages.specs.Starts.{StartsInStages};
 ghost use Rattle.smp_strata.specs.declared.strata.Stratum.{Stratum};
-ghost use Rattle.smp_twostage.specs.Covered.{StartsAlone, covered_first, covered_left, covered_number};
-ghost use Rattle.smp_twostage.specs.Kept.{EachStarts, first_numbers};
+ghost use Rattle.smp_design.specs.Words.{draws_together};
+ghost use Rattle.smp_twostage.specs.Covered.{StartsAlone, covered_first, covered_left};
+ghost use Rattle.smp_twostage.specs.Kept.{EachFirst, first_numbers};
 ghost use Rattle.smp_twostage.specs.Laws.Wholes.{covered_lawful, strata_sectioned};
 ghost use Rattle.smp_twostage.specs.Plans.{CanBeDrawn};
 ghost use Rattle.smp_twostage.specs.Selections as Selections;
-ghost use Rattle.smp_twostage.specs.Selections.{BelongsToCovered, all_of, belongs_to, covered_parts, covered_seats, covered_stages, covered_start, covered_tree, covers, first_number, one_of, seat_by, start_of, states_of, strata_sections, tree_of, units_at};
+ghost use Rattle.smp_twostage.specs.Selections.{BelongsToCovered, all_of, belongs_to, covered_seats, covered_stages, covered_start, covered_states, covered_tree, covers, first_place, is_only, one_of, seat_by, section_count, start_of, strata_sections, tree_of, units_at};
 ghost use Rattle.smp_twostage.specs.Starts.{StartsWhole};
 
 use crate::StageDesign;
-use crate::made::Made;
+use crate::made::{Made, units_before};
 use smp_design::Method;
 use smp_frac::NoMemory;
 use smp_methods::AnyState;
@@ -31,7 +32,8 @@ use std::marker::Model;
 /// plan has a second method, rows are then drawn by it within each of the units that were drawn, in frame order, one unit after another.
 /// A row is selected where its first stage unit is and, with a second stage, where the row is within that unit.
 ///
-/// Each stratum that it covers is a section of it.
+/// Each stratum that it covers is a section of it. A method that draws all strata together draws their first stage units in one stage,
+/// which is the one section.
 #[derive(Drop)]
 pub struct Whole<'a> {
     plan: &'a Plan,
@@ -94,7 +96,8 @@ fn seats_of(
 ) -> Result<Vec<Seat>, NoMemory>
     requires plan { CanBeDrawn plan.now }
     requires stages { stages ≡ length (Selections.stages_of plan.now) }
-    requires firsts { firsts.now ≡ first_numbers (all_of plan.now) }
+    requires firsts { firsts.now ≡ map (Selections.first_number plan.now)
+        (range_with_len 0 (suc (length plan.now.strata))) }
     ensures { IfOk result (λ seats. seats.items ≡ Selections.seats_of plan.now) }
 {
     let second = plan.second();
@@ -114,8 +117,10 @@ fn seats_alone(
     stratum: usize,
 ) -> Result<Vec<Seat>, NoMemory>
     requires plan { CanBeDrawn plan.now }
-    requires stages { stages ≡ length (covered_stages (one_of plan.now stratum)) }
-    ensures { IfOk result (λ seats. seats.items ≡ covered_seats (one_of plan.now stratum)) }
+    requires stages { stages
+        ≡ length (Selections.stages_of (Selections.parts_by plan.now (Some stratum))) }
+    ensures { IfOk result (λ seats. seats.items
+        ≡ Selections.seats_by plan.now (Some stratum)) }
 {
     let second = plan.second();
     let mut seats = Vec::new(alloc);
@@ -130,6 +135,45 @@ fn seats_alone(
     Ok(seats)
 }
 
+// The seats of the rows of a plan, in frame order, where all strata are drawn together.
+fn seats_together(alloc: Global, plan: &Plan) -> Result<Vec<Seat>, NoMemory>
+    requires plan { CanBeDrawn plan.now }
+    requires few { length plan.now.strata ≤ 16 }
+    ensures { IfOk result (λ seats. seats.items ≡ Selections.seats_together plan.now) }
+{
+    let mut seats = Vec::with_capacity(alloc, plan.rows())?;
+    for row in 0..plan.rows() {
+        let place = plan.seat(row);
+        let unit = units_before(plan, place.stratum) + place.unit;
+        seats.push(Seat::First(Place { stage: 0, unit }))?;
+    }
+    Ok(seats)
+}
+
+// The selection of all strata together, in one stage.
+fn together<'a>(
+    alloc: Global,
+    plan: &'a Plan,
+    only: Option<usize>,
+) -> Result<StartedWhole<'a>, NoMemory>
+    requires plan { CanBeDrawn plan.now }
+    requires together { draws_together plan.now.method ≡ true }
+    ensures whole { IfOk result (λ started.
+        started.whole ≡ record { plan = plan.now; only = only }) }
+    ensures state { IfOk result (λ started.
+        started.state ≡ covered_start (record { plan = plan.now; only = only })) }
+    ensures starts { IfOk result (λ started. StartsWhole plan.now started.state) }
+    ensures alone { IfOk result (λ started. StartsAlone plan.now 0 started.state) }
+{
+    let mut made = Made {
+        stages: Vec::new(alloc),
+        states: Vec::new(alloc),
+    };
+    made.push_together(alloc, plan)?;
+    let seats = seats_together(alloc, plan)?;
+    Ok(started(plan, only, made, vec![in alloc; 0, 1]?, seats))
+}
+
 // The selection that has these stages, in which its rows have these seats.
 fn started<'a>(
     plan: &'a Plan,
@@ -141,17 +185,17 @@ fn started<'a>(
     requires plan { CanBeDrawn plan.now }
     requires stages { made.stages.items
         ≡ covered_stages (record { plan = plan.now; only = only }) }
-    requires each { EachStarts made.stages.items made.states.items }
+    requires each { EachFirst made.stages.items made.states.items }
     requires firsts { firsts.items ≡ first_numbers (record { plan = plan.now; only = only }) }
     requires seats { seats.items ≡ covered_seats (record { plan = plan.now; only = only }) }
     ensures whole { result.whole ≡ record { plan = plan.now; only = only } }
     ensures state { result.state ≡ covered_start (record { plan = plan.now; only = only }) }
-    ensures each { EachStarts (covered_stages (record { plan = plan.now; only = only }))
-        (states_of (covered_parts (record { plan = plan.now; only = only }))) }
+    ensures each { EachFirst (covered_stages (record { plan = plan.now; only = only }))
+        (covered_states (record { plan = plan.now; only = only })) }
     ensures starts { StartsInStages tree_of belongs_to
         (covered_stages (record { plan = plan.now; only = only }))
         (covered_seats (record { plan = plan.now; only = only }))
-        (states_of (covered_parts (record { plan = plan.now; only = only }))) result.state }
+        (covered_states (record { plan = plan.now; only = only })) result.state }
 {
     let Made { stages, states } = made;
     let stages = Stages::new(stages, seats);
@@ -179,6 +223,9 @@ impl<'a> Whole<'a> {
         ensures state { IfOk result (λ started. started.state ≡ start_of plan.now) }
         ensures starts { IfOk result (λ started. StartsWhole plan.now started.state) }
     {
+        if plan.method().draws_together() {
+            return together(alloc, plan, None);
+        }
         let mut made = Made {
             stages: Vec::new(alloc),
             states: Vec::new(alloc),
@@ -188,20 +235,24 @@ impl<'a> Whole<'a> {
         Ok(started(plan, None, made, firsts, seats))
     }
 
-    /// The selection of one stratum alone, before its first step. Strata are counted from 0, in order of first appearance. It has one
-    /// section. Its units are still the rows of the frame, and those of other strata are never selected.
+    /// The selection of one section alone, before its first step: of a stratum, or of all strata where they are drawn together.
+    /// Sections are counted from 0, strata in order of first appearance. It has one section. Its units are still the rows of the frame,
+    /// and those of other strata are never selected.
     ///
     /// It is a part of the whole selection, and makes the steps that the whole makes in this stratum. Each row of the stratum is
     /// selected with exactly the probability that the plan gives it. No state of another stratum is made. Where there is too little
     /// memory, the answer is [`NoMemory`], the only error.
     pub fn only(alloc: Global, plan: &'a Plan, stratum: usize) -> Result<StartedWhole<'a>, NoMemory>
         requires plan { CanBeDrawn plan.now }
-        requires stratum { stratum < length plan.now.strata }
+        requires stratum { stratum < section_count (all_of plan.now) }
         ensures whole { IfOk result (λ started. started.whole ≡ one_of plan.now stratum) }
         ensures state { IfOk result
             (λ started. started.state ≡ covered_start (one_of plan.now stratum)) }
         ensures starts { IfOk result (λ started. StartsAlone plan.now stratum started.state) }
     {
+        if plan.method().draws_together() {
+            return together(alloc, plan, Some(stratum));
+        }
         let mut made = Made {
             stages: Vec::new(alloc),
             states: Vec::new(alloc),
@@ -218,37 +269,52 @@ impl<'a> Whole<'a> {
         self.plan
     }
 
-    /// Whether a stratum of the plan is covered. Strata are counted from 0, in order of first appearance.
+    /// Whether a stratum of the plan is covered. Strata are counted from 0, in order of first appearance. Where all are drawn together,
+    /// each is.
     pub fn covers(&self, stratum: usize) -> bool
         ensures { result ≡ covers self.now stratum }
     {
+        stratum < self.plan.strata()
+            && (self.plan.method().draws_together() || self.is_only(stratum))
+    }
+
+    // Whether a stratum is drawn, where they are drawn one by one.
+    fn is_only(&self, stratum: usize) -> bool
+        ensures { result ≡ is_only self.now.only stratum }
+    {
         match self.only {
-            Some(only) => stratum < self.plan.strata() && stratum == only,
-            None => stratum < self.plan.strata(),
+            Some(only) => stratum == only,
+            None => true,
         }
     }
 
-    // The number of the first stage of a stratum.
-    fn first_stage(&self, stratum: usize) -> usize
-        requires { covers self.now stratum ≡ true }
-        ensures { result
-            ≡ first_number (covered_parts self.now) (covered_number self.now stratum) }
+    // Where a first stage unit of a stratum stands.
+    fn first_place(&self, stratum: usize, unit: usize) -> Place
+        requires plan { CanBeDrawn self.now.plan }
+        requires stratum { covers self.now stratum ≡ true }
+        requires unit { unit < 2 ^ 32 }
+        ensures { result ≡ first_place self.now stratum unit }
     {
-        match self.only {
+        if self.plan.method().draws_together() {
+            let unit = units_before(self.plan, stratum) + unit;
+            return Place { stage: 0, unit };
+        }
+        let stage = match self.only {
             Some(_) => 0,
             None => self.firsts[stratum],
-        }
+        };
+        Place { stage, unit }
     }
 
     /// How many first stage units of a stratum were undecided where the landing of its cube, or local cube, began (Deville and Tillé
-    /// 2004): 0 as long as it hasn't begun, 0 where no unit was left for it, and 0 by any other method. Strata are counted from 0, in
-    /// order of first appearance.
+    /// 2004): 0 as long as it hasn't begun, 0 where no unit was left for it, and 0 by any other method; where all strata are drawn
+    /// together, how many units of all. Strata are counted from 0, in order of first appearance.
     pub fn left(&self, state: &StagesState<AnyState>, stratum: usize) -> u32
         requires state { BelongsToCovered self.now state.now }
         requires stratum { covers self.now stratum ≡ true }
         ensures { result ≡ covered_left self.now state.now.states stratum }
     {
-        let stage = self.first_stage(stratum);
+        let stage = self.first_place(stratum, 0).stage;
         self.stages.stages[stage]
             .design
             .left(state.stage_state(stage))
@@ -263,8 +329,8 @@ impl<'a> Whole<'a> {
         requires unit { unit < length (units_at (slice_get self.now.plan.strata stratum)) }
         ensures { result ≡ covered_first self.now state.now.states stratum unit }
     {
-        let stage = self.first_stage(stratum);
-        self.stages.is_selected_in(state, Place { stage, unit })
+        self.stages
+            .is_selected_in(state, self.first_place(stratum, unit))
     }
 }
 
@@ -302,6 +368,17 @@ impl<'a> Splitting for Whole<'a> {
     }
 }
 
+/// How many sections a selection by a plan has, of all strata: one for each, or one where they are drawn together.
+pub fn section_count(plan: &Plan) -> usize
+    ensures { result ≡ section_count (all_of plan.now) }
+{
+    if plan.method().draws_together() {
+        1
+    } else {
+        plan.strata()
+    }
+}
+
 impl<'a> Sections for Whole<'a> {
     ghost sectioning = { λ c. strata_sections c };
 
@@ -310,7 +387,7 @@ impl<'a> Sections for Whole<'a> {
     fn sections(&self) -> usize {
         match self.only {
             Some(_) => 1,
-            None => self.plan.strata(),
+            None => section_count(self.plan),
         }
     }
 

@@ -1,5 +1,5 @@
 -- What the functions of the crate owe each other: they read, and hand on a result that is a stage of the verdict.
-use Rattle.std.specs.Prelude.{◌≡◌, ◌+◌, ◌<◌, ◌≤◌, ◌^◌, ℕ, List, length, map, Option, Some, None, IfSome, true}
+use Rattle.std.specs.Prelude.{◌≡◌, ◌+◌, ◌<◌, ◌≤◌, ◌^◌, ℕ, List, map, Option, Some, None, IfSome, true}
 use Rattle.std.specs.Prelude.{Result, Ok, Err}
 use Rattle.smp_log.specs.declared.fault.ReplayFault.{ReplayFault}
 use Rattle.smp_log.specs.declared.fault.ReplayFault.TheVariants as replays
@@ -12,7 +12,7 @@ use Rattle.smp_stages.specs.Stages.{Progress}
 use Rattle.smp_strata.specs.Plans.{Parts}
 use Rattle.smp_twostage.specs.declared.whole.StartedWhole.{StartedWhole}
 use Rattle.smp_twostage.specs.Covered.{StartsAlone}
-use Rattle.smp_twostage.specs.Selections.{BelongsToCovered, Coverage, covered_start, covered_tree, strata_sections}
+use Rattle.smp_twostage.specs.Selections.{BelongsToCovered, Coverage, all_of, covered_start, covered_tree, section_count, strata_sections}
 use Rattle.smp_log.specs.Answers.{log_reading}
 use Rattle.smp_log.specs.LoneSections.{section_reading, section_told}
 use Rattle.smp_log.specs.SectionReading.{any_reading}
@@ -96,9 +96,9 @@ job_view job =
 
 -- ---- selections
 
--- where one stratum alone is drawn, the plan has it
+-- where one section alone is drawn, the plan has it
 abbrev pub HasStratum : Parts → Option ℕ → Type 0
-HasStratum plan only = IfSome only (λ h. (h < length plan.strata) × (h < 2 ^ 32))
+HasStratum plan only = IfSome only (λ h. (h < section_count (all_of plan)) × (h < 2 ^ 32))
 
 -- where a walk of all strata starts, or of the one with this number
 abbrev pub StartsOf : Parts → Option ℕ → Progress AnyState → Type 0

@@ -1,17 +1,33 @@
 -- What a method itself says of its design and of a step, before it is told among all methods.
 use Rattle.std.specs.Prelude.{◌≡◌, ℕ, false, Option, Some, None}
 use Rattle.smp_prob.specs.declared.requests.Request.{Request}
-use Rattle.smp_design.specs.Words.{row, balances}
+use Rattle.smp_design.specs.Words.{row, balances, draws_together}
 use Rattle.smp_split.specs.Counts.{LeavesSelectAround}
-use Rattle.smp_split.specs.Methods.{Method, Starts}
+use Rattle.smp_split.specs.Methods.{HasCount, HasMeans, Method}
 use Rattle.smp_split.specs.Trees.{picked}
 use Rattle.smp_values.specs.Starts.{IsRequested}
+use Rattle.smp_stratcube.specs.Balances.{IsBalanced}
+use Rattle.smp_stratcube.specs.Counts.{HasCounts}
+use Rattle.smp_stratcube.specs.Cube.{started}
+use Rattle.smp_methods.specs.declared.any.AnyDesign.{AnyDesign}
+use Rattle.smp_methods.specs.declared.any.AnyDesign.TheVariants as designs
 use Rattle.smp_methods.specs.declared.any.AnyState.{AnyState}
 use Rattle.smp_methods.specs.Designs.{Variant, variant}
 
 -- a selection starts with the design
-abbrev pub StartsAlone : Variant → Type 0
-StartsAlone (variant name method design into out back) = Starts method design
+abbrev pub MeansAlone : Variant → Type 0
+MeansAlone (variant name method design into out back) = HasMeans method design
+
+-- as many units are selected as the values add up to, by a method that draws each stratum by itself
+abbrev pub CountAlone : Variant → Type 0
+CountAlone (variant name method design into out back) =
+    draws_together name ≡ false → HasCount method.tree design
+
+-- in each stratum that many, by the one that draws all strata together, and it is balanced
+abbrev pub StrataAlone : AnyDesign → Type 0
+StrataAlone (designs.StratifiedCube units) =
+    HasCounts units (started units) × IsBalanced units (started units)
+StrataAlone other = Unit {0}
 
 -- and its values are those that are requested
 abbrev pub RequestedAlone : Request → Variant → Type 0

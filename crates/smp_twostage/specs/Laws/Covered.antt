@@ -12,15 +12,16 @@ use Rattle.smp_stages.specs.declared.places.Place.{Place}
 use Rattle.smp_stages.specs.declared.places.Seat as seats
 use Rattle.smp_stages.specs.declared.places.Seat.TheVariants as seat
 use Rattle.smp_stages.specs.OwnStages.{AreSections}
-use Rattle.smp_stages.specs.Stages.{IsFirstUnit, IsStaged, IsUnitWithin}
+use Rattle.smp_stages.specs.Stages.{IsFirstUnit, IsStaged, IsUnitWithin, within_of}
 use Rattle.smp_stages.proofs.OwnStages.{run_at}
 use Rattle.smp_strata.specs.Plans.{Parts}
 use Rattle.smp_strata.specs.declared.strata.Seat.{Seat}
 use Rattle.smp_strata.specs.declared.strata.Stratum.{Stratum}
 use Rattle.smp_twostage.specs.Plans.{CanBeDrawn}
-use Rattle.smp_twostage.specs.Selections.{Coverage, count_by, covered_parts, covered_seats, covered_stages, first_number, is_of_stratum}
-use Rattle.smp_twostage.specs.Selections.{parts_by, place_of, seat_alone, seat_by, seats_by, stages_below, stages_in, stages_of}
-use Rattle.smp_twostage.specs.Selections.{strata_count, tree_of}
+use Rattle.smp_twostage.specs.Selections.{Coverage, count_by, covered_seats, covered_stages, first_number, is_of_stratum, is_together}
+use Rattle.smp_twostage.specs.Selections.{parts_by, place_of, place_together, seat_alone, seat_by, seat_together, seats_by, seats_in}
+use Rattle.smp_twostage.specs.Selections.{seats_together, section_count, section_count_by, stage_of_strata, stages_before, stages_before_by}
+use Rattle.smp_twostage.specs.Selections.{stages_below, stages_by, stages_in, stages_of, tree_of, unit_count, units_before}
 use Rattle.smp_twostage.specs.Laws.Places.{StandsIn}
 use Rattle.smp_twostage.specs.Laws.Staged.{first_seat, place_stands, second_seat, seconds_in, staged_below, whole_staged}
 
@@ -40,10 +41,10 @@ module _ (plan : Parts) where
   one_section (s ∷ []) few = refl
   one_section (s ∷ t ∷ strata) few = absurd (omega (arith, few))
 
-  sections_by : (only : Option ℕ) → AreSections (stages_of (parts_by plan only)) (first_number (parts_by plan only))
+  pub strata_are : (only : Option ℕ) → AreSections (stages_of (parts_by plan only)) (first_number (parts_by plan only))
       (count_by only (length plan.strata))
-  sections_by None = record { first = refl; rises = λ h _. number_rises h; last = refl }
-  sections_by (Some h) = record {
+  strata_are None = record { first = refl; rises = λ h _. number_rises h; last = refl }
+  strata_are (Some h) = record {
     first = refl;
     rises = λ i _. omega (
       arith,
@@ -54,8 +55,13 @@ module _ (plan : Parts) where
     last = one_section (take 1 (drop h plan.strata)) (simp length-take (omega arith));
   }
 
-pub strata_are_sections : (c : Coverage) → AreSections (covered_stages c) (first_number (covered_parts c)) (strata_count c)
-strata_are_sections c = sections_by c.plan c.only
+pub sections_case : (together : Bool) (c : Coverage)
+    → AreSections (stages_by together c) (stages_before_by together c) (section_count_by together c)
+sections_case true c = record { first = refl; rises = λ h l. omega arith; last = refl }
+sections_case false c = strata_are c.plan c.only
+
+pub strata_are_sections : (c : Coverage) → AreSections (covered_stages c) (stages_before c) (section_count c)
+strata_are_sections c = sections_case (is_together c) c
 
 -- ---- one stratum alone
 
@@ -131,6 +137,55 @@ module _ (plan : Parts) (drawable : CanBeDrawn plan) (h : ℕ) where
     second = λ row first second at. let is = sits row (seat.Second first second) at in second_alone row is.place first second is.is;
   }
 
+-- ---- all strata together
+
+-- a unit stands among all units
+pub before_within : (strata : List Stratum) (h k : ℕ) (s : Stratum) → slice_get strata h ≡ Some s → k < length s.units
+    → units_before strata h + k < unit_count strata
+before_within [] h k s is l = absurd (cc)
+before_within (t ∷ strata) zero k s is l =
+    let same : t ≡ s = same_Some t s is in
+    let here : k < length t.units = subst (λ (u : Stratum). k < length u.units) (sym same) l in
+    omega (arith, here)
+before_within (t ∷ strata) (suc h) k s is l = omega (arith, before_within strata h k s is l)
+
+module _ (plan : Parts) (drawable : CanBeDrawn plan) where
+  pub length_together : length (seats_together plan) ≡ plan.rows
+  length_together = length-map (range_with_len 0 plan.rows) (seat_together plan) ∙ length-range_with_len 0 plan.rows
+
+  pub seat_is_together : (row : ℕ) (seat : seats.Seat) → slice_get (seats_together plan) row ≡ Some seat
+      → (row < plan.rows) × (seat ≡ seat_together plan row)
+  seat_is_together row seat at =
+      let inside : row < plan.rows = omega (arith, slice_get_within (seats_together plan) row seat at, length_together) in
+      (inside, same_Some seat (seat_together plan row) (sym at ∙ made_at (seat_together plan) plan.rows row inside))
+
+  first_together : (row : ℕ) (unit : Place) → slice_get (seats_together plan) row ≡ Some (seat.First unit)
+      → IsFirstUnit tree_of (stage_of_strata plan ∷ []) unit
+  first_together row unit at =
+      let is = seat_is_together row (seat.First unit) at in
+      let here : StandsIn plan.strata row (place_of plan.strata row) = place_stands plan drawable row is.0 in
+      let own : Place = place_together plan.strata (place_of plan.strata row).stratum (place_of plan.strata row).unit in
+      let same : seat.First unit ≡ seat.First own = is.1 in
+      let place : own ≡ unit = cc in
+      subst (IsFirstUnit tree_of (stage_of_strata plan ∷ [])) place (record {
+        unit = before_within plan.strata (place_of plan.strata row).stratum (place_of plan.strata row).unit here.stratum here.is_stratum
+            (slice_get_within here.stratum.units (place_of plan.strata row).unit here.unit here.is_unit);
+        first = refl;
+      })
+
+  none_within : (i : ℕ) (place : Place) → within_of (slice_get (stage_of_strata plan ∷ []) i) ≡ Some place → ⊥
+  none_within zero place is = absurd (cc)
+  none_within (suc i) place is = absurd (cc)
+
+  pub together_staged : IsStaged tree_of (stage_of_strata plan ∷ []) (seats_together plan)
+  together_staged = record {
+    within = λ i place is. absurd (none_within i place is);
+    first = first_together;
+    second = λ row first second at.
+        absurd (let same : seat.Second first second ≡ seat_together plan row =
+        (seat_is_together row (seat.Second first second) at).1 in cc);
+  }
+
 -- ---- the stages of those that are covered
 
 staged_by : (plan : Parts) → CanBeDrawn plan → (only : Option ℕ)
@@ -138,5 +193,9 @@ staged_by : (plan : Parts) → CanBeDrawn plan → (only : Option ℕ)
 staged_by plan drawable None = whole_staged plan drawable
 staged_by plan drawable (Some h) = alone_staged plan drawable h
 
+staged_case : (together : Bool) (c : Coverage) → CanBeDrawn c.plan → IsStaged tree_of (stages_by together c) (seats_in together c)
+staged_case true c drawable = together_staged c.plan drawable
+staged_case false c drawable = staged_by c.plan drawable c.only
+
 pub covered_staged : (c : Coverage) → CanBeDrawn c.plan → IsStaged tree_of (covered_stages c) (covered_seats c)
-covered_staged c drawable = staged_by c.plan drawable c.only
+covered_staged c drawable = staged_case (is_together c) c drawable

@@ -10,8 +10,8 @@ use Rattle.smp_stages.specs.Laws.Staged.{staged_lawful}
 use Rattle.smp_stages.proofs.Sections.{staged_sectioned}
 use Rattle.smp_strata.specs.Plans.{Parts}
 use Rattle.smp_twostage.specs.Plans.{CanBeDrawn}
-use Rattle.smp_twostage.specs.Selections.{BelongsToCovered, BelongsToWhole, Coverage, Selecting, all_of, belongs_to, covered_parts}
-use Rattle.smp_twostage.specs.Selections.{covered_seats, covered_stages, covered_tree, first_number, strata_count, strata_sections, tree_of}
+use Rattle.smp_twostage.specs.Selections.{BelongsToCovered, BelongsToWhole, Coverage, Selecting, all_of, belongs_to, covered_seats}
+use Rattle.smp_twostage.specs.Selections.{covered_stages, covered_tree, section_count, stages_before, strata_sections, tree_of}
 use Rattle.smp_twostage.specs.Selections.{whole_tree}
 use Rattle.smp_twostage.specs.Laws.Covered.{covered_staged, strata_are_sections}
 
@@ -56,12 +56,12 @@ whole_lawful plan = covered_lawful (all_of plan)
 pub strata_sectioned : (c : Coverage) → IsSectioned (covered_tree c) (BelongsToCovered c) (strata_sections c)
 strata_sectioned c = record {
   going = λ s here going. (staged_sectioned tree_of belongs_to (covered_stages c) (covered_seats c)
-      (covered_staged c here.drawable) (first_number (covered_parts c)) (strata_count c)
+      (covered_staged c here.drawable) (stages_before c) (section_count c)
       (strata_are_sections c)).going s here.member going;
   done = λ s here done. (staged_sectioned tree_of belongs_to (covered_stages c) (covered_seats c)
-      (covered_staged c here.drawable) (first_number (covered_parts c)) (strata_count c)
+      (covered_staged c here.drawable) (stages_before c) (section_count c)
       (strata_are_sections c)).done s here.member done;
   rises = λ s here going. (staged_sectioned tree_of belongs_to (covered_stages c) (covered_seats c)
-      (covered_staged c here.drawable) (first_number (covered_parts c)) (strata_count c)
+      (covered_staged c here.drawable) (stages_before c) (section_count c)
       (strata_are_sections c)).rises s here.member going;
 }

@@ -10,7 +10,7 @@ selected_units-requires-clause-done c =
     let request = c.in_ok-request in
     let tape = c.in_ok-tape in
     is_done c.args.sizes.now c.args.n request.request request.ensures.value c.in_ok-design.design c.in_ok-state.state c.in_ok-design.ensures.design c.in_ok-state.ensures.state c.args.tape.now tape.tape tape.ensures.0 tape.ensures.1 c.walk.new.state arrived.path c.walk.new.draws arrived.ran
-    c.in_ok-state.ensures.starts.member request.ensures.ordered c.in_ok-design.ensures.requested.units
+    c.in_ok-state.ensures.starts.means.member request.ensures.ordered c.in_ok-design.ensures.requested.units
 
 pub returns-clause-probability : goal.returns-clause-probability
 returns-clause-probability c =

@@ -8,4 +8,4 @@ pub loop-unit-preserved : goal.loop-unit-preserved
 loop-unit-preserved c =
     let drawn = drawn_view c.args.drawn.now in
     ap (λ items. items ++ map (asked_for drawn) (drop (c.loop-unit.unit-index + 1) drawn.units)) c.in_ok-push.ensures.items
-    ∙ next_mapped (asked_for drawn) drawn.units c.loop-unit.unit-index c.loop-unit.asked.items c.asked_for.result (asked_of drawn) c.loop-unit-test.true c.asked_for.ensures c.loop-unit.invariant
+    ∙ next_mapped (asked_for drawn) drawn.units 0 c.loop-unit.unit-index c.loop-unit.asked.items c.asked_for.result (asked_of drawn) c.loop-unit-test.true c.asked_for.ensures c.loop-unit.invariant

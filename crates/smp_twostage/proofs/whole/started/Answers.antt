@@ -1,25 +1,22 @@
-use Rattle.std.proofs.Common.{◌≡◌, List, ap, subst, ◌∙◌}
+use Rattle.std.proofs.Common.{◌≡◌, List, map, refl, ap, subst, ◌∙◌}
 use Rattle.smp_methods.specs.declared.any.AnyState.{AnyState}
+use Rattle.smp_methods.specs.Designs.{first_state}
 use Rattle.smp_stages.specs.declared.places.Stage.{Stage}
 use Rattle.smp_stages.specs.Starts.{StartsInStages}
-use Rattle.smp_stages.specs.Stages.{progress}
-use Rattle.smp_twostage.specs.Kept.{EachStarts}
+use Rattle.smp_stages.specs.Stages.{EachBelongs, progress}
+use Rattle.smp_twostage.specs.Kept.{EachFirst}
 use Rattle.smp_twostage.specs.Laws.Covered.{covered_staged}
-use Rattle.smp_twostage.specs.Selections.{Coverage, Selecting, belongs_to, covered_parts, covered_seats, covered_stages, states_of, tree_of}
-use Rattle.smp_twostage.proofs.Starts.{each_belongs, states_are}
+use Rattle.smp_twostage.specs.Selections.{Coverage, Selecting, belongs_to, covered_seats, covered_stages, covered_states, tree_of}
 use Rattle.smp_twostage.proofs.whole.started.Goals as goal
 
 pub new-stages-requires : goal.new-stages-requires
 new-stages-requires c = rw (c.requires.stages, c.requires.seats) (covered_staged (record { plan = c.args.plan.now; only = c.args.only }) c.requires.plan)
 
 pub start-state-requires : goal.start-state-requires
-start-state-requires c = rw c.new-stages.ensures.stages (each_belongs _ _ c.requires.each)
+start-state-requires c = rw c.new-stages.ensures.stages c.requires.each.belong
 
-each_of : (coverage : Coverage) (stages : List (Stage Selecting)) (states : List AnyState) → stages ≡ covered_stages coverage → EachStarts stages states → EachStarts (covered_stages coverage) states
-each_of coverage stages states are each = subst (λ (all : List (Stage Selecting)). EachStarts all states) are each
-
-are_of : (coverage : Coverage) (stages : List (Stage Selecting)) (states : List AnyState) → stages ≡ covered_stages coverage → EachStarts stages states → states ≡ states_of (covered_parts coverage)
-are_of coverage stages states are each = states_are (covered_stages coverage) states (each_of coverage stages states are each)
+are_of : (coverage : Coverage) (stages : List (Stage Selecting)) (states : List AnyState) → stages ≡ covered_stages coverage → EachFirst stages states → states ≡ covered_states coverage
+are_of coverage stages states are each = each.are ∙ ap (map (λ (stage : Stage Selecting). first_state stage.design.design)) are
 
 pub returns-clause-state : goal.returns-clause-state
 returns-clause-state c =
@@ -30,8 +27,14 @@ returns-clause-state c =
 
 pub returns-clause-each : goal.returns-clause-each
 returns-clause-each c =
-    subst (EachStarts (covered_stages (record { plan = c.args.plan.now; only = c.args.only }))) (are_of (record { plan = c.args.plan.now; only = c.args.only }) c.args.made.stages.items c.args.made.states.items c.requires.stages c.requires.each)
-    (each_of (record { plan = c.args.plan.now; only = c.args.only }) c.args.made.stages.items c.args.made.states.items c.requires.stages c.requires.each)
+    let coverage : Coverage = record { plan = c.args.plan.now; only = c.args.only } in
+    let states : List AnyState = c.args.made.states.items in
+    record {
+      are = refl;
+      belong =
+          subst (EachBelongs tree_of belongs_to (covered_stages coverage)) (are_of coverage c.args.made.stages.items states c.requires.stages c.requires.each)
+          (subst (λ (all : List (Stage Selecting)). EachBelongs tree_of belongs_to all states) c.requires.stages c.requires.each.belong);
+    }
 
 pub returns-clause-starts : goal.returns-clause-starts
 returns-clause-starts c =

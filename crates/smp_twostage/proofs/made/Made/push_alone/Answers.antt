@@ -2,8 +2,8 @@ use Rattle.std.proofs.Common.{◌≡◌, ◌∷◌, [], ◌++◌, Some, length, 
 use Rattle.std.specs.List.{slice_get}
 use Rattle.std.specs.Vec.{vec_len}
 use Rattle.std.proofs.lemmas.Option.{slice_get_read}
-use Rattle.smp_twostage.specs.Laws.Covered.{strata_are_sections}
-use Rattle.smp_twostage.specs.Selections.{covered_stages, one_of}
+use Rattle.smp_twostage.specs.Laws.Covered.{strata_are}
+use Rattle.smp_twostage.specs.Selections.{parts_by, stages_of}
 use Rattle.smp_twostage.proofs.Alone.{alone_made}
 use Rattle.smp_twostage.proofs.made.Made.push_alone.Goals as goal
 
@@ -17,9 +17,9 @@ pub returns-clause-firsts : goal.returns-clause-firsts
 returns-clause-firsts c =
     let plan = c.args.plan.now in
     let there : slice_get plan.strata c.args.stratum ≡ Some c.stratum.result.now = slice_get_read plan.strata (length plan.strata) c.args.stratum c.stratum.result.now refl c.requires.stratum c.stratum.ensures.value in
-    let made : c.push_stratum.new.self.stages.items ≡ covered_stages (one_of plan c.args.stratum) =
+    let made : c.push_stratum.new.self.stages.items ≡ stages_of (parts_by plan (Some c.args.stratum)) =
     alone_made plan c.requires.plan c.args.stratum c.stratum.result.now there c.args.self.now.stages.items c.push_stratum.new.self.stages.items c.requires.none c.in_ok-push_stratum.ensures.stages in
     let len : length c.push_stratum.new.self.stages.items ≡ vec_len c.push_stratum.new.self.stages = search rules in
     c.in_ok-push-2.ensures.items
     ∙ ap (λ xs. xs ++ c.len.result ∷ []) (c.in_ok-push.ensures.items ∙ ap (λ xs. xs ++ 0 ∷ []) c.new-firsts.ensures.items)
-    ∙ ap (λ n. 0 ∷ n ∷ []) (c.len.ensures ∙ sym len ∙ ap length made ∙ sym (strata_are_sections (one_of plan c.args.stratum)).last)
+    ∙ ap (λ n. 0 ∷ n ∷ []) (c.len.ensures ∙ sym len ∙ ap length made ∙ sym (strata_are plan (Some c.args.stratum)).last)

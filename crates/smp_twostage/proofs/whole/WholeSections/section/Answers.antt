@@ -2,7 +2,7 @@ use Rattle.std.proofs.Common.{◌≡◌, leb, rules, ap, ◌∙◌}
 use Rattle.std.proofs.lemmas.List.Sorted.{IsPartitionPoint-from_clause}
 use Rattle.smp_stages.proofs.Sections.{section}
 use Rattle.smp_twostage.specs.Kept.{first_numbers}
-use Rattle.smp_twostage.specs.Selections.{covered_parts, first_number, strata_count}
+use Rattle.smp_twostage.specs.Selections.{section_count, stages_before}
 use Rattle.smp_twostage.proofs.Found.{parted, some, stratum_is}
 use Rattle.smp_twostage.proofs.whole.WholeSections.section.Goals as goal
 
@@ -19,4 +19,4 @@ returns c =
     let are : c.as_slice.result.now ≡ first_numbers c.args.self.now = cc in
     let point = IsPartitionPoint-from_clause (λ first. leb first c.at-at.result) _ _ c.partition_point.ensures.partitioned (parted c.args.self.now c.as_slice.result.now are c.at-at.result) (λ a r q k. search rules) in
     stratum_is c.args.self.now c.as_slice.result.now are c.at-at.result c.partition_point.result c.partition_point.ensures.bound point
-    ∙ ap (section (first_number (covered_parts c.args.self.now)) (strata_count c.args.self.now)) c.at-at.ensures
+    ∙ ap (section (stages_before c.args.self.now) (section_count c.args.self.now)) c.at-at.ensures

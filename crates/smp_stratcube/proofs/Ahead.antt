@@ -1,0 +1,149 @@
+-- The first fractional units, and those from a place on.
+use Rattle.std.proofs.Common.{◌≡◌, ℕ, suc, ◌+◌, ◌-◌, ◌<◌, ◌≤◌, Bool, true, false, List, [], ◌∷◌, ◌++◌, length, get_or, arith, refl, sym, ap, ap₂, ◌∙◌, subst, inl, inr, suc-le-suc, length-append, length-take, get_or-take}
+use Rattle.std.specs.List.{AllPairs, filter, range_with_len}
+use Rattle.std.proofs.lemmas.List.Kept.{AllPairs-filter}
+use Rattle.std.proofs.lemmas.Bool.{cases_Bool, cases_lt}
+use Rattle.std.proofs.lemmas.List.{get_or_append_left, get_or-append-add}
+use Rattle.std.proofs.lemmas.List.Elements.{filter-append}
+use Rattle.std.proofs.lemmas.List.FromFn.{length-range_with_len, get_or-range_with_len}
+use Rattle.smp_values.specs.Values.{fractional}
+use Rattle.smp_moves.proofs.Places.{rest_at, rest_of}
+use Rattle.smp_stratcube.specs.declared.fronts.Front.{Front}
+use Rattle.smp_stratcube.specs.declared.values.Value.{Value}
+use Rattle.smp_stratcube.specs.Values.{fractional_count, fractional_units, is_fractional, value}
+use Rattle.smp_stratcube.specs.Kept.Fronts.{IsAhead, IsFilled, IsFront, IsStanding, front_units, units_on}
+use Rattle.smp_stratcube.specs.Laws.Splits.{order_count}
+use Rattle.smp_stratcube.specs.Laws.Units.{fractional_in, order_going}
+
+-- ---- filtered lists
+
+-- by two tests, of which the second implies the first
+pub filter_twice : (p q : ℕ → Bool) → ((k : ℕ) → q k ≡ true → p k ≡ true) → (xs : List ℕ) → filter q (filter p xs) ≡ filter q xs
+filter_twice p q h [] = refl
+filter_twice p q h (x ∷ xs) =
+    elim (cases_Bool (q x)) [
+      | inl t ↦ rw (h x t, t) (ap (λ zs. x ∷ zs) (filter_twice p q h xs))
+      | inr f ↦ elim (cases_Bool (p x)) [
+        | inl t ↦ rw (t, f) (filter_twice p q h xs)
+        | inr g ↦ rw (g, f) (filter_twice p q h xs)
+      ]
+    ]
+
+pub filter_all : (p : ℕ → Bool) (xs : List ℕ) → ((i : ℕ) → i < length xs → p (get_or xs i 0) ≡ true) → filter p xs ≡ xs
+filter_all p [] h = refl
+filter_all p (x ∷ xs) h = rw (h 0 (omega arith)) (ap (λ zs. x ∷ zs) (filter_all p xs (λ i l. h (suc i) (suc-le-suc l))))
+
+pub filter_none : (p : ℕ → Bool) (xs : List ℕ) → ((i : ℕ) → i < length xs → p (get_or xs i 0) ≡ false) → filter p xs ≡ []
+filter_none p [] h = refl
+filter_none p (x ∷ xs) h = rw (h 0 (omega arith)) (filter_none p xs (λ i l. h (suc i) (suc-le-suc l)))
+
+-- what is left of the first places of an array
+pub rest_in : (p : ℕ → Bool) (n : ℕ) (us : List ℕ) (j : ℕ) → j < n → j < length us → p (get_or us j 0) ≡ true → filter p (rest_of n us j) ≡ get_or us j 0 ∷ filter p (rest_of n us (j + 1))
+rest_in p n us j l m t = ap (filter p) (rest_at n us j 0 l m) ∙ (let e : filter p (get_or us j 0 ∷ rest_of n us (j + 1)) ≡ get_or us j 0 ∷ filter p (rest_of n us (j + 1)) = rw t refl in e)
+
+pub rest_out : (p : ℕ → Bool) (n : ℕ) (us : List ℕ) (j : ℕ) → j < n → j < length us → p (get_or us j 0) ≡ false → filter p (rest_of n us j) ≡ filter p (rest_of n us (j + 1))
+rest_out p n us j l m f = ap (filter p) (rest_at n us j 0 l m) ∙ (let e : filter p (get_or us j 0 ∷ rest_of n us (j + 1)) ≡ filter p (rest_of n us (j + 1)) = rw f refl in e)
+
+-- ---- the units from a place on
+
+pub units_here : (place count : ℕ) → place < count → units_on place count ≡ place ∷ units_on (place + 1) count
+units_here place count l = (let e : count - place ≡ suc (count - (place + 1)) = omega arith in rw e refl)
+
+pub units_none : (place count : ℕ) → count ≤ place → units_on place count ≡ []
+units_none place count l = (let e : count - place ≡ 0 = omega arith in rw e refl)
+
+pub unit_on : (place count j : ℕ) → j < length (units_on place count) → (get_or (units_on place count) j 0 ≡ place + j) × (place + j < count)
+unit_on place count j l = (
+  get_or-range_with_len place (count - place) j 0 (omega (arith, l, length-range_with_len place (count - place))),
+  omega (arith, l, length-range_with_len place (count - place)),
+)
+
+-- the fractional units rise
+pub order_rises : (values : List Value) → AllPairs (λ k l. k < l) (fractional_units values)
+order_rises values = AllPairs-filter (λ k l. k < l) (is_fractional values) (range_with_len 0 (length values)) (numbers_rise (length values))
+  where
+    numbers_rise : (n : ℕ) → AllPairs (λ k l. k < l) (range_with_len 0 n)
+    numbers_rise n i j d l m =
+        let b : j < n = omega (arith, m, length-range_with_len 0 n) in
+        rw (get_or-range_with_len 0 n i d (omega (arith, l, b)), get_or-range_with_len 0 n j d b) (omega (arith, l))
+
+-- ---- a front
+
+-- the fractional units, in the array and after it
+module _ (values : List Value) (front : Front) (is : IsFront values front) (long : front.number ≤ length front.units) where
+  pub in_front : (j : ℕ) → j < front.number → (get_or front.units j 0 ≡ get_or (fractional_units values) j 0) × (j < length (fractional_units values))
+  in_front j l = (
+    sym (get_or-take front.number front.units j 0 l) ∙ sym (get_or_append_left (front_units front) (units_on front.place (length values)) 0 j (omega (arith, l, long, length-take front.number front.units)))
+        ∙ ap (λ us. get_or us j 0) is.all,
+    subst (λ us. j < length us) is.all (omega (arith, l, long, length-take front.number front.units, length-append (front_units front) (units_on front.place (length values)))),
+  )
+
+  pub front_going : (j : ℕ) → j < front.number → is_fractional values (get_or front.units j 0) ≡ true
+  front_going j l = (let e = in_front j l in subst (λ (k : ℕ). is_fractional values k ≡ true) (sym e.0) (order_going values j e.1))
+
+  pub front_inside : (j : ℕ) → j < front.number → get_or front.units j 0 < length values
+  front_inside j l = fractional_in values (get_or front.units j 0) (front_going j l)
+
+  -- a unit of the front stands before the place
+  pub front_before : (j : ℕ) → j < front.number → get_or front.units j 0 < front.place
+  front_before j b =
+      elim (cases_lt (get_or front.units j 0) front.place) [
+        | inl l ↦ l
+        | inr past ↦ absurd (let n : ℕ = length (front_units front) in
+            let count_front : n ≡ front.number = omega (arith, long, length-take front.number front.units) in
+            let i = in_front j b in
+            let inside = fractional_in values (get_or front.units j 0) (front_going j b) in
+            let here : length (units_on front.place (length values)) ≡ length values - front.place = length-range_with_len front.place (length values - front.place) in
+            let total : length (fractional_units values) ≡ n + length (units_on front.place (length values)) = sym (ap length is.all) ∙ length-append (front_units front) (units_on front.place (length values)) in
+            let at : get_or (fractional_units values) (n + 0) 0 ≡ get_or (units_on front.place (length values)) 0 0 = ap (λ us. get_or us (n + 0) 0) (sym is.all) ∙ get_or-append-add (front_units front) (units_on front.place (length values)) 0 0 in
+            let first = unit_on front.place (length values) 0 (omega (arith, here, past, inside)) in
+            let less = order_rises values j (n + 0) 0 (omega (arith, b, count_front)) (omega (arith, total, here, past, inside)) in
+            omega (arith, less, i.0, at, first.0, past))
+      ]
+
+  pub front_count : front.number + (length values - front.place) ≡ fractional_count values
+  front_count =
+      let whole : length (front_units front ++ units_on front.place (length values)) ≡ length (fractional_units values) = ap length is.all in
+      omega (arith, whole, long, order_count values, length-append (front_units front) (units_on front.place (length values)), length-take front.number front.units, length-range_with_len front.place (length values - front.place))
+
+-- a front stays ahead where no other unit is fractional than before, and those from the place on are as they were
+pub stays_ahead : (old new : List Value) (front : Front) → IsFront old front → front.number ≤ length front.units → length new ≡ length old → ((k : ℕ) → is_fractional new k ≡ true → is_fractional old k ≡ true) →
+    ((k : ℕ) → front.place ≤ k → value new k ≡ value old k) → IsAhead new front
+stays_ahead old new front is long count fewer same =
+    let opened : (i : ℕ) → i < length (units_on front.place (length old)) → is_fractional new (get_or (units_on front.place (length old)) i 0) ≡ true =
+    λ i l. still_open i l in
+    record {
+      short = is.short;
+      within = omega (arith, is.within, count);
+      inside = λ j l. (let h = front_inside old front is long j l in omega (arith, h, count));
+      all = ap (λ n. filter (is_fractional new) (front_units front) ++ units_on front.place n) count
+          ∙ ap (λ us. filter (is_fractional new) (front_units front) ++ us) (sym (filter_all (is_fractional new) (units_on front.place (length old)) opened))
+          ∙ sym (filter-append (is_fractional new) (front_units front) (units_on front.place (length old)))
+          ∙ ap (filter (is_fractional new)) is.all ∙ filter_twice (is_fractional old) (is_fractional new) fewer (range_with_len 0 (length old))
+          ∙ ap (λ n. filter (is_fractional new) (range_with_len 0 n)) (sym count);
+      fresh = λ k l. ap (λ (v : Value). v.touched) (same k l) ∙ is.fresh k l;
+    }
+  where
+    behind : (i : ℕ) → i < length (units_on front.place (length old)) → get_or (units_on front.place (length old)) i 0 ≡ get_or (fractional_units old) (length (front_units front) + i) 0
+    behind i l = sym (get_or-append-add (front_units front) (units_on front.place (length old)) i 0) ∙ ap (λ us. get_or us (length (front_units front) + i) 0) is.all
+
+    old_open : (i : ℕ) → i < length (units_on front.place (length old)) → is_fractional old (get_or (units_on front.place (length old)) i 0) ≡ true
+    old_open i l =
+        subst (λ (k : ℕ). is_fractional old k ≡ true) (sym (behind i l))
+        (order_going old (length (front_units front) + i)
+        (subst (λ us. length (front_units front) + i < length us) is.all (omega (arith, l, length-append (front_units front) (units_on front.place (length old))))))
+
+    still_open : (i : ℕ) → i < length (units_on front.place (length old)) → is_fractional new (get_or (units_on front.place (length old)) i 0) ≡ true
+    still_open i l =
+        let at = unit_on front.place (length old) i l in
+        subst (λ (v : Value). fractional v.at.den v.at.num ≡ true) (sym (same (get_or (units_on front.place (length old)) i 0) (omega (arith, at.0)))) (old_open i l)
+
+-- the front that is left, filled up
+pub filled_front : (values : List Value) (front still full : Front) → IsAhead values front → IsStanding values front still → IsFilled (length values) still full → IsFront values full
+filled_front values front still full ahead stand fill = record {
+  short = fill.short;
+  within = fill.within;
+  all = fill.all ∙ ap₂ (λ us k. us ++ units_on k (length values)) stand.is stand.place ∙ ahead.all;
+  enough = fill.enough;
+  fresh = λ k l. ahead.fresh k (omega (arith, l, fill.later, stand.place));
+}

@@ -1,0 +1,156 @@
+-- A direction by an array.
+use Rattle.std.proofs.Common.{◌≡◌, ℕ, ◌+◌, ◌*◌, ◌/◌, ◌<◌, ◌≤◌, ◌^◌, nat_le, true, false, Some, None, List, [], ◌∷◌, ℤ, pos, take, length, get_or, arith, refl, sym, ap, ap₂, ◌∙◌, subst, inl, inr, length-take, get_or-take}
+use Rattle.std.specs.Int.RustNames.{unsigned_abs}
+use Rattle.std.proofs.lemmas.Bool.{and_from, and_parts, cases_Bool, cases_lt, le-leb, leb-true}
+use Rattle.std.proofs.lemmas.List.{ext_get_or, length-map, get_or-map, get_or_past}
+use Rattle.std.proofs.lemmas.List.Elements.{All-take}
+use Rattle.std.proofs.Math.Nat.{mul-le-mul_right}
+use Rattle.smp_kernel.specs.Vectors.{entry, IsZero, Within}
+use Rattle.smp_kernel.specs.Reduced.{IsReduced, IsTooLong, primitive_part}
+use Rattle.smp_kernel.proofs.Ring.{positive_some, zero_of_product}
+use Rattle.smp_kernel.proofs.Reduce.{primitive_part_is, length-primitive_part, one_reduced, reduced_within}
+use Rattle.smp_moves.specs.declared.lines.Ratio.{Ratio}
+use Rattle.smp_moves.specs.Ends.{entries_fit}
+use Rattle.smp_moves.proofs.LineEnds.{lowest_is}
+use Rattle.smp_moves.proofs.Places.{rest_at, rest_of}
+use Rattle.smp_moves.proofs.Weights.{within_from, within_to}
+use Rattle.smp_moves.specs.Moves.{Line}
+use Rattle.smp_stratcube.specs.Units.{Units, column, columns_of, share}
+use Rattle.smp_stratcube.specs.Steps.{direction_on, product, products, scale_of, scaled, signed}
+use Rattle.smp_stratcube.specs.Kept.Gates.{held}
+use Rattle.smp_stratcube.specs.Kept.Lines.{direction_fits}
+use Rattle.smp_stratcube.specs.Laws.Directions.{entry-scaled, length-scaled}
+use Rattle.smp_stratcube.proofs.Parts.{times-div}
+
+-- ---- arrays as lists
+
+pub columns_are : (units : Units) (us : List ℕ) (cols : List (List ℤ)) (n : ℕ) → n ≤ length us → n ≤ length cols → ((k : ℕ) → k < n → get_or cols k [] ≡ column units (get_or us k 0)) → take n cols ≡ columns_of units (take n us)
+columns_are units us cols n lu lc h =
+    ext_get_or [] (take n cols) (columns_of units (take n us)) (omega (arith, length-take n cols, length-take n us, length-map (take n us) (column units), lu, lc))
+    (λ k l.
+    (let b : k < n = omega (arith, l, length-take n cols) in
+    get_or-take n cols k [] b ∙ h k b ∙ ap (column units) (sym (get_or-take n us k 0 b)) ∙ sym (get_or-map (column units) (take n us) k 0 [] (omega (arith, b, lu, length-take n us)))))
+
+pub products_are : (units : Units) (den : ℕ) (us : List ℕ) (w ps : List ℤ) (n : ℕ) → n ≤ length us → n ≤ length w → n ≤ length ps →
+    ((k : ℕ) → k < n → entry ps k ≡ signed (entry w k) ((product (share units (get_or us k 0)) (entry w k)).num * (den / (product (share units (get_or us k 0)) (entry w k)).den))) →
+    take n ps ≡ scaled units den (take n us) (take n w)
+products_are units den us w ps n lu lw lp h =
+    let same : length (take n us) ≡ length (take n w) = omega (arith, length-take n us, length-take n w) in
+    ext_get_or (pos 0) (take n ps) (scaled units den (take n us) (take n w)) (omega (arith, length-take n ps, length-take n us, length-scaled units den (take n us) (take n w) same))
+    (λ k l.
+    (let b : k < n = omega (arith, l, length-take n ps) in
+    get_or-take n ps k (pos 0) b ∙ h k b
+    ∙ sym (ap₂ (λ (u : ℕ) (x : ℤ). signed x ((product (share units u) x).num * (den / (product (share units u) x).den))) (get_or-take n us k 0 b) (get_or-take n w k (pos 0) b))
+    ∙ sym (entry-scaled units den (take n us) (take n w) k (omega (arith, b, lu, length-take n us)) (omega (arith, b, lw, length-take n w)))))
+
+pub products_step : (units : Units) (us : List ℕ) (w : List ℤ) (n j : ℕ) → j < n → j < length us → j < length w →
+    products units (rest_of n us j) (rest_of n w j) ≡ product (share units (get_or us j 0)) (entry w j) ∷ products units (rest_of n us (j + 1)) (rest_of n w (j + 1))
+products_step units us w n j l a b = ap₂ (products units) (rest_at n us j 0 l a) (rest_at n w j (pos 0) l b)
+
+-- ---- sizes
+
+-- a product is at most the size of its factor
+pub product_most : (r : Ratio) (w : ℤ) → r.num < r.den → (product r w).num ≤ (product r w).den * unsigned_abs w
+product_most r w below =
+    let p : Ratio = product r w in
+    let is = lowest_is (r.num * unsigned_abs w) r.den (omega (arith, below)) in
+    elim (cases_lt (p.den * unsigned_abs w) p.num) [
+      | inr h ↦ h
+      | inl h ↦ absurd (let e : r.num * unsigned_abs w * p.den ≡ p.num * r.den = is.same in
+          let a : r.num * (unsigned_abs w * p.den) ≤ r.den * (unsigned_abs w * p.den) = mul-le-mul_right (unsigned_abs w * p.den) (omega (arith, below)) in
+          let b : (p.den * unsigned_abs w + 1) * r.den ≤ p.num * r.den = mul-le-mul_right r.den (omega (arith, h)) in
+          omega (arith, e, a, b, below))
+    ]
+
+-- over a scale it is at most the scale times the size of the factor
+pub scaled_most : (r : Ratio) (w : ℤ) (scale : ℕ) → r.num < r.den → scale ≤ 2 ^ 80 → unsigned_abs w ≤ 2 ^ 44 → (product r w).num * (scale / (product r w).den) ≤ 2 ^ 124
+scaled_most r w scale below narrow small =
+    let p : Ratio = product r w in
+    let q : ℕ = scale / p.den in
+    let a : p.num * q ≤ p.den * unsigned_abs w * q = mul-le-mul_right q (product_most r w below) in
+    let b : p.den * q ≤ scale = times-div scale p.den in
+    let c : p.den * q * unsigned_abs w ≤ scale * unsigned_abs w = mul-le-mul_right (unsigned_abs w) b in
+    let d : scale * unsigned_abs w ≤ 2 ^ 80 * unsigned_abs w = mul-le-mul_right (unsigned_abs w) narrow in
+    let e : p.den * unsigned_abs w * q ≡ p.den * q * unsigned_abs w = omega arith in
+    omega (arith, a, c, d, e, small)
+
+-- ---- the reduced row of an array
+
+same_rows : (row other e : List ℤ) → ((i : ℕ) → entry row i ≡ entry other i) → IsReduced row e → IsReduced other e
+same_rows row other e h r = record { primitive = r.primitive; divisor = r.divisor; positive = r.positive; product = λ j. r.product j ∙ h j }
+
+module _ (row : List ℤ) (n : ℕ) (past : (j : ℕ) → n ≤ j → entry row j ≡ pos 0) where
+  -- a row that is 0 from a place on
+  front_row : (i : ℕ) → entry (take n row) i ≡ entry row i
+  front_row i =
+      elim (cases_lt i n) [
+        | inl l ↦ get_or-take n row i (pos 0) l
+        | inr m ↦ get_or_past (take n row) i (pos 0) (omega (arith, m, length-take n row)) ∙ sym (past i m)
+      ]
+
+  pub past_reduced : (e : List ℤ) → IsReduced row e → (j : ℕ) → n ≤ j → entry e j ≡ pos 0
+  past_reduced e r j l = zero_of_product r.divisor (entry e j) (positive_some r.divisor r.positive) (r.product j ∙ past j l)
+
+  pub front_is : (e : List ℤ) → n ≤ length row → length e ≡ length row → (IsZero (take n row) → ⊥) → IsReduced row e → take n e ≡ primitive_part (take n row)
+  front_is e lr le some r =
+      let whole : IsReduced (take n row) e = same_rows row (take n row) e (λ i. sym (front_row i)) r in
+      ext_get_or (pos 0) (take n e) (primitive_part (take n row)) (omega (arith, length-take n e, length-take n row, length-primitive_part (take n row)))
+      (λ k l. (let b : k < n = omega (arith, l, length-take n e) in get_or-take n e k (pos 0) b ∙ one_reduced (take n row) e (primitive_part (take n row)) whole (primitive_part_is (take n row) some) k))
+
+  -- where the reduced row is too long, so is the direction
+  pub front_long : (IsZero (take n row) → ⊥) → IsTooLong row → Within (2 ^ 44) (primitive_part (take n row)) → ⊥
+  front_long some t w =
+      t.long (reduced_within (2 ^ 44) (take n row) (primitive_part (take n row)) t.reduced (primitive_part_is (take n row) some) (same_rows row (take n row) t.reduced (λ i. sym (front_row i)) t.is) w)
+
+-- ---- the direction that arrays hold
+
+module _ (units : Units) (prefix : List ℕ) (w row : List ℤ) (n : ℕ) (lr : n ≤ length row) (is : take n row ≡ scaled units (scale_of units prefix w) prefix w) (past : (j : ℕ) → n ≤ j → entry row j ≡ pos 0) (some : IsZero (scaled units (scale_of units prefix w) prefix w) → ⊥) where
+  some_row : IsZero (take n row) → ⊥
+  some_row z = some (subst IsZero is z)
+
+  pub direction_is : (e : List ℤ) → length e ≡ length row → IsReduced row e → record { units = prefix; entries = take n e } ≡ direction_on units prefix w
+  direction_is e le r = ap (λ es. record { units = prefix; entries = es }) (front_is row n past e lr le some_row r ∙ ap primitive_part is)
+
+  pub direction_long : IsTooLong row → direction_fits units prefix w ≡ false
+  direction_long t =
+      elim (cases_Bool (direction_fits units prefix w)) [
+        | inr f ↦ f
+        | inl h ↦ absurd (let parts = and_parts (nat_le (scale_of units prefix w) (2 ^ 80)) (entries_fit (direction_on units prefix w)) h in
+            front_long row n past some_row t (subst (Within (2 ^ 44)) (sym (ap primitive_part is)) (within_from (2 ^ 44) (direction_on units prefix w).entries parts.1)))
+      ]
+
+  pub direction_within : scale_of units prefix w ≤ 2 ^ 80 → (e : List ℤ) → length e ≡ length row → IsReduced row e → Within (2 ^ 44) e → direction_fits units prefix w ≡ true
+  direction_within scale e le r small =
+      and_from (nat_le (scale_of units prefix w) (2 ^ 80)) (entries_fit (direction_on units prefix w)) (le-leb (scale_of units prefix w) (2 ^ 80) scale)
+      (subst (λ (l : Line). entries_fit l ≡ true) (direction_is e le r)
+      (within_to (2 ^ 44) (take n e) (front_small e small)))
+    where
+      front_small : (e : List ℤ) → Within (2 ^ 44) e → Within (2 ^ 44) (take n e)
+      front_small e small = All-take (λ x. unsigned_abs x ≤ 2 ^ 44) n e small
+
+-- ---- a scale that is held to the gate
+
+pub held_some : (m k : ℕ) → Some k ≡ held m → (k ≡ m) × (m ≤ 2 ^ 80)
+held_some m k e =
+    elim (cases_Bool (nat_le m (2 ^ 80))) [
+      | inl t ↦ (let same : Some k ≡ Some m = rw t at e in (let h : k ≡ m = cc in h, leb-true m (2 ^ 80) t))
+      | inr f ↦ absurd (let no_one : Some k ≡ None = rw f at e in cc)
+    ]
+
+pub held_none : (m : ℕ) → None ≡ held m → nat_le m (2 ^ 80) ≡ false
+held_none m e =
+    elim (cases_Bool (nat_le m (2 ^ 80))) [
+      | inr f ↦ f
+      | inl t ↦ absurd (let some : None ≡ Some m = rw t at e in cc)
+    ]
+
+-- a row that is 0 is so in its first places
+pub zero_front : (row : List ℤ) (n : ℕ) → IsZero row → IsZero (take n row)
+zero_front row n z i =
+    elim (cases_lt i n) [
+      | inl l ↦ get_or-take n row i (pos 0) l ∙ z i
+      | inr m ↦ get_or_past (take n row) i (pos 0) (omega (arith, m, length-take n row))
+    ]
+
+pub not_scaled : (units : Units) (prefix : List ℕ) (w : List ℤ) → nat_le (scale_of units prefix w) (2 ^ 80) ≡ false → direction_fits units prefix w ≡ false
+not_scaled units prefix w f = rw f refl

@@ -1,0 +1,163 @@
+-- A state after a step: what it is, and what is kept of it.
+use Rattle.std.proofs.Common.{◌≡◌, ℕ, ◌+◌, ◌-◌, ◌<◌, ◌≤◌, nat_eq, nat_lt, suc, suc-le-suc, Bool, true, false, Option, Some, None, List, [], ◌∷◌, length, get_or, arith, refl, sym, ap, ◌∙◌, subst, inl, inr, length-take, get_or-take}
+use Rattle.std.proofs.lemmas.Bool.{cases_Bool, lt-ltb, ltb-false, ne_eqb, true≢false}
+use Rattle.smp_split.specs.Trees.{EachPart, picked, weight_sum}
+use Rattle.smp_split.proofs.Parts.{picked-moved, weight_sum-moved}
+use Rattle.smp_split.proofs.Steps.{picked_belongs, picked_is_part}
+use Rattle.smp_prob.specs.Shares.{Shares}
+use Rattle.smp_moves.specs.Owed.{HasKept}
+use Rattle.smp_stratcube.specs.Balances.{weighed_of}
+use Rattle.smp_stratcube.proofs.Balances.{paired_kept}
+use Rattle.smp_moves.specs.Moves.{Line, Move, independent, move, turned, wide}
+use Rattle.smp_stratcube.specs.declared.fronts.Front.{Front}
+use Rattle.smp_stratcube.specs.declared.state.Phase.{Phase}
+use Rattle.smp_stratcube.specs.declared.state.Phase.TheVariants.{Flying, Pairing}
+use Rattle.smp_stratcube.specs.declared.values.Value.{Value}
+use Rattle.smp_stratcube.specs.Units.{Units, stratum}
+use Rattle.smp_stratcube.specs.Values.{fractional_units, is_fractional, is_settled, taken_over, value}
+use Rattle.smp_stratcube.specs.Steps.{Flight, chosen, direction, moved_values, moves, next, next_along}
+use Rattle.smp_stratcube.specs.Pairs.{first_pair, is_either, paired_parts, parts_by}
+use Rattle.smp_stratcube.specs.Cube.{Balancing, IsBalancing, IsFlying, IsPairing, dropped, flight_parts, flying, landed, pairing, strat_parts, strat_tree, values_in}
+use Rattle.smp_stratcube.specs.Laws.Splits.{strat_lawful}
+use Rattle.smp_stratcube.specs.Kept.Fronts.{IsAhead, IsFront, front_units}
+use Rattle.smp_stratcube.specs.Kept.States.{balancing_of}
+use Rattle.smp_stratcube.specs.Laws.Directions.{IsKnown, known}
+use Rattle.smp_stratcube.specs.Laws.Ends.{still}
+use Rattle.smp_stratcube.specs.Laws.Moves.{minus_end, plus_end}
+use Rattle.smp_stratcube.specs.Laws.Taken.{length_taken, taken_kept}
+use Rattle.smp_stratcube.proofs.Ahead.{front_before, stays_ahead}
+use Rattle.smp_stratcube.proofs.Pairing.{pair_of_front}
+use Rattle.smp_stratcube.proofs.Written.{alone, some_front}
+use Rattle.smp_stratcube.proofs.Stepped.{off_units}
+
+-- ---- the values of a state
+
+pub values_of : (p : Phase) (values : List Value) (rows left : ℕ) → values_in (balancing_of p values rows left) ≡ values
+values_of Flying values rows left = refl
+values_of Pairing values rows left = refl
+
+-- ---- the part that a draw picks
+
+pub picks_move : (units : Units) (f : Flight) (left : ℕ) (m : Move) (draw : ℕ) → next units f ≡ move m → draw < m.plus_weight + m.minus_weight →
+    picked (flying f left) (strat_parts units (flying f left)) draw ≡ flying (chosen units f m (nat_lt draw m.plus_weight)) left
+picks_move units f left m draw e l =
+    ap (λ a. picked (flying f left) (flight_parts units f left a) draw) e
+    ∙ elim (cases_Bool (nat_lt draw m.plus_weight)) [
+      | inl t ↦ rw t refl
+      | inr n ↦ (let rest : nat_lt (draw - m.plus_weight) m.minus_weight ≡ true = lt-ltb (draw - m.plus_weight) m.minus_weight (omega (arith, l, ltb-false draw m.plus_weight n)) in rw (n, rest) refl)
+    ]
+
+pub picks_drop : (units : Units) (f : Flight) (left draw : ℕ) → next units f ≡ independent → draw < 1 → picked (flying f left) (strat_parts units (flying f left)) draw ≡ flying (dropped f) (landed f.values left)
+picks_drop units f left draw e l =
+    let none : draw ≡ 0 = omega arith in
+    ap (λ a. picked (flying f left) (flight_parts units f left a) draw) e ∙ (rw none refl)
+
+pub picks_wide : (units : Units) (f : Flight) (left draw : ℕ) → next units f ≡ wide → draw < 1 → picked (flying f left) (strat_parts units (flying f left)) draw ≡ pairing f.values (landed f.values left)
+picks_wide units f left draw e l =
+    let none : draw ≡ 0 = omega arith in
+    ap (λ a. picked (flying f left) (flight_parts units f left a) draw) e ∙ (rw none refl)
+
+-- the state that a draw leads to is one of the design
+pub picks_belong : (units : Units) (s : Balancing) → IsBalancing units s → is_settled (values_in s) ≡ false → (draw : ℕ) → draw < weight_sum (strat_parts units s) → IsBalancing units (picked s (strat_parts units s) draw)
+picks_belong units s ok going draw within = picked_belongs (strat_tree units) (IsBalancing units) (strat_lawful units) s (picked s (strat_parts units s) draw) draw ok going within refl
+
+pub picks_pair : (units : Units) (values : List Value) (left draw : ℕ) → picked (pairing values left) (strat_parts units (pairing values left)) draw ≡ pairing (picked values (paired_parts units values) draw) left
+picks_pair units values left draw = picked-moved (λ t. pairing t left) values (paired_parts units values) draw
+
+pub pair_sum : (units : Units) (values : List Value) (left : ℕ) → weight_sum (strat_parts units (pairing values left)) ≡ weight_sum (paired_parts units values)
+pair_sum units values left = weight_sum-moved (λ t. pairing t left) (paired_parts units values)
+
+-- ---- the front after a move
+
+module _ (units : Units) (f : Flight) (ok : IsFlying units f) (front : Front) (is : IsFront f.values front) (long : front.number ≤ length front.units) (m : Move) (e : next units f ≡ move m) where
+  k : IsKnown units f m
+  k = known units f m e
+
+  abbrev line : Line
+  line = direction units (fractional_units f.values) k.circuit
+
+  few : f.rows + 1 ≤ 17
+  few = omega (arith, ok.rows_in, ok.are.few_rows)
+
+  -- a line through the units of the direction
+  same_behind : (l : Line) → l.units ≡ line.units → (u : ℕ) → front.place ≤ u → value (moved_values units f.values l) u ≡ value f.values u
+  same_behind l same u past =
+      taken_kept (moves l) f.values _ u (still l u (off_units units f ok front is long few k.circuit k.finds l.units l.entries same u past))
+
+  plus_ahead : IsAhead (moved_values units f.values line) front
+  plus_ahead =
+      stays_ahead f.values (moved_values units f.values line) front is long (length_taken (moves line) f.values _) (plus_end units f ok 0 m k).fewer (same_behind line refl)
+
+  minus_ahead : IsAhead (moved_values units f.values (turned line)) front
+  minus_ahead =
+      stays_ahead f.values (moved_values units f.values (turned line)) front is long (length_taken (moves (turned line)) f.values _) (minus_end units f ok 0 m k).fewer (same_behind (turned line) refl)
+
+  along_ahead : (plus : Bool) → IsAhead (chosen units f (next_along units f.values line) plus).values front
+  along_ahead true = plus_ahead
+  along_ahead false = minus_ahead
+
+  pub move_ahead : (plus : Bool) → IsAhead (chosen units f m plus).values front
+  move_ahead plus = subst (λ (x : Move). IsAhead (chosen units f x plus).values front) (sym k.same) (along_ahead plus)
+
+  along_count : (plus : Bool) → length (chosen units f (next_along units f.values line) plus).values ≡ length f.values
+  along_count true = length_taken (moves line) f.values _
+  along_count false = length_taken (moves (turned line)) f.values _
+
+  pub move_count : (plus : Bool) → length (chosen units f m plus).values ≡ length f.values
+  move_count plus = subst (λ (x : Move). length (chosen units f x plus).values ≡ length f.values) (sym k.same) (along_count plus)
+
+-- ---- the front after a pivotal step
+
+both_in : (units : Units) (xs : List ℕ) (p : ℕ × ℕ) → first_pair units xs ≡ Some p → (P : ℕ → Type 0) → ((k : ℕ) → k < length xs → P (get_or xs k 0)) → P p.0 × P p.1
+both_in units [] p e P each = absurd (let h : None ≡ Some p = e in cc)
+both_in units (i ∷ []) p e P each = absurd (let h : None ≡ Some p = e in cc)
+both_in units (i ∷ j ∷ xs) p e P each =
+    elim (cases_Bool (nat_eq (stratum units i) (stratum units j))) [
+      | inl t ↦ (let here : Some (i, j) ≡ Some p = rw t at e in let same : (i, j) ≡ p = cc in subst (λ (q : ℕ × ℕ). P q.0 × P q.1) same (each 0 (omega arith), each 1 (omega arith)))
+      | inr f ↦ both_in units (j ∷ xs) p (rw f at e) P (λ k l. each (suc k) (suc-le-suc l))
+    ]
+
+module _ (units : Units) (values : List Value) (ok : IsPairing units values) (front : Front) (is : IsFront values front) (long : front.number ≤ length front.units) (going : is_settled values ≡ false) where
+  abbrev IsBehindSame : List Value → Type 0
+  IsBehindSame new = (length new ≡ length values) × ((k : ℕ) → front.place ≤ k → value new k ≡ value values k)
+
+  taken_same : (moves_them : ℕ → Bool) (t : Shares) → ((k : ℕ) → front.place ≤ k → moves_them k ≡ false) → IsBehindSame (taken_over moves_them values t)
+  taken_same moves_them t no_one = (length_taken moves_them values t, λ k l. taken_kept moves_them values t k (no_one k l))
+
+  in_front_before : (k : ℕ) → k < length (front_units front) → get_or (front_units front) k 0 < front.place
+  in_front_before k l =
+      let b : k < front.number = omega (arith, l, length-take front.number front.units) in
+      subst (λ (u : ℕ). u < front.place) (sym (get_or-take front.number front.units k 0 b)) (front_before values front is long k b)
+
+  by_pair : (p : Option (ℕ × ℕ)) → first_pair units (fractional_units values) ≡ p → EachPart (λ q. IsBehindSame q.state) (paired_parts units values)
+  by_pair (Some p) e =
+      let both = both_in units (front_units front) p (pair_of_front units ok.are values ok.values.count front is long ∙ e) (λ u. u < front.place) in_front_before in
+      let out : (k : ℕ) → front.place ≤ k → is_either p.0 p.1 k ≡ false =
+      λ k l. rw (ne_eqb p.0 k (λ (h : p.0 ≡ k). absurd (omega (arith, h, l, both.0))), ne_eqb p.1 k (λ (h : p.1 ≡ k). absurd (omega (arith, h, l, both.1)))) refl in
+      subst (EachPart (λ q. IsBehindSame q.state)) (sym (ap (parts_by units values (fractional_units values)) e))
+      (taken_same (is_either p.0 p.1) _ out, (taken_same (is_either p.0 p.1) _ out, tt))
+  by_pair None e =
+      let first = front_before values front is long 0 (some_front units values ok front is long going) in
+      let out : (k : ℕ) → front.place ≤ k → nat_eq (get_or front.units 0 0) k ≡ false =
+      λ k l. ne_eqb (get_or front.units 0 0) k (λ (h : get_or front.units 0 0 ≡ k). absurd (omega (arith, h, l, first))) in
+      subst (EachPart (λ q. IsBehindSame q.state)) (sym (alone units values ok front is long going e))
+      (taken_same (nat_eq (get_or front.units 0 0)) _ out, (taken_same (nat_eq (get_or front.units 0 0)) _ out, tt))
+
+  module _ (draw : ℕ) (l : draw < weight_sum (paired_parts units values)) where
+    abbrev new : List Value
+    new = picked values (paired_parts units values) draw
+
+    pub pair_behind : (length (picked values (paired_parts units values) draw) ≡ length values) × ((k : ℕ) → front.place ≤ k → value (picked values (paired_parts units values) draw) k ≡ value values k)
+    pair_behind = picked_is_part (λ q. IsBehindSame q.state) IsBehindSame (λ q h. h) values (paired_parts units values) draw (by_pair (first_pair units (fractional_units values)) refl) l
+
+    fewer : (k : ℕ) → is_fractional (picked values (paired_parts units values) draw) k ≡ true → is_fractional values k ≡ true
+    fewer k h =
+        elim (cases_Bool (is_fractional values k)) [
+          | inl t ↦ t
+          | inr settled ↦ absurd (let kept = picked_is_part (λ q. HasKept (weighed_of units) (pairing values 0) q.state k) (λ t. is_fractional (values_in t) k ≡ false) (λ q z. z.still) (pairing values 0) (strat_parts units (pairing values 0)) draw
+              (paired_kept units values 0 k settled (first_pair units (fractional_units values)) refl) (subst (λ m. draw < m) (sym (pair_sum units values 0)) l) in
+              true≢false (sym h ∙ subst (λ (t : Balancing). is_fractional (values_in t) k ≡ false) (picks_pair units values 0 draw) kept))
+        ]
+
+    pub pair_ahead : IsAhead (picked values (paired_parts units values) draw) front
+    pair_ahead = stays_ahead values new front is long pair_behind.0 fewer pair_behind.1

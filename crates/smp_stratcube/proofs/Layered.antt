@@ -1,0 +1,317 @@
+-- The units of some strata are units that can be balanced.
+use Rattle.std.proofs.Common.{◌≡◌, ◌≢◌, ℕ, zero, suc, ◌+◌, ◌-◌, ◌*◌, ◌/◌, ◌^◌, ◌<◌, ◌≤◌, max, nat_eq, false, ℤ, pos, List, [], ◌∷◌, ◌++◌, map, set, length, get_or, arith, refl, sym, ap, ◌∙◌, subst, inl, inr, mul-pos, eq-zero-or-pos, suc-le-suc, le_of_suc-le-suc, length-append}
+use Rattle.std.specs.Int.RustNames.{unsigned_abs}
+use Rattle.std.specs.Prelude.{replicate}
+use Rattle.std.specs.List.{range_with_len}
+use Rattle.std.proofs.lemmas.Bool.{cases_Bool, cases_eq, cases_lt, eqb-false, ne_eqb}
+use Rattle.std.proofs.lemmas.List.{get_or-append_right, get_or-map, get_or-replicate, get_or-set_other, get_or-set_same, get_or_append_left, get_or_past, length-map, length-replicate}
+use Rattle.std.proofs.lemmas.List.Elements.{All-from_get_or}
+use Rattle.std.proofs.lemmas.List.FromFn.{get_or-map-range_with_len, length-map-range_with_len}
+use Rattle.std.proofs.lemmas.Nat.Gcd.{IsGcd-swap}
+use Rattle.std.proofs.Math.Nat.{div-le_self, dvd-mul_right, mul-div_cancel', mul-le-mul_right}
+use Prim.Native.Nat.{◌∣◌}
+use Rattle.smp_fractions.specs.Fractions.{Same, over, times, whole}
+use Rattle.smp_fractions.proofs.Fractions.{cancel, same_trans}
+use Rattle.smp_frac.specs.Divisors.{greatest_common_divisor}
+use Rattle.smp_frac.specs.Laws.Coprime.{divisor_positive, dvd_of_coprime, part_positive}
+use Rattle.smp_frac.specs.Laws.Gcds.{IsGcd-greatest_common_divisor}
+use Rattle.smp_kernel.specs.Vectors.{entry, Within}
+use Rattle.smp_moves.specs.Ends.{lowest}
+use Rattle.smp_moves.specs.Moves.{fraction_of}
+use Rattle.smp_moves.proofs.LineEnds.{lowest_is}
+use Rattle.smp_stratcube.specs.declared.units.Member.{Member}
+use Rattle.smp_stratcube.specs.Layers.{AreLayers, IsLayer, Layer, first_of, no_layer}
+use Rattle.smp_stratcube.specs.Units.{IsShare, IsUnits, Units, column, column_of, first, member_of, members_from, nobody, share, stratum, units_of}
+use Rattle.smp_stratcube.specs.Laws.Taken.{lowest_same}
+use Rattle.smp_stratcube.specs.Requests.{offset}
+use Rattle.smp_stratcube.proofs.Stored.{in_front, in_rest, length-column}
+
+-- ---- which unit stands where
+
+-- the k-th unit is a unit of a stratum
+pub record IsOf (strata h0 : ℕ) (layers : List Layer) (k : ℕ) : Type 0 where
+  pub h : ℕ
+  pub place : ℕ
+  pub in_h : h < length layers
+  pub inside : place < length (get_or layers h no_layer).shape
+  pub at : k ≡ offset layers h + place
+  pub is : get_or (members_from strata h0 layers) k nobody ≡ member_of strata (h0 + h) (get_or layers h no_layer) place
+
+module _ (strata h0 : ℕ) (layer : Layer) where
+  abbrev pub own : List Member
+  own = map (member_of strata h0 layer) (range_with_len 0 (length layer.shape))
+
+  pub length-own : length (map (member_of strata h0 layer) (range_with_len 0 (length layer.shape))) ≡ length layer.shape
+  length-own = length-map-range_with_len (member_of strata h0 layer) 0 (length layer.shape)
+
+  pub own_at : (k : ℕ) → k < length layer.shape → get_or (map (member_of strata h0 layer) (range_with_len 0 (length layer.shape))) k nobody ≡ member_of strata h0 layer k
+  own_at k l = get_or-map-range_with_len (member_of strata h0 layer) 0 (length layer.shape) k k nobody l (omega arith)
+
+pub unit_of : (strata h0 : ℕ) (layers : List Layer) (k : ℕ) → k < length (members_from strata h0 layers) → IsOf strata h0 layers k
+unit_of strata h0 [] k l = absurd (omega (arith, l))
+unit_of strata h0 (layer ∷ layers) k l =
+    elim (cases_lt k (length layer.shape)) [
+      | inl b ↦ record {
+        h = 0;
+        place = k;
+        in_h = omega arith;
+        inside = b;
+        at = omega arith;
+        is = get_or_append_left (own strata h0 layer) (members_from strata (suc h0) layers) nobody k (omega (arith, b, length-own strata h0 layer))
+            ∙ own_at strata h0 layer k b
+            ∙ ap (λ i. member_of strata i layer k) (let e : h0 ≡ h0 + 0 = omega arith in e);
+      }
+      | inr b ↦
+          (let n : ℕ = length layer.shape in
+          let rest : k - n < length (members_from strata (suc h0) layers) = omega (arith, l, b, length-own strata h0 layer, length-append (own strata h0 layer) (members_from strata (suc h0) layers)) in
+          let r = unit_of strata (suc h0) layers (k - n) rest in
+          record {
+            h = suc r.h;
+            place = r.place;
+            in_h = suc-le-suc r.in_h;
+            inside = r.inside;
+            at = omega (arith, r.at, b);
+            is = get_or-append_right (own strata h0 layer) (members_from strata (suc h0) layers) n k nobody (length-own strata h0 layer) b
+                ∙ r.is
+                ∙ ap (λ i. member_of strata i (get_or layers r.h no_layer) r.place) (let e : suc h0 + r.h ≡ h0 + suc r.h = omega arith in e);
+          })
+    ]
+
+-- and where each unit of a stratum stands
+pub at_offset : (strata h0 : ℕ) (layers : List Layer) (h place : ℕ) → h < length layers → place < length (get_or layers h no_layer).shape →
+    get_or (members_from strata h0 layers) (offset layers h + place) nobody ≡ member_of strata (h0 + h) (get_or layers h no_layer) place
+at_offset strata h0 [] h place l m = absurd (omega (arith, l))
+at_offset strata h0 (layer ∷ layers) zero place l m =
+    ap (λ i. get_or (own strata h0 layer ++ members_from strata (suc h0) layers) i nobody) (let e : 0 + place ≡ place = omega arith in e)
+    ∙ get_or_append_left (own strata h0 layer) (members_from strata (suc h0) layers) nobody place (omega (arith, m, length-own strata h0 layer))
+    ∙ own_at strata h0 layer place m
+    ∙ ap (λ i. member_of strata i layer place) (let e : h0 ≡ h0 + 0 = omega arith in e)
+at_offset strata h0 (layer ∷ layers) (suc h) place l m =
+    let n : ℕ = length layer.shape in
+    let left : n + offset layers h + place - n ≡ offset layers h + place = omega arith in
+    get_or-append_right (own strata h0 layer) (members_from strata (suc h0) layers) n (n + offset layers h + place) nobody (length-own strata h0 layer) (omega arith)
+    ∙ ap (λ i. get_or (members_from strata (suc h0) layers) i nobody) left
+    ∙ at_offset strata (suc h0) layers h place (le_of_suc-le-suc l) m
+    ∙ ap (λ i. member_of strata i (get_or layers h no_layer) place) (let e : suc h0 + h ≡ h0 + suc h = omega arith in e)
+
+-- the offsets rise
+offset_rises : (layers : List Layer) (g h place : ℕ) → g < h → h < length layers → place < length (get_or layers g no_layer).shape → offset layers g + place < offset layers h
+offset_rises [] g h place l m b = absurd (omega (arith, m))
+offset_rises (layer ∷ layers) zero zero place l m b = absurd (omega (arith, l))
+offset_rises (layer ∷ layers) zero (suc h) place l m b = omega (arith, b)
+offset_rises (layer ∷ layers) (suc g) zero place l m b = absurd (omega (arith, l))
+offset_rises (layer ∷ layers) (suc g) (suc h) place l m b = (let r = offset_rises layers g h place (le_of_suc-le-suc l) (le_of_suc-le-suc m) b in omega (arith, r))
+
+members_few : (strata h0 : ℕ) (layers : List Layer) → ((h : ℕ) → h < length layers → length (get_or layers h no_layer).shape ≤ 200000) → length (members_from strata h0 layers) ≤ length layers * 200000
+members_few strata h0 [] each = omega arith
+members_few strata h0 (layer ∷ layers) each =
+    let here = each 0 (omega arith) in
+    let rest = members_few strata (suc h0) layers (λ h l. each (suc h) (suc-le-suc l)) in
+    omega (arith, here, rest, length-own strata h0 layer, length-append (own strata h0 layer) (members_from strata (suc h0) layers))
+
+-- ---- the column of a unit
+
+module _ (strata h size : ℕ) (xs : List ℤ) (lh : h < strata) (few : strata + length xs ≤ 16) where
+  abbrev front : List ℤ
+  front = set (replicate strata (pos 0)) h (pos size)
+
+  at_front : (row : ℕ) → row < strata → entry (column_of strata h size xs) row ≡ entry front row
+  at_front row l = in_front strata h size xs row (omega (arith, l, few)) l
+
+  pub own_row : entry (column_of strata h size xs) h ≡ pos size
+  own_row = at_front h lh ∙ get_or-set_same (replicate strata (pos 0)) h (pos size) (pos 0) (omega (arith, lh, length-replicate strata (pos 0)))
+
+  pub other_row : (row : ℕ) → row < strata → row ≢ h → entry (column_of strata h size xs) row ≡ pos 0
+  other_row row l ne =
+      at_front row l ∙ get_or-set_other (replicate strata (pos 0)) h row (pos size) (pos 0) ne ∙ get_or-replicate strata row (pos 0) (pos 0) l
+
+  pub small_column : size ≤ 2 ^ 31 - 1 → Within (2 ^ 31 - 1) xs → Within (2 ^ 31 - 1) (column_of strata h size xs)
+  small_column le w = All-from_get_or (λ x. unsigned_abs x ≤ 2 ^ 31 - 1) (column_of strata h size xs) (pos 0) (λ row l. small row)
+    where
+      small : (row : ℕ) → unsigned_abs (entry (column_of strata h size xs) row) ≤ 2 ^ 31 - 1
+      small row =
+          elim (cases_lt row strata) [
+            | inl l ↦ elim (cases_eq row h) [
+              | inl e ↦ rw e (rw own_row le)
+              | inr ne ↦ rw (other_row row l ne) (omega arith)
+            ]
+            | inr past ↦ elim (cases_lt row 16) [
+              | inr far ↦ (let none : entry (column_of strata h size xs) row ≡ pos 0 = get_or_past (column_of strata h size xs) row (pos 0) (omega (arith, far, length-column strata h size xs)) in rw none (omega arith))
+              | inl b ↦
+                  (let at : entry (column_of strata h size xs) row ≡ entry (xs ++ replicate 16 (pos 0)) (row - strata) = in_rest strata h size xs row (row - strata) b (omega (arith, past)) in
+                  rw at (small_rest (row - strata)))
+            ]
+          ]
+        where
+          small_rest : (i : ℕ) → unsigned_abs (entry (xs ++ replicate 16 (pos 0)) i) ≤ 2 ^ 31 - 1
+          small_rest i =
+              elim (cases_lt i (length xs)) [
+                | inl l ↦ rw (get_or_append_left xs (replicate 16 (pos 0)) (pos 0) i l) (w i (pos 0) l)
+                | inr past ↦
+                    rw (get_or-append_right xs (replicate 16 (pos 0)) (length xs) i (pos 0) refl past)
+                    (elim (cases_lt (i - length xs) 16) [
+                      | inl b ↦ rw (get_or-replicate 16 (i - length xs) (pos 0) (pos 0) b) (omega arith)
+                      | inr far ↦ (let none : entry (replicate 16 (pos 0)) (i - length xs) ≡ pos 0 = get_or_past (replicate 16 (pos 0)) (i - length xs) (pos 0) (omega (arith, far, length-replicate 16 (pos 0))) in rw none (omega arith))
+                    ])
+              ]
+
+-- ---- its probability
+
+pub share_is : (layer : Layer) → IsLayer layer → (k : ℕ) → k < length layer.shape → IsShare (first_of layer) (lowest (get_or layer.shape k 0 * layer.r) layer.total)
+share_is layer is k l =
+    let z : ℕ = get_or layer.shape k 0 in
+    let a : ℕ = z * layer.r in
+    let total : ℕ = layer.total in
+    let below = is.below_one k l in
+    let some_r = is.drawn (omega (arith, l)) in
+    let some : 1 ≤ a = mul-pos (is.positive k l) some_r in
+    let low = lowest_is a total (omega (arith, below)) in
+    let p : ℕ = (lowest a total).num in
+    let q : ℕ = (lowest a total).den in
+    let gcd = IsGcd-greatest_common_divisor total layer.r in
+    let g : ℕ = greatest_common_divisor total layer.r in
+    let g_some : 1 ≤ g = divisor_positive total layer.r g some_r gcd in
+    let first : ℕ = total / g in
+    let whole_total : g * first ≡ total = mul-div_cancel' g gcd.0 in
+    let whole_r : g * (layer.r / g) ≡ layer.r = mul-div_cancel' g gcd.1 in
+    let not_empty : nat_eq (length layer.shape) 0 ≡ false = ne_eqb (length layer.shape) 0 (λ (e : length layer.shape ≡ 0). absurd (omega (arith, e, l))) in
+    record {
+      some = elim (eq-zero-or-pos p) [
+        | inr s ↦ s
+        | inl none ↦ absurd (let x : 1 ≤ a * q = mul-pos some low.some in let y : p * total ≡ 0 = rw none (omega arith) in omega (arith, x, y, low.same))
+      ];
+      below = elim (cases_lt p q) [
+        | inl h ↦ h
+        | inr h ↦ absurd (let x : q * total ≤ p * total = mul-le-mul_right total h in
+            let y : (a + 1) * q ≤ total * q = mul-le-mul_right q (omega (arith, below)) in
+            omega (arith, x, y, low.same, low.some))
+      ];
+      reduced = low.reduced;
+      divides = rw not_empty
+          (dvd_of_coprime q p first (IsGcd-swap p q 1 low.reduced)
+          (subst (λ m. q ∣ m) (cross a q p g first (layer.r / g) z g_some whole_total whole_r low.same) (dvd-mul_right q (z * (layer.r / g)))));
+    }
+  where
+    -- the numerator times the common denominator is a multiple of the denominator
+    cross : (a q p g first part z : ℕ) → 1 ≤ g → g * first ≡ layer.total → g * part ≡ layer.r → z * layer.r * q ≡ p * layer.total → q * (z * part) ≡ p * first
+    cross a q p g first part z some t r h =
+        cancel (q * (z * part)) (p * first) g some
+        (let x : z * (g * part) * q ≡ p * (g * first) = rw (t, r) h in omega (arith, x))
+
+pub first_positive : (layer : Layer) → IsLayer layer → (1 ≤ first_of layer) × (first_of layer ≤ 2 ^ 49)
+first_positive layer is =
+    elim (cases_Bool (nat_eq (length layer.shape) 0)) [
+      | inl t ↦ rw t (omega arith, omega arith)
+      | inr f ↦
+          (let some : length layer.shape ≢ 0 = eqb-false (length layer.shape) 0 f in
+          let below = is.below_one 0 (omega (arith, some)) in
+          let gcd = IsGcd-greatest_common_divisor layer.total layer.r in
+          let g : ℕ = greatest_common_divisor layer.total layer.r in
+          rw f (part_positive layer.total g (omega (arith, below)) gcd.0, omega (arith, div-le_self layer.total g, is.narrow)))
+    ]
+
+-- ---- all of it
+
+module _ (layers : List Layer) (are : AreLayers layers) (each : (h : ℕ) → h < length layers → IsLayer (get_or layers h no_layer)) where
+  abbrev units : Units
+  units = units_of layers
+
+  abbrev strata : ℕ
+  strata = length layers
+
+  of : (k : ℕ) → k < length (members_from strata 0 layers) → IsOf strata 0 layers k
+  of k l = unit_of strata 0 layers k l
+
+  in_stratum : (k : ℕ) (l : k < length (members_from strata 0 layers)) → (get_or (members_from strata 0 layers) k nobody).stratum ≡ (of k l).h
+  in_stratum k l = ap (λ (m : Member). m.stratum) (of k l).is ∙ (let e : 0 + (of k l).h ≡ (of k l).h = omega arith in e)
+
+  first_at : (h : ℕ) → h < length layers → get_or (map first_of layers) h 1 ≡ first_of (get_or layers h no_layer)
+  first_at h l = get_or-map first_of layers h no_layer 1 l
+
+  values_few : (h place : ℕ) → h < length layers → place < length (get_or layers h no_layer).shape → strata + length (get_or (get_or layers h no_layer).values place []) ≤ 16
+  values_few h place l m =
+      let is = each h l in
+      let same = is.numbers.same place (omega (arith, m, is.paired)) in
+      let all = are.same h l (omega (arith, m)) in
+      omega (arith, same, all, are.rows)
+
+  rises : (j k : ℕ) → j ≤ k → k < length (members_from strata 0 layers) → (get_or (members_from strata 0 layers) j nobody).stratum ≤ (get_or (members_from strata 0 layers) k nobody).stratum
+  rises j k l m =
+      let b : j < length (members_from strata 0 layers) = omega (arith, l, m) in
+      let a = of j b in
+      let c = of k m in
+      elim (cases_lt c.h a.h) [
+        | inr h ↦ omega (arith, h, in_stratum j b, in_stratum k m)
+        | inl h ↦ absurd (let r = offset_rises layers c.h a.h c.place h a.in_h c.inside in omega (arith, r, a.at, c.at, l))
+      ]
+
+  is_unit : (k : ℕ) (l : k < length (members_from strata 0 layers)) → get_or (members_from strata 0 layers) k nobody ≡ member_of strata (of k l).h (get_or layers (of k l).h no_layer) (of k l).place
+  is_unit k l = (of k l).is ∙ ap (λ i. member_of strata i (get_or layers (of k l).h no_layer) (of k l).place) (let e : 0 + (of k l).h ≡ (of k l).h = omega arith in e)
+
+  -- the column of a unit
+  module _ (k : ℕ) (l : k < length (members_from strata 0 layers)) where
+    abbrev h : ℕ
+    h = (of k l).h
+
+    abbrev layer : Layer
+    layer = get_or layers (of k l).h no_layer
+
+    abbrev place : ℕ
+    place = (of k l).place
+
+    is_layer : IsLayer layer
+    is_layer = each h (of k l).in_h
+
+    few : strata + length (get_or layer.values place []) ≤ 16
+    few = values_few h place (of k l).in_h (of k l).inside
+
+    own_entry : entry (column units k) (stratum units k) ≡ pos (get_or layer.shape place 0)
+    own_entry = subst (λ (m : Member). entry m.column m.stratum ≡ pos (get_or layer.shape place 0)) (sym (is_unit k l)) (own_row strata h (get_or layer.shape place 0) (get_or layer.values place []) (of k l).in_h few)
+
+    others : (row : ℕ) → row < strata → row ≢ stratum units k → entry (column units k) row ≡ pos 0
+    others row b =
+        subst (λ (m : Member). row ≢ m.stratum → entry m.column row ≡ pos 0) (sym (is_unit k l)) (λ ne. other_row strata h (get_or layer.shape place 0) (get_or layer.values place []) (of k l).in_h few row b ne)
+
+    small : Within (2 ^ 31 - 1) (column units k)
+    small =
+        subst (λ (m : Member). Within (2 ^ 31 - 1) m.column) (sym (is_unit k l))
+        (small_column strata h (get_or layer.shape place 0) (get_or layer.values place []) (of k l).in_h few (let z = is_layer.small place (of k l).inside in omega (arith, z)) (is_layer.numbers.within place (omega (arith, (of k l).inside, is_layer.paired))))
+
+    share_ok : IsShare (first units k) (share units k)
+    share_ok =
+        subst (λ (m : Member). IsShare (get_or (map first_of layers) m.stratum 1) m.share) (sym (is_unit k l))
+        (subst (λ n. IsShare n (lowest (get_or layer.shape place 0 * layer.r) layer.total)) (sym (first_at h (of k l).in_h)) (share_is layer is_layer place (of k l).inside))
+
+    size_is : unsigned_abs (entry (column units k) (stratum units k)) ≡ get_or layer.shape place 0
+    size_is = ap unsigned_abs own_entry
+
+    in_proportion : Same (fraction_of (share units k)) (times (over (get_or layers (stratum units k) no_layer).r (get_or layers (stratum units k) no_layer).total) (whole (unsigned_abs (entry (column units k) (stratum units k)))))
+    in_proportion =
+        rw size_is
+        (subst (λ (m : Member). Same (fraction_of m.share) (times (over (get_or layers m.stratum no_layer).r (get_or layers m.stratum no_layer).total) (whole (get_or layer.shape place 0)))) (sym (is_unit k l))
+        (let below = is_layer.below_one place (of k l).inside in
+        same_trans (lowest_same (get_or layer.shape place 0 * layer.r) layer.total (omega (arith, below))) (as_product (get_or layer.shape place 0) layer.r layer.total (omega (arith, below)))))
+      where
+        as_product : (z r total : ℕ) → 1 ≤ total → Same (over (z * r) total) (times (over r total) (whole z))
+        as_product z r total some = (let e : max 1 total ≡ total = omega arith in record { cross = rw e (ap pos (omega arith)) })
+
+  pub units_are : IsUnits (units_of layers)
+  units_are = record {
+    few = (let m = members_few strata 0 layers (λ h l. (each h l).few) in omega (arith, m, are.few));
+    few_rows = are.rows;
+    strata = omega (arith, length-map layers first_of);
+    firsts = λ h. elim (cases_lt h (length layers)) [
+      | inl l ↦ rw (first_at h l) (first_positive (get_or layers h no_layer) (each h l))
+      | inr past ↦ (let one : get_or (map first_of layers) h 1 ≡ 1 = get_or_past (map first_of layers) h 1 (omega (arith, past, length-map layers first_of)) in rw one (omega arith, omega arith))
+    ];
+    within = λ k l. omega (arith, in_stratum k l, (of k l).in_h, length-map layers first_of);
+    rises = rises;
+    shares = λ k l. share_ok k l;
+    small = λ k l. small k l;
+    size = λ k. unsigned_abs (entry (column units k) (stratum units k));
+    some_size = λ k l. (let z = (is_layer k l).positive (of k l).place (of k l).inside in omega (arith, z, size_is k l));
+    own_row = λ k l. own_entry k l ∙ ap pos (sym (size_is k l));
+    other_rows = λ k row l b ne. others k l row (omega (arith, b, length-map layers first_of)) ne;
+    scale = λ h. over (get_or layers h no_layer).r (get_or layers h no_layer).total;
+    proportional = λ k l. in_proportion k l;
+  }

@@ -1,0 +1,49 @@
+use Rattle.std.proofs.Common.{◌≡◌, ℕ, List, length, arith, refl, sym, ap, ap₂, ◌∙◌, subst}
+use Rattle.std.proofs.lemmas.List.{length-map}
+use Rattle.smp_stratcube.specs.declared.values.Value.{Value}
+use Rattle.smp_stratcube.specs.Units.{IsUnits}
+use Rattle.smp_stratcube.specs.Cube.{flying, requested_value, started}
+use Rattle.smp_stratcube.specs.Balances.{IsBalanced}
+use Rattle.smp_stratcube.specs.Counts.{HasCounts}
+use Rattle.smp_split.specs.Methods.{HasMeans}
+use Rattle.smp_stratcube.specs.Method.{method_of}
+use Rattle.smp_stratcube.specs.Kept.Fronts.{IsFront}
+use Rattle.smp_stratcube.proofs.Balances.{strat_balanced}
+use Rattle.smp_stratcube.proofs.Starting.{start_ahead, strat_means}
+use Rattle.smp_stratcube.proofs.WholeStrata.{has_counts}
+use Rattle.smp_stratcube.proofs.design.StratCube.start.Goals as goal
+
+pub front_of-front-requires : goal.front_of-front-requires
+front_of-front-requires c = rw (c.as_slice.ensures.value, c.in_ok-values.ensures) (start_ahead c.self.inside.units c.self.invariant _ refl refl)
+
+pub invariant_of-result : goal.invariant_of-result
+invariant_of-result c = record {
+  few = omega (arith, ap (λ (vs : List Value). length vs) c.in_ok-values.ensures, length-map c.self.inside.units.members requested_value, c.self.invariant.few);
+  first = subst (λ (vs : List Value). IsFront vs c.front_of-front.result) c.as_slice.ensures.value c.front_of-front.ensures;
+  step = rw c.in_ok-new.ensures.ok tt;
+}
+
+pub returns-clause-state : goal.returns-clause-state
+returns-clause-state c =
+    ap₂ (λ (vs : List Value) (n : ℕ). flying (record { values = vs; rows = n }) 0) c.in_ok-values.ensures c.rows.ensures ∙ ap started c.self.view_is
+
+pub returns-clause-means : goal.returns-clause-means
+returns-clause-means c =
+    let are : IsUnits c.args.self.now = subst IsUnits c.self.view_is c.self.invariant in
+    let state : flying (record { values = c.in_ok-values.values.items; rows = c.rows.result }) 0 ≡ started c.args.self.now =
+    ap₂ (λ (vs : List Value) (n : ℕ). flying (record { values = vs; rows = n }) 0) c.in_ok-values.ensures c.rows.ensures ∙ ap started c.self.view_is in
+    subst (HasMeans (method_of c.args.self.now)) (sym state) (strat_means c.args.self.now are)
+
+pub returns-clause-counts : goal.returns-clause-counts
+returns-clause-counts c =
+    let are : IsUnits c.args.self.now = subst IsUnits c.self.view_is c.self.invariant in
+    let state : flying (record { values = c.in_ok-values.values.items; rows = c.rows.result }) 0 ≡ started c.args.self.now =
+    ap₂ (λ (vs : List Value) (n : ℕ). flying (record { values = vs; rows = n }) 0) c.in_ok-values.ensures c.rows.ensures ∙ ap started c.self.view_is in
+    subst (HasCounts c.args.self.now) (sym state) (has_counts c.args.self.now are)
+
+pub returns-clause-balanced : goal.returns-clause-balanced
+returns-clause-balanced c =
+    let are : IsUnits c.args.self.now = subst IsUnits c.self.view_is c.self.invariant in
+    let state : flying (record { values = c.in_ok-values.values.items; rows = c.rows.result }) 0 ≡ started c.args.self.now =
+    ap₂ (λ (vs : List Value) (n : ℕ). flying (record { values = vs; rows = n }) 0) c.in_ok-values.ensures c.rows.ensures ∙ ap started c.self.view_is in
+    subst (IsBalanced c.args.self.now) (sym state) (strat_balanced c.args.self.now are)

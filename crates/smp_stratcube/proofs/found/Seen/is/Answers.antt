@@ -1,0 +1,18 @@
+use Rattle.std.proofs.Common.{◌≡◌, ℕ, Bool, true, false, not, List, ℤ, ap₂, refl, int_eq}
+use Rattle.std.proofs.lemmas.Bool.{eqb-true}
+use Rattle.std.specs.Cmp.Lexicographic.{pointwise}
+use Rattle.std.specs.Cmp.Rules.{signed_items}
+use Rattle.smp_moves.specs.declared.lines.Ratio.{Ratio}
+use Rattle.smp_stratcube.proofs.found.Seen.is.Goals as goal
+
+is_true : (b : Bool) → false ≡ not b → b ≡ true
+is_true true e = refl
+is_true false e = absurd (cc)
+
+pub returns : goal.returns
+returns c told =
+    let a = c.args.self.now in
+    let b = c.args.other.now in
+    let column : a.column ≡ b.column = (signed_items a.column b.column).0 (is_true (pointwise int_eq a.column b.column) c.if-ne.ensures) in
+    let share : a.share ≡ b.share = ap₂ (λ (n d : ℕ). record { num = n; den = d }) c.if-self-other.false c.if-self-other-2.false in
+    ap₂ (λ (x : List ℤ × Ratio) (n : ℕ). record { column = x.0; share = x.1; first = n }) (ap₂ (λ (xs : List ℤ) (r : Ratio). (xs, r)) column share) (eqb-true a.first b.first told)

@@ -1,0 +1,60 @@
+use Rattle.std.proofs.Common.{rules, arith, ◌≡◌, ◌+◌, ◌*◌, ◌<◌, ◌≤◌, ◌^◌, ℕ, List, ℤ, [], map, take, length, get_or, sym, ap, ap₂, ◌∙◌}
+use Rattle.std.proofs.lemmas.List.{get_or-map, get_or_read, length-map}
+use Rattle.smp_moves.specs.declared.lines.Ratio.{Ratio}
+use Rattle.smp_moves.specs.Ends.{lowest}
+use Rattle.smp_stratcube.specs.Layers.{Layer}
+use Rattle.smp_stratcube.specs.Units.{column_of, member_of}
+use Rattle.smp_stratcube.proofs.making.member_of.Goals as goal
+
+pub index-size-requires : goal.index-size-requires
+index-size-requires c =
+    let inside : c.args.unit < length c.layer.inside.shape.items = rw (← c.layer.view_is) at c.requires.unit in
+    omega (arith, inside, c.layer.inside.shape.ok.0)
+
+pub index-requires : goal.index-requires
+index-requires c =
+    let l = c.layer.inside in
+    let inside : c.args.unit < length c.layer.inside.shape.items = rw (← c.layer.view_is) at c.requires.unit in
+    omega (arith, inside, c.layer.invariant.is.paired, length-map l.values.items (take l.variables), l.values.ok.0)
+
+pub column_of-requires-clause-rows : goal.column_of-requires-clause-rows
+column_of-requires-clause-rows c =
+    let l = c.layer.inside in
+    let rows : c.args.strata + length (get_or (map (take l.variables) l.values.items) 0 []) ≤ 16 = rw (← c.layer.view_is) at c.requires.rows in
+    omega (arith, rows, c.layer.invariant.variables_is)
+
+pub column_of-requires-clause-size : goal.column_of-requires-clause-size
+column_of-requires-clause-size c =
+    let shape = c.layer.inside.shape.items in
+    let inside : c.args.unit < length c.layer.inside.shape.items = rw (← c.layer.view_is) at c.requires.unit in
+    let at : c.index-size.result.now ≡ get_or shape c.args.unit 0 = get_or_read shape c.args.unit c.index-size.result.now inside c.index-size.ensures 0 in
+    omega (arith, at, c.layer.invariant.is.small c.args.unit inside)
+
+pub overflow_mul-size : goal.overflow_mul-size
+overflow_mul-size c =
+    let shape = c.layer.inside.shape.items in
+    let inside : c.args.unit < length c.layer.inside.shape.items = rw (← c.layer.view_is) at c.requires.unit in
+    let at : c.index-size.result.now ≡ get_or shape c.args.unit 0 = get_or_read shape c.args.unit c.index-size.result.now inside c.index-size.ensures 0 in
+    let below : c.index-size.result.now * c.layer.inside.r < 2 ^ 49 = rw at (omega (arith, c.layer.invariant.is.below_one c.args.unit inside, c.layer.invariant.is.narrow)) in
+    search rules
+
+pub lowest-requires : goal.lowest-requires
+lowest-requires c =
+    let inside : c.args.unit < length c.layer.inside.shape.items = rw (← c.layer.view_is) at c.requires.unit in
+    omega (arith, c.layer.invariant.is.below_one c.args.unit inside)
+
+pub returns : goal.returns
+returns c =
+    let l = c.layer.inside in
+    let unit = c.args.unit in
+    let inside : c.args.unit < length c.layer.inside.shape.items = rw (← c.layer.view_is) at c.requires.unit in
+    let size : c.index-size.result.now ≡ get_or l.shape.items unit 0 = get_or_read l.shape.items unit c.index-size.result.now inside c.index-size.ensures 0 in
+    let also : unit < length l.values.items = omega (arith, inside, c.layer.invariant.is.paired, length-map l.values.items (take l.variables)) in
+    let places : c.index.result.now ≡ get_or l.values.items unit [] = get_or_read l.values.items unit c.index.result.now also c.index.ensures [] in
+    let values : take l.variables c.index.result.now ≡ get_or (map (take l.variables) l.values.items) unit [] =
+    ap (take l.variables) places ∙ sym (get_or-map (take l.variables) l.values.items unit [] [] also) in
+    let column : c.column_of.result ≡ column_of c.args.strata c.args.stratum (get_or l.shape.items unit 0) (get_or (map (take l.variables) l.values.items) unit []) =
+    c.column_of.ensures ∙ ap₂ (λ (n : ℕ) (xs : List ℤ). column_of c.args.strata c.args.stratum n xs) size values in
+    let share : c.lowest.result ≡ lowest (get_or l.shape.items unit 0 * l.r) l.total = c.lowest.ensures ∙ ap (λ n. lowest (n * l.r) l.total) size in
+    ap₂ (λ (xs : List ℤ) (r : Ratio). record { column = xs; stratum = c.args.stratum; share = r }) column share
+    ∙ ap (λ (y : Layer). member_of c.args.strata c.args.stratum y unit) c.layer.view_is

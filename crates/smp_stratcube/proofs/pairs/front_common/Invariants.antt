@@ -1,0 +1,16 @@
+use Rattle.std.proofs.Common.{◌≡◌, ◌≤◌, map, nat_eq}
+use Rattle.std.specs.List.{filter}
+use Rattle.smp_moves.proofs.Places.{rest_of}
+use Rattle.smp_stratcube.specs.Units.{stratum}
+use Rattle.smp_stratcube.specs.Values.{value}
+use Rattle.smp_stratcube.specs.Kept.Fronts.{front_units}
+use Rattle.smp_stratcube.specs.Kept.Pairs.{common_in}
+use Rattle.smp_stratcube.specs.Laws.Multiples.{from}
+use Rattle.smp_stratcube.proofs.pairs.front_common.Given as goal
+
+-- the common denominator so far, and the units that are left
+abbrev pub invariant-loop-place : goal.invariant-loop-place
+invariant-loop-place l =
+    (from l.common (map (λ k. (value l.values k).at.den) (filter (λ k. nat_eq (stratum l.units k) l.stratum) (rest_of l.front.number l.front.units l.place)))
+    ≡ common_in l.units l.values l.stratum (front_units l.front))
+    × (1 ≤ l.common)

@@ -1,0 +1,15 @@
+use Rattle.std.proofs.Common.{nat_eq, List, sym, ap, ◌∙◌, subst}
+use Rattle.smp_stratcube.specs.declared.values.Value.{Value}
+use Rattle.smp_stratcube.specs.Values.{fractional_count, is_settled}
+use Rattle.smp_stratcube.specs.Cube.{values_in}
+use Rattle.smp_stratcube.specs.Kept.Fronts.{IsFront}
+use Rattle.smp_stratcube.proofs.Keeping.{values_of}
+use Rattle.smp_stratcube.proofs.state.StratCubeState.is_done.Goals as goal
+
+pub fractional-requires : goal.fractional-requires
+fractional-requires c =
+    subst (λ (vs : List Value). IsFront vs c.self.inside.front) (sym c.as_slice.ensures.value) c.self.invariant.first
+
+pub returns : goal.returns
+returns c =
+    ap (λ n. nat_eq n 0) (c.fractional.ensures ∙ ap fractional_count c.as_slice.ensures.value) ∙ ap is_settled (sym (values_of c.self.inside.phase c.self.inside.values.items c.self.inside.rows c.self.inside.left) ∙ ap values_in c.self.view_is)

@@ -1,0 +1,71 @@
+-- What the cube over all strata keeps: the sum of the values of each stratum, and the total of each variable over all strata (Deville and
+-- Tillé 2004, with the balancing equations of Chauvet 2009).
+use Rattle.std.specs.Prelude.{◌⊎◌, ℕ, cond, nat_eq, nat_lt, length}
+use Rattle.smp_fractions.specs.Fractions.{Fraction, whole, integer, times, inverse, sum_below}
+use Rattle.smp_kernel.specs.Elimination.{cut, AreIndependent}
+use Rattle.smp_kernel.specs.Vectors.{entry}
+use Rattle.smp_moves.specs.Balances as moves
+use Rattle.smp_moves.specs.Moves.{fraction_of}
+use Rattle.smp_moves.specs.Owed.{Weighed, balance_of}
+use Rattle.smp_stratcube.specs.Units.{Units, column, columns_of, share, stratum}
+use Rattle.smp_stratcube.specs.Values.{fractional_count, fractional_units, value}
+use Rattle.smp_stratcube.specs.Moves.{IsTooWide}
+use Rattle.smp_stratcube.specs.Cube.{Balancing, flying, pairing, left_in, rows_in, strat_tree, values_in}
+
+-- What a unit counts for in the total of a row. In the row of a stratum it is 1 for its units and 0 for all others; in the row of a
+-- variable it is its balancing value divided by its probability.
+abbrev pub expanded : Units → ℕ → ℕ → Fraction
+expanded units row k =
+    cond (nat_lt row (length units.firsts)) (whole (cond (nat_eq (stratum units k) row) 1 0))
+    (times (integer (entry (column units k) row)) (inverse (fraction_of (share units k))))
+
+-- what a unit adds to that which is estimated: its probability in the row of its stratum, and its balancing value in that of a variable
+abbrev pub addend : Units → ℕ → ℕ → Fraction
+addend units row k =
+    cond (nat_lt row (length units.firsts))
+    (times (whole (cond (nat_eq (stratum units k) row) 1 0)) (fraction_of (share units k)))
+    (integer (entry (column units k) row))
+
+-- what is estimated: the sum of the probabilities of a stratum, or that of the balancing values over all strata
+abbrev pub target : Units → ℕ → Fraction
+target units row = sum_below (length units.members) (addend units row)
+
+-- the columns of the fractional units are independent in the rows in force
+abbrev pub HasIndependentColumns : Units → Balancing → Type 0
+HasIndependentColumns units s =
+    AreIndependent (rows_in s)
+    (cut (rows_in s) (columns_of units (fractional_units (values_in s))))
+
+-- no direction is left in the flight: no move keeps the totals of the rows in force
+abbrev pub NoDirectionLeft : Units → Balancing → Type 0
+NoDirectionLeft units (flying f left) = HasIndependentColumns units (flying f left)
+NoDirectionLeft units (pairing values left) = ⊥
+
+-- the next step doesn't fit: a number of the search, or of the move that it found, passes its gate
+abbrev pub NextDoesNotFit : Units → Balancing → Type 0
+NextDoesNotFit units (flying f left) = IsTooWide units f
+NextDoesNotFit units (pairing values left) = ⊥
+
+-- no direction is left, or the next step doesn't fit
+abbrev pub IsStuck : Units → Balancing → Type 0
+IsStuck units s = NoDirectionLeft units s ⊎ NextDoesNotFit units s
+
+-- The total of a row at a state is the sum of what each unit counts for, times its value.
+abbrev pub weighed_of : Units → Weighed Balancing
+weighed_of units = record {
+  tree = strat_tree units;
+  rows = rows_in;
+  left = left_in;
+  undecided = λ s. fractional_count (values_in s);
+  all_rows = units.rows;
+  numer = λ s k. (value (values_in s) k).at.num;
+  denom = λ s k. (value (values_in s) k).at.den;
+  expanded = expanded units;
+  known = target units;
+  independent = HasIndependentColumns units;
+  stuck = IsStuck units;
+}
+
+-- the cube over all strata of these units is balanced from a state
+abbrev pub IsBalanced : Units → Balancing → Type 0
+IsBalanced units = moves.IsBalanced (balance_of (weighed_of units))

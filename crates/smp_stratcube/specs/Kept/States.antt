@@ -1,0 +1,21 @@
+-- What the code keeps of a state.
+use Rattle.std.specs.Prelude.{ℕ, ◌*◌, ◌≤◌, List, length, Option, IfSome}
+use Rattle.smp_fractions.specs.Limits.{most_rows}
+use Rattle.smp_stratcube.specs.declared.found.Found.{Found}
+use Rattle.smp_stratcube.specs.declared.fronts.Front.{Front}
+use Rattle.smp_stratcube.specs.declared.state.Phase.{Phase}
+use Rattle.smp_stratcube.specs.declared.state.Phase.TheVariants.{Flying, Pairing}
+use Rattle.smp_stratcube.specs.declared.values.Value.{Value}
+use Rattle.smp_stratcube.specs.Cube.{Balancing, flying, pairing}
+use Rattle.smp_stratcube.specs.Kept.Fronts.{IsFront}
+use Rattle.smp_stratcube.specs.Kept.Founds.{IsFound}
+
+abbrev pub balancing_of : Phase → List Value → ℕ → ℕ → Balancing
+balancing_of Flying values rows left = flying (record { values = values; rows = rows }) left
+balancing_of Pairing values rows left = pairing values left
+
+-- the units can be counted, the first fractional ones are known, and so is the next step, where it was looked for
+pub record IsKept (values : List Value) (rows : ℕ) (front : Front) (kept : Option Found) : Type 0 where
+  pub few : length values ≤ 15 * most_rows
+  pub first : IsFront values front
+  pub step : IfSome kept (IsFound values rows front)

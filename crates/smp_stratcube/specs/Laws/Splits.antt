@@ -1,0 +1,208 @@
+-- The splits of the cube over all strata are lawful.
+use Rattle.std.proofs.Common.{◌≡◌, ◌≢◌, ℕ, ◌<◌, ◌≤◌, ◌^◌, ◌&&◌, ◌⊎◌, zero, suc}
+use Rattle.std.proofs.Common.{le_of_suc-le-suc, suc-le-suc, nat_eq, Bool, true, false, Option, Some, None, List, [], ◌∷◌, map, length}
+use Rattle.std.proofs.Common.{get_or, arith, refl, sym, ◌∙◌, subst, inl, inr}
+use Rattle.std.specs.List.{range_with_len}
+use Rattle.std.proofs.lemmas.Bool.{and_parts, cases_Bool, eq-eqb, eqb-false, eqb-true, true≢false}
+use Rattle.std.proofs.lemmas.Nat.Gcd.{dvd_trans}
+use Rattle.std.specs.Prelude.{slice_index_or}
+use Prim.Native.Nat.{◌∣◌}
+use Rattle.std.proofs.lemmas.List.{length-map}
+use Rattle.std.proofs.lemmas.List.Sums.{length-filter}
+use Rattle.smp_fractions.specs.Fractions.{whole, times}
+use Rattle.smp_fractions.proofs.Fractions.{plus-zero}
+use Rattle.smp_kernel.proofs.SearchLaw.{none_is_few}
+use Rattle.smp_split.specs.Trees.{LawfulParts, LawfulSplit, LawfulEnd, Lawful}
+use Rattle.smp_split.specs.Parts.{moved}
+use Rattle.smp_values.proofs.Fractional.{not_fractional, over_settled}
+use Rattle.smp_moves.specs.Moves.{Next, move, independent, wide}
+use Rattle.smp_stratcube.specs.declared.values.Value.{Value}
+use Rattle.smp_stratcube.specs.Units.{Units, column, columns_of, first, stratum}
+use Rattle.smp_stratcube.specs.Values.{AreValues, common_of, fractional_count, fractional_units, is_fractional, is_settled, open_in}
+use Rattle.smp_stratcube.specs.Values.{stratum_common, value, value_at}
+use Rattle.smp_stratcube.specs.Steps.{Flight, next}
+use Rattle.smp_stratcube.specs.Pairs.{first_pair, parts_by}
+use Rattle.smp_stratcube.specs.Cube.{Balancing, flying, pairing, values_in, IsBalancing, IsFlying, IsPairing, dropped, flight_parts, landed}
+use Rattle.smp_stratcube.specs.Cube.{strat_tree}
+use Rattle.smp_stratcube.specs.Laws.Multiples.{map_divide, multiple_most, some_map}
+use Rattle.smp_stratcube.specs.Laws.Units.{common_divides, common_some, filter_from, filter_is, fractional_in, fresh_divides, order_apart}
+use Rattle.smp_stratcube.specs.Laws.Units.{order_going, order_place}
+use Rattle.smp_stratcube.specs.Laws.Directions.{finds_none}
+use Rattle.smp_stratcube.specs.Laws.Moves.{move_split}
+use Rattle.smp_stratcube.specs.Laws.Meetings.{meeting_split}
+use Rattle.smp_stratcube.specs.Laws.Pairs.{pair_found}
+use Rattle.smp_stratcube.specs.Laws.Settlings.{settling_split}
+
+-- ---- one part with the same values
+
+lone_split : (units : Units) (s t : Balancing) → values_in t ≡ values_in s
+    → (strat_tree units).rank t < (strat_tree units).rank s → IsBalancing units t →
+    LawfulParts (strat_tree units) (IsBalancing units) s (record { weight = 1; state = t } ∷ [])
+lone_split units s t same falls member = record {
+  some = omega arith;
+  narrow = omega arith;
+  each = (record { heavy = omega arith; falls = falls; member = member }, tt);
+  even = λ k _. rw same (plus-zero (times (whole 1) (value_at (values_in s) k)));
+}
+
+pub order_count : (values : List Value) → length (fractional_units values) ≡ fractional_count values
+order_count values = length-filter (is_fractional values) (range_with_len 0 (length values))
+
+module _ (units : Units) (f : Flight) (ok : IsFlying units f) where
+  pub few_fractional : next units f ≡ independent → fractional_count f.values ≤ f.rows
+  few_fractional is =
+      let few : length (columns_of units (fractional_units f.values)) ≤ f.rows =
+      none_is_few f.rows (columns_of units (fractional_units f.values)) (finds_none units f is) in
+      omega (arith, few, length-map (fractional_units f.values) (column units), order_count f.values)
+
+  -- so where units are fractional, some row is in force
+  pub some_row : next units f ≡ independent → is_settled f.values ≡ false → 1 ≤ f.rows
+  some_row is going =
+      let some : fractional_count f.values ≢ 0 = eqb-false (fractional_count f.values) 0 going in
+      omega (arith, few_fractional is, some)
+
+  -- ---- over to pivotal steps
+
+  -- a number that the denominators of all fractional values of a stratum divide
+  abbrev vs : List Value
+  vs = f.values
+
+  narrow_by : (h m : ℕ) → 1 ≤ m → m ≤ 2 ^ 80
+      → ((k : ℕ) → is_fractional f.values k ≡ true → stratum units k ≡ h → (value f.values k).at.den ∣ m)
+      → stratum_common units f.values h ≤ 2 ^ 80
+  narrow_by h m some le each =
+      let dens : List ℕ = map (λ k. (value vs k).at.den) (open_in units vs h) in
+      let most : stratum_common units vs h ≤ m =
+      multiple_most dens m (some_map (λ k. (value vs k).at.den) (open_in units vs h) (λ k. (ok.values.each k).positive)) some
+      (map_divide (λ k. (value vs k).at.den) (open_in units vs h) m (λ j l.
+      (let at = filter_from (λ i. nat_eq (stratum units i) h) (fractional_units vs) j l in
+      each (get_or (open_in units vs h) j 0) (subst (λ (x : ℕ). is_fractional vs x ≡ true) at.2 (order_going vs at.0 at.1))
+      (eqb-true (stratum units (get_or (open_in units vs h) j 0)) h
+      (filter_is (λ i. nat_eq (stratum units i) h) (fractional_units vs) j l))))) in
+      omega (arith, most, le)
+
+  -- whether a unit is one of the stratum that moves have changed
+  abbrev changed : ℕ → ℕ → Bool
+  changed h k = (value f.values k).touched && nat_eq (stratum units k) h
+
+  fresh_at : (k : ℕ) → is_fractional f.values k ≡ true → (value f.values k).touched ≡ false
+      → (value f.values k).at.den ∣ first units k
+  fresh_at k going fresh = fresh_divides units f ok k (fractional_in vs k going) fresh
+
+  -- where one is, the common denominator of the state
+  with_changed : (h u : ℕ) → is_fractional f.values u ≡ true → changed h u ≡ true → stratum_common units f.values h ≤ 2 ^ 80
+  with_changed h u going is =
+      let p = and_parts (value vs u).touched (nat_eq (stratum units u) h) is in
+      let u_in : stratum units u ≡ h = eqb-true (stratum units u) h p.1 in
+      let d = (common_divides units ok.are (length units.members) vs ok.values u going p.0).0 in
+      narrow_by h (common_of units vs) (common_some units ok.are (length units.members) vs ok.values) ok.narrow
+      (λ k opened here. elim (cases_Bool (value vs k).touched) [
+        | inl t ↦ (common_divides units ok.are (length units.members) vs ok.values k opened t).1
+        | inr n ↦
+            dvd_trans (value vs k).at.den (fresh_at k opened n)
+            (subst (λ (x : ℕ). slice_index_or units.firsts x 1 ∣ common_of units vs) (u_in ∙ sym here) d)
+      ])
+
+  -- where none is, that of the stratum
+  without_changed : (h : ℕ) → ((k : ℕ) → is_fractional f.values k ≡ true → changed h k ≡ false)
+      → stratum_common units f.values h ≤ 2 ^ 80
+  without_changed h none =
+      narrow_by h (slice_index_or units.firsts h 1) (ok.are.firsts h).0 (omega (arith, (ok.are.firsts h).1))
+      (λ k opened here.
+      (let n : (value vs k).touched ≡ false = (elim (cases_Bool (value vs k).touched) [
+        | inr n ↦ n
+        | inl t ↦ absurd (let z : changed h k ≡ true = rw (t, eq-eqb (stratum units k) h here) refl in
+            true≢false (sym z ∙ none k opened))
+      ]) in
+      subst (λ (x : ℕ). (value vs k).at.den ∣ slice_index_or units.firsts x 1) here (fresh_at k opened n)))
+
+  decided : (P : ℕ → Bool) (ks : List ℕ) → ((j : ℕ) × (j < length ks) × (P (get_or ks j 0) ≡ true))
+      ⊎ ((j : ℕ) → j < length ks → P (get_or ks j 0) ≡ false)
+  decided P [] = inr (λ j l. absurd (omega (arith, l)))
+  decided P (k ∷ ks) =
+      elim (cases_Bool (P k)) [
+        | inl t ↦ inl (0, omega arith, t)
+        | inr n ↦ elim (decided P ks) [
+          | inl h ↦ inl (suc h.0, suc-le-suc h.1, h.2)
+          | inr out ↦ inr (λ j l. not_first P k ks n out j l)
+        ]
+      ]
+    where
+      not_first : (P : ℕ → Bool) (k : ℕ) (ks : List ℕ) → P k ≡ false
+          → ((j : ℕ) → j < length ks → P (get_or ks j 0) ≡ false) → (j : ℕ) → j < length (k ∷ ks)
+          → P (get_or (k ∷ ks) j 0) ≡ false
+      not_first P k ks n out zero l = n
+      not_first P k ks n out (suc j) l = out j (le_of_suc-le-suc l)
+
+  narrow_at : (h : ℕ) → stratum_common units f.values h ≤ 2 ^ 80
+  narrow_at h =
+      elim (decided (changed h) (fractional_units vs)) [
+        | inl c ↦ with_changed h (get_or (fractional_units vs) c.0 0) (order_going vs c.0 c.1) c.2
+        | inr none ↦ without_changed h (λ k going.
+            (let at = order_place vs k going in subst (λ (x : ℕ). changed h x ≡ false) at.2 (none at.0 at.1)))
+      ]
+
+  pub wide_pairing : IsPairing units f.values
+  wide_pairing = record { are = ok.are; values = ok.values; fresh = ok.fresh; narrow = narrow_at }
+
+  dropped_flight : IsFlying units (dropped f)
+  dropped_flight = record { are = ok.are; values = ok.values; fresh = ok.fresh; narrow = ok.narrow; rows_in = omega (arith, ok.rows_in) }
+
+  pub split_by : (left : ℕ) → is_settled f.values ≡ false → (a : Next) → next units f ≡ a
+      → LawfulParts (strat_tree units) (IsBalancing units) (flying f left) (flight_parts units f left a)
+  split_by left going (move m) is = move_split units f ok left m is
+  split_by left going independent is =
+      let some = some_row is going in
+      lone_split units (flying f left) (flying (dropped f) (landed f.values left)) refl (omega (arith, some)) dropped_flight
+  split_by left going wide is = lone_split units (flying f left) (pairing f.values (landed f.values left)) refl (omega arith) wide_pairing
+
+-- ---- the pivotal steps
+
+module _ (units : Units) (values : List Value) (ok : IsPairing units values) (left : ℕ) (going : is_settled values ≡ false) where
+  abbrev IsSplit : Option (ℕ × ℕ) → List ℕ → Type 0
+  IsSplit p order = LawfulParts (strat_tree units) (IsBalancing units) (pairing values left)
+      (moved (λ v. pairing v left) (parts_by units values order p))
+
+  alone : (order : List ℕ) → ((j : ℕ) → j < length order → is_fractional values (get_or order j 0) ≡ true)
+      → length order ≢ 0 → IsSplit None order
+  alone [] opened some = absurd (some refl)
+  alone (i ∷ order) opened some = settling_split units values ok left i (opened 0 (omega arith))
+
+  paired_by : (p : Option (ℕ × ℕ)) → first_pair units (fractional_units values) ≡ p → IsSplit p (fractional_units values)
+  paired_by (Some pair) e = meeting_split units values ok left pair.0 pair.1
+      (pair_found units values (fractional_units values) (order_going values) (order_apart values) pair e)
+  paired_by None e =
+      alone (fractional_units values) (order_going values)
+      (λ z. eqb-false (fractional_count values) 0 going (sym (order_count values) ∙ z))
+
+  pub paired_split : LawfulSplit (strat_tree units) (IsBalancing units) (pairing values left)
+  paired_split = paired_by (first_pair units (fractional_units values)) refl
+
+-- ---- all states
+
+strat_split : (units : Units) (s : Balancing) → IsBalancing units s → is_settled (values_in s) ≡ false
+    → LawfulSplit (strat_tree units) (IsBalancing units) s
+strat_split units (flying f left) ok going = split_by units f ok left going (next units f) refl
+strat_split units (pairing values left) ok going = paired_split units values ok left going
+
+pub values_ok : (units : Units) (s : Balancing) → IsBalancing units s → AreValues (length units.members) (values_in s)
+values_ok units (flying f left) ok = ok.values
+values_ok units (pairing values left) ok = ok.values
+
+-- in a settled state no unit is fractional
+pub none_open : (values : List Value) → is_settled values ≡ true → (k : ℕ) → is_fractional values k ≡ false
+none_open values done k =
+    elim (cases_Bool (is_fractional values k)) [
+      | inr n ↦ n
+      | inl t ↦ absurd (let at = order_place values k t in
+          omega (arith, at.1, order_count values, eqb-true (fractional_count values) 0 done))
+    ]
+
+strat_end : (units : Units) (s : Balancing) → IsBalancing units s → is_settled (values_in s) ≡ true → LawfulEnd (strat_tree units) s
+strat_end units s ok done k l =
+    let v : Value = value (values_in s) k in
+    let is = (values_ok units s ok).each k in
+    over_settled v.at.den v.at.num is.positive (not_fractional v.at.den v.at.num is.most (none_open (values_in s) done k))
+
+pub strat_lawful : (units : Units) → Lawful (strat_tree units) (IsBalancing units)
+strat_lawful units = record { split = strat_split units; end = strat_end units }

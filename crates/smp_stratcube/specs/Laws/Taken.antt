@@ -1,0 +1,173 @@
+-- Values over a common denominator, and values that some units take over from numerators.
+use Rattle.std.proofs.Common.{◌≡◌, ℕ, ◌+◌, ◌*◌, ◌/◌, ◌<◌, ◌≤◌, ◌^◌, Bool, true}
+use Rattle.std.proofs.Common.{false, cond, List, length, get_or, arith, refl, sym, ap, ◌∙◌, subst, inl}
+use Rattle.std.proofs.Common.{inr}
+use Rattle.std.proofs.lemmas.Bool.{cases_Bool, cases_lt}
+use Rattle.std.proofs.lemmas.List.{length-map, get_or-map, get_or_past}
+use Rattle.std.proofs.lemmas.List.FromFn.{get_or-map-range_with_len, length-map-range_with_len}
+use Rattle.std.proofs.Math.Nat.{mul-le-mul_right, mul-div_cancel'}
+use Prim.Native.Nat.{◌∣◌}
+use Rattle.smp_fractions.specs.Fractions.{Same, over}
+use Rattle.smp_fractions.proofs.Over.{over_same}
+use Rattle.smp_frac.specs.Laws.Coprime.{quotient_divides}
+use Rattle.smp_frac.specs.Laws.Gcds.{IsGcd-greatest_common_divisor}
+use Rattle.smp_frac.specs.Divisors.{greatest_common_divisor}
+use Rattle.smp_prob.specs.Shares.{Shares}
+use Rattle.smp_values.specs.Values.{IsValues, fractional}
+use Rattle.smp_values.specs.Values as shares
+use Rattle.smp_moves.specs.Ends.{lowest}
+use Rattle.smp_moves.specs.Moves.{fraction_of}
+use Rattle.smp_moves.proofs.LineEnds.{lowest_is}
+use Rattle.smp_moves.proofs.Moved.{same_fractional, same_tests}
+use Rattle.smp_stratcube.specs.declared.values.Value.{Value}
+use Rattle.smp_stratcube.specs.Values.{AreValues, IsValue, is_fractional, nothing, over_common, taken_over, value, value_at}
+
+-- ---- lowest terms
+
+-- the same value
+pub lowest_same : (a b : ℕ) → 1 ≤ b → Same (fraction_of (lowest a b)) (over a b)
+lowest_same a b p = (let is = lowest_is a b p in over_same (lowest a b).num a (lowest a b).den b is.some p (sym is.same))
+
+pub lowest_value : (a b : ℕ) (touched : Bool) → 1 ≤ b → a ≤ b → IsValue (record { at = lowest a b; touched = touched })
+lowest_value a b touched p le =
+    let is = lowest_is a b p in
+    let m : ℕ = (lowest a b).num in
+    let n : ℕ = (lowest a b).den in
+    record {
+      positive = is.some;
+      most = elim (cases_lt n m) [
+        | inr h ↦ h
+        | inl h ↦ absurd (let e : a * n ≡ m * b = is.same in
+            let f : a * n ≤ b * n = mul-le-mul_right n le in
+            let g : (n + 1) * b ≤ m * b = mul-le-mul_right b (omega arith) in omega (arith, e, f, g, p))
+      ];
+      reduced = is.reduced;
+    }
+
+pub lowest_fractional : (a b : ℕ) → 1 ≤ b → fractional (lowest a b).den (lowest a b).num ≡ fractional b a
+lowest_fractional a b p =
+    let is = lowest_is a b p in
+    same_tests (fractional (lowest a b).den (lowest a b).num) (fractional b a)
+    (same_fractional a b (lowest a b).num (lowest a b).den p (sym is.same))
+    (same_fractional (lowest a b).num (lowest a b).den a b is.some is.same)
+
+-- ---- over a common denominator
+
+module _ (n : ℕ) (values : List Value) (are : AreValues n values) (den : ℕ) (some : 1 ≤ den) where
+  abbrev s : Shares
+  s = over_common den values
+
+  pub length_over : length (over_common den values).numer ≡ n
+  length_over = length-map values (λ (v : Value). v.at.num * (den / v.at.den)) ∙ are.count
+
+  none_left : (q : ℕ) → 0 ≡ nothing.at.num * q
+  none_left q = omega arith
+
+  -- the numerator of a unit
+  pub numer_over : (k : ℕ) → get_or (over_common den values).numer k 0 ≡ (value values k).at.num * (den / (value values k).at.den)
+  numer_over k =
+      elim (cases_lt k (length values)) [
+        | inl l ↦ get_or-map (λ (v : Value). v.at.num * (den / v.at.den)) values k nothing 0 l
+        | inr past ↦
+            (let none : value values k ≡ nothing = get_or_past values k nothing past in
+            get_or_past (over_common den values).numer k 0
+            (omega (arith, past, length-map values (λ (v : Value). v.at.num * (den / v.at.den))))
+            ∙ (none_left (den / nothing.at.den) ∙ sym (ap (λ (v : Value). v.at.num * (den / v.at.den)) none)))
+      ]
+
+  numer_most : (k : ℕ) → get_or (over_common den values).numer k 0 ≤ den
+  numer_most k =
+      let v : Value = value values k in
+      let is = are.each k in
+      let q : ℕ = den / v.at.den in
+      let a : v.at.num * q ≤ v.at.den * q = mul-le-mul_right q is.most in
+      let b : v.at.den * q ≤ den = div-times den v.at.den in
+      omega (arith, numer_over k, a, b)
+    where
+      div-times : (a b : ℕ) → b * (a / b) ≤ a
+      div-times a b = grind arith
+
+  pub over_values : den ≤ 2 ^ 80 → IsValues n (2 ^ 80) (over_common den values)
+  over_values narrow = record { count = length_over; positive = some; narrow = narrow; each = numer_most }
+
+  -- a unit whose denominator divides it has its value
+  module _ (k : ℕ) (divides : (value values k).at.den ∣ den) where
+    whole : (value values k).at.den * (den / (value values k).at.den) ≡ den
+    whole = mul-div_cancel' (value values k).at.den divides
+
+    pub cross : get_or (over_common den values).numer k 0 * (value values k).at.den ≡ (value values k).at.num * den
+    cross =
+        let v : Value = value values k in
+        let q : ℕ = den / v.at.den in
+        let e : v.at.num * q * v.at.den ≡ v.at.num * (v.at.den * q) = omega arith in
+        ap (λ x. x * v.at.den) (numer_over k) ∙ e ∙ ap (λ x. v.at.num * x) whole
+
+    pub over_value : Same (shares.value_at (over_common den values) k) (value_at values k)
+    over_value = over_same (get_or (over_common den values).numer k 0) (value values k).at.num den
+        (value values k).at.den some (are.each k).positive cross
+
+    pub over_fractional : shares.is_fractional (over_common den values) k ≡ is_fractional values k
+    over_fractional =
+        same_tests (shares.is_fractional (over_common den values) k) (is_fractional values k)
+        (same_fractional (value values k).at.num (value values k).at.den (get_or (over_common den values).numer k 0)
+        den (are.each k).positive cross)
+        (same_fractional (get_or (over_common den values).numer k 0) den (value values k).at.num (value values k).at.den some (sym cross))
+
+-- ---- values taken over
+
+module _ (moves : ℕ → Bool) (values : List Value) (t : Shares) where
+  abbrev given : ℕ → Value
+  given k = cond (moves k) (record { at = lowest (get_or t.numer k 0) t.den; touched = true }) (value values k)
+
+  pub length_taken : length (taken_over moves values t) ≡ length values
+  length_taken = length-map-range_with_len given 0 (length values)
+
+  pub taken_in : (k : ℕ) → k < length values → value (taken_over moves values t) k ≡ given k
+  taken_in k l = get_or-map-range_with_len given 0 (length values) k k nothing l (omega arith)
+
+  -- a unit that moves
+  pub taken_moved : (k : ℕ) → k < length values → moves k ≡ true
+      → value (taken_over moves values t) k ≡ record { at = lowest (get_or t.numer k 0) t.den; touched = true }
+  taken_moved k l h = taken_in k l ∙ (rw h refl)
+
+  -- a unit that doesn't
+  pub taken_kept : (k : ℕ) → moves k ≡ false → value (taken_over moves values t) k ≡ value values k
+  taken_kept k h =
+      elim (cases_lt k (length values)) [
+        | inl l ↦ taken_in k l ∙ (rw h refl)
+        | inr past ↦ get_or_past (taken_over moves values t) k nothing (omega (arith, past, length_taken))
+            ∙ sym (get_or_past values k nothing past)
+      ]
+
+  module _ (n : ℕ) (are : AreValues n values) (positive : 1 ≤ t.den) (most : (k : ℕ) → get_or t.numer k 0 ≤ t.den) where
+    pub taken_values : AreValues n (taken_over moves values t)
+    taken_values = record {
+      count = length_taken ∙ are.count;
+      each = λ k. elim (cases_Bool (moves k)) [
+        | inr f ↦ subst IsValue (sym (taken_kept k f)) (are.each k)
+        | inl h ↦ elim (cases_lt k (length values)) [
+          | inl l ↦ subst IsValue (sym (taken_moved k l h)) (lowest_value (get_or t.numer k 0) t.den true positive (most k))
+          | inr past ↦ subst IsValue (sym (get_or_past (taken_over moves values t) k nothing
+              (omega (arith, past, length_taken)) ∙ sym (get_or_past values k nothing past))) (are.each k)
+        ]
+      ];
+    }
+
+    pub taken_value : (k : ℕ) → k < length values → moves k ≡ true
+        → Same (value_at (taken_over moves values t) k) (shares.value_at t k)
+    taken_value k l h =
+        subst (λ (v : Value). Same (fraction_of v.at) (shares.value_at t k)) (sym (taken_moved k l h))
+        (lowest_same (get_or t.numer k 0) t.den positive)
+
+    pub taken_fractional : (k : ℕ) → k < length values → moves k ≡ true
+        → is_fractional (taken_over moves values t) k ≡ shares.is_fractional t k
+    taken_fractional k l h =
+        ap (λ (v : Value). fractional v.at.den v.at.num) (taken_moved k l h) ∙ lowest_fractional (get_or t.numer k 0) t.den positive
+
+    -- the denominator of a unit that moves divides that of the numerators
+    pub taken_divides : (k : ℕ) → k < length values → moves k ≡ true → (value (taken_over moves values t) k).at.den ∣ t.den
+    taken_divides k l h =
+        subst (λ (v : Value). v.at.den ∣ t.den) (sym (taken_moved k l h)) (lowest_divides (get_or t.numer k 0) t.den positive)
+      where
+        lowest_divides : (a b : ℕ) → 1 ≤ b → (lowest a b).den ∣ b
+        lowest_divides a b p = quotient_divides b (greatest_common_divisor a b) (IsGcd-greatest_common_divisor a b).1

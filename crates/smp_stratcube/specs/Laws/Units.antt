@@ -1,0 +1,194 @@
+-- The fractional units of a state, and the common denominators of their values.
+use Rattle.std.proofs.Common.{◌≡◌, ◌≢◌, ℕ, zero, suc, ◌+◌, ◌<◌, ◌≤◌, nat_eq, Bool, true, false, List}
+use Rattle.std.proofs.Common.{[], ◌∷◌, ◌++◌, map, take, filter, length, get_or, arith, refl, sym, ap, ◌∙◌, subst, inl, inr}
+use Rattle.std.proofs.Common.{le_of_suc-le-suc, suc-le-suc, length-take, get_or-take}
+use Rattle.std.specs.List.{AllPairs, range_with_len}
+use Rattle.std.proofs.lemmas.Bool.{cases_Bool, cases_lt, eq-eqb}
+use Rattle.std.proofs.lemmas.List.{get_or_past}
+use Rattle.std.proofs.lemmas.List.Elements.{All-get_or, filter_passes}
+use Rattle.std.proofs.lemmas.List.FromFn.{length-range_with_len, get_or-range_with_len}
+use Rattle.std.proofs.lemmas.List.Kept.{AllPairs-filter}
+use Rattle.std.proofs.lemmas.Nat.Gcd.{dvd_trans}
+use Prim.Native.Nat.{◌∣◌}
+use Rattle.smp_values.proofs.Fractional.{fractional_is}
+use Rattle.smp_moves.specs.declared.lines.Ratio.{Ratio}
+use Rattle.smp_stratcube.specs.declared.values.Value.{Value}
+use Rattle.smp_stratcube.specs.Units.{Units, IsUnits, first, stratum}
+use Rattle.smp_stratcube.specs.Values.{AreValues, common_of, denominators, fractional_units, is_fractional, nothing}
+use Rattle.smp_stratcube.specs.Values.{open_in, stratum_common, touched_units, value}
+use Rattle.smp_stratcube.specs.Steps.{Flight, line_common}
+use Rattle.smp_stratcube.specs.Cube.{IsFlying}
+use Rattle.smp_stratcube.specs.Laws.Multiples.{AllSome, AllDivide, multiple_some, multiple_each, some_append, divide_append, some_map}
+use Rattle.smp_stratcube.specs.Laws.Multiples.{divide_map}
+
+-- ---- elements that pass a test
+
+pub filter_place : (P : ℕ → Bool) (xs : List ℕ) (j : ℕ) → j < length xs → P (get_or xs j 0) ≡ true → (i : ℕ)
+    × (i < length (filter P xs)) × (get_or (filter P xs) i 0 ≡ get_or xs j 0)
+filter_place P [] j l h = absurd (omega (arith, l))
+filter_place P (x ∷ xs) zero l h = rw h (0, omega arith, refl)
+filter_place P (x ∷ xs) (suc j) l h =
+    let r = filter_place P xs j (le_of_suc-le-suc l) h in
+    elim (cases_Bool (P x)) [
+      | inl t ↦ rw t (suc r.0, suc-le-suc r.1, r.2)
+      | inr f ↦ rw f r
+    ]
+
+pub filter_is : (P : ℕ → Bool) (xs : List ℕ) (j : ℕ) → j < length (filter P xs) → P (get_or (filter P xs) j 0) ≡ true
+filter_is P xs j l = All-get_or (λ k. P k ≡ true) (filter P xs) j 0 l (filter_passes P xs)
+
+-- an element that passed stands in the list
+abbrev StandsIn : (ℕ → Bool) → List ℕ → Type 0
+StandsIn P xs = (j : ℕ) → j < length (filter P xs) → (i : ℕ) × (i < length xs) × (get_or xs i 0 ≡ get_or (filter P xs) j 0)
+
+stands_behind : (P : ℕ → Bool) (x : ℕ) (xs : List ℕ) → StandsIn P xs → (j : ℕ) → j < length (x ∷ filter P xs)
+    → (i : ℕ) × (i < length (x ∷ xs)) × (get_or (x ∷ xs) i 0 ≡ get_or (x ∷ filter P xs) j 0)
+stands_behind P x xs rest zero l = (0, omega arith, refl)
+stands_behind P x xs rest (suc j) l = (let r = rest j (le_of_suc-le-suc l) in (suc r.0, suc-le-suc r.1, r.2))
+
+pub filter_from : (P : ℕ → Bool) (xs : List ℕ) → StandsIn P xs
+filter_from P [] j l = absurd (omega (arith, l))
+filter_from P (x ∷ xs) j l =
+    elim (cases_Bool (P x)) [
+      | inr f ↦ (let r = filter_from P xs j (rw f at l) in rw f (suc r.0, suc-le-suc r.1, r.2))
+      | inl t ↦ rw t (stands_behind P x xs (filter_from P xs) j (rw t at l))
+    ]
+
+-- ---- the fractional units
+
+module _ (values : List Value) where
+  pub fractional_in : (k : ℕ) → is_fractional values k ≡ true → k < length values
+  fractional_in k h =
+      elim (cases_lt k (length values)) [
+        | inl l ↦ l
+        | inr past ↦ absurd (let none : value values k ≡ nothing = get_or_past values k nothing past in
+            let r = fractional_is (value values k).at.den (value values k).at.num h in
+            let z : (value values k).at.num ≡ 0 = ap (λ (v : Value). v.at.num) none in omega (arith, r.0, z))
+      ]
+
+  pub order_going : (j : ℕ) → j < length (fractional_units values)
+      → is_fractional values (get_or (fractional_units values) j 0) ≡ true
+  order_going j l = filter_is (is_fractional values) (range_with_len 0 (length values)) j l
+
+  pub order_apart : AllPairs (λ k l. k ≢ l) (fractional_units values)
+  order_apart = AllPairs-filter (λ k l. k ≢ l) (is_fractional values) (range_with_len 0 (length values)) (numbers_apart (length values))
+    where
+      numbers_apart : (n : ℕ) → AllPairs (λ k l. k ≢ l) (range_with_len 0 n)
+      numbers_apart n i j d l m =
+          let b : j < n = omega (arith, m, length-range_with_len 0 n) in
+          rw (get_or-range_with_len 0 n i d (omega (arith, l, b)), get_or-range_with_len 0 n j d b)
+          (λ e. (let same : 0 + i ≡ 0 + j = e in omega (arith, l, same)))
+
+  -- each fractional unit stands there
+  pub order_place : (k : ℕ) → is_fractional values k ≡ true → (j : ℕ) × (j < length (fractional_units values))
+      × (get_or (fractional_units values) j 0 ≡ k)
+  order_place k h =
+      let l = fractional_in k h in
+      let zero_plus : 0 + k ≡ k = omega arith in
+      let at : get_or (range_with_len 0 (length values)) k 0 ≡ k = get_or-range_with_len 0 (length values) k 0 l ∙ zero_plus in
+      let r = filter_place (is_fractional values) (range_with_len 0 (length values)) k
+      (omega (arith, l, length-range_with_len 0 (length values))) (rw at h) in
+      (r.0, r.1, r.2 ∙ at)
+
+  -- its first units
+  pub front_at : (n j : ℕ) → j < length (take n (fractional_units values))
+      → get_or (take n (fractional_units values)) j 0 ≡ get_or (fractional_units values) j 0
+  front_at n j l = get_or-take n (fractional_units values) j 0 (omega (arith, l, length-take n (fractional_units values)))
+
+  pub front_going : (n j : ℕ) → j < length (take n (fractional_units values))
+      → is_fractional values (get_or (take n (fractional_units values)) j 0) ≡ true
+  front_going n j l = rw (front_at n j l) (order_going j (omega (arith, l, length-take n (fractional_units values))))
+
+  pub front_apart : (n : ℕ) → AllPairs (λ k l. k ≢ l) (take n (fractional_units values))
+  front_apart n i j d l m =
+      let b : (j < n) × (j < length (fractional_units values)) = (
+        omega (arith, m, length-take n (fractional_units values)),
+        omega (arith, m, length-take n (fractional_units values)),
+      ) in
+      rw (
+        get_or-take n (fractional_units values) i d (omega (arith, l, b.0)),
+        get_or-take n (fractional_units values) j d b.0,
+      ) (order_apart i j d l b.1)
+
+-- ---- common denominators
+
+module _ (units : Units) (are : IsUnits units) (n : ℕ) (values : List Value) (ok : AreValues n values) where
+  pub denominators_some : (ks : List ℕ) → AllSome (denominators units values ks)
+  denominators_some [] = tt
+  denominators_some (k ∷ ks) = ((are.firsts (stratum units k)).0, ((ok.each k).positive, denominators_some ks))
+
+  denominators_at : (ks : List ℕ) (m : ℕ) → AllDivide (denominators units values ks) m → (j : ℕ) → j < length ks
+      → (first units (get_or ks j 0) ∣ m) × ((value values (get_or ks j 0)).at.den ∣ m)
+  denominators_at [] m all j l = absurd (omega (arith, l))
+  denominators_at (k ∷ ks) m all zero l = (all.0, all.1.0)
+  denominators_at (k ∷ ks) m all (suc j) l = denominators_at ks m all.1.1 j (le_of_suc-le-suc l)
+
+  -- a touched unit that is fractional
+  touched_at : (m k : ℕ) → AllDivide (denominators units values (touched_units values)) m
+      → is_fractional values k ≡ true → (value values k).touched ≡ true → (first units k ∣ m)
+      × ((value values k).at.den ∣ m)
+  touched_at m k all opened touched =
+      let at = order_place values k opened in
+      let r = filter_place (λ k. (value values k).touched) (fractional_units values) at.0 at.1 (rw at.2 touched) in
+      let d = denominators_at (touched_units values) m all r.0 r.1 in
+      subst (λ (x : ℕ). (first units x ∣ m) × ((value values x).at.den ∣ m)) (r.2 ∙ at.2) d
+
+  pub common_some : 1 ≤ common_of units values
+  common_some = multiple_some (denominators units values (touched_units values)) (denominators_some (touched_units values))
+
+  pub common_divides : (k : ℕ) → is_fractional values k ≡ true → (value values k).touched ≡ true
+      → (first units k ∣ common_of units values) × ((value values k).at.den ∣ common_of units values)
+  common_divides k = touched_at (common_of units values) k
+      (multiple_each (denominators units values (touched_units values)) (denominators_some (touched_units values)))
+
+  -- ---- over the strata of a line
+
+  line_some_each : (prefix : List ℕ) → AllSome (denominators units values (touched_units values) ++ map (first units) prefix)
+  line_some_each prefix =
+      some_append (denominators units values (touched_units values)) (map (first units) prefix)
+      (denominators_some (touched_units values))
+      (some_map (first units) prefix (λ k. (are.firsts (stratum units k)).0))
+
+  pub line_some : (prefix : List ℕ) → 1 ≤ line_common units values prefix
+  line_some prefix = multiple_some (denominators units values (touched_units values) ++ map (first units) prefix) (line_some_each prefix)
+
+  pub line_divides : (prefix : List ℕ) (j : ℕ) → j < length prefix → is_fractional values (get_or prefix j 0) ≡ true
+      → ((value values (get_or prefix j 0)).touched ≡ false
+      → (value values (get_or prefix j 0)).at.den ∣ first units (get_or prefix j 0)) →
+      (value values (get_or prefix j 0)).at.den ∣ line_common units values prefix
+  line_divides prefix j l opened fresh =
+      let all = divide_append (denominators units values (touched_units values)) (map (first units) prefix)
+      (line_common units values prefix)
+      (multiple_each (denominators units values (touched_units values) ++ map (first units) prefix) (line_some_each prefix)) in
+      elim (cases_Bool (value values (get_or prefix j 0)).touched) [
+        | inl t ↦ (touched_at (line_common units values prefix) (get_or prefix j 0) all.0 opened t).1
+        | inr f ↦ dvd_trans (value values (get_or prefix j 0)).at.den (fresh f)
+            (divide_map (first units) prefix (line_common units values prefix) all.1 j l)
+      ]
+
+  -- ---- of a stratum
+
+  stratum_each : (h : ℕ) → AllSome (map (λ k. (value values k).at.den) (open_in units values h))
+  stratum_each h = some_map (λ k. (value values k).at.den) (open_in units values h) (λ k. (ok.each k).positive)
+
+  pub stratum_some : (h : ℕ) → 1 ≤ stratum_common units values h
+  stratum_some h = multiple_some (map (λ k. (value values k).at.den) (open_in units values h)) (stratum_each h)
+
+  pub stratum_divides : (k : ℕ) → is_fractional values k ≡ true
+      → (value values k).at.den ∣ stratum_common units values (stratum units k)
+  stratum_divides k opened =
+      let h : ℕ = stratum units k in
+      let at = order_place values k opened in
+      let r = filter_place (λ i. nat_eq (stratum units i) h) (fractional_units values) at.0 at.1 (rw at.2 (eq-eqb h h refl)) in
+      let all = multiple_each (map (λ k. (value values k).at.den) (open_in units values h)) (stratum_each h) in
+      subst (λ (x : ℕ). (value values x).at.den ∣ stratum_common units values h) (r.2 ∙ at.2)
+      (divide_map (λ k. (value values k).at.den) (open_in units values h) (stratum_common units values h) all r.0 r.1)
+
+-- ---- a state of the flight
+
+-- the denominator of a unit that no move has changed divides that of its stratum
+pub fresh_divides : (units : Units) (f : Flight) (ok : IsFlying units f) (k : ℕ) → k < length f.values
+    → (value f.values k).touched ≡ false → (value f.values k).at.den ∣ first units k
+fresh_divides units f ok k l fresh =
+    let inside : k < length units.members = omega (arith, l, ok.values.count) in
+    subst (λ (r : Ratio). r.den ∣ first units k) (sym (ok.fresh k inside fresh)) (ok.are.shares k inside).divides

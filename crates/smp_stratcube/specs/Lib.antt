@@ -1,0 +1,14 @@
+pub mod Layers
+pub mod Units
+pub mod Values
+pub mod Steps
+pub mod Moves
+pub mod Pairs
+pub mod Cube
+pub mod Requests
+pub mod Laws
+pub mod Method
+pub mod Balances
+pub mod Counts
+pub mod Statements
+pub mod Kept

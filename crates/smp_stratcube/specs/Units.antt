@@ -1,0 +1,108 @@
+-- The units of all strata that are balanced together, stratum by stratum.
+use Rattle.std.specs.Prelude.{◌≡◌, ◌≢◌, ℕ, suc, ◌+◌, ◌-◌, ◌*◌, ◌^◌, ◌<◌, ◌≤◌}
+use Rattle.std.specs.Prelude.{List, [], ◌∷◌, ◌++◌, ℤ, pos, length, map, take, replicate, slice_index}
+use Rattle.std.specs.Prelude.{slice_index_or, slice_set}
+use Rattle.std.specs.List.{range_with_len}
+use Rattle.std.specs.Int.{IsGcd}
+use Prim.Native.Nat.{◌∣◌}
+use Rattle.smp_fractions.specs.Fractions.{Fraction, Same, whole, times}
+use Rattle.smp_kernel.specs.Vectors.{entry, Within}
+use Rattle.smp_moves.specs.declared.lines.Ratio.{Ratio}
+use Rattle.smp_moves.specs.Ends.{lowest}
+use Rattle.smp_moves.specs.Moves.{fraction_of}
+use Rattle.smp_stratcube.specs.declared.units.Member.{Member}
+use Rattle.smp_stratcube.specs.Layers.{Layer, first_of, variables}
+
+-- ---- the units
+
+-- The units with their columns and requested probabilities, the common denominator of the probabilities of each stratum, and how many rows
+-- there are: first that of the size of each stratum, and then those of the variables.
+pub record Units : Type 0 where
+  pub members : List Member
+  pub firsts : List ℕ
+  pub rows : ℕ
+
+-- of a unit of stratum h: its size in row h, 0 in the rows of the other strata, and then its balancing values, filled up to 16 numbers
+abbrev pub column_of : ℕ → ℕ → ℕ → List ℤ → List ℤ
+column_of strata h size xs =
+    take 16 (slice_set (replicate strata (pos 0)) h (pos size) ++ xs ++ replicate 16 (pos 0))
+
+-- unit k of stratum h, where there are so many strata
+abbrev pub member_of : ℕ → ℕ → Layer → ℕ → Member
+member_of strata h layer k = record {
+  column = column_of strata h (slice_index layer.shape k) (slice_index_or layer.values k []);
+  stratum = h;
+  share = lowest (slice_index layer.shape k * layer.r) layer.total;
+}
+
+-- the units of these strata, of which the first has the number h, a stratum after the other
+abbrev pub members_from : ℕ → ℕ → List Layer → List Member
+members_from strata h [] = []
+members_from strata h (layer ∷ layers) =
+    map (member_of strata h layer) (range_with_len 0 (length layer.shape))
+    ++ members_from strata (suc h) layers
+
+-- the units of all strata, and their rows
+abbrev pub units_of : List Layer → Units
+units_of layers = record {
+  members = members_from (length layers) 0 layers;
+  firsts = map first_of layers;
+  rows = length layers + variables layers;
+}
+
+-- ---- a unit
+
+-- where there is no unit
+abbrev pub nobody : Member
+nobody = record { column = []; stratum = 0; share = record { num = 0; den = 1 } }
+
+-- a unit by its number, its column, and its stratum
+abbrev pub member : Units → ℕ → Member
+member units k = slice_index_or units.members k nobody
+
+abbrev pub column : Units → ℕ → List ℤ
+column units k = (member units k).column
+
+abbrev pub stratum : Units → ℕ → ℕ
+stratum units k = (member units k).stratum
+
+-- the probability that is requested of it
+abbrev pub share : Units → ℕ → Ratio
+share units k = (member units k).share
+
+-- the common denominator of the probabilities of its stratum
+abbrev pub first : Units → ℕ → ℕ
+first units k = slice_index_or units.firsts (stratum units k) 1
+
+-- the columns of some units, in their order
+abbrev pub columns_of : Units → List ℕ → List (List ℤ)
+columns_of units order = map (column units) order
+
+-- ---- what holds of the units
+
+-- a probability strictly between 0 and 1 in lowest terms, whose denominator divides that of its stratum
+pub record IsShare (common : ℕ) (r : Ratio) : Type 0 where
+  pub some : 0 < r.num
+  pub below : r.num < r.den
+  pub reduced : IsGcd r.num r.den 1
+  pub divides : r.den ∣ common
+
+-- In the row of its stratum a unit has its size, to which its probability is in proportion, and in those of the other strata it has
+-- 0. The units stand stratum by stratum.
+pub record IsUnits (units : Units) : Type 0 where
+  pub few : length units.members ≤ 3000000
+  pub few_rows : units.rows ≤ 16
+  pub strata : length units.firsts ≤ units.rows
+  pub firsts : (h : ℕ) → (1 ≤ slice_index_or units.firsts h 1) × (slice_index_or units.firsts h 1 ≤ 2 ^ 49)
+  pub within : (k : ℕ) → k < length units.members → stratum units k < length units.firsts
+  pub rises : (j k : ℕ) → j ≤ k → k < length units.members → stratum units j ≤ stratum units k
+  pub shares : (k : ℕ) → k < length units.members → IsShare (first units k) (share units k)
+  pub small : (k : ℕ) → k < length units.members → Within (2 ^ 31 - 1) (column units k)
+  pub size : ℕ → ℕ
+  pub some_size : (k : ℕ) → k < length units.members → 1 ≤ size k
+  pub own_row : (k : ℕ) → k < length units.members → entry (column units k) (stratum units k) ≡ pos (size k)
+  pub other_rows : (k row : ℕ) → k < length units.members → row < length units.firsts
+      → row ≢ stratum units k → entry (column units k) row ≡ pos 0
+  pub scale : ℕ → Fraction
+  pub proportional : (k : ℕ) → k < length units.members
+      → Same (fraction_of (share units k)) (times (scale (stratum units k)) (whole (size k)))

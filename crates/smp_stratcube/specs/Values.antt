@@ -1,0 +1,100 @@
+-- Values of units in lowest terms. With each stands whether a move has changed it.
+use Rattle.std.specs.Prelude.{◌≡◌, ℕ, ◌*◌, ◌/◌, ◌≤◌, Bool, true, false, cond, nat_eq, List, [], ◌∷◌}
+use Rattle.std.specs.Prelude.{length, map, fold, filter, slice_index, slice_index_or}
+use Rattle.std.specs.List.{count_by, range_with_len}
+use Rattle.std.specs.Int.{IsGcd}
+use Rattle.smp_fractions.specs.Fractions.{Fraction}
+use Rattle.smp_prob.specs.Given.{least_multiple}
+use Rattle.smp_prob.specs.Shares.{Shares}
+use Rattle.smp_values.specs.Values.{fractional}
+use Rattle.smp_moves.specs.Ends.{lowest}
+use Rattle.smp_moves.specs.Moves.{fraction_of}
+use Rattle.smp_stratcube.specs.declared.values.Value.{Value}
+use Rattle.smp_stratcube.specs.Units.{Units, first, stratum}
+
+-- where there is no unit
+abbrev pub nothing : Value
+nothing = record { at = record { num = 0; den = 1 }; touched = false }
+
+-- the value of a unit as it stands, and as a fraction
+abbrev pub value : List Value → ℕ → Value
+value values k = slice_index_or values k nothing
+
+abbrev pub value_at : List Value → ℕ → Fraction
+value_at values k = fraction_of (value values k).at
+
+-- whether a unit's value is 1, and whether it is strictly between 0 and 1
+abbrev pub is_one : List Value → ℕ → Bool
+is_one values k = nat_eq (value values k).at.num (value values k).at.den
+
+abbrev pub is_fractional : List Value → ℕ → Bool
+is_fractional values k = fractional (value values k).at.den (value values k).at.num
+
+-- the fractional units in order, and how many they are
+abbrev pub fractional_units : List Value → List ℕ
+fractional_units values = filter (is_fractional values) (range_with_len 0 (length values))
+
+abbrev pub fractional_count : List Value → ℕ
+fractional_count values = count_by (is_fractional values) (range_with_len 0 (length values))
+
+-- whether no unit is fractional
+abbrev pub is_settled : List Value → Bool
+is_settled values = nat_eq (fractional_count values) 0
+
+-- ---- common denominators
+
+-- the least common multiple of some numbers, 1 where there are none
+abbrev pub common_multiple : List ℕ → ℕ
+common_multiple numbers = fold least_multiple 1 numbers
+
+-- the values as numerators over a multiple of their denominators
+abbrev pub over_common : ℕ → List Value → Shares
+over_common den values = record {
+  numer = map (λ v. v.at.num * (den / v.at.den)) values;
+  den = den;
+}
+
+-- the fractional units that moves have changed
+abbrev pub touched_units : List Value → List ℕ
+touched_units values = filter (λ k. (value values k).touched) (fractional_units values)
+
+-- of each of these units the common denominator of its stratum, and the denominator of its value
+abbrev pub denominators : Units → List Value → List ℕ → List ℕ
+denominators units values [] = []
+denominators units values (k ∷ ks) =
+    first units k ∷ (value values k).at.den ∷ denominators units values ks
+
+-- The common denominator of a state of the flight: the least common multiple of the denominator of each stratum in which a touched unit is
+-- fractional, and of those of the values of these units.
+abbrev pub common_of : Units → List Value → ℕ
+common_of units values = common_multiple (denominators units values (touched_units values))
+
+-- the fractional units of a stratum, and the least common denominator of their values
+abbrev pub open_in : Units → List Value → ℕ → List ℕ
+open_in units values h = filter (λ k. nat_eq (stratum units k) h) (fractional_units values)
+
+abbrev pub stratum_common : Units → List Value → ℕ → ℕ
+stratum_common units values h =
+    common_multiple (map (λ k. (value values k).at.den) (open_in units values h))
+
+-- ---- what a step changes
+
+-- these units take over the values of a row of numerators; each is touched then
+abbrev pub taken_over : (ℕ → Bool) → List Value → Shares → List Value
+taken_over moves values t =
+    map (λ k. cond (moves k)
+    (record { at = lowest (slice_index t.numer k) t.den; touched = true }) (value values k))
+    (range_with_len 0 (length values))
+
+-- ---- what holds of values
+
+-- a value from 0 to 1 in lowest terms
+pub record IsValue (v : Value) : Type 0 where
+  pub positive : 1 ≤ v.at.den
+  pub most : v.at.num ≤ v.at.den
+  pub reduced : IsGcd v.at.num v.at.den 1
+
+-- such a value for each of so many units
+pub record AreValues (units : ℕ) (values : List Value) : Type 0 where
+  pub count : length values ≡ units
+  pub each : (k : ℕ) → IsValue (value values k)

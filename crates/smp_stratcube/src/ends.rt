@@ -1,0 +1,115 @@
+//! The ends of a line.
+
+ghost use Rattle.std.specs.Prelude.{◌≡◌, ◌≤◌, ◌<◌, ◌*◌, ◌/◌, ℕ, List, length, nat_le, slice_index, take};
+ghost use Rattle.smp_fractions.specs.Limits.{most_denominator, most_entry};
+ghost use Rattle.smp_moves.specs.Moves.{IsLine, entry_of};
+ghost use Rattle.smp_moves.specs.Ends.{reach};
+ghost use Rattle.smp_moves.specs.Answers.{IsPadded, line_of};
+ghost use Rattle.smp_moves.specs.Kept.Ends.{CanMove, HasSmallEntries};
+ghost use Rattle.smp_stratcube.specs.Units.{IsUnits};
+ghost use Rattle.smp_stratcube.specs.Values.{IsValue, AreValues, over_common, value};
+ghost use Rattle.smp_stratcube.specs.Steps.{line_common};
+ghost use Rattle.smp_stratcube.specs.Kept.Fronts.{IsFront};
+ghost use Rattle.smp_stratcube.specs.Kept.Gates.{held};
+ghost use Rattle.smp_stratcube.specs.Kept.Lines.{AreInside};
+ghost use Rattle.smp_stratcube.specs.Kept.Moves.{AreMoved, IsAlong, end_gathered, moved_value};
+
+use crate::fronts::Front;
+use crate::gates::{gathered, with_value};
+use crate::units::Units;
+use crate::values::{Value, value_over, within_gate};
+use smp_moves::{Line, Reach, advanced, nearer, reach_of};
+
+/// The common denominator of a state and of the strata of a line, where it fits.
+pub(crate) fn denominator(
+    units: &Units,
+    values: &[Value],
+    front: &Front,
+    line: &Line,
+) -> Option<u128>
+    requires are { IsUnits units.now }
+    requires values { AreValues (length units.now.members) values.now }
+    requires front { IsFront values.now front.now }
+    requires padded { IsPadded line.now }
+    requires line { (j : ℕ) → j < line.now.number
+        → slice_index line.now.units j < length units.now.members }
+    ensures { result ≡ held (line_common units.now values.now (line_of line.now).units) }
+{
+    let mut common = gathered(units, values, front);
+    for place in 0..line.number {
+        common = within_gate(common, units.first(line.units[place]));
+    }
+    common
+}
+
+/// The reach of the unit of a line that meets its end first.
+pub(crate) fn reach_along(values: &[Value], den: u128, line: &Line) -> Reach
+    requires values { (k : ℕ) → IsValue (value values.now k) }
+    requires den { den ≤ most_denominator }
+    requires padded { IsPadded line.now }
+    requires small { HasSmallEntries line.now }
+    requires line { (j : ℕ) → j < line.now.number
+        → slice_index line.now.units j < length values.now }
+    ensures is { result ≡ reach (over_common den values.now) (line_of line.now) }
+    ensures bounds { (result.left ≤ most_denominator) × (result.size ≤ most_entry) }
+{
+    let mut least = Reach { left: 1, size: 0 };
+    for place in 0..line.number {
+        let a = values[line.units[place]].over(den);
+        least = nearer(least, reach_of(a, den, line.entries[place]));
+    }
+    least
+}
+
+/// The value there of a unit of this entry.
+pub(crate) fn moved(value: Value, den: u128, reach: Reach, entry: i64) -> Value
+    requires value { IsValue value }
+    requires den { (1 ≤ den) × (den ≤ most_denominator) }
+    requires size { 1 ≤ reach.size }
+    requires can { CanMove (value.at.num * (den / value.at.den)) reach entry }
+    ensures { result ≡ moved_value value den reach entry }
+{
+    if entry == 0 {
+        return value;
+    }
+    value_over(advanced(value.over(den), reach, entry), den * reach.size)
+}
+
+/// Whether the common denominator fits at an end of a line.
+pub(crate) fn end_fits(
+    units: &Units,
+    values: &[Value],
+    front: &Front,
+    line: &Line,
+    den: u128,
+    reach: Reach,
+) -> bool
+    requires are { IsUnits units.now }
+    requires along { IsAlong (length units.now.members) values.now line.now den reach }
+    requires inside { AreInside (length values.now) front.now }
+    requires size { 1 ≤ reach.size }
+    ensures { result ≡ end_gathered units.now values.now front.now (line_of line.now) den reach }
+{
+    let mut common = Some(1);
+    for place in 0..front.number {
+        let unit = front.units[place];
+        let there = moved(values[unit], den, reach, line.entry(unit));
+        common = with_value(units, common, unit, there);
+    }
+    common.is_some()
+}
+
+/// Goes to the end of a line: the units whose entry isn't 0 are written.
+pub(crate) fn go(values: &mut Vec<Value>, line: &Line, den: u128, reach: Reach)
+    requires along { IsAlong (length values.old.items) values.old.items line.now den reach }
+    requires inside { (j : ℕ) → j < line.now.number
+        → slice_index line.now.units j < length values.old.items }
+    requires size { 1 ≤ reach.size }
+    ensures { AreMoved values.old.items values.new.items (line_of line.now) den reach }
+{
+    for place in 0..line.number {
+        let unit = line.units[place];
+        let value = values[unit];
+        values[unit] = moved(value, den, reach, line.entries[place]);
+    }
+}

@@ -1,0 +1,148 @@
+//! A step that was found, kept until it is made.
+
+ghost use Rattle.std.specs.Prelude.{◌≡◌, ℕ, ◌<◌, ◌≤◌, IfSome, None, Some, length, slice_index, true};
+ghost use Rattle.smp_stratcube.specs.Units.{IsUnits};
+ghost use Rattle.smp_stratcube.specs.Cube.{IsFlying};
+ghost use Rattle.smp_stratcube.specs.Kept.Fronts.{IsFront};
+ghost use Rattle.smp_stratcube.specs.Kept.Founds.{AreSeen, IsFound, IsSeen};
+ghost use Rattle.smp_stratcube.specs.Kept.Lines.{AreInside};
+ghost use Rattle.smp_stratcube.specs.Kept.Moves.{IsStep};
+
+use crate::fronts::Front;
+use crate::steps::{Next, step};
+use crate::units::Units;
+use crate::values::Value;
+use smp_moves::Ratio;
+use std::snapshot::Snapshot;
+
+/// What a step goes by of a unit: its column, its probability, and the common denominator of its stratum.
+#[derive(Clone, Copy)]
+pub(crate) struct Seen {
+    pub(crate) column: [i32; 16],
+    pub(crate) share: Ratio,
+    pub(crate) first: u128,
+}
+
+/// The next step of a state, with what it goes by of the first fractional units.
+#[derive(Drop)]
+pub(crate) struct Found {
+    pub(crate) next: Next,
+    pub(crate) seen: [Seen; 17],
+    /// The units that they are of, for contracts alone: it takes no bytes.
+    pub(crate) of: Snapshot<Units>,
+}
+
+impl Units {
+    /// What a step goes by of a unit.
+    fn seen(&self, unit: usize) -> Seen
+        requires are { IsUnits self.now }
+        requires unit { unit < length self.now.members }
+        ensures { IsSeen self.now unit result }
+    {
+        Seen {
+            column: self.column(unit),
+            share: self.share(unit),
+            first: self.first(unit),
+        }
+    }
+}
+
+impl Seen {
+    /// Whether both are the same.
+    fn is(&self, other: &Seen) -> bool
+        ensures { result ≡ true → self.now ≡ other.now }
+    {
+        if self.column != other.column {
+            return false;
+        }
+        if self.share.num != other.share.num {
+            return false;
+        }
+        if self.share.den != other.share.den {
+            return false;
+        }
+        self.first == other.first
+    }
+}
+
+/// What a step goes by of the units of a front.
+fn seen_of(units: &Units, front: &Front) -> [Seen; 17]
+    requires are { IsUnits units.now }
+    requires inside { AreInside (length units.now.members) front.now }
+    ensures { AreSeen units.now front.now result }
+{
+    let mut seen = [Seen {
+        column: [0; 16],
+        share: Ratio { num: 0, den: 1 },
+        first: 0,
+    }; 17];
+    for place in 0..front.number {
+        seen[place] = units.seen(front.units[place]);
+    }
+    seen
+}
+
+/// The step of these values with so many rows in force, to be kept.
+pub(crate) fn found_of(units: &Units, values: &[Value], rows: usize, front: &Front) -> Found
+    requires flying { IsFlying units.now (record { values = values.now; rows = rows }) }
+    requires front { IsFront values.now front.now }
+    ensures { IsFound values.now rows front.now result }
+{
+    Found {
+        next: step(units, values, rows, front),
+        seen: seen_of(units, front),
+        of: Snapshot::of(units),
+    }
+}
+
+impl Found {
+    /// Whether the units of a front are those that the step was found for.
+    fn is_of(&self, units: &Units, front: &Front) -> bool
+        requires are { IsUnits units.now }
+        requires inside { AreInside (length units.now.members) front.now }
+        ensures { result ≡ true → AreSeen units.now front.now self.now.seen }
+    {
+        for place in 0..front.number {
+            let seen = units.seen(front.units[place]);
+            if !self.seen[place].is(&seen) {
+                return false;
+            }
+        }
+        true
+    }
+}
+
+/// Keeps no step.
+pub(crate) fn forget(found: &mut Box<Option<Found>>)
+    ensures { found.new.value ≡ None }
+{
+    **found = None;
+}
+
+/// Keeps a step.
+pub(crate) fn keep(found: &mut Box<Option<Found>>, step: Found)
+    ensures { found.new.value ≡ Some step }
+{
+    **found = Some(step);
+}
+
+/// The step of these values with so many rows in force: the one that is kept, where it was found for these units.
+pub(crate) fn next_step(
+    units: &Units,
+    values: &[Value],
+    rows: usize,
+    front: &Front,
+    found: &Option<Found>,
+) -> Next
+    requires flying { IsFlying units.now (record { values = values.now; rows = rows }) }
+    requires front { IsFront values.now front.now }
+    requires found { IfSome found.now (IsFound values.now rows front.now) }
+    ensures { IsStep units.now (record { values = values.now; rows = rows }) result }
+{
+    if let Some(found) = found {
+        if found.is_of(units, front) {
+            return found.next;
+        }
+    }
+    step(units, values, rows, front)
+}

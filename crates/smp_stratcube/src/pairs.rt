@@ -1,0 +1,167 @@
+//! Pivotal steps, stratum by stratum.
+
+ghost use Rattle.std.specs.Prelude.{◌≡◌, ◌<◌, ◌≤◌, ℕ, Some, false, length, slice_index, take};
+ghost use Rattle.smp_split.specs.Trees.{picked, weight_sum};
+ghost use Rattle.smp_stratcube.specs.Units.{IsUnits};
+ghost use Rattle.smp_stratcube.specs.Values.{fractional_units, is_settled, stratum_common, value};
+ghost use Rattle.smp_stratcube.specs.Pairs.{first_pair, paired_kind, paired_parts};
+ghost use Rattle.smp_stratcube.specs.Cube.{IsPairing};
+ghost use Rattle.smp_stratcube.specs.Kept.Fronts.{IsFront};
+ghost use Rattle.smp_stratcube.specs.Kept.Lines.{AreInside};
+ghost use Rattle.smp_stratcube.specs.Kept.Pairs.{AreMet, HasStratum, IsOfFront, settled_value};
+
+use crate::fronts::Front;
+use crate::units::Units;
+use crate::values::{Value, least_multiple, value_over};
+use smp_split::Kind;
+use smp_values::{pair_apply, pair_bound};
+
+/// The value of a unit.
+fn at(values: &[Value], unit: usize) -> Value
+    requires { unit < length values.now }
+    ensures { result ≡ value values.now unit }
+{
+    values[unit]
+}
+
+/// The first two neighbours of one stratum among the units of a front.
+fn neighbours(units: &Units, front: &Front) -> Option<(usize, usize)>
+    requires are { IsUnits units.now }
+    requires inside { AreInside (length units.now.members) front.now }
+    ensures { result ≡ first_pair units.now (take front.now.number front.now.units) }
+{
+    for place in 1..front.number {
+        let before = front.units[place - 1];
+        let unit = front.units[place];
+        if units.stratum(before) == units.stratum(unit) {
+            return Some((before, unit));
+        }
+    }
+    None
+}
+
+/// The first two fractional units of the first stratum that has two.
+fn first_pair(units: &Units, values: &[Value], front: &Front) -> Option<(usize, usize)>
+    requires are { IsUnits units.now }
+    requires count { length values.now ≡ length units.now.members }
+    requires front { IsFront values.now front.now }
+    ensures { result ≡ first_pair units.now (fractional_units values.now) }
+{
+    neighbours(units, front)
+}
+
+/// The least common denominator of the fractional values of a stratum among the units of a front.
+fn front_common(units: &Units, values: &[Value], front: &Front, stratum: usize) -> u128
+    requires pairing { IsPairing units.now values.now }
+    requires front { IsFront values.now front.now }
+    ensures { IsOfFront units.now values.now front.now stratum result }
+{
+    let mut common = 1;
+    for place in 0..front.number {
+        let unit = front.units[place];
+        if units.stratum(unit) == stratum {
+            common = least_multiple(common, at(values, unit).at.den);
+        }
+    }
+    common
+}
+
+/// The least common denominator of the fractional values of a stratum that has a unit in the front.
+fn stratum_common(units: &Units, values: &[Value], front: &Front, stratum: usize) -> u128
+    requires pairing { IsPairing units.now values.now }
+    requires front { IsFront values.now front.now }
+    requires within { HasStratum units.now front.now stratum }
+    ensures { result ≡ stratum_common units.now values.now stratum }
+{
+    let common = front_common(units, values, front, stratum);
+    if front.place < units.len() && units.stratum(front.place) == stratum {
+        least_multiple(common, units.behind(front.place))
+    } else {
+        common
+    }
+}
+
+/// The kind of the next step.
+pub(crate) fn kind(units: &Units, values: &[Value], front: &Front) -> Kind
+    requires pairing { IsPairing units.now values.now }
+    requires front { IsFront values.now front.now }
+    ensures { result ≡ paired_kind units.now values.now }
+{
+    match first_pair(units, values, front) {
+        Some(_) => Kind::Pivot,
+        None => Kind::Lone,
+    }
+}
+
+/// The bound of the next step's draw.
+pub(crate) fn bound(units: &Units, values: &[Value], front: &Front) -> u128
+    requires pairing { IsPairing units.now values.now }
+    requires front { IsFront values.now front.now }
+    requires going { is_settled values.now ≡ false }
+    ensures { result ≡ weight_sum (paired_parts units.now values.now) }
+{
+    match first_pair(units, values, front) {
+        Some((first, second)) => {
+            let den = stratum_common(units, values, front, units.stratum(first));
+            let a = at(values, first).over(den);
+            let b = at(values, second).over(den);
+            pair_bound(a, b, den)
+        }
+        None => at(values, front.units[0]).at.den,
+    }
+}
+
+/// The values of two units after they met.
+fn met(
+    units: &Units,
+    values: &[Value],
+    front: &Front,
+    pair: (usize, usize),
+    draw: u128,
+) -> (Value, Value)
+    requires pairing { IsPairing units.now values.now }
+    requires front { IsFront values.now front.now }
+    requires pair { first_pair units.now (fractional_units values.now) ≡ Some pair }
+    requires within { draw < weight_sum (paired_parts units.now values.now) }
+    ensures { AreMet units.now values.now pair draw result }
+{
+    let den = stratum_common(units, values, front, units.stratum(pair.0));
+    let a = at(values, pair.0).over(den);
+    let b = at(values, pair.1).over(den);
+    let (taken, left) = pair_apply(a, b, den, draw);
+    (value_over(taken, den), value_over(left, den))
+}
+
+/// The value of a unit that is settled by itself.
+fn settled(value: Value, draw: u128) -> Value
+    requires { 1 ≤ value.at.den }
+    ensures { result ≡ settled_value value draw }
+{
+    value_over(
+        if draw < value.at.num { value.at.den } else { 0 },
+        value.at.den,
+    )
+}
+
+/// Makes the step that a draw leads to.
+pub(crate) fn advance(units: &Units, values: &mut Vec<Value>, front: &Front, draw: u128)
+    requires pairing { IsPairing units.now values.old.items }
+    requires front { IsFront values.old.items front.now }
+    requires going { is_settled values.old.items ≡ false }
+    requires within { draw < weight_sum (paired_parts units.now values.old.items) }
+    ensures { values.new.items
+        ≡ picked values.old.items (paired_parts units.now values.old.items) draw }
+{
+    match first_pair(units, values.as_slice(), front) {
+        Some((first, second)) => {
+            let (a, b) = met(units, values.as_slice(), front, (first, second), draw);
+            values[first] = a;
+            values[second] = b;
+        }
+        None => {
+            let unit = front.units[0];
+            let value = settled(at(values.as_slice(), unit), draw);
+            values[unit] = value;
+        }
+    }
+}

@@ -1,0 +1,211 @@
+//! The states of a selection.
+
+ghost use Rattle.std.specs.Prelude.{◌≡◌, ◌*◌, ◌<◌, ◌≤◌, false, length};
+ghost use Rattle.smp_fractions.specs.Limits.{most_rows};
+ghost use Rattle.smp_split.specs.Trees.{picked, weight_sum};
+ghost use Rattle.smp_stratcube.specs.Steps.{Flight};
+ghost use Rattle.smp_stratcube.specs.Values.{fractional_count, is_one, is_settled};
+ghost use Rattle.smp_stratcube.specs.Cube.{Balancing, IsBalancing, IsFlying, landed, strat_kind, strat_parts, values_in};
+ghost use Rattle.smp_stratcube.specs.Kept.Fronts.{IsFront};
+ghost use Rattle.smp_stratcube.specs.Kept.Moves.{HasGone, IsMoveOf};
+ghost use Rattle.smp_stratcube.specs.Kept.States.{IsKept, balancing_of};
+
+use crate::ends::go;
+use crate::found::{Found, forget, found_of, keep, next_step};
+use crate::fronts::{Front, front_of};
+use crate::pairs::{advance, bound, kind};
+use crate::steps::{Move, Next};
+use crate::units::Units;
+use crate::values::Value;
+use smp_split::Kind;
+use std::marker::Model;
+
+/// Where a selection stands.
+#[derive(Clone, Copy)]
+pub(crate) enum Phase {
+    /// The flight goes on, before the landing or in it.
+    Flying,
+    /// Pivotal steps finish the selection.
+    Pairing,
+}
+
+/// A state of a selection by the cube over all strata.
+#[derive(Drop)]
+pub struct StratCubeState {
+    pub(crate) values: Vec<Value>,
+    pub(crate) rows: usize,
+    pub(crate) front: Front,
+    pub(crate) phase: Phase,
+    pub(crate) left: u32,
+    /// The next step of the flight, where it was looked for: in a box, since it takes more bytes than all else here.
+    pub(crate) found: Box<Option<Found>>,
+}
+
+impl Model for StratCubeState {
+    ghost Value = { Balancing };
+
+    ghost view = { λ a. balancing_of a.phase a.values.items a.rows a.left };
+
+    ghost invariant = { λ a. IsKept a.values.items a.rows a.front a.found.value };
+}
+
+/// How many units are fractional.
+fn fractional(values: &[Value], front: &Front) -> usize
+    requires { IsFront values.now front.now }
+    ensures { result ≡ fractional_count values.now }
+{
+    front.number + (values.len() - front.place)
+}
+
+/// How many units were fractional where the landing began: here, unless it began before.
+fn landed(values: &[Value], front: &Front, left: u32) -> u32
+    requires few { length values.now ≤ 15 * most_rows }
+    requires front { IsFront values.now front.now }
+    ensures { result ≡ landed values.now left }
+{
+    if left == 0 {
+        fractional(values, front) as u32
+    } else {
+        left
+    }
+}
+
+/// Goes to an end of a move.
+fn fly(units: &Units, values: &mut Vec<Value>, rows: usize, mv: &Move, plus: bool)
+    requires flying { IsFlying units.now (record { values = values.old.items; rows = rows }) }
+    requires mv { IsMoveOf units.now (record { values = values.old.items; rows = rows }) mv.now }
+    ensures { HasGone units.now (record { values = values.old.items; rows = rows })
+        mv.now plus values.new.items }
+{
+    if plus {
+        go(values, &mv.line, mv.den, mv.up);
+    } else {
+        go(values, &mv.line.turned(), mv.den, mv.down);
+    }
+}
+
+impl StratCubeState {
+    /// Whether no unit is fractional.
+    pub(crate) fn is_done(&self) -> bool
+        ensures { result ≡ is_settled (values_in self.now) }
+    {
+        fractional(self.values.as_slice(), &self.front) == 0
+    }
+
+    /// Whether the value of a unit is 1.
+    pub(crate) fn is_one(&self, unit: usize) -> bool
+        requires { unit < length (values_in self.now) }
+        ensures { result ≡ is_one (values_in self.now) unit }
+    {
+        let value = self.values[unit];
+        value.at.num == value.at.den
+    }
+
+    /// The kind of the next step.
+    pub(crate) fn kind(&self, units: &Units) -> Kind
+        requires { IsBalancing units.now self.now }
+        ensures { result ≡ strat_kind units.now self.now }
+    {
+        match self.phase {
+            Phase::Flying => match next_step(
+                units,
+                self.values.as_slice(),
+                self.rows,
+                &self.front,
+                &*self.found,
+            ) {
+                Next::Move(_) => Kind::Flight,
+                Next::Independent => Kind::Drop,
+                Next::Wide => Kind::Wide,
+            },
+            Phase::Pairing => kind(units, self.values.as_slice(), &self.front),
+        }
+    }
+
+    /// The bound of the next step's draw.
+    pub(crate) fn bound(&self, units: &Units) -> u128
+        requires state { IsBalancing units.now self.now }
+        requires going { is_settled (values_in self.now) ≡ false }
+        ensures { result ≡ weight_sum (strat_parts units.now self.now) }
+    {
+        match self.phase {
+            Phase::Flying => match next_step(
+                units,
+                self.values.as_slice(),
+                self.rows,
+                &self.front,
+                &*self.found,
+            ) {
+                Next::Move(mv) => mv.plus_weight + mv.minus_weight,
+                Next::Independent => 1,
+                Next::Wide => 1,
+            },
+            Phase::Pairing => bound(units, self.values.as_slice(), &self.front),
+        }
+    }
+
+    /// Makes the step that a draw leads to, and keeps no step.
+    fn make(&mut self, units: &Units, draw: u128)
+        requires state { IsBalancing units.now self.old }
+        requires going { is_settled (values_in self.old) ≡ false }
+        requires within { draw < weight_sum (strat_parts units.now self.old) }
+        ensures { self.new ≡ picked self.old (strat_parts units.now self.old) draw }
+    {
+        match self.phase {
+            Phase::Flying => match next_step(
+                units,
+                self.values.as_slice(),
+                self.rows,
+                &self.front,
+                &*self.found,
+            ) {
+                Next::Independent => {
+                    self.left = landed(self.values.as_slice(), &self.front, self.left);
+                    self.rows -= 1;
+                    forget(&mut self.found);
+                }
+                Next::Wide => {
+                    self.left = landed(self.values.as_slice(), &self.front, self.left);
+                    self.phase = Phase::Pairing;
+                    forget(&mut self.found);
+                }
+                Next::Move(mv) => {
+                    let plus = draw < mv.plus_weight;
+                    fly(units, &mut self.values, self.rows, &mv, plus);
+                    self.front = front_of(&self.front, self.values.as_slice());
+                    forget(&mut self.found);
+                }
+            },
+            Phase::Pairing => {
+                advance(units, &mut self.values, &self.front, draw);
+                self.front = front_of(&self.front, self.values.as_slice());
+                forget(&mut self.found);
+            }
+        }
+    }
+
+    /// Looks for the next step of the flight and keeps it, so that it isn't searched again.
+    fn look(&mut self, units: &Units)
+        requires { IsBalancing units.now self.old }
+        ensures { self.new ≡ self.old }
+    {
+        match self.phase {
+            Phase::Flying => {
+                let found = found_of(units, self.values.as_slice(), self.rows, &self.front);
+                keep(&mut self.found, found);
+            }
+            Phase::Pairing => {}
+        }
+    }
+
+    /// Makes the step that a draw leads to.
+    pub(crate) fn advance(&mut self, units: &Units, draw: u128)
+        requires state { IsBalancing units.now self.old }
+        requires going { is_settled (values_in self.old) ≡ false }
+        requires within { draw < weight_sum (strat_parts units.now self.old) }
+        ensures { self.new ≡ picked self.old (strat_parts units.now self.old) draw }
+    {
+        self.make(units, draw);
+        self.look(units);
+    }
+}

@@ -1,0 +1,88 @@
+//! One step of the flight.
+
+ghost use Rattle.std.specs.Prelude.{◌≡◌, ◌≤◌, length};
+ghost use Rattle.smp_moves.specs.Answers.{line_of};
+ghost use Rattle.smp_stratcube.specs.Steps.{Flight};
+ghost use Rattle.smp_stratcube.specs.Cube.{IsFlying};
+ghost use Rattle.smp_stratcube.specs.Kept.Fronts.{IsFront};
+ghost use Rattle.smp_stratcube.specs.Kept.Moves.{AreMoved, IsMoveOf, IsStep};
+ghost use Rattle.smp_stratcube.specs.Kept.Steps.{HasDirection};
+
+use crate::directions::{columns_of, direction};
+use crate::ends::{denominator, end_fits, go, reach_along};
+use crate::fronts::Front;
+use crate::units::Units;
+use crate::values::Value;
+use smp_kernel::{Searched, search};
+use smp_moves::{Line, Reach, lowest};
+
+/// A move along a line: the common denominator of the values of its units, how far the line is followed and how far its opposite, and
+/// both weights.
+#[derive(Clone, Copy)]
+pub(crate) struct Move {
+    pub(crate) line: Line,
+    pub(crate) den: u128,
+    pub(crate) up: Reach,
+    pub(crate) down: Reach,
+    pub(crate) plus_weight: u128,
+    pub(crate) minus_weight: u128,
+}
+
+/// What a step is.
+#[derive(Clone, Copy)]
+pub(crate) enum Next {
+    Move(Move),
+    /// The columns of the fractional units are independent in the rows in force.
+    Independent,
+    /// A number would pass its gate.
+    Wide,
+}
+
+/// The step along a direction.
+fn step_along(units: &Units, values: &[Value], rows: usize, front: &Front, line: Line) -> Next
+    requires flying { IsFlying units.now (record { values = values.now; rows = rows }) }
+    requires front { IsFront values.now front.now }
+    requires line { HasDirection units.now (record { values = values.now; rows = rows }) line }
+    ensures { IsStep units.now (record { values = values.now; rows = rows }) result }
+{
+    match denominator(units, values, front, &line) {
+        None => Next::Wide,
+        Some(den) => {
+            let back = line.turned();
+            let up = reach_along(values, den, &line);
+            let down = reach_along(values, den, &back);
+            if !end_fits(units, values, front, &line, den, up) {
+                return Next::Wide;
+            }
+            if !end_fits(units, values, front, &back, den, down) {
+                return Next::Wide;
+            }
+            let weights = lowest(down.left * up.size, up.left * down.size);
+            Next::Move(Move {
+                line,
+                den,
+                up,
+                down,
+                plus_weight: weights.num,
+                minus_weight: weights.den,
+            })
+        }
+    }
+}
+
+/// The step of these values with so many rows in force, of which these are the first fractional units.
+pub(crate) fn step(units: &Units, values: &[Value], rows: usize, front: &Front) -> Next
+    requires flying { IsFlying units.now (record { values = values.now; rows = rows }) }
+    requires front { IsFront values.now front.now }
+    ensures { IsStep units.now (record { values = values.now; rows = rows }) result }
+{
+    let columns = columns_of(units, front);
+    match search(&columns[..front.number], rows) {
+        Searched::Independent => Next::Independent,
+        Searched::TooWide => Next::Wide,
+        Searched::Found(factors) => match direction(units, front, &factors) {
+            None => Next::Wide,
+            Some(line) => step_along(units, values, rows, front, line),
+        },
+    }
+}

@@ -1,0 +1,224 @@
+-- All strata that are drawn together, as the code goes over them: how many units they have, and what is balanced of each.
+use Rattle.std.proofs.Common.{◌≡◌, ℕ, zero, suc, ◌+◌, ◌-◌, ◌*◌, ◌^◌, ◌<◌, ◌≤◌, Bool, true, false, ℤ, List, [], ◌∷◌, ◌++◌, length, map, take, drop, get_or, Some, All, arith, refl, sym, ap, ap₂, subst, ◌∙◌, inl, inr, append_assoc}
+use Rattle.std.specs.Prelude.{◌&&◌, nat_eq, nat_le}
+use Rattle.std.specs.List.{slice_get}
+use Rattle.std.proofs.Math.Seq.{drop-cons}
+use Rattle.std.proofs.lemmas.Bool.{and_parts, cases_Bool, eqb-true}
+use Rattle.std.proofs.lemmas.List.{append-nil, drop_all, length-map, take_all}
+use Rattle.std.proofs.lemmas.List.Elements.{All-get_or, All-head, All-map, All-tail, All-weaker}
+use Rattle.std.proofs.lemmas.Option.{get_or_from_slice_get, slice_get-get_or, slice_get_within}
+use Rattle.smp_design.specs.declared.method.Method.{Method}
+use Rattle.smp_design.specs.declared.method.Method.TheVariants.{StratifiedCube}
+use Rattle.smp_design.specs.Words.{row, draws_together, most_balance, takes_columns}
+use Rattle.smp_methods.proofs.Columns.{are_values}
+use Rattle.smp_methods.proofs.OneStratum.{are_numbers}
+use Rattle.smp_methods.proofs.Wholes.{takes_some}
+use Rattle.smp_balance.specs.Strata.{StratumUnits, column_count, free_values, values_of}
+use Rattle.smp_stratcube.specs.Layers.{AreLayers, AreNumbers, Layer, layer_of, no_layer, variables, width}
+use Rattle.smp_strata.specs.Bounds.{IsStratum}
+use Rattle.smp_strata.specs.Plans.{Parts}
+use Rattle.smp_strata.specs.declared.strata.FirstUnit.{FirstUnit}
+use Rattle.smp_strata.specs.declared.strata.Stratum.{Stratum}
+use Rattle.smp_twostage.specs.Kept.{IsPlanned}
+use Rattle.smp_twostage.specs.Plans.{CanBeDrawn, IsTogether}
+use Rattle.smp_twostage.specs.Selections.{balance_count, balancing, certain_from, free_from, layers_of, units_before, valued}
+use Rattle.smp_twostage.proofs.Columns.{columns_are, free_counted, free_near, is_planned, planned_columns}
+use Rattle.smp_twostage.proofs.OverAll.{certain_next, free_next, one_before}
+
+-- ---- how many units there are
+
+before_most : (strata : List Stratum) → All (λ (s : Stratum). length s.units ≤ 200000) strata → (h : ℕ) → units_before strata h ≤ 200000 * h
+before_most [] few h = omega arith
+before_most (s ∷ strata) few zero = omega arith
+before_most (s ∷ strata) few (suc h) =
+    let own : length s.units ≤ 200000 = All-head (λ (t : Stratum). length t.units ≤ 200000) s strata few in
+    let rest = before_most strata (All-tail (λ (t : Stratum). length t.units ≤ 200000) s strata few) h in
+    omega (arith, own, rest)
+
+module _ (plan : Parts) (drawable : CanBeDrawn plan) (few : length plan.strata ≤ 16) where
+  pub few_before : (h : ℕ) → h ≤ length plan.strata → units_before plan.strata h ≤ 3200000
+  few_before h l =
+      let most = before_most plan.strata (All-weaker (IsStratum plan.second) (λ (s : Stratum). length s.units ≤ 200000) (λ s is. is.few) plan.strata drawable.sound.strata) h in
+      omega (arith, most, l, few)
+
+  -- the numbers of a stratum's units among all fit
+  pub numbers_fit : (h before : ℕ) (s : Stratum) → h ≤ length plan.strata → before ≡ units_before plan.strata h → IsStratum plan.second s
+      → (units : List ℕ) → All (λ u. u < length s.units) units → All (λ number. before + number < 2 ^ 64) units
+  numbers_fit h before s l is stratum units below =
+      All-weaker (λ u. u < length s.units) (λ number. before + number < 2 ^ 64)
+      (λ u le. (let most = few_before h l in let own = stratum.few in omega (arith, most, own, is, le))) units below
+
+-- ---- one stratum more
+
+module _ (strata : List Stratum) (h : ℕ) (s : Stratum) (is : slice_get strata h ≡ Some s) (before : ℕ) (units : List FirstUnit) (units_are : units ≡ s.units) where
+  pub next_before : before ≡ units_before strata h → before + length units ≡ units_before strata (h + 1)
+  next_before so_far =
+      let on : suc h ≡ h + 1 = omega arith in
+      ap₂ (λ (m n : ℕ). m + n) so_far (ap length units_are) ∙ sym (one_before strata h s is) ∙ ap (units_before strata) on
+
+  pub next_certain : (done new more whole : List ℕ) → new ≡ done ++ map (λ u. before + u) more → more ≡ s.request.certain → done ++ certain_from before (drop h strata) ≡ whole
+      → new ++ certain_from (before + length units) (drop (h + 1) strata) ≡ whole
+  next_certain done new more whole made own so_far =
+      let on : h + 1 ≡ suc h = omega arith in
+      ap (λ xs. xs ++ certain_from (before + length units) (drop (h + 1) strata)) (made ∙ ap (λ us. done ++ map (λ u. before + u) us) own)
+      ∙ append_assoc done (map (λ u. before + u) s.request.certain) (certain_from (before + length units) (drop (h + 1) strata))
+      ∙ ap (λ n. done ++ (map (λ u. before + u) s.request.certain ++ certain_from (before + length units) (drop n strata))) on
+      ∙ ap (λ us. done ++ (map (λ u. before + u) s.request.certain ++ certain_from (before + length us) (drop (suc h) strata))) units_are
+      ∙ ap (λ xs. done ++ xs) (sym (certain_next before strata h s is)) ∙ so_far
+
+  pub next_free : (done new more whole : List ℕ) → new ≡ done ++ map (λ u. before + u) more → more ≡ s.request.free → done ++ free_from before (drop h strata) ≡ whole
+      → new ++ free_from (before + length units) (drop (h + 1) strata) ≡ whole
+  next_free done new more whole made own so_far =
+      let on : h + 1 ≡ suc h = omega arith in
+      ap (λ xs. xs ++ free_from (before + length units) (drop (h + 1) strata)) (made ∙ ap (λ us. done ++ map (λ u. before + u) us) own)
+      ∙ append_assoc done (map (λ u. before + u) s.request.free) (free_from (before + length units) (drop (h + 1) strata))
+      ∙ ap (λ n. done ++ (map (λ u. before + u) s.request.free ++ free_from (before + length units) (drop n strata))) on
+      ∙ ap (λ us. done ++ (map (λ u. before + u) s.request.free ++ free_from (before + length us) (drop (suc h) strata))) units_are
+      ∙ ap (λ xs. done ++ xs) (sym (free_next before strata h s is)) ∙ so_far
+
+module _ (strata : List Stratum) (h before : ℕ) (all : h ≡ length strata) (done whole : List ℕ) where
+  none_left : drop h strata ≡ []
+  none_left = drop_all h strata (omega (arith, all))
+
+  pub last_certain : done ++ certain_from before (drop h strata) ≡ whole → done ≡ whole
+  last_certain so_far = sym (append-nil done) ∙ ap (λ (rest : List Stratum). done ++ certain_from before rest) (sym none_left) ∙ so_far
+
+  pub last_free : done ++ free_from before (drop h strata) ≡ whole → done ≡ whole
+  last_free so_far = sym (append-nil done) ∙ ap (λ (rest : List Stratum). done ++ free_from before rest) (sym none_left) ∙ so_far
+
+-- ---- what is balanced
+
+-- a method that draws all strata together takes no coordinates
+no_coordinates : (m : Method) (near columns : ℕ) → draws_together m ≡ true → takes_columns m near columns ≡ true → near ≡ 0
+unfolding row
+no_coordinates StratifiedCube near columns together takes = eqb-true near 0 (and_parts (nat_eq near 0) (nat_le columns most_balance) takes).0
+no_coordinates other near columns together takes = absurd (cc)
+
+-- where no value is cut off
+cut : (n m : ℕ) (units : List FirstUnit) → All (λ (u : FirstUnit). length u.values ≡ n) units → n ≤ m → map (λ (u : FirstUnit). take m u.values) units ≡ map (λ (u : FirstUnit). u.values) units
+cut n m [] counted l = refl
+cut n m (u ∷ units) counted l =
+    let own : length u.values ≡ n = All-head (λ (v : FirstUnit). length v.values ≡ n) u units counted in
+    ap₂ (λ v vs. v ∷ vs) (take_all m u.values (omega (arith, own, l)))
+    (cut n m units (All-tail (λ (v : FirstUnit). length v.values ≡ n) u units counted) l)
+
+module _ (plan : Parts) (drawable : CanBeDrawn plan) (together : draws_together plan.method ≡ true) where
+  abbrev its : IsTogether drawable.columns plan
+  its = drawable.together together
+
+  none_near : plan.near ≡ 0
+  none_near = no_coordinates plan.method plan.near drawable.columns together (takes_some plan.method plan.order plan.near drawable.columns drawable.method)
+
+  pub few_strata : length plan.strata ≤ 15
+  few_strata = omega (arith, its.rows, its.values)
+
+  pub few_columns : drawable.columns ≤ 15
+  few_columns = omega (arith, its.rows, its.some)
+
+  module _ (h : ℕ) (s : Stratum) (is : slice_get plan.strata h ≡ Some s) where
+    abbrev planned : IsPlanned plan s
+    planned = is_planned plan drawable h s is
+
+    -- all values of a unit are balanced
+    pub same_units : balancing plan s ≡ valued s
+    same_units =
+        let all : planned.columns ≤ balance_count plan s = omega (arith, columns_are plan s planned, none_near) in
+        ap (λ vs. record { request = s.request; values = vs }) (cut planned.columns (balance_count plan s) s.units planned.counted all)
+
+    pub numbers : AreNumbers (free_values (valued s))
+    numbers =
+        let few : planned.columns ≤ 15 = omega (arith, few_columns, planned_columns plan drawable h s is) in
+        are_numbers (free_values (valued s)) (are_values planned.columns (free_values (valued s)) (free_counted plan s planned) (free_near plan s planned) few)
+
+    pub one_each : length (free_values (valued s)) ≡ length s.request.free
+    one_each = length-map s.request.free (values_of (valued s))
+
+  -- ---- one more stratum
+
+  abbrev layer_in : Stratum → Layer
+  layer_in s = layer_of s.request (free_values (balancing plan s))
+
+  pub next_layer : (h : ℕ) (s : Stratum) → slice_get plan.strata h ≡ Some s → (done new : List Layer) (values : List (List ℤ)) → new ≡ done ++ layer_of s.request values ∷ [] → values ≡ free_values (valued s)
+      → done ++ map layer_in (drop h plan.strata) ≡ layers_of plan → new ++ map layer_in (drop (h + 1) plan.strata) ≡ layers_of plan
+  next_layer h s is done new values made own so_far =
+      let on : h + 1 ≡ suc h = omega arith in
+      let front : drop h plan.strata ≡ s ∷ drop (suc h) plan.strata = drop-cons plan.strata h s (slice_get_within plan.strata h s is) ∙ ap (λ (t : Stratum). t ∷ drop (suc h) plan.strata) (get_or_from_slice_get plan.strata h s s is) in
+      let here : layer_of s.request values ≡ layer_in s = ap (layer_of s.request) (own ∙ ap free_values (sym (same_units h s is))) in
+      ap (λ xs. xs ++ map layer_in (drop (h + 1) plan.strata)) (made ∙ ap (λ (x : Layer). done ++ x ∷ []) here)
+      ∙ append_assoc done (layer_in s ∷ []) (map layer_in (drop (h + 1) plan.strata))
+      ∙ ap (λ n. done ++ layer_in s ∷ map layer_in (drop n plan.strata)) on
+      ∙ ap (λ (rest : List Stratum). done ++ map layer_in rest) (sym front) ∙ so_far
+
+  pub last_layer : (h : ℕ) → h ≡ length plan.strata → (done : List Layer) → done ++ map layer_in (drop h plan.strata) ≡ layers_of plan → done ≡ layers_of plan
+  last_layer h all done so_far =
+      let none : drop h plan.strata ≡ [] = drop_all h plan.strata (omega (arith, all)) in
+      sym (append-nil done) ∙ ap (λ (rest : List Stratum). done ++ map layer_in rest) (sym none) ∙ so_far
+
+-- ---- the strata can be balanced together
+
+-- a stratum with free units has so many values of each
+record IsFilled (columns : ℕ) (layer : Layer) : Type 0 where
+  pub paired : length layer.values ≡ length layer.shape
+  pub wide : 1 ≤ length layer.values → width layer ≡ columns
+
+module _ (columns : ℕ) where
+  variables_most : (layers : List Layer) → All (IsFilled columns) layers → variables layers ≤ columns
+  variables_most [] all = omega arith
+  variables_most (layer ∷ layers) all =
+      elim (cases_Bool (nat_eq (length layer.values) 0)) [
+        | inl none ↦ rw none (variables_most layers (All-tail (IsFilled columns) layer layers all))
+        | inr some ↦
+            (let own : IsFilled columns layer = All-head (IsFilled columns) layer layers all in
+            let wide = own.wide (some_at (length layer.values) some) in
+            rw some (omega (arith, wide)))
+      ]
+    where
+      some_at : (n : ℕ) → nat_eq n 0 ≡ false → 1 ≤ n
+      some_at zero other = absurd (cc)
+      some_at (suc n) other = omega arith
+
+  variables_wide : (layers : List Layer) → All (IsFilled columns) layers → (h : ℕ) → h < length layers → 1 ≤ length (get_or layers h no_layer).shape → variables layers ≡ columns
+  variables_wide [] all h l some = absurd (omega (arith, l))
+  variables_wide (layer ∷ layers) all zero l some =
+      let own : IsFilled columns layer = All-head (IsFilled columns) layer layers all in
+      elim (cases_Bool (nat_eq (length layer.values) 0)) [
+        | inl none ↦ absurd (omega (arith, eqb-true (length layer.values) 0 none, own.paired, some))
+        | inr more ↦ rw more (own.wide (omega (arith, own.paired, some)))
+      ]
+  variables_wide (layer ∷ layers) all (suc h) l some =
+      let own : IsFilled columns layer = All-head (IsFilled columns) layer layers all in
+      elim (cases_Bool (nat_eq (length layer.values) 0)) [
+        | inl none ↦ rw none (variables_wide layers (All-tail (IsFilled columns) layer layers all) h (omega (arith, l)) some)
+        | inr more ↦ rw more (own.wide (some_at (length layer.values) more))
+      ]
+    where
+      some_at : (n : ℕ) → nat_eq n 0 ≡ false → 1 ≤ n
+      some_at zero other = absurd (cc)
+      some_at (suc n) other = omega arith
+
+module _ (plan : Parts) (drawable : CanBeDrawn plan) (together : draws_together plan.method ≡ true) where
+  filled : (h : ℕ) (s : Stratum) → slice_get plan.strata h ≡ Some s → IsFilled drawable.columns (layer_of s.request (free_values (balancing plan s)))
+  filled h s is =
+      let planned : IsPlanned plan s = is_planned plan drawable h s is in
+      subst (λ (u : StratumUnits). IsFilled drawable.columns (layer_of s.request (free_values u))) (sym (same_units plan drawable together h s is))
+      (record {
+        paired = one_each plan drawable together h s is ∙ sym planned.stratum.over.sound.paired;
+        wide = λ some. All-get_or (λ v. length v ≡ drawable.columns) (free_values (valued s)) 0 [] some
+            (subst (λ n. All (λ v. length v ≡ n) (free_values (valued s))) (planned_columns plan drawable h s is) (free_counted plan s planned));
+      })
+
+  pub are_layers : AreLayers (layers_of plan)
+  are_layers =
+      let its : IsTogether drawable.columns plan = drawable.together together in
+      let count : length (layers_of plan) ≡ length plan.strata = length-map plan.strata (λ (s : Stratum). layer_of s.request (free_values (balancing plan s))) in
+      let all : All (IsFilled drawable.columns) (layers_of plan) =
+      All-map (IsFilled drawable.columns) (λ (s : Stratum). layer_of s.request (free_values (balancing plan s))) plan.strata
+      (λ k d l. filled k (get_or plan.strata k d) (slice_get-get_or plan.strata k d l)) in
+      record {
+        some = omega (arith, its.some, count);
+        few = omega (arith, few_strata plan drawable together, count);
+        rows = omega (arith, variables_most drawable.columns (layers_of plan) all, its.rows, count);
+        same = λ h l some.
+            (let own : IsFilled drawable.columns (get_or (layers_of plan) h no_layer) = All-get_or (IsFilled drawable.columns) (layers_of plan) h no_layer l all in
+            own.wide (omega (arith, own.paired, some)) ∙ sym (variables_wide drawable.columns (layers_of plan) all h l some));
+      }
