@@ -41,8 +41,9 @@ CASES = """
     quick/two_of_four probs/in_proportion_to_size check/accepted demo/least
     draw/pivotal draw/pivotal_random_order draw/systematic_draw_1 draw/minimum_support draw/brewer_spent draw/local_pivotal_tie
     cube/wide cube/dropped_row_draw_1 strata/cube strata/allocation stages/villages stages/cube_in_strata
+    draw/elimination local_cube/wide stratified_cube/wide stratified_cube/dropped_row joint/two_strata migrate/two_strata
     seed/zeros seed/cube replay/genuine replay/strata replay/another_value outside/files_are_replaced
-    refused_frame/repeated_id refused_tape/too_short stages/misfit_5_second_too_many
+    refused_frame/repeated_id refused_tape/too_short stages/misfit_5_second_too_many strata/stratified_cube_16_strata
 """.split()
 
 # What stands in front of the C library. FAULT_KIND names what is counted, FAULT_PLACE the one that fails, counted from 1, FAULT_LATER whether all

@@ -172,7 +172,8 @@ class World:
         methods = (*sampler.METHODS[self.version], "cube", sampler.METHODS[self.version][-1])
         self.method = "systematic" if has_joints else r.choice(methods)
         count = r.choice((1, 2, 3, 4, 5, 6, 7, 8, 10, 12, 14, 16, 20, 30, 60))
-        self.two = self.method not in sampler.SPREADING and not has_joints and chance(r, 0.4)
+        self.across = self.method in sampler.IN_ONE_TREE
+        self.two = self.method not in sampler.SPREADING and not self.across and not has_joints and chance(r, 0.4)
         self.given = self.version == 2 and not self.two and chance(r, 0.6)
         self.balanced = self.balanced_count(r, count)
         self.columns = self.balanced + (r.choice((1, 2, 2, 3, 4)) if self.method in sampler.SPREADING else 0)
@@ -193,7 +194,7 @@ class World:
         self.unit_of = [place % units for place in range(count)] if chance(r, 0.3) else sorted(place % units for place in range(count))
         if chance(r, 0.3):
             self.unit_of = [r.randrange(units) for _ in range(count)]
-        self.strata = r.randint(1, max(1, min(5, units // 2))) if chance(r, 0.6) else 0
+        self.strata = r.randint(1, max(1, min(r.choice((3, 8, 15)) if self.across else 5, units // 2))) if chance(r, 0.9 if self.across else 0.6) else 0
         stratum_of_unit = [r.randrange(max(1, self.strata)) for _ in range(units)]
         self.stratum_of = [stratum_of_unit[unit] for unit in self.unit_of]
         if chance(r, 0.1):
@@ -428,7 +429,7 @@ def chosen_tape(r, design, n, frame):
     try:
         read = sampler.read_design(design) if n is None else sampler.QUICK._replace(n=n)
         with mock.patch.object(sampler, "walk", chosen_walk):
-            sampler.select(sampler.plan(sampler.read_frame(frame, read), read), read, chooser)
+            sampler.select(sampler.sections(sampler.plan(sampler.read_frame(frame, read), read), read), read, chooser)
     except sampler.Refusal:
         return [r.randrange(2) for _ in range(r.randrange(20))], []
     except Exception:
@@ -606,7 +607,7 @@ def log_of(r, version, design, frame):
     try:
         read = sampler.read_design(design)
         draws = sampler.Seed(sampler.chacha_words(r.randbytes(32)))
-        sampler.select(sampler.plan(sampler.read_frame(frame, read), read), read, draws)
+        sampler.select(sampler.sections(sampler.plan(sampler.read_frame(frame, read), read), read), read, draws)
     except Exception:
         return f"sampler-log {version}\n".encode("ascii")
     return sampler.log_bytes(design, frame, draws) if version == 2 else sampler.old_log_bytes(design, frame, draws.steps)

@@ -37,6 +37,7 @@ MOST_OF_A_FILE = 2_147_483_648
 MOST_OF_A_VECTOR = 2**44
 MOST_OF_A_DENOMINATOR = 2**80
 MOST_OF_AN_ESTIMATE = 2**126
+MOST_BALANCING_ROWS = 16
 OFFERS_PER_UNIT = 64
 CANDIDATES = 256
 
@@ -175,15 +176,16 @@ def read_words(words):
 
 METHODS = {
     1: ("pivotal", "systematic", "minimum_support", "brewer", "local_pivotal", "cube"),
-    2: ("pivotal", "systematic", "minimum_support", "brewer", "local_pivotal", "cube", "elimination", "local_cube"),
+    2: ("pivotal", "systematic", "minimum_support", "brewer", "local_pivotal", "cube", "elimination", "local_cube", "stratified_cube"),
 }
 SECOND_METHODS = {
     1: ("pivotal", "systematic", "minimum_support", "brewer"),
     2: ("pivotal", "systematic", "minimum_support", "brewer", "elimination"),
 }
 WHOLE_METHODS = ("minimum_support", "brewer", "elimination")
-BALANCING = ("cube", "local_cube")
+BALANCING = ("cube", "local_cube", "stratified_cube")
 SPREADING = ("local_pivotal", "local_cube")
+IN_ONE_TREE = ("stratified_cube",)
 KEYS = {
     1: ("version", "method", "id", "stratum", "size", "n", "sizes", "order", "balance", "near", "second"),
     2: ("version", "method", "id", "stratum", "size", "n", "sizes", "prob", "order", "balance", "near", "second"),
@@ -314,7 +316,7 @@ def read_design(content):
         ("order", "method", "order" in document and method not in ("pivotal", "systematic")),
         ("balance", "method", "balance" in document and method not in BALANCING),
         ("near", "method", "near" in document and method not in SPREADING),
-        ("second", "method", "second" in document and method in SPREADING),
+        ("second", "method", "second" in document and method in SPREADING + IN_ONE_TREE),
     ]
     for first, other, there in clashes:
         if there:
@@ -570,6 +572,11 @@ def fractional_places(values, order):
 def drawn_places(values):
     """The places of the units of value 1."""
     return {place for place, value in enumerate(values) if value == 1}
+
+
+def moved_places(old, new):
+    """The places at which two lists of values differ."""
+    return {place for place, (before, after) in enumerate(zip(old, new)) if before != after}
 
 
 def changed(values, places, new):
@@ -867,8 +874,12 @@ class Cube(namedtuple("Cube", "values columns requested rows left")):
             return "drop", [(1, lambda: self._replace(rows=self.rows - 1, left=left))]
         parts = self.flight(open_places[: len(circuit)], circuit) if found == "circuit" else None
         if parts is None:
-            return "wide", [(1, lambda: Pivots(self.values, self.denominator(), left))]
+            return "wide", [(1, lambda: self.landed(left))]
         return "flight", parts
+
+    def landed(self, left):
+        """The state after `wide`: pivotal steps over the present denominator."""
+        return Pivots(self.values, self.denominator(), left)
 
     def flight(self, places, circuit):
         """The two parts of a move along the direction, or None where a number passes its limit."""
@@ -877,6 +888,10 @@ class Cube(namedtuple("Cube", "values columns requested rows left")):
         direction = [entry // divisor for entry in direction]
         if max(map(abs, direction)) > MOST_OF_A_VECTOR:
             return None
+        return self.ways(places, direction)
+
+    def ways(self, places, direction):
+        """The two parts of a move along this direction, as far as it goes and back, or None where a denominator behind it passes its limit."""
         values = [self.values[place] for place in places]
         plus, minus = reach(values, direction), reach(values, [-entry for entry in direction])
         ends = []
@@ -901,7 +916,8 @@ class LocalCube(namedtuple("LocalCube", "values columns requested rows left poin
 
     `touched` has the units whose value a move has changed, and `chosen` is the unit chosen since the last move, or None."""
 
-    denominator, step_through, flight, selected = Cube.denominator, Cube.step_through, Cube.flight, Cube.selected
+    denominator, step_through, flight, ways = Cube.denominator, Cube.step_through, Cube.flight, Cube.ways
+    landed, selected = Cube.landed, Cube.selected
 
     def step(self):
         open_places = fractional_places(self.values, range(len(self.values)))
@@ -921,8 +937,63 @@ class LocalCube(namedtuple("LocalCube", "values columns requested rows left poin
 
     def after(self, values):
         """The state after a move to these values, which lets the chosen unit go."""
-        moved = {place for place, (old, new) in enumerate(zip(self.values, values)) if old != new}
-        return self._replace(values=values, touched=self.touched | moved, chosen=None)
+        return self._replace(values=values, touched=self.touched | moved_places(self.values, values), chosen=None)
+
+
+class StratifiedCube(namedtuple("StratifiedCube", "values columns fractions strata requested rows left touched")):
+    """The cube over the units of all strata, with a row for the number of each stratum; the equations are those of Chauvet 2009, "Stratified balanced
+    sampling". docs/formats.md, "Steps", the part on the stratified cube.
+
+    `fractions` has what is requested of each unit, `strata` its stratum, `requested` the requested common denominator of each stratum, and `touched`
+    the units whose value a move has changed."""
+
+    step, step_through, ways, selected = Cube.step, Cube.step_through, Cube.ways, Cube.selected
+
+    def denominator(self):
+        """The least common multiple of what the touched fractional units stand over: their own denominators, and those requested of their strata."""
+        open_places = [place for place in fractional_places(self.values, range(len(self.values))) if place in self.touched]
+        return lcm(*(self.requested[self.strata[place]] for place in open_places), *(self.values[place].denominator for place in open_places))
+
+    def flight(self, places, circuit):
+        """The two parts of a move along the direction, or None where a number passes its limit."""
+        entries = [self.fractions[place] * entry for place, entry in zip(places, circuit)]
+        if lcm(*(entry.denominator for entry in entries)) > MOST_OF_A_DENOMINATOR:
+            return None
+        direction = primitive(entries)
+        if max(map(abs, direction)) > MOST_OF_A_VECTOR:
+            return None
+        if lcm(self.denominator(), *(self.requested[self.strata[place]] for place in places)) > MOST_OF_A_DENOMINATOR:
+            return None
+        return self.ways(places, direction)
+
+    def after(self, values):
+        """The state after a move to these values."""
+        return self._replace(values=values, touched=self.touched | moved_places(self.values, values))
+
+    def landed(self, left):
+        """The state after `wide`: pivotal steps, stratum by stratum."""
+        return StratifiedPivots(self.values, self.strata, left)
+
+
+class StratifiedPivots(namedtuple("StratifiedPivots", "values strata left")):
+    """The steps that end a stratified cube after the step `wide`: two units of one stratum meet, as long as a stratum has two."""
+
+    def step(self):
+        open_places = fractional_places(self.values, range(len(self.values)))
+        if not open_places:
+            return None
+
+        def follow(values):
+            return self._replace(values=values)
+
+        for stratum in sorted({self.strata[place] for place in open_places}):
+            inside = [place for place in open_places if self.strata[place] == stratum]
+            if len(inside) >= 2:
+                return "pivot", pair_parts(self.values, lcm(*(self.values[place].denominator for place in inside)), *inside[:2], follow)
+        return "lone", lone_parts(self.values, self.values[open_places[0]].denominator, open_places[0], follow)
+
+    def selected(self):
+        return drawn_places(self.values)
 
 
 class Pivots(namedtuple("Pivots", "values denominator left")):
@@ -953,12 +1024,23 @@ def start(method, order, request, columns, near=0):
         return Elimination(tuple(request.shape), frozenset(range(len(values))), request.r)
     if method == "local_pivotal":
         return LocalPivotal(values, request.denominator, tuple(own))
+    if method == "stratified_cube":
+        return stratified_start(values, request, own)
     balanced = [xs[: len(xs) - near] for xs in own]
     sized = tuple((z, *xs) for z, xs in zip(request.shape, balanced))
     rows = 1 + len(balanced[0]) if own else 1
     if method == "local_cube":
         return LocalCube(values, sized, request.denominator, rows, None, tuple(xs[len(xs) - near :] for xs in own), frozenset(), None)
     return Cube(values, sized, request.denominator, rows, None)
+
+
+def stratified_start(values, layered, own):
+    """The first state of a stratified cube over the free units of all strata and their balancing values."""
+    count = len(layered.requested)
+    alone = [tuple(z if stratum == other else 0 for other in range(count)) for z, stratum in zip(layered.shape, layered.strata)]
+    rows = count + len(own[0]) if own else count
+    columns = tuple(front + xs for front, xs in zip(alone, own))
+    return StratifiedCube(values, columns, values, layered.strata, layered.requested, rows, None, frozenset())
 
 
 def walk(state, draws):
@@ -1063,8 +1145,44 @@ def plan(rows, design):
         except TooMany as many:
             raise Refusal(5, f"error 5.5 second stage {design.second_n} asked of {many.positive}: {psu}") from None
 
+    if design.method in IN_ONE_TREE and len(names) + len(design.values) > MOST_BALANCING_ROWS:
+        raise Refusal(5, f"error 5.8 {len(names)} strata and {len(design.values)} variables pass {MOST_BALANCING_ROWS} rows")
+
     units = [Unit(inside, *totals[place], seconds[place]) for place, (_, _, inside) in enumerate(listed)]
     return [Stratum(number, name, [units[place] for place in members[name]], requests[name]) for number, name in enumerate(names, 1)]
+
+
+Layered = namedtuple("Layered", "fractions free shape strata requested")
+
+
+def layered(requests, places=None):
+    """Several requests as one, for a method that draws from all strata in one tree: `strata` has the stratum of each free unit by its place among the
+    requests, and `requested` the denominator of each stratum.
+
+    The free units come request by request. `places` has for each request the places of its units among all, or None where they stand in turn."""
+    if places is None:
+        first = [sum(len(request.fractions) for request in requests[:number]) for number in range(len(requests))]
+        places = [range(start, start + len(request.fractions)) for start, request in zip(first, requests)]
+    fractions = [None] * sum(map(len, places))
+    for own, request in zip(places, requests):
+        for place, fraction in zip(own, request.fractions):
+            fractions[place] = fraction
+    return Layered(
+        fractions=fractions,
+        free=[own[unit] for own, request in zip(places, requests) for unit in request.free],
+        shape=[z for request in requests for z in request.shape],
+        strata=tuple(number for number, request in enumerate(requests) for _ in request.free),
+        requested=tuple(request.denominator for request in requests),
+    )
+
+
+def sections(strata, design):
+    """The strata as they are drawn: one after the other, each with a section of the log, or all as one, with the units in frame order."""
+    if design.method not in IN_ONE_TREE:
+        return strata
+    places = [[unit.rows[0] for unit in stratum.units] for stratum in strata]
+    units = sorted((unit for stratum in strata for unit in stratum.units), key=lambda unit: unit.rows)
+    return [Stratum(1, "", units, layered([stratum.request for stratum in strata], places))]
 
 
 def asked(strata, count):
@@ -1489,7 +1607,7 @@ def draw(given, store):
     design = read_design(design_bytes)
     frame_bytes = store.read(given["frame"])
     rows = read_frame(frame_bytes, design)
-    strata = plan(rows, design)
+    strata = sections(plan(rows, design), design)
     draws = Seed(chacha_words(given["seed"])) if "seed" in given else Tape(store.read(given["tape"]))
     drawn = select(strata, design, draws)
     draws.end()
@@ -1504,7 +1622,7 @@ def replay(given, store):
     design = read_design(design_bytes)
     frame_bytes = store.read(given["frame"])
     rows = read_frame(frame_bytes, design)
-    strata = plan(rows, design)
+    strata = sections(plan(rows, design), design)
     if "stratum" in given:
         if given["stratum"] > len(strata):
             raise Refusal(16, f"error 16 stratum {given['stratum']} of {len(strata)}")
@@ -1523,7 +1641,7 @@ def migrate(given, store):
     design_bytes = store.read(given["design"])
     design = read_design(design_bytes)
     frame_bytes = store.read(given["frame"])
-    strata = plan(read_frame(frame_bytes, design), design)
+    strata = sections(plan(read_frame(frame_bytes, design), design), design)
     draws = Log(store.read(given["log"]), (1,), design_bytes, frame_bytes)
     select(strata, design, draws)
     draws.end()

@@ -198,6 +198,34 @@ class Rows(unittest.TestCase):
         self.refused_draw(text.replace('balance = ["y"]\n', ""), frame, [], 3, "error 3.4 missing key balance")
         self.refused_draw(text + 'second = {psu = "x", method = "pivotal", n = 1}\n', frame, [], 3, "error 3.6 second clashes with method")
 
+    def test_stratified_cube(self):
+        text = design("stratified_cube", more='stratum = "s"\nbalance = ["x"]\n', size="").replace("version = 1", "version = 2")
+        frame = "id,s,x\na1,A,1\na2,A,3\nb1,B,2\nb2,B,4\n"
+        report = "selected 2 of 4\nsteps 1\nleft 1 0\nbalance 1 1 10/1 10\n"
+        self.drawn(text, frame, [0], ["flight 2 0"], "a1,2/1\nb2,2/1\n", report)
+        self.drawn(text, frame, [1], ["flight 2 1"], "a2,2/1\nb1,2/1\n", report)
+        report = "selected 2 of 4\nsteps 3\nleft 1 2\nbalance 1 1 12/1 11\n"
+        steps = ["flight 2 0", "drop 1 0", "flight 6 0"]
+        more = frame.replace("4\n", "5\n")
+        self.drawn(text, more, [0, 0], steps, "a1,2/1\nb2,2/1\n", report)
+        store, log = self.logged(text, more, [0, 0])
+        self.section(store, log, 1, "a1,2/1\nb2,2/1\n", report)
+        self.refused([*REPLAY, "--stratum", "2"], self.with_log(store, log), 16, "error 16 stratum 2 of 1")
+        self.put("check", text, frame, "accepted 4 units in 2 strata\n")
+        self.refused_draw(text.replace("version = 2", "version = 1"), frame, [], 3, "error 3.5 bad value of method")
+        self.refused_draw(text.replace('balance = ["x"]\n', ""), frame, [], 3, "error 3.4 missing key balance")
+        self.refused_draw(text + 'near = ["x"]\n', frame, [], 3, "error 3.6 near clashes with method")
+        self.refused_draw(text + 'second = {psu = "x", method = "pivotal", n = 1}\n', frame, [], 3, "error 3.6 second clashes with method")
+
+    def test_strata_that_are_too_many_to_balance_across(self):
+        text = 'version = 2\nmethod = "stratified_cube"\nid = "id"\nstratum = "s"\nbalance = ["x"]\nn = 16\n'
+        rows = [f"u{number},s{number // 2},{number % 7}\n" for number in range(32)]
+        self.refused_draw(text, "id,s,x\n" + "".join(rows), [], 5, "error 5.8 16 strata and 1 variables pass 16 rows")
+        self.put("check", text, "id,s,x\n" + "".join(rows[:30]), "accepted 30 units in 15 strata\n")
+        many = text.replace('["x"]', '["x", "x"]')
+        self.refused_draw(many, "id,s,x\n" + "".join(rows[:30]), [], 5, "error 5.8 15 strata and 2 variables pass 16 rows")
+        self.refused_draw(text.replace("16", "15"), "id,s,x\n" + "".join(rows), [], 5, "error 5.3 no sample size: s15")
+
     def test_cube_to_the_end(self):
         text = design("cube", more='balance = ["x"]\n', size="")
         for sign, end in (("", "10/1 10"), ("-", "-10/1 -10")):
@@ -930,6 +958,8 @@ class Probabilities(unittest.TestCase):
 
     def over_tree(self, method, order, request, columns):
         near = 1 if method == "local_cube" else 0
+        if method in sampler.IN_ONE_TREE and isinstance(request, sampler.Request):
+            request = sampler.layered([request])
         found = mean(sampler.start(method, order, request, columns, near), len(request.free), {})
         self.assertEqual(found, [request.fractions[unit] for unit in request.free], (method, request))
 
@@ -969,6 +999,15 @@ class Probabilities(unittest.TestCase):
         finally:
             sampler.OFFERS_PER_UNIT = limit
 
+    def test_stratified_cubes(self):
+        parts = [sampler.requested([1, 1, 1], 1), sampler.requested([2, 1, 3], 2), sampler.requested([7, 0, 2], 1)]
+        parts += [sampler.given_request([Fraction(text) for text in texts]) for texts in (["1/2", "1/3"], ["1", "1/6", "0"])]
+        for requests in (*itertools.combinations(parts, 2), parts[2:]):
+            joined = sampler.layered(requests)
+            for widest in (1, 2147483647):
+                columns = [(place * place * widest % 2147483647, 3 - place) for place in range(len(joined.fractions))]
+                self.over_tree("stratified_cube", "frame", joined, columns)
+
     def test_wide_cubes(self):
         columns = [(2147483647, 0), (0, 2147483646), (0, 0), (1, 1), (5, 7)]
         for sizes in ([1] * 5, [3, 3, 2, 5, 1]):
@@ -992,6 +1031,16 @@ class Probabilities(unittest.TestCase):
             fractions = sampler.asked(strata, len(rows))
             self.assertEqual(over_all_tapes(strata, text, len(rows)), fractions, (method, inside))
             self.assertEqual(sum(fractions), 3)
+
+    def test_whole_designs_across_strata(self):
+        frame = "id,s,z,x\na,N,1,3\nb,S,5,2\nc,N,1,1\nd,S,1,5\ne,S,1,4\n"
+        for more in ("", 'size = "z"\n'):
+            words = 'version = 2\nmethod = "stratified_cube"\nid = "id"\nstratum = "s"\nbalance = ["x"]\nsizes = {N = 1, S = 2}\n'
+            text = sampler.read_design((words + more).encode())
+            rows = sampler.read_frame(frame.encode(), text)
+            strata = sampler.plan(rows, text)
+            asked = sampler.asked(strata, len(rows))
+            self.assertEqual(over_all_tapes(sampler.sections(strata, text), text, len(rows)), asked, more)
 
 
 if __name__ == "__main__":
