@@ -1,6 +1,6 @@
 #!/usr/bin/env python3
-"""Times `sampler draw` by the cube and the local cube, CSV to CSV, on made-up frames with three balancing columns, two coordinates and equal
-sizes, and counts its instructions where valgrind is there. It is no test.
+"""Times `sampler draw` by the cube, the local cube and the stratified cube, CSV to CSV, on made-up frames with three balancing columns, two
+coordinates, ten strata and equal sizes, and counts its instructions where valgrind is there. It is no test.
 
     bench/cube.py [ROWS ..]       1,000 and 10,000 rows where none are given
 
@@ -17,12 +17,14 @@ import tempfile
 from draw import TOP, run, write
 from instructions import millions
 
-DESIGN = 'version = 2\nmethod = "{method}"\nid = "id"\nbalance = ["area", "herd", "workers"]\n{near}n = {n}\n'
-NEAR = {"cube": "", "local_cube": 'near = ["east", "north"]\n'}
+DESIGN = 'version = 2\nmethod = "{method}"\nid = "id"\nbalance = ["area", "herd", "workers"]\n{more}n = {n}\n'
+MORE = {"cube": "", "local_cube": 'near = ["east", "north"]\n', "stratified_cube": 'stratum = "region"\n'}
+STRATA = 10
 
 
-def made_up_frame(rows, located):
-    """A frame of values, and of coordinates where the units are located."""
+def made_up_frame(rows, method):
+    """A frame of values, and of coordinates or of strata where the method asks for them."""
+    located, cut = method == "local_cube", method == "stratified_cube"
 
     def numbers(state):
         while True:
@@ -30,10 +32,10 @@ def made_up_frame(rows, located):
             yield state // 2**33
 
     values, places = numbers(1), numbers(2)
-    lines = ["id,area,herd,workers" + ",east,north" * located + "\n"]
+    lines = ["id,area,herd,workers" + ",east,north" * located + ",region" * cut + "\n"]
     for row in range(rows):
         whole = [next(values) % 10000 + 1, next(values) % 501, next(values) % 20 + 1]
-        whole += [next(places) % 1_000_000 for _ in range(2 * located)]
+        whole += [next(places) % 1_000_000 for _ in range(2 * located)] + [f"r{row % STRATA}"] * cut
         lines.append(f"u{row}," + ",".join(map(str, whole)) + "\n")
     return "".join(lines)
 
@@ -54,9 +56,9 @@ def main():
         program = os.path.join(TOP, "crates", "sampler", "out", "sampler")
     print("method rows draws landing seconds megabytes instructions (millions)")
     counts = [int(word) for word in sys.argv[1:]] or [1_000, 10_000]
-    for method, rows in [(method, rows) for method in NEAR for rows in counts]:
-        frame = write(work, "frame.csv", made_up_frame(rows, method == "local_cube"))
-        design = write(work, "design.toml", DESIGN.format(method=method, near=NEAR[method], n=max(1, rows // 10)))
+    for method, rows in [(method, rows) for method in MORE for rows in counts]:
+        frame = write(work, "frame.csv", made_up_frame(rows, method))
+        design = write(work, "design.toml", DESIGN.format(method=method, more=MORE[method], n=max(STRATA, rows // 10)))
         log = os.path.join(work, "log.txt")
         words = [program, "draw", "--design", design, "--frame", frame, "--log", log, "--sample", os.path.join(work, "sample.csv")]
         tape, draws = full_tape(words, work, rows)

@@ -4,9 +4,9 @@
     bench/memory.py [ROWS [COLUMNS]]       100,000 rows and 15 columns of values where nothing is given
 
 A tenth of the rows is drawn by each method, by a seed. The frame is the same for all: the cube balances all columns, the local pivotal method takes
-the first two as coordinates, the local cube does both, and the other methods ask for none. Last comes the longest log that a draw of so many rows may have: Brewer's method
-by a tape that refuses as many offers as there may be, with the largest sizes. The most of memory is the most pages that the system counts (the
-resident set). A megabyte is 1,000,000 bytes.
+the first two as coordinates, the local cube does both, the stratified cube balances all columns with one stratum, and the other methods ask for
+none. Last comes the longest log that a draw of so many rows may have: Brewer's method by a tape that refuses as many offers as there may be, with the
+largest sizes. The most of memory is the most pages that the system counts (the resident set). A megabyte is 1,000,000 bytes.
 """
 import os
 import subprocess
@@ -16,7 +16,8 @@ import tempfile
 sys.dont_write_bytecode = True
 import draw
 
-METHODS = ("systematic", "pivotal", "minimum_support", "brewer", "elimination", "local_pivotal", "cube", "local_cube")
+METHODS = ("systematic", "pivotal", "minimum_support", "brewer", "elimination", "local_pivotal", "cube", "local_cube", "stratified_cube")
+BALANCING = ("cube", "local_cube", "stratified_cube")
 MEGABYTE = 1_000_000
 MAX_SIZE = 2_147_483_647
 OFFERS_FOR_EACH = 64
@@ -33,11 +34,11 @@ def made_up_frame(rows, columns):
 def design_of(method, n, columns):
     lines = ["version = 2", f'method = "{method}"', 'id = "id"', f"n = {n}"]
     names = [f'"x{column}"' for column in range(1, columns + 1)]
-    if method in ("cube", "local_cube"):
+    if method in BALANCING:
         lines.append("balance = [" + ", ".join(names) + "]")
     if method in ("local_pivotal", "local_cube"):
         lines.append("near = [" + ", ".join(names[:2]) + "]")
-    if method not in ("cube", "local_pivotal", "local_cube"):
+    if method not in (*BALANCING, "local_pivotal"):
         lines.append('size = "size"')
     return "\n".join(lines) + "\n"
 
