@@ -130,7 +130,7 @@ def crates():
     for one, other in pieces:
         near[one].append(other)
         near[other].append(one)
-    wide, thin, high, apart, width = 114, 20, 24, 84, 1180
+    wide, thin, high, apart, width = 114, 20, 24, 84, 1340
     place = {}
 
     def set_places(row):

@@ -25,23 +25,25 @@ METHODS = [
     ("brewer", "Brewer's method", ["smp_brewer"]),
     ("elimination", "the elimination procedure", ["smp_elim"]),
     ("local_pivotal", "local pivotal selection", ["smp_localpiv", "smp_near"]),
-    ("cube", "the cube method", ["smp_landing", "smp_flight", "smp_moves", "smp_kernel", "smp_balance", "smp_twostage.specs.Cubes",
-                                 "smp_twostage.specs.Lines"]),
+    ("cube", "the cube method", ["smp_landing", "smp_flight", "smp_moves", "smp_kernel", "smp_balance"]),
     ("local_cube", "the local cube", ["smp_localcube", "smp_localpiv.specs.Coordinates", "smp_near", "smp_flight", "smp_moves", "smp_kernel"]),
+    ("stratified_cube", "the stratified cube", ["smp_stratcube", "smp_moves", "smp_kernel"]),
 ]
 # Those that balance.
-BALANCING = ("cube", "local_cube")
-# The definitions of those that balance alone that stand among those of all methods: on the other pages they are only named.
-CUBE_ALONE = {"KeepsBalance"}
+BALANCING = ("cube", "local_cube", "stratified_cube")
+# The definitions of some methods alone that stand among those of all: on the other pages they are only named.
+ALONE = {"KeepsBalance": BALANCING, "IsCubeDraw": ("cube", "local_cube"), "IsTogetherDraw": ("stratified_cube",)}
 # What is the same by every method and has a page of its own, by crates, files and names: on the methods' pages it stands in short.
 APART = {
     "joint": ["smp_joint", "IsExactJoint", "joints_text", "most_joint_rows"],
     "read": ["smp_plan", "smp_strata", "smp_design", "smp_frame", "smp_prob.specs.Requested", "smp_prob.specs.Given", "smp_prob.specs.Shapes",
              "IsReadPlan", "IsReadFrame", "tape_of"],
+    "plan": ["smp_rows", "smp_methods", "smp_stages", "smp_split.specs.Embeds", "smp_twostage.specs.Selections"],
     "flight": ["smp_kernel", "smp_moves.specs.Moves", "smp_moves.specs.Ends", "smp_flight.specs.States", "smp_flight.specs.Steps", "smp_flight.specs.Moves"],
-    "balance": ["smp_moves.specs.Balances", "smp_moves.specs.Owed", "smp_balance.specs.Strata", "smp_balance.specs.Totals", "smp_twostage.specs.Cubes"],
+    "balance": ["smp_moves.specs.Balances", "smp_moves.specs.Owed", "smp_balance.specs.Strata", "smp_balance.specs.Totals", "smp_balance.specs.FrameTotals",
+                "smp_twostage.specs.Cubes"],
     "written": ["smp_weights", "smp_log.specs.Heads", "smp_log.specs.Logs", "smp_log.specs.SectionLogs", "smp_app.specs.Texts",
-                "smp_balance.specs.Lines", "smp_twostage.specs.Lines"],
+                "smp_balance.specs.Lines", "smp_balance.specs.Frames", "smp_balance.specs.Reports", "smp_twostage.specs.Lines"],
 }
 
 # The sections on a method's page: the title, what it is about, and the fields of the records from which its definitions are reached.
@@ -52,7 +54,7 @@ DRAW = [
     ("Probabilities", "Each row is selected with the probability that is asked for it, and the weighted total has no bias.",
      {"IsDrawnBy": ["probabilities"]}),
     ("Numbers", "How many are drawn.", {"IsDrawnBy": ["firsts", "around", "seconds"]}),
-    ("Balance", "What the method keeps, of whatever stratum it draws from.", {"IsDrawnBy": ["balance"]}),
+    ("Balance", "What the method keeps, of whatever strata it draws from.", {"IsDrawnBy": ["balance"]}),
     ("What is written", "The sample, the log and the report, to the byte: what they are made of is on the page [written.md](written.md).",
      {"IsExactDraw": ["", "written", "put"]}),
 ]
@@ -66,12 +68,16 @@ WRITTEN = [
     ("The report", "", {"IsExactDraw": ["put"]}),
     ("What the report tells of balance", "", None),
 ]
+PLAN = [
+    ("From the trees of the stages to that of all rows", "", None),
+]
 FLIGHT = [
     ("From a state to its step", "", None),
 ]
 BALANCE = [
-    ("What a selection keeps that flies and then lands", "", ["smp_moves.specs.Balances"]),
-    ("The totals of a stratum, over all of its units", "", ["smp_balance"]),
+    ("What a selection keeps that flies and then lands", "", ("smp_moves.specs.Balances",)),
+    ("The totals of a stratum, over all of its units", "", ["smp_balance.specs.Strata", "smp_balance.specs.Totals"]),
+    ("The totals of all strata that are drawn together", "", ["smp_balance.specs.FrameTotals"]),
     ("In the draw tree of a plan", "", ["smp_twostage"]),
 ]
 JOINT = [
@@ -105,11 +111,31 @@ OWN_THEMES = [
     ("Moves along a line, and what a selection keeps", ["smp_moves"]),
     ("Flight", ["smp_flight"]),
     ("Landing", ["smp_landing"]),
+    ("The cube over all strata", ["smp_stratcube"]),
     ("A stratum over all of its units, and the lines of the report", ["smp_rows", "smp_balance"]),
     ("In the draw tree of a plan", []),
 ]
+# The same for the tree of a plan.
+PLAN_THEMES = [
+    ("Trees within others, and orders of units", ["smp_faults", "smp_fractions", "smp_places", "smp_lines", "smp_frac", "smp_split"]),
+    ("The plan: strata, first stage units, and what is asked of each", ["smp_prob", "smp_frame", "smp_values", "smp_design", "smp_strata", "smp_plan"]),
+    ("The tree of a stage over all of its units", ["smp_rows"]),
+    ("A selection in stages", ["smp_stages"]),
+    ("A method among all methods", ["smp_methods"]),
+    ("The stages of a plan, and where its rows are selected", []),
+]
+# The same for what is written.
+WRITTEN_THEMES = [
+    *THEMES[:4],
+    ("Weighted totals", ["smp_weights"]),
+    ("The lines on balance", ["smp_balance"]),
+    ("What was drawn of each stratum, or of all strata together", ["smp_rows", "smp_methods", "smp_stages", "smp_twostage"]),
+    ("The texts of a draw", []),
+]
 LONG = 250
 WIDE = 140
+# What each definition names, whole or in short, once it is known.
+NAMED = {}
 # Those whose names stand at the beginning of a doc comment.
 PERSONS = ("Brewer",)
 
@@ -137,8 +163,10 @@ class Page:
         return definition.in_short() if self.is_short(at) else definition.shown()
 
     def named(self, at):
-        definition = self.definition(at)
-        return specs.named(self.modules, definition, self.lines_of(at)) if definition else []
+        definition, known = self.definition(at), (at, self.is_short(at))
+        if known not in NAMED:
+            NAMED[known] = specs.named(self.modules, definition, self.lines_of(at)) if definition else []
+        return NAMED[known]
 
     def reached(self, starts):
         """The definitions that these reach and that aren't shown yet, in the order in which they are needed: what one names comes first."""
@@ -347,7 +375,8 @@ ABOUT_METHOD = """`sampler` proves the record `IsExactDraw` of each call of `dra
 `{method}`: the definitions that the record reaches, each once, with its comment, its file and its line. The prover reads those files; `docs/statement/write.py`
 makes the page from them. The record stands first, and then what its fields name, from the ground up. Of another method it has nothing. What
 is the same by every method stands in short, by its comment and its type, and has pages of its own: what was read and what is asked
-([read.md](read.md)), and what is written ([written.md](written.md)){balance}. What a replay adds is in [replay.md](replay.md)."""
+([read.md](read.md)), how the trees of the stages make that of a plan ([plan.md](plan.md)), and what is written ([written.md](written.md)){balance}.
+What a replay adds is in [replay.md](replay.md)."""
 # The same of what methods share that balance.
 AND_BALANCE = "; so have, of the methods that\nbalance, a step of their flight ([flight.md](flight.md)) and what they keep ([balance.md](balance.md))"
 
@@ -358,18 +387,25 @@ the files say. And what a plan is, and what it asks: which strata and first stag
 probability a row. It is the same by every method. [formats.md](../formats.md) has it in words. All of it is here, so that the page can be read alone."""
 
 ABOUT_WRITTEN = """What the fields `written` and `put` of `IsExactDraw` name: the log, the sample and the report, to the byte. They are the same by every method, but that
-only the cube and the local cube tell of balance. [formats.md](../formats.md) has them in words. Definitions that stand on the page of each method
+only the cube, the local cube and the stratified cube tell of balance. [formats.md](../formats.md) has them in words. Definitions that stand on the page of
+each method ([pivotal.md](pivotal.md), say) or on [read.md](read.md) aren't here again."""
+
+ABOUT_PLAN = """How the draw trees of the stages make that of a plan. The strata are drawn in order of first appearance, in each its first stage units, and where there is
+a second stage then rows within each of those that were drawn (Särndal, Swensson and Wretman 1992); or one stratum is drawn alone; or all strata are drawn
+together, in one stage. It is the same by every method, of which each stage has the tree. Definitions that stand on the page of each method
 ([pivotal.md](pivotal.md), say) or on [read.md](read.md) aren't here again."""
 
 ABOUT_FLIGHT = """A step of the flight of the cube method (Deville and Tillé 2004), and of the local cube, which differ in the units that a search goes through: the
 direction that a search finds among columns of whole numbers, how far it can be followed both ways with which weights, and when a number is too wide for it.
 It is said by properties, of which one step alone has all. The draw trees that go by it are on [cube.md](cube.md) and on [local_cube.md](local_cube.md), and
-[formats.md](../formats.md) has it in words. Definitions that stand on the page of each method or on [read.md](read.md) aren't here again."""
+[formats.md](../formats.md) has it in words. The stratified cube searches and moves so too, and what of a step is its own is on
+[stratified_cube.md](stratified_cube.md). Definitions that stand on the page of each method or on [read.md](read.md) aren't here again."""
 
-ABOUT_BALANCE = """What the field `balance` of `IsDrawnBy` says of the strata that the cube method or the local cube draws: which totals each flight step keeps, where landing
-may begin, and by how much an estimate may miss its total. It is the same by both methods, and said of their draw trees, which stand on
-[cube.md](cube.md) and on [local_cube.md](local_cube.md). The guide has it in words ([guide.md](../guide.md), "Balanced on known totals"). Definitions that stand on the
-page of each method or on [read.md](read.md) aren't here again."""
+ABOUT_BALANCE = """What the field `balance` of `IsDrawnBy` says of the strata that the cube method or the local cube draws, and of all strata together where the
+stratified cube draws: which totals each flight step keeps, where landing may begin, and by how much an estimate may miss its total. It is the same by
+these methods, and said of their draw trees, which stand on [cube.md](cube.md), [local_cube.md](local_cube.md) and
+[stratified_cube.md](stratified_cube.md). The guide has it in words ([guide.md](../guide.md), "Balanced on known totals", "Balanced across strata").
+Definitions that stand on the page of each method or on [read.md](read.md) aren't here again."""
 
 ABOUT_REPLAY = """`sampler` proves the record `Headline` of each call over a store that tells its files and a sink that tells what was put (clause `headline` in
 [call.rt](../../crates/smp_app/src/call.rt)). A `draw` has a page for each method:
@@ -525,13 +561,13 @@ def doubles(page):
     found = {}
     for at in page.shown:
         for module, name in page.named(at) + [at]:
-            if not module.endswith(".TheVariants") and ((module, name) in page.shown or ".declared." in module):
+            if not module.endswith(".TheVariants") and module.startswith("smp_"):
                 found.setdefault(name, set()).add(module)
     return {name for name in found if len(found[name]) > 1}
 
 
-def own_below(page, method):
-    """What is a method's own and is named by what stands on its page in short, or by what that names."""
+def own_below(page, method, through=None):
+    """What is a method's own and is named by what stands on its page in short, or by what that names; through what is on this page alone."""
     found, seen = [], set()
 
     def visit(at):
@@ -541,8 +577,9 @@ def own_below(page, method):
         if page_apart(at) is None and owner(at, method):
             found.extend([at] if owner(at, method) == method else [])
             return
-        for other in specs.named(page.modules, page.definition(at), page.definition(at).shown()):
-            visit(other)
+        if through in (None, page_apart(at)):
+            for other in specs.named(page.modules, page.definition(at), page.definition(at).shown()):
+                visit(other)
 
     for at in page.shown:
         if page.is_short(at):
@@ -560,8 +597,8 @@ def method_page(modules, method, words, double=None):
         of = owner(at, method)
         if of not in (None, method):
             return of
-        if method not in BALANCING and at[1] in CUBE_ALONE:
-            return "cube"
+        if method not in ALONE.get(at[1], (method,)):
+            return ALONE[at[1]][0]
         return method if of == method and not state["own"] else None
 
     page = Page(modules, elsewhere, tuple(APART), double or ())
@@ -576,7 +613,7 @@ def method_page(modules, method, words, double=None):
         page.put_section(title, with_fields(about, told), page.reached(starts_of(modules, told)))
         tree = list(page.left) if tree is None else tree
     state["own"] = True
-    own = [at for at in tree if owner(at, method) == method]
+    own = [at for at in tree if owner(at, method) == method] + own_below(page, method, "plan")
     page.put_section(f"The draw tree of {words}", "", page.reached(own), OWN_THEMES)
     rest = [at for at in page.left if owner(at, method) == method] + (own_below(page, method) if method in BALANCING else [])
     page.put_section("What balance is", OWN_BALANCE, page.reached(rest), OWN_THEMES)
@@ -594,9 +631,9 @@ def other_page(modules, name, known, title, about, first, sections, double=None)
     def elsewhere(at):
         if page_apart(at) == name:
             return None
-        if page_apart(at) in ("flight", "balance", "joint"):
+        if page_apart(at) in ("plan", "flight", "balance", "joint"):
             return page_apart(at)
-        return owner(at) or ("cube" if at[1] in CUBE_ALONE else known.get(at))
+        return owner(at) or next(iter(ALONE.get(at[1], ())), known.get(at))
 
     page = Page(modules, elsewhere, (), double or ())
     if first:
@@ -604,7 +641,7 @@ def other_page(modules, name, known, title, about, first, sections, double=None)
         page.put_definitions([find(modules, told) for told in first])
     page.types_at = len(page.lines)
     for heading, words, starts in sections:
-        page.put_section(heading, words, page.reached(starts), OWN_THEMES if name == "flight" else THEMES)
+        page.put_section(heading, words, page.reached(starts), {"plan": PLAN_THEMES, "flight": OWN_THEMES, "written": WRITTEN_THEMES}.get(name, THEMES))
     page.put_left_over()
     if double is None:
         return other_page(modules, name, known, title, about, first, sections, doubles(page))
@@ -612,53 +649,75 @@ def other_page(modules, name, known, title, about, first, sections, double=None)
 
 
 def section_of(modules, starts, heading, words, told):
-    """A section with the definitions from which its own are reached: those that fields name, those of these files, those of these crates
-    among the starts, or all of them."""
+    """A section with the definitions from which its own are reached: those that fields name, all of a tuple of files, those among the starts
+    of a list of crates and files, or all of the starts."""
     if isinstance(told, dict):
         return heading, with_fields(words, told), starts_of(modules, told)
-    files = [(file, name) for file in told or [] if file in modules for name in modules[file].definitions]
-    return heading, words, files or [at for at in starts if told is None or at[0].split(".")[0] in told]
+    if isinstance(told, tuple):
+        return heading, words, [(file, name) for file in told for name in modules[file].definitions]
+    return heading, words, [at for at in starts if told is None or is_of(at, told)]
 
 
-def check_pointers(made):
-    """That each definition that a page names, and says to be on another, stands there whole."""
+def lost(made):
+    """Each definition that a page names or has in short, and says to be on another, and that doesn't stand there whole, with the other's name."""
+    found = []
     for page in made.values():
-        for at in page.shown:
-            for other in page.named(at):
-                where = page.elsewhere(other) if page.definition(other) and not page.definition(other).is_proof else None
-                if where in made and other not in page.shown and (other not in made[where].shown or made[where].is_short(other)):
-                    sys.exit(f"docs/statement/write.py: {other[1]} is named as one of {where}.md, and isn't there")
+        told = [(other, page.elsewhere(other)) for at in page.shown for other in page.named(at)
+                if other not in page.shown and page.definition(other) and not page.definition(other).is_proof]
+        told += [(at, page.elsewhere(at)) for at in page.shown if page.is_short(at)]
+        found += [(where, at) for at, where in told if where in made and (at not in made[where].shown or made[where].is_short(at))]
+    return found
 
 
-def pages():
-    """Each page by its name."""
-    modules = specs.read_all(os.path.join(TOP, "crates"))
-    found, made, common, short = {}, {}, None, []
-    for method, words, _ in METHODS:
-        page, found[method] = method_page(modules, method, words)
-        made[method] = page
-        shown = {at for at in page.shown if not page.is_short(at)}
-        common = shown if common is None else common & shown
-        short += [at for at in page.shown if page.is_short(at) and at not in short]
-    known = {}
+def shared_pages(modules, short, common, known):
+    """The pages of what is the same by every method, each by its name, as a page and as a text: they begin with what stands in short on others."""
+    found = {}
     for name, title, about, sections in [("read", "What was read, and what is asked", ABOUT_READ, READ),
+                                         ("plan", "The draw tree of a plan", ABOUT_PLAN, PLAN),
                                          ("flight", "A step of the flight", ABOUT_FLIGHT, FLIGHT),
                                          ("balance", "What balance is", ABOUT_BALANCE, BALANCE),
                                          ("written", "What is written", ABOUT_WRITTEN, WRITTEN)]:
         starts = [at for at in short if page_apart(at) == name]
         sections = [section_of(modules, starts, *section) for section in sections]
-        page, found[name] = other_page(modules, name, known, title, about, [], sections)
-        made[name] = page
-        known.update({at: name for at in page.shown if at not in common})
+        found[name] = other_page(modules, name, known, title, about, [], sections)
+        known.update({at: name for at in found[name][0].shown if at not in common})
         known.update({at: METHODS[0][0] for at in common})
-    names = ", ".join(f"[{method}.md]({method}.md)" for method, _, _ in METHODS)
-    sections = [(heading, with_fields(words, told), starts_of(modules, told)) for heading, words, told in REPLAY]
-    made["replay"], found["replay"] = other_page(modules, "replay", known, "What is proved of a replay", ABOUT_REPLAY.format(methods=names), ["Ends", "Headline"], sections)
-    known.update({at: "replay" for at in made["replay"].shown if at not in known})
-    sections = [(heading, with_fields(words, told), starts_of(modules, told)) for heading, words, told in JOINT]
-    made["joint"], found["joint"] = other_page(modules, "joint", known, "What is proved of joint probabilities", ABOUT_JOINT, ["IsExactJoint"], sections)
-    check_pointers(made)
     return found
+
+
+def other_pages(modules, short, common):
+    """The pages that are no method's."""
+    known = {}
+    found = shared_pages(modules, short, common, known)
+    names = ", ".join(f"[{method}.md]({method}.md)" for method, _, _ in METHODS)
+    for name, title, about, first, sections in [
+            ("replay", "What is proved of a replay", ABOUT_REPLAY.format(methods=names), ["Ends", "Headline"], REPLAY),
+            ("joint", "What is proved of joint probabilities", ABOUT_JOINT, ["IsExactJoint"], JOINT)]:
+        sections = [(heading, with_fields(words, told), starts_of(modules, told)) for heading, words, told in sections]
+        found[name] = other_page(modules, name, known, title, about, first, sections)
+        known.update({at: name for at in found[name][0].shown if at not in known})
+    return found
+
+
+def pages():
+    """Each page by its name."""
+    modules = specs.read_all(os.path.join(TOP, "crates"))
+    methods = {method: method_page(modules, method, words) for method, words, _ in METHODS}
+    shown = [{at for at in page.shown if not page.is_short(at)} for page, _ in methods.values()]
+    common, short = set.intersection(*shown), []
+    for page, _ in methods.values():
+        short += [at for at in page.shown if page.is_short(at) and at not in short]
+    while True:
+        found = {**methods, **other_pages(modules, short, common)}
+        missing = lost({name: page for name, (page, _) in found.items()})
+        more = [at for where, at in missing if where == page_apart(at) and at not in short]
+        if not more:
+            break
+        # What is named by a page that is no method's, and has no start yet.
+        short += dict.fromkeys(more)
+    for where, at in missing:
+        sys.exit(f"docs/statement/write.py: {at[1]} is named as one of {where}.md, and isn't there")
+    return {name: text for name, (_, text) in found.items()}
 
 
 def main():
