@@ -1,6 +1,7 @@
 //! Why a frame doesn't serve a design: each kind of misfit is looked for in the whole frame.
 
-ghost use Rattle.std.specs.Prelude.{◌≡◌, ◌^◌, ◌<◌, ◌≤◌, None, Some, true, All, IfOk, length, map, nat_eq, slice_index, slice_index_or, [], ℕ};
+ghost use Rattle.std.specs.Prelude.{◌≡◌, ◌^◌, ◌<◌, ◌≤◌, None, Some, true, All, IfOk, length, map, nat_eq};
+ghost use Rattle.std.specs.Prelude.{slice_index, slice_index_or, [], ℕ};
 ghost use Rattle.std.specs.List.{range_with_len};
 ghost use Rattle.std.specs.Str.{bytes_eq};
 ghost use Rattle.smp_fractions.specs.Limits.{most_rows};
@@ -10,7 +11,8 @@ ghost use Rattle.smp_strata.specs.Rows as Rows;
 ghost use Rattle.smp_strata.specs.Rows.{psu_at, stratum_at};
 ghost use Rattle.smp_strata.specs.Clusters.{clusters as clusters_of, first_row};
 ghost use Rattle.smp_strata.specs.Draws.{IsAllocated};
-ghost use Rattle.smp_strata.specs.Misfits.{Reports, first_apart, first_found, misfit_by, misfit_of, probs_misfit, psu_short, psu_too_large, row_limit_by, second_too_many, short, sizes_misfit, unit_in_two, when};
+ghost use Rattle.smp_strata.specs.Misfits.{Reports, first_apart, first_found, misfit_by, misfit_of, probs_misfit, psu_short};
+ghost use Rattle.smp_strata.specs.Misfits.{psu_too_large, row_limit_by, second_too_many, short, sizes_misfit, unit_in_two, when};
 ghost use Rattle.smp_strata.specs.declared.misfit.Misfit.TheVariants as misfits;
 ghost use Rattle.smp_strata.specs.Kept.Layouts.{AreRows, IsLaidOut, homes_of, prob_misfit, prob_misfit_at, probs_in, short_at};
 ghost use Rattle.smp_strata.specs.Kept.Sized.{AreSizes, HasSizes};

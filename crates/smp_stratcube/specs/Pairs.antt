@@ -1,5 +1,6 @@
 -- Pivotal steps, stratum by stratum (Deville and Tillé 1998), on values of which each stands over its own denominator.
-use Rattle.std.specs.Prelude.{◌≡◌, ◌⊎◌, ℕ, ◌<◌, ◌≤◌, nat_eq, ◌||◌, if◌then◌else◌, Bool, true, Option, Some, None, List, [], ◌∷◌}
+use Rattle.std.specs.Prelude.{◌≡◌, ◌⊎◌, ℕ, ◌<◌, ◌≤◌, nat_eq, ◌||◌, if◌then◌else◌, Bool, true, Option}
+use Rattle.std.specs.Prelude.{Some, None, List, [], ◌∷◌}
 use Rattle.smp_split.specs.Trees.{Part}
 use Rattle.smp_split.specs.Parts.{moved}
 use Rattle.smp_split.specs.declared.kind.Kind.{Kind}

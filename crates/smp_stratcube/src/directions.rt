@@ -1,6 +1,7 @@
 //! The direction of a circuit.
 
-ghost use Rattle.std.specs.Prelude.{◌≡◌, ◌≤◌, ◌<◌, ◌^◌, ◌*◌, ◌/◌, ◌-◌, ℕ, ℤ, List, MatchOption, false, length, pos, slice_index, take};
+ghost use Rattle.std.specs.Prelude.{◌≡◌, ◌≤◌, ◌<◌, ◌^◌, ◌*◌, ◌/◌, ◌-◌, ℕ, ℤ, List, MatchOption};
+ghost use Rattle.std.specs.Prelude.{false, length, pos, slice_index, take};
 ghost use Rattle.std.specs.Prelude.{unsigned_abs};
 ghost use Rattle.std.specs.List.{All};
 ghost use Rattle.smp_fractions.specs.Limits.{most_denominator, most_entry, number_limit};

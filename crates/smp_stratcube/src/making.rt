@@ -1,6 +1,7 @@
 //! The units of some strata.
 
-ghost use Rattle.std.specs.Prelude.{◌≡◌, ℕ, ◌+◌, ◌<◌, ◌≤◌, ◌++◌, IfOk, length, map, slice_index, slice_index_or, take};
+ghost use Rattle.std.specs.Prelude.{◌≡◌, ℕ, ◌+◌, ◌<◌, ◌≤◌, ◌++◌, IfOk, length, map, slice_index};
+ghost use Rattle.std.specs.Prelude.{slice_index_or, take};
 ghost use Rattle.std.specs.List.{range_with_len};
 ghost use Rattle.smp_fractions.specs.Limits.{number_limit};
 ghost use Rattle.smp_kernel.specs.Vectors.{entry};

@@ -1,6 +1,7 @@
 //! The stages of a plan, each with the state that it starts from.
 
-ghost use Rattle.std.specs.Prelude.{◌≡◌, ◌<◌, ◌≤◌, ◌+◌, ◌^◌, suc, ◌++◌, ◌∷◌, [], true, is_some, None, Some, All, IfOk, OnOk, length, map, slice_index_or};
+ghost use Rattle.std.specs.Prelude.{◌≡◌, ◌<◌, ◌≤◌, ◌+◌, ◌^◌, suc, ◌++◌, ◌∷◌, [], true, is_some, None};
+ghost use Rattle.std.specs.Prelude.{Some, All, IfOk, OnOk, length, map, slice_index_or};
 ghost use Rattle.std.specs.List.{range_with_len};
 ghost use Rattle.smp_prob.specs.Requests.{IsRequest};
 ghost use Rattle.smp_prob.specs.Inclusions.{IsRising};

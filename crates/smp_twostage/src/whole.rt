@@ -1,6 +1,7 @@
 //! The whole selection.
 
-ghost use Rattle.std.specs.Prelude.{◌≡◌, ◌∷◌, [], ◌<◌, ◌≤◌, ◌^◌, suc, ◌+◌, true, is_some, None, Some, IfOk, length, map};
+ghost use Rattle.std.specs.Prelude.{◌≡◌, ◌∷◌, [], ◌<◌, ◌≤◌, ◌^◌, suc, ◌+◌, true, is_some, None, Some, IfOk};
+ghost use Rattle.std.specs.Prelude.{length, map};
 ghost use Rattle.std.specs.List.{range_with_len, slice_get};
 ghost use Rattle.smp_methods.specs.Designs.{left_at};
 ghost use Rattle.smp_stages.specs.Starts.{StartsInStages};
@@ -11,7 +12,9 @@ ghost use Rattle.smp_twostage.specs.Kept.{EachFirst, first_numbers};
 ghost use Rattle.smp_twostage.specs.Laws.Wholes.{covered_lawful, strata_sectioned};
 ghost use Rattle.smp_twostage.specs.Plans.{CanBeDrawn};
 ghost use Rattle.smp_twostage.specs.Selections as Selections;
-ghost use Rattle.smp_twostage.specs.Selections.{BelongsToCovered, all_of, belongs_to, covered_seats, covered_stages, covered_start, covered_states, covered_tree, covers, first_place, is_only, one_of, seat_by, section_count, start_of, strata_sections, tree_of, units_at};
+ghost use Rattle.smp_twostage.specs.Selections.{BelongsToCovered, all_of, belongs_to, covered_seats, covered_stages, covered_start};
+ghost use Rattle.smp_twostage.specs.Selections.{covered_states, covered_tree, covers, first_place, is_only, one_of, seat_by};
+ghost use Rattle.smp_twostage.specs.Selections.{section_count, start_of, strata_sections, tree_of, units_at};
 ghost use Rattle.smp_twostage.specs.Starts.{StartsWhole};
 
 use crate::StageDesign;

@@ -45,7 +45,8 @@ from_each m (n ∷ ns) some all =
       from_each (least_multiple m n) ns is.common.positive all.1,
     )
 
-pub from_least : (m : ℕ) (ns : List ℕ) (k : ℕ) → 1 ≤ m → AllSome ns → 1 ≤ k → m ∣ k → AllDivide ns k → from m ns ∣ k
+pub from_least : (m : ℕ) (ns : List ℕ) (k : ℕ) → 1 ≤ m → AllSome ns → 1 ≤ k → m ∣ k → AllDivide ns k
+    → from m ns ∣ k
 from_least m [] k some all pk d each = d
 from_least m (n ∷ ns) k some all pk d each =
     let is = least m n some all.0 in
