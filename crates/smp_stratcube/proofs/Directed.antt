@@ -1,10 +1,10 @@
 -- A direction by an array.
-use Rattle.std.proofs.Common.{◌≡◌, ℕ, ◌+◌, ◌*◌, ◌/◌, ◌<◌, ◌≤◌, ◌^◌, nat_le, true, false, Some, None, List, [], ◌∷◌, ℤ, pos, take, length, get_or, arith, refl, sym, ap, ap₂, ◌∙◌, subst, inl, inr, length-take, get_or-take}
+use Rattle.std.proofs.Common.{◌≡◌, ℕ, zero, suc, le_of_suc-le-suc, map, ◌+◌, ◌*◌, ◌/◌, ◌<◌, ◌≤◌, ◌^◌, nat_le, true, false, Some, None, List, [], ◌∷◌, ℤ, pos, take, length, get_or, arith, refl, sym, ap, ap₂, ◌∙◌, subst, inl, inr, length-take, get_or-take}
 use Rattle.std.specs.Int.RustNames.{unsigned_abs}
 use Rattle.std.proofs.lemmas.Bool.{and_from, and_parts, cases_Bool, cases_lt, le-leb, leb-true}
 use Rattle.std.proofs.lemmas.List.{ext_get_or, length-map, get_or-map, get_or_past}
 use Rattle.std.proofs.lemmas.List.Elements.{All-take}
-use Rattle.std.proofs.Math.Nat.{mul-le-mul_right}
+use Rattle.std.proofs.Math.Nat.{mul-le-mul_left, mul-le-mul_right}
 use Rattle.smp_kernel.specs.Vectors.{entry, IsZero, Within}
 use Rattle.smp_kernel.specs.Reduced.{IsReduced, IsTooLong, primitive_part}
 use Rattle.smp_kernel.proofs.Ring.{positive_some, zero_of_product}
@@ -12,14 +12,16 @@ use Rattle.smp_kernel.proofs.Reduce.{primitive_part_is, length-primitive_part, o
 use Rattle.smp_moves.specs.declared.lines.Ratio.{Ratio}
 use Rattle.smp_moves.specs.Ends.{entries_fit}
 use Rattle.smp_moves.proofs.LineEnds.{lowest_is}
-use Rattle.smp_moves.proofs.Places.{rest_at, rest_of}
 use Rattle.smp_moves.proofs.Weights.{within_from, within_to}
 use Rattle.smp_moves.specs.Moves.{Line}
 use Rattle.smp_stratcube.specs.Units.{Units, column, columns_of, share}
 use Rattle.smp_stratcube.specs.Steps.{direction_on, product, products, scale_of, scaled, signed}
 use Rattle.smp_stratcube.specs.Kept.Gates.{held}
-use Rattle.smp_stratcube.specs.Kept.Lines.{direction_fits}
-use Rattle.smp_stratcube.specs.Laws.Directions.{entry-scaled, length-scaled}
+use Rattle.smp_stratcube.specs.Kept.Lines.{AreParts, IsPart, direction_fits, no_part, over, part}
+use Rattle.smp_stratcube.specs.Laws.Directions.{entry-scaled, length-products, length-scaled}
+use Rattle.smp_stratcube.specs.Laws.Multiples.{AllSome}
+use Rattle.smp_stratcube.specs.Values.{common_multiple}
+use Rattle.smp_stratcube.proofs.Gated.{gate_all, gate_held}
 use Rattle.smp_stratcube.proofs.Parts.{times-div}
 
 -- ---- arrays as lists
@@ -31,21 +33,47 @@ columns_are units us cols n lu lc h =
     (let b : k < n = omega (arith, l, length-take n cols) in
     get_or-take n cols k [] b ∙ h k b ∙ ap (column units) (sym (get_or-take n us k 0 b)) ∙ sym (get_or-map (column units) (take n us) k 0 [] (omega (arith, b, lu, length-take n us)))))
 
-pub products_are : (units : Units) (den : ℕ) (us : List ℕ) (w ps : List ℤ) (n : ℕ) → n ≤ length us → n ≤ length w → n ≤ length ps →
-    ((k : ℕ) → k < n → entry ps k ≡ signed (entry w k) ((product (share units (get_or us k 0)) (entry w k)).num * (den / (product (share units (get_or us k 0)) (entry w k)).den))) →
+get_or-products : (units : Units) (order : List ℕ) (w : List ℤ) (j : ℕ) → j < length order → j < length w →
+    part (products units order w) j ≡ product (share units (get_or order j 0)) (entry w j)
+get_or-products units [] w j l m = absurd (omega arith)
+get_or-products units (k ∷ order) [] j l m = absurd (omega arith)
+get_or-products units (k ∷ order) (f ∷ w) zero l m = refl
+get_or-products units (k ∷ order) (f ∷ w) (suc j) l m = get_or-products units order w j (le_of_suc-le-suc l) (le_of_suc-le-suc m)
+
+-- the products of units, in an array
+pub parts_are : (units : Units) (us : List ℕ) (w : List ℤ) (parts : List Ratio) (n : ℕ) → n ≤ length us → n ≤ length w → n ≤ length parts →
+    AreParts units us w n parts → take n parts ≡ products units (take n us) (take n w)
+parts_are units us w parts n lu lw lp h =
+    let same : length (take n us) ≡ length (take n w) = omega (arith, length-take n us, length-take n w) in
+    ext_get_or no_part (take n parts) (products units (take n us) (take n w)) (omega (arith, length-take n parts, length-take n us, length-products units (take n us) (take n w) same))
+    (λ k l.
+    (let b : k < n = omega (arith, l, length-take n parts) in
+    get_or-take n parts k no_part b ∙ h k b
+    ∙ sym (ap₂ (λ (u : ℕ) (x : ℤ). product (share units u) x) (get_or-take n us k 0 b) (get_or-take n w k (pos 0) b))
+    ∙ sym (get_or-products units (take n us) (take n w) k (omega (arith, b, lu, length-take n us)) (omega (arith, b, lw, length-take n w)))))
+
+pub products_are : (units : Units) (den : ℕ) (us : List ℕ) (w ps : List ℤ) (parts : List Ratio) (n : ℕ) → n ≤ length us → n ≤ length w → n ≤ length ps →
+    AreParts units us w n parts →
+    ((k : ℕ) → k < n → entry ps k ≡ signed (entry w k) (over (part parts k) den)) →
     take n ps ≡ scaled units den (take n us) (take n w)
-products_are units den us w ps n lu lw lp h =
+products_are units den us w ps parts n lu lw lp are h =
     let same : length (take n us) ≡ length (take n w) = omega (arith, length-take n us, length-take n w) in
     ext_get_or (pos 0) (take n ps) (scaled units den (take n us) (take n w)) (omega (arith, length-take n ps, length-take n us, length-scaled units den (take n us) (take n w) same))
     (λ k l.
     (let b : k < n = omega (arith, l, length-take n ps) in
-    get_or-take n ps k (pos 0) b ∙ h k b
-    ∙ sym (ap₂ (λ (u : ℕ) (x : ℤ). signed x ((product (share units u) x).num * (den / (product (share units u) x).den))) (get_or-take n us k 0 b) (get_or-take n w k (pos 0) b))
+    get_or-take n ps k (pos 0) b ∙ h k b ∙ ap (λ (r : Ratio). signed (entry w k) (over r den)) (are k b)
+    ∙ sym (ap₂ (λ (u : ℕ) (x : ℤ). signed x (over (product (share units u) x) den)) (get_or-take n us k 0 b) (get_or-take n w k (pos 0) b))
     ∙ sym (entry-scaled units den (take n us) (take n w) k (omega (arith, b, lu, length-take n us)) (omega (arith, b, lw, length-take n w)))))
 
-pub products_step : (units : Units) (us : List ℕ) (w : List ℤ) (n j : ℕ) → j < n → j < length us → j < length w →
-    products units (rest_of n us j) (rest_of n w j) ≡ product (share units (get_or us j 0)) (entry w j) ∷ products units (rest_of n us (j + 1)) (rest_of n w (j + 1))
-products_step units us w n j l a b = ap₂ (products units) (rest_at n us j 0 l a) (rest_at n w j (pos 0) l b)
+dens_some : (parts : List Ratio) (n : ℕ) → ((j : ℕ) → j < n → IsPart (part parts j)) → AllSome (map (λ (r : Ratio). r.den) (take n parts))
+dens_some parts zero each = tt
+dens_some [] (suc n) each = tt
+dens_some (r ∷ parts) (suc n) each = ((each 0 (omega arith)).some, dens_some parts n (λ j l. each (suc j) (omega (arith, l))))
+
+-- the scale of an array of products
+pub scale_held : (parts : List Ratio) (n : ℕ) → ((j : ℕ) → j < n → IsPart (part parts j)) →
+    gate_all (Some 1) (map (λ (r : Ratio). r.den) (take n parts)) ≡ held (common_multiple (map (λ (r : Ratio). r.den) (take n parts)))
+scale_held parts n each = gate_held 1 (map (λ (r : Ratio). r.den) (take n parts)) (omega arith) (dens_some parts n each)
 
 -- ---- sizes
 
@@ -62,17 +90,19 @@ product_most r w below =
           omega (arith, e, a, b, below))
     ]
 
--- over a scale it is at most the scale times the size of the factor
-pub scaled_most : (r : Ratio) (w : ℤ) (scale : ℕ) → r.num < r.den → scale ≤ 2 ^ 80 → unsigned_abs w ≤ 2 ^ 44 → (product r w).num * (scale / (product r w).den) ≤ 2 ^ 124
-scaled_most r w scale below narrow small =
-    let p : Ratio = product r w in
-    let q : ℕ = scale / p.den in
-    let a : p.num * q ≤ p.den * unsigned_abs w * q = mul-le-mul_right q (product_most r w below) in
-    let b : p.den * q ≤ scale = times-div scale p.den in
-    let c : p.den * q * unsigned_abs w ≤ scale * unsigned_abs w = mul-le-mul_right (unsigned_abs w) b in
-    let d : scale * unsigned_abs w ≤ 2 ^ 80 * unsigned_abs w = mul-le-mul_right (unsigned_abs w) narrow in
-    let e : p.den * unsigned_abs w * q ≡ p.den * q * unsigned_abs w = omega arith in
-    omega (arith, a, c, d, e, small)
+pub product_part : (r : Ratio) (w : ℤ) → r.num < r.den → unsigned_abs w ≤ 2 ^ 44 → IsPart (product r w)
+product_part r w below small = record {
+  some = (lowest_is (r.num * unsigned_abs w) r.den (omega (arith, below))).some;
+  most = (let m : (product r w).den * unsigned_abs w ≤ (product r w).den * 2 ^ 44 = mul-le-mul_left (product r w).den small in omega (arith, product_most r w below, m));
+}
+
+-- over a scale it is at most the scale times the greatest factor
+pub over_most : (r : Ratio) (scale : ℕ) → IsPart r → scale ≤ 2 ^ 80 → over r scale ≤ 2 ^ 124
+over_most r scale is narrow =
+    let q : ℕ = scale / r.den in
+    let a : r.num * q ≤ r.den * 2 ^ 44 * q = mul-le-mul_right q is.most in
+    let b : r.den * q ≤ scale = times-div scale r.den in
+    omega (arith, a, b, narrow)
 
 -- ---- the reduced row of an array
 
@@ -152,5 +182,25 @@ zero_front row n z i =
       | inr m ↦ get_or_past (take n row) i (pos 0) (omega (arith, m, length-take n row))
     ]
 
-pub not_scaled : (units : Units) (prefix : List ℕ) (w : List ℤ) → nat_le (scale_of units prefix w) (2 ^ 80) ≡ false → direction_fits units prefix w ≡ false
+not_scaled : (units : Units) (prefix : List ℕ) (w : List ℤ) → nat_le (scale_of units prefix w) (2 ^ 80) ≡ false → direction_fits units prefix w ≡ false
 not_scaled units prefix w f = rw f refl
+
+-- the row that arrays of products hold, where their scale fits
+module _ (units : Units) (us : List ℕ) (ws : List ℤ) (parts : List Ratio) (n : ℕ) (lu : n ≤ length us) (lw : n ≤ length ws) (lp : n ≤ length parts) (are : AreParts units us ws n parts) where
+  pub row_wide : None ≡ held (common_multiple (map (λ (r : Ratio). r.den) (take n parts))) → direction_fits units (take n us) (take n ws) ≡ false
+  row_wide e =
+      not_scaled units (take n us) (take n ws) (held_none (scale_of units (take n us) (take n ws))
+      (subst (λ (rs : List Ratio). None ≡ held (common_multiple (map (λ (r : Ratio). r.den) rs))) (parts_are units us ws parts n lu lw lp are) e))
+
+  row_held : (den : ℕ) → Some den ≡ held (common_multiple (map (λ (r : Ratio). r.den) (take n parts))) → (den ≡ scale_of units (take n us) (take n ws)) × (scale_of units (take n us) (take n ws) ≤ 2 ^ 80)
+  row_held den e =
+      held_some (scale_of units (take n us) (take n ws)) den
+      (subst (λ (rs : List Ratio). Some den ≡ held (common_multiple (map (λ (r : Ratio). r.den) rs))) (parts_are units us ws parts n lu lw lp are) e)
+
+  pub row_is : (den : ℕ) (row : List ℤ) → n ≤ length row → ((k : ℕ) → k < n → entry row k ≡ signed (entry ws k) (over (part parts k) den)) →
+      Some den ≡ held (common_multiple (map (λ (r : Ratio). r.den) (take n parts))) →
+      (take n row ≡ scaled units (scale_of units (take n us) (take n ws)) (take n us) (take n ws)) × (scale_of units (take n us) (take n ws) ≤ 2 ^ 80)
+  row_is den row lr h e = (
+    subst (λ (m : ℕ). take n row ≡ scaled units m (take n us) (take n ws)) (row_held den e).0 (products_are units den us ws row parts n lu lw lr are h),
+    (row_held den e).1,
+  )

@@ -1,15 +1,15 @@
 //! The direction of a circuit.
 
-ghost use Rattle.std.specs.Prelude.{◌≡◌, ◌≤◌, ◌<◌, ◌^◌, ◌*◌, ◌/◌, ◌-◌, ℕ, ℤ, List, MatchOption};
-ghost use Rattle.std.specs.Prelude.{false, length, pos, slice_index, take};
+ghost use Rattle.std.specs.Prelude.{◌≡◌, ◌≤◌, ◌<◌, ◌^◌, ◌-◌, ℕ, MatchOption, false, length, map, pos, take};
 ghost use Rattle.std.specs.Prelude.{unsigned_abs};
 ghost use Rattle.std.specs.List.{All};
 ghost use Rattle.smp_fractions.specs.Limits.{most_denominator, most_entry, number_limit};
 ghost use Rattle.smp_kernel.specs.Vectors.{IsZero, Within, entry};
 ghost use Rattle.smp_stratcube.specs.Units.{IsUnits, columns_of};
 ghost use Rattle.smp_stratcube.specs.Steps.{product, scale_of, scaled, signed};
+ghost use Rattle.smp_stratcube.specs.Values.{common_multiple};
 ghost use Rattle.smp_stratcube.specs.Kept.Gates.{IsSome, held};
-ghost use Rattle.smp_stratcube.specs.Kept.Lines.{AreInside, IsLineOf, direction_fits};
+ghost use Rattle.smp_stratcube.specs.Kept.Lines.{AreInside, AreParts, IsLineOf, IsPart, direction_fits, over, part};
 
 use crate::fronts::Front;
 use crate::units::Units;
@@ -38,24 +38,38 @@ fn product(share: Ratio, factor: i64) -> Ratio
     requires share { share.den ≤ 2 ^ 49 }
     requires factor { unsigned_abs factor ≤ most_entry }
     ensures is { result ≡ product share factor }
-    ensures some { 1 ≤ result.den }
+    ensures part { IsPart result }
 {
     lowest(share.num * factor.unsigned_abs() as u128, share.den)
 }
 
-/// The least common denominator of the products.
-fn scale_of(units: &Units, front: &Front, factors: &Factors) -> Option<u128>
+/// The products of the units of a circuit, and 0 in the places past them.
+fn parts_of(units: &Units, front: &Front, factors: &Factors) -> [Ratio; 17]
     requires are { IsUnits units.now }
     requires inside { AreInside (length units.now.members) front.now }
     requires fewer { factors.now.number ≤ front.now.number }
     requires small { (j : ℕ) → unsigned_abs (entry factors.now.w j) ≤ most_entry }
-    ensures { let number = factors.now.number in
-        result ≡ held (scale_of units.now (take number front.now.units) (take number factors.now.w)) }
+    ensures are { AreParts units.now front.now.units factors.now.w factors.now.number result }
+    ensures long { length result ≡ 17 }
+    ensures each { (j : ℕ) → j < 17 → IsPart (part result j) }
 {
-    let mut scale = Some(1);
+    let mut parts = [Ratio { num: 0, den: 1 }; 17];
     for place in 0..factors.number {
         let share = units.share(front.units[place]);
-        scale = within_gate(scale, product(share, factors.w[place]).den);
+        parts[place] = product(share, factors.w[place]);
+    }
+    parts
+}
+
+/// The least common denominator of the first products.
+fn scale_of(parts: &[Ratio; 17], number: usize) -> Option<u128>
+    requires short { number ≤ 17 }
+    requires each { (j : ℕ) → j < 17 → IsPart (part parts.now j) }
+    ensures { result ≡ held (common_multiple (map (λ (r : Ratio). r.den) (take number parts.now))) }
+{
+    let mut scale = Some(1);
+    for place in 0..number {
+        scale = within_gate(scale, parts[place].den);
     }
     scale
 }
@@ -70,37 +84,20 @@ fn signed(size: u128, factor: i64) -> i128
     if factor < 0 { -number } else { number }
 }
 
-/// A product over the scale, with the sign of the factor.
-fn scaled(share: Ratio, factor: i64, scale: u128) -> i128
-    requires below { share.num < share.den }
-    requires share { share.den ≤ 2 ^ 49 }
-    requires factor { unsigned_abs factor ≤ most_entry }
+/// The products over the scale, with the signs of the factors, and 0 in the places past them.
+fn products(parts: &[Ratio; 17], factors: &Factors, scale: u128) -> [i128; 17]
+    requires short { factors.now.number ≤ 17 }
+    requires each { (j : ℕ) → j < 17 → IsPart (part parts.now j) }
     requires scale { scale ≤ most_denominator }
-    ensures is { let part = product share factor in
-        result ≡ signed factor (part.num * (scale / part.den)) }
-    ensures bound { unsigned_abs result ≤ 2 ^ 124 }
-{
-    let part = product(share, factor);
-    signed(part.num * (scale / part.den), factor)
-}
-
-/// The products over the scale, and 0 in the places past them.
-fn products(units: &Units, front: &Front, factors: &Factors, scale: u128) -> [i128; 17]
-    requires are { IsUnits units.now }
-    requires inside { AreInside (length units.now.members) front.now }
-    requires fewer { factors.now.number ≤ front.now.number }
-    requires small { (j : ℕ) → unsigned_abs (entry factors.now.w j) ≤ most_entry }
-    requires scale { scale ≤ most_denominator }
-    ensures are { let number = factors.now.number in
-        take number result
-        ≡ scaled units.now scale (take number front.now.units) (take number factors.now.w) }
+    ensures are { (j : ℕ) → j < factors.now.number → entry result j
+        ≡ signed (entry factors.now.w j) (over (part parts.now j) scale) }
     ensures past { (j : ℕ) → factors.now.number ≤ j → entry result j ≡ pos 0 }
     ensures within { Within (2 ^ 124) result }
 {
     let mut products = [0; 17];
     for place in 0..factors.number {
-        let share = units.share(front.units[place]);
-        products[place] = scaled(share, factors.w[place], scale);
+        let part = parts[place];
+        products[place] = signed(part.num * (scale / part.den), factors.w[place]);
     }
     products
 }
@@ -120,9 +117,10 @@ pub(crate) fn direction(units: &Units, front: &Front, factors: &Factors) -> Opti
         (direction_fits units.now prefix w ≡ false)
         (IsLineOf units.now prefix w) }
 {
-    match scale_of(units, front, factors) {
+    let parts = parts_of(units, front, factors);
+    match scale_of(&parts, factors.number) {
         None => None,
-        Some(scale) => match reduced(&products(units, front, factors, scale)) {
+        Some(scale) => match reduced(&products(&parts, factors, scale)) {
             None => None,
             Some(entries) => Some(Line {
                 units: first_units(&front.units, factors.number),

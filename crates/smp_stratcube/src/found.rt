@@ -12,15 +12,15 @@ use crate::fronts::Front;
 use crate::steps::{Next, step};
 use crate::units::Units;
 use crate::values::Value;
-use smp_moves::Ratio;
 use std::snapshot::Snapshot;
 
 /// What a step goes by of a unit: its column, its probability, and the common denominator of its stratum.
 #[derive(Clone, Copy)]
 pub(crate) struct Seen {
     pub(crate) column: [i32; 16],
-    pub(crate) share: Ratio,
-    pub(crate) first: u128,
+    pub(crate) num: u64,
+    pub(crate) den: u64,
+    pub(crate) first: u64,
 }
 
 /// The next step of a state, with what it goes by of the first fractional units.
@@ -39,10 +39,12 @@ impl Units {
         requires unit { unit < length self.now.members }
         ensures { IsSeen self.now unit result }
     {
+        let share = self.share(unit);
         Seen {
             column: self.column(unit),
-            share: self.share(unit),
-            first: self.first(unit),
+            num: share.num as u64,
+            den: share.den as u64,
+            first: self.first(unit) as u64,
         }
     }
 }
@@ -55,10 +57,10 @@ impl Seen {
         if self.column != other.column {
             return false;
         }
-        if self.share.num != other.share.num {
+        if self.num != other.num {
             return false;
         }
-        if self.share.den != other.share.den {
+        if self.den != other.den {
             return false;
         }
         self.first == other.first
@@ -73,7 +75,8 @@ fn seen_of(units: &Units, front: &Front) -> [Seen; 17]
 {
     let mut seen = [Seen {
         column: [0; 16],
-        share: Ratio { num: 0, den: 1 },
+        num: 0,
+        den: 0,
         first: 0,
     }; 17];
     for place in 0..front.number {

@@ -90,7 +90,8 @@ impl Units {
     pub(crate) fn first(&self, unit: usize) -> u128
         requires are { IsUnits self.now }
         requires unit { unit < length self.now.members }
-        ensures { result ≡ first self.now unit }
+        ensures is { result ≡ first self.now unit }
+        ensures most { result ≤ 2 ^ 49 }
     {
         self.firsts[self.members[unit].stratum] as u128
     }

@@ -10,12 +10,12 @@ use Rattle.smp_stratcube.specs.Kept.Moves.{IsStep}
 
 -- where there is no unit
 abbrev pub unseen : Seen
-unseen = record { column = []; share = record { num = 0; den = 0 }; first = 0 }
+unseen = record { column = []; num = 0; den = 0; first = 0 }
 
 -- a unit's column, its probability, and the common denominator of its stratum
 pub record IsSeen (units : Units) (k : ℕ) (seen : Seen) : Type 0 where
   pub column : seen.column ≡ column units k
-  pub share : seen.share ≡ share units k
+  pub share : record { num = seen.num; den = seen.den } ≡ share units k
   pub first : seen.first ≡ first units k
 
 abbrev pub AreSeen : Units → Front → List Seen → Type 0

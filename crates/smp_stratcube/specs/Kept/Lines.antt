@@ -1,18 +1,41 @@
 -- What the code keeps of a line.
-use Rattle.std.specs.Prelude.{◌≡◌, ℕ, ◌<◌, ◌≤◌, ◌&&◌, nat_le, true, Bool, List, ℤ, slice_index}
-use Rattle.smp_fractions.specs.Limits.{most_denominator}
+use Rattle.std.specs.Prelude.{◌≡◌, ℕ, ◌*◌, ◌/◌, ◌<◌, ◌≤◌, ◌&&◌, nat_le, true, Bool, List, ℤ, slice_index, slice_index_or}
+use Rattle.smp_fractions.specs.Limits.{most_denominator, most_entry}
+use Rattle.smp_kernel.specs.Vectors.{entry}
+use Rattle.smp_moves.specs.declared.lines.Ratio.{Ratio}
 use Rattle.smp_moves.specs.Answers.{IsPadded, line_of}
 use Rattle.smp_moves.specs.Ends.{entries_fit}
 use Rattle.smp_moves.specs.Kept.Ends.{HasSmallEntries}
 use Rattle.smp_moves.specs.declared.lines.Line.{Line as LineOfPlaces}
 use Rattle.smp_stratcube.specs.declared.fronts.Front.{Front}
-use Rattle.smp_stratcube.specs.Units.{Units}
-use Rattle.smp_stratcube.specs.Steps.{direction_on, scale_of}
+use Rattle.smp_stratcube.specs.Units.{Units, share}
+use Rattle.smp_stratcube.specs.Steps.{direction_on, product, scale_of}
 
 -- the units of a front are among so many
 pub record AreInside (count : ℕ) (front : Front) : Type 0 where
   pub short : front.number ≤ 17
   pub inside : (j : ℕ) → j < front.number → slice_index front.units j < count
+
+-- where there is no product
+abbrev pub no_part : Ratio
+no_part = record { num = 0; den = 0 }
+
+abbrev pub part : List Ratio → ℕ → Ratio
+part parts j = slice_index_or parts j no_part
+
+-- the products of the first so many units with their factors
+abbrev pub AreParts : Units → List ℕ → List ℤ → ℕ → List Ratio → Type 0
+AreParts units order w number parts =
+    (j : ℕ) → j < number → part parts j ≡ product (share units (slice_index order j)) (entry w j)
+
+-- a product of a probability and a factor: it is at most the factor
+pub record IsPart (r : Ratio) : Type 0 where
+  pub some : 1 ≤ r.den
+  pub most : r.num ≤ r.den * most_entry
+
+-- its numerator over a multiple of its denominator
+abbrev pub over : Ratio → ℕ → ℕ
+over r den = r.num * (den / r.den)
 
 -- the common denominator of the products and the entries of the direction fit
 abbrev pub direction_fits : Units → List ℕ → List ℤ → Bool

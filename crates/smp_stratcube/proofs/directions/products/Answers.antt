@@ -1,41 +1,42 @@
-use Rattle.std.proofs.Common.{SFits, rules, arith, ◌≡◌, ℕ, ℤ, List, ◌*◌, ◌/◌, ◌≤◌, ◌^◌, pos, length, get_or, set, length-set, inl, inr, sym, ◌∙◌, subst}
+use Rattle.std.proofs.Common.{SFits, rules, arith, ◌≡◌, ℕ, ℤ, List, ◌≤◌, ◌^◌, pos, length, set, length-set, inl, inr, sym, ◌∙◌, subst}
 use mir.Syntax.{w64, w128}
 use Rattle.std.proofs.lemmas.Bool.{cases_eq, cases_lt}
 use Rattle.std.proofs.lemmas.Int.{to_z-of_z, ints}
 use Rattle.std.proofs.lemmas.List.{get_or-set_same, get_or-set_other, get_or_past}
 use Rattle.smp_kernel.specs.Vectors.{entry}
 use Rattle.smp_kernel.proofs.Lists.{each_more}
-use Rattle.smp_stratcube.specs.Units.{share}
-use Rattle.smp_stratcube.specs.Steps.{product, signed}
+use Rattle.smp_stratcube.specs.Steps.{signed}
+use Rattle.smp_stratcube.specs.Kept.Lines.{over, part}
 use Rattle.std.proofs.lemmas.List.Elements.{All-from_get_or}
 use Rattle.std.specs.Int.RustNames.{unsigned_abs}
-use Rattle.smp_stratcube.proofs.Directed.{products_are}
+use Rattle.smp_stratcube.proofs.Directed.{over_most}
 use Rattle.smp_stratcube.proofs.directions.products.Goals as goal
 
 pub returns-clause-are : goal.returns-clause-are
-returns-clause-are c =
-    products_are c.args.units.now c.args.scale c.args.front.now.units c.args.factors.now.w c.loop-place.products c.args.factors.now.number (omega (arith, c.requires.inside.short, c.requires.fewer)) (omega (arith, c.requires.inside.short, c.requires.fewer)) (omega (arith, c.loop-place.invariant.long, c.requires.inside.short, c.requires.fewer))
-    (λ k l. c.loop-place.invariant.each k (omega arith))
+returns-clause-are c k l = c.loop-place.invariant.each k (omega (arith, l))
 
 pub returns-clause-within : goal.returns-clause-within
 returns-clause-within c = All-from_get_or (λ x. unsigned_abs x ≤ 2 ^ 124) c.loop-place.products (pos 0) (λ k l. c.loop-place.invariant.small k)
 
+pub overflow_mul-part : goal.overflow_mul-part
+overflow_mul-part c = omega (arith, over_most (part c.args.parts.now c.loop-place.place) c.args.scale (c.requires.each c.loop-place.place (omega (arith, c.requires.short))) c.requires.scale)
+
+pub signed-requires : goal.signed-requires
+signed-requires c = record { size = over_most (part c.args.parts.now c.loop-place.place) c.args.scale (c.requires.each c.loop-place.place (omega (arith, c.requires.short))) c.requires.scale }
+
 pub loop-place-preserved : goal.loop-place-preserved
 loop-place-preserved c =
-    let units = c.args.units.now in
-    let us = c.args.front.now.units in
     let ws = c.args.factors.now.w in
     let j = c.loop-place.place in
     let narrow : SFits w64 (entry ws j) = search rules in
-    let fits : SFits w128 c.scaled.result = omega (arith, ints, c.scaled.ensures.bound) in
-    let is = rw c.share-share.ensures.is at (simp to_z-of_z at c.scaled.ensures.is) in
+    let fits : SFits w128 c.signed.result = omega (arith, ints, c.signed.ensures.bound) in
+    let is : c.signed.result ≡ signed (entry ws j) (over (part c.args.parts.now j) c.args.scale) = simp to_z-of_z at c.signed.ensures.is in
     simp to_z-of_z (record {
       long = omega (arith, length-set {A = ℤ}, c.loop-place.invariant.long);
-      each = each_more
-          (λ (k : ℕ) (x : ℤ). x ≡ signed (entry ws k) ((product (share units (get_or us k 0)) (entry ws k)).num * (c.args.scale / (product (share units (get_or us k 0)) (entry ws k)).den)))
-          c.loop-place.products (pos 0) j c.scaled.result (omega (arith, c.loop-place.invariant.long, c.requires.inside.short, c.requires.fewer)) c.loop-place.invariant.each is;
-      past = λ k l. get_or-set_other c.loop-place.products j k c.scaled.result (pos 0) (omega (arith, l)) ∙ c.loop-place.invariant.past k (omega (arith, l));
-      small = λ k. small_more c.loop-place.products c.loop-place.invariant.small j c.scaled.result c.scaled.ensures.bound k;
+      each = each_more (λ (k : ℕ) (x : ℤ). x ≡ signed (entry ws k) (over (part c.args.parts.now k) c.args.scale))
+          c.loop-place.products (pos 0) j c.signed.result (omega (arith, c.loop-place.invariant.long, c.requires.short)) c.loop-place.invariant.each is;
+      past = λ k l. get_or-set_other c.loop-place.products j k c.signed.result (pos 0) (omega (arith, l)) ∙ c.loop-place.invariant.past k (omega (arith, l));
+      small = λ k. small_more c.loop-place.products c.loop-place.invariant.small j c.signed.result c.signed.ensures.bound k;
     })
   where
     small_more : (ps : List ℤ) → ((k : ℕ) → unsigned_abs (entry ps k) ≤ 2 ^ 124) → (j : ℕ) (x : ℤ) → unsigned_abs x ≤ 2 ^ 124 → (k : ℕ) → unsigned_abs (entry (set ps j x) k) ≤ 2 ^ 124

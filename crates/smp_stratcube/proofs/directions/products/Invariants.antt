@@ -1,16 +1,15 @@
-use Rattle.std.proofs.Common.{◌≡◌, ℕ, ◌*◌, ◌/◌, ◌<◌, ◌≤◌, ◌^◌, pos, length, get_or}
+use Rattle.std.proofs.Common.{◌≡◌, ℕ, ◌<◌, ◌≤◌, ◌^◌, pos, length}
 use Rattle.std.specs.Int.RustNames.{unsigned_abs}
 use Rattle.smp_kernel.specs.Vectors.{entry}
-use Rattle.smp_stratcube.specs.Units.{share}
-use Rattle.smp_stratcube.specs.Steps.{product, signed}
+use Rattle.smp_stratcube.specs.Steps.{signed}
+use Rattle.smp_stratcube.specs.Kept.Lines.{over, part}
 use Rattle.smp_stratcube.proofs.directions.products.Given as goal
 
 -- the products so far, and 0 past them
 abbrev pub invariant-loop-place : goal.invariant-loop-place
 invariant-loop-place l = record {
   long : length l.products ≡ 17;
-  each : (k : ℕ) → k < l.place → entry l.products k
-      ≡ signed (entry l.factors.w k) ((product (share l.units (get_or l.front.units k 0)) (entry l.factors.w k)).num * (l.scale / (product (share l.units (get_or l.front.units k 0)) (entry l.factors.w k)).den));
+  each : (k : ℕ) → k < l.place → entry l.products k ≡ signed (entry l.factors.w k) (over (part l.parts k) l.scale);
   past : (k : ℕ) → l.place ≤ k → entry l.products k ≡ pos 0;
   small : (k : ℕ) → unsigned_abs (entry l.products k) ≤ 2 ^ 124;
 }

@@ -24,7 +24,7 @@ loop-place-init c =
 
 pub within_gate-common-requires-clause-other : goal.within_gate-common-requires-clause-other
 within_gate-common-requires-clause-other c =
-    subst (λ m. 1 ≤ m) (sym c.first.ensures) (c.requires.are.firsts (stratum c.args.units.now (get_or c.args.line.now.units c.loop-place.place 0))).0
+    subst (λ m. 1 ≤ m) (sym c.first.ensures.is) (c.requires.are.firsts (stratum c.args.units.now (get_or c.args.line.now.units c.loop-place.place 0))).0
 
 pub loop-place-preserved : goal.loop-place-preserved
 loop-place-preserved c =
@@ -32,7 +32,7 @@ loop-place-preserved c =
     let us = c.args.line.now.units in
     let units = c.args.units.now in
     let j = c.loop-place.place in (
-      ap (λ m. gate_all m (map (first units) (rest_of n us (j + 1)))) (c.within_gate-common.ensures.is ∙ ap (gated c.loop-place.common) c.first.ensures)
+      ap (λ m. gate_all m (map (first units) (rest_of n us (j + 1)))) (c.within_gate-common.ensures.is ∙ ap (gated c.loop-place.common) c.first.ensures.is)
           ∙ sym (ap (λ ks. gate_all c.loop-place.common (map (first units) ks)) (rest_at n us j 0 (omega arith) (omega (arith, c.requires.padded.places))))
           ∙ c.loop-place.invariant.0,
       c.within_gate-common.ensures.some,
