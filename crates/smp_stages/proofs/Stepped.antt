@@ -30,14 +30,18 @@ module _ {Design State : Type 0} (tree_of : Design → Tree State) (belongs : De
     pub within : s.at < length stages
     pub waits : waits tree_of stages s.states s.at ≡ true
 
-  pub goes_on : (inside s : Progress State) → inside ≡ s → IsUnderWay tree_of belongs stages s → (staged_tree tree_of stages seats).done s ≡ false → GoesOn inside
-  goes_on inside s is here going =
+  pub goes_on : {inside s : Progress State} → inside ≡ s → IsUnderWay tree_of belongs stages s → (staged_tree tree_of stages seats).done s ≡ false → GoesOn inside
+  goes_on {inside = inside} {s = s} is here going =
       let here_in : IsUnderWay tree_of belongs stages inside = subst (IsUnderWay tree_of belongs stages) (sym is) here in
       let going_in : (staged_tree tree_of stages seats).done inside ≡ false = subst (λ t. (staged_tree tree_of stages seats).done t ≡ false) (sym is) going in
       record { here = here_in; going = going_in; within = going_within inside here_in going_in; waits = going_waits inside here_in going_in }
 
+  -- the bound of its next step is that of the stage that is under way
   pub bound_is : (s : Progress State) → weight_sum ((staged_tree tree_of stages seats).parts s) ≡ weight_sum (stage_parts tree_of stages s.states s.at)
   bound_is s = weight_sum-moved (λ state. progress tree_of stages (set s.states s.at state)) (stage_parts tree_of stages s.states s.at)
+
+  pub bound_inside : {inside s : Progress State} → inside ≡ s → weight_sum ((staged_tree tree_of stages seats).parts s) ≡ weight_sum (stage_parts tree_of stages inside.states inside.at)
+  bound_inside {inside = inside} is = ap (λ t. weight_sum ((staged_tree tree_of stages seats).parts t)) (sym is) ∙ bound_is inside
 
   -- what a step comes to
   pub record Stepped (s : Progress State) (draw : ℕ) (new : List State) : Type 0 where
@@ -73,14 +77,13 @@ module _ {Design State : Type 0} (tree_of : Design → Tree State) (belongs : De
       }
 
   -- the same of a state that is seen as another
-  pub stepped_inside : ((design : Design) → Lawful (tree_of design) (belongs design)) → IsStaged tree_of stages seats → (inside s : Progress State) → inside ≡ s → IsUnderWay tree_of belongs stages s → (staged_tree tree_of stages seats).done s ≡ false
+  pub stepped_inside : ((design : Design) → Lawful (tree_of design) (belongs design)) → IsStaged tree_of stages seats → {inside s : Progress State} → inside ≡ s → IsUnderWay tree_of belongs stages s → (staged_tree tree_of stages seats).done s ≡ false
       → (draw : ℕ) → draw < weight_sum ((staged_tree tree_of stages seats).parts s) → (new : List State)
       → ((state : State) → slice_get inside.states inside.at ≡ Some state → new ≡ set inside.states inside.at (picked state (stage_parts tree_of stages inside.states inside.at) draw))
       → Stepped inside draw new × (progress tree_of stages new ≡ picked s ((staged_tree tree_of stages seats).parts s) draw)
-  stepped_inside lawful staged inside s is here going draw within new made =
-      let on : GoesOn inside = goes_on inside s is here going in
-      let within_inside : draw < weight_sum ((staged_tree tree_of stages seats).parts inside) = subst (λ t. draw < weight_sum ((staged_tree tree_of stages seats).parts t)) (sym is) within in
-      let step : Stepped inside draw new = stepped lawful staged inside on.here on.going draw (subst (λ (n : ℕ). draw < n) (bound_is inside) within_inside) new made in
+  stepped_inside lawful staged {inside = inside} is here going draw within new made =
+      let on : GoesOn inside = goes_on is here going in
+      let step : Stepped inside draw new = stepped lawful staged inside on.here on.going draw (subst (λ (n : ℕ). draw < n) (bound_inside is) within) new made in
       (step, subst (λ t. progress tree_of stages new ≡ picked t ((staged_tree tree_of stages seats).parts t) draw) is step.is)
 
   -- ---- where the selection is done

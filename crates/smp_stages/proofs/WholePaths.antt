@@ -83,7 +83,7 @@ module _ {Design State : Type 0} (tree_of : Design → Tree State) (belongs : De
   -- A step of the stage that is under way, in front of a path that is under way after it.
   module _ (s leaf : Progress State) (entry : Entry) (path : List Entry) (here : IsUnderWay tree_of belongs stages s) (step : IsStep outer s entry) where
     on : GoesOn tree_of belongs stages seats s
-    on = goes_on tree_of belongs stages seats s s refl here step.going
+    on = goes_on tree_of belongs stages seats {inside = s} refl here step.going
 
     abbrev i : ℕ
     i = s.at
