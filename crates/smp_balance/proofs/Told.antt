@@ -1,9 +1,10 @@
 -- What is told of a stratum, in the numbers of the code.
 use Rattle.std.proofs.Common.{◌≡◌, ℕ, zero, suc, ◌+◌, ◌-◌, ◌*◌, ◌^◌, ◌<◌, ◌≤◌, Bool, true, false, cond, ℤ, pos, ◌+ℤ◌, List, [], ◌∷◌, ◌++◌, map, drop, length, get_or, arith, refl, sym, ap, ◌∙◌, drop-cons, mul-pos, FitsSigned, SFits, w64}
 use Rattle.std.specs.Prelude.{slice_index, replicate}
-use Rattle.std.specs.List.{flat_map}
+use Rattle.std.specs.List.{flat_map, range_with_len}
 use Rattle.std.proofs.lemmas.Int.{fits_signed_from_abs}
 use Rattle.std.proofs.lemmas.List.{append-nil, append_assoc, drop_all}
+use Rattle.std.proofs.lemmas.List.FromFn.{get_or-range_with_len, length-range_with_len}
 use Rattle.std.specs.Int.RustNames.{unsigned_abs}
 use Rattle.smp_fractions.specs.Fractions.{Same, whole}
 use Rattle.smp_fractions.proofs.Fractions.{same_refl}
@@ -108,16 +109,21 @@ pub last_mapped : {A B : Type 0} (f : B → A) (us : List B) (i : ℕ) (done who
 last_mapped f us i done whole ended so_far =
     sym (append-nil done) ∙ ap (λ rest. done ++ map f rest) (sym (drop_all i us ended)) ∙ so_far
 
-pub next_line : (line : ℕ → List ℕ) (us : List ℕ) (i k : ℕ) (old new whole : List ℕ) → i < length us → get_or us i 0 ≡ k → new ≡ old ++ line k
-    → old ++ flat_map line (drop i us) ≡ whole → new ++ flat_map line (drop (i + 1) us) ≡ whole
-next_line line us i k old new whole l is adds so_far =
+-- one line more of so many columns, and the last
+pub next_line : (line : ℕ → List ℕ) (n i : ℕ) (old new whole : List ℕ) → i < n → new ≡ old ++ line i
+    → old ++ flat_map line (drop i (range_with_len 0 n)) ≡ whole → new ++ flat_map line (drop (i + 1) (range_with_len 0 n)) ≡ whole
+next_line line n i old new whole l adds so_far =
+    let us : List ℕ = range_with_len 0 n in
     let on : i + 1 ≡ suc i = omega arith in
+    let is : get_or us i 0 ≡ i = omega (arith, get_or-range_with_len 0 n i 0 l) in
+    let within : i < length us = omega (arith, l, length-range_with_len 0 n) in
     ap (λ t. t ++ flat_map line (drop (i + 1) us)) adds
-    ∙ append_assoc old (line k) (flat_map line (drop (i + 1) us))
-    ∙ ap (λ n. old ++ (line k ++ flat_map line (drop n us))) on
+    ∙ append_assoc old (line i) (flat_map line (drop (i + 1) us))
+    ∙ ap (λ k. old ++ (line i ++ flat_map line (drop k us))) on
     ∙ ap (λ j. old ++ (line j ++ flat_map line (drop (suc i) us))) (sym is)
-    ∙ ap (λ front. old ++ flat_map line front) (sym (drop-cons us i 0 l)) ∙ so_far
+    ∙ ap (λ front. old ++ flat_map line front) (sym (drop-cons us i 0 within)) ∙ so_far
 
-pub last_line : (line : ℕ → List ℕ) (us : List ℕ) (i : ℕ) (old whole : List ℕ) → length us ≤ i → old ++ flat_map line (drop i us) ≡ whole → old ≡ whole
-last_line line us i old whole ended so_far =
-    sym (append-nil old) ∙ ap (λ rest. old ++ flat_map line rest) (sym (drop_all i us ended)) ∙ so_far
+pub last_line : (line : ℕ → List ℕ) (n i : ℕ) (old whole : List ℕ) → n ≤ i → old ++ flat_map line (drop i (range_with_len 0 n)) ≡ whole → old ≡ whole
+last_line line n i old whole ended so_far =
+    let none : drop i (range_with_len 0 n) ≡ [] = drop_all i (range_with_len 0 n) (omega (arith, ended, length-range_with_len 0 n)) in
+    sym (append-nil old) ∙ ap (λ rest. old ++ flat_map line rest) (sym none) ∙ so_far
