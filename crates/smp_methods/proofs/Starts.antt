@@ -35,17 +35,18 @@ use Rattle.smp_methods.proofs.Ways.{drawn_by_method}
 use Rattle.smp_methods.proofs.Wholes.{is_needed}
 
 -- what a method says of its start holds of the design among all methods
-means_among : (v : Variant) → MeansAlone v → HasMeans (method_among v) (state_among v)
+means_among : (v : Variant) → MeansAlone v (state_among v) → HasMeans (method_among v) (state_among v)
 means_among (variant name method design into out back) means =
-    has_means (embedded_method into out back method) (into design) (rw (back design) means.member)
+    let its : HasMeans method design = rw (back design) at means in
+    has_means (embedded_method into out back method) (into design) (rw (back design) its.member)
 
 count_in : {State : Type 0} (into : State → AnyState) (out : AnyState → Option State) (back : (state : State) → out (into state) ≡ Some state) (method : Method State) (design : State)
     → HasCount method.tree design → HasCount (embedded_method into out back method).tree (into design)
 count_in into out back method design count n adds =
     embedded_count into out method.tree back method.belongs n design (count n (adds_up_inside into out method.tree back method.belongs n design adds))
 
-count_among : (v : Variant) → CountAlone v → draws_together (name_of v) ≡ false → HasCount (method_among v).tree (state_among v)
-count_among (variant name method design into out back) count apart = count_in into out back method design (count apart)
+count_among : (v : Variant) → CountAlone v (state_among v) → draws_together (name_of v) ≡ false → HasCount (method_among v).tree (state_among v)
+count_among (variant name method design into out back) count apart = count_in into out back method design ((rw (back design) at count) apart)
 
 requested_among : (v : Variant) (request : Request) → RequestedAlone request v → IsRequested (method_among v).tree request (state_among v)
 requested_among (variant name method design into out back) request here = record {
@@ -54,8 +55,8 @@ requested_among (variant name method design into out back) request here = record
   whole = λ some whole. embedded_adds_up into out method.tree back method.belongs request.r design (here.whole some whole);
 }
 
-around_among : (v : Variant) → AroundAlone v → (row (name_of v)).draws_whole ≡ false → balances (name_of v) ≡ false → LeavesSelectAround (method_among v).tree (state_among v)
-around_among (variant name method design into out back) around any unbalanced = embedded_around into out method.tree back method.belongs design (around any unbalanced)
+around_among : (v : Variant) → AroundAlone v (state_among v) → (row (name_of v)).draws_whole ≡ false → balances (name_of v) ≡ false → LeavesSelectAround (method_among v).tree (state_among v)
+around_among (variant name method design into out back) around any unbalanced = embedded_around into out method.tree back method.belongs design ((rw (back design) at around) any unbalanced)
 
 -- a whole number is around itself
 select_around : {State : Type 0} (tree : Tree State) (n : ℕ) (state : State) → AddsUp tree n state → LeavesSelect tree n state → LeavesSelectAround tree state
@@ -70,7 +71,7 @@ module _ (request : Request) (design : AnyDesign) (starts : Starts (method_of de
       let adds = adds_to_draws (method_of design).tree request (first_state design) asked whole in
       select_around (method_of design).tree request.r (first_state design) adds (starts.count request.r adds)
 
-  selects_around : (IsTrue (row (drawn_by design)).draws_whole → IsWhole request) → AroundAlone (variant_of design) → SelectsAround design (first_state design)
+  selects_around : (IsTrue (row (drawn_by design)).draws_whole → IsWhole request) → AroundAlone (variant_of design) (first_state design) → SelectsAround design (first_state design)
   selects_around whole around unbalanced = elim (cases_Bool (row (drawn_by design)).draws_whole) [
     | inl needed ↦ whole_around (whole needed)
     | inr any ↦ around_among (variant_of design) around any unbalanced
@@ -79,21 +80,21 @@ module _ (request : Request) (design : AnyDesign) (starts : Starts (method_of de
 -- ---- how many units are selected
 
 -- the design of one stratum alone
-one_stratum : (layer : Layer) → MeansAlone (variant_of (design_of_strata (layer ∷ []))) → StrataAlone (design_of_strata (layer ∷ []))
+one_stratum : (layer : Layer) → MeansAlone (variant_of (design_of_strata (layer ∷ []))) (first_state (design_of_strata (layer ∷ []))) → StrataAlone (design_of_strata (layer ∷ [])) (first_state (design_of_strata (layer ∷ [])))
     → HasCount (method_of (design_of_strata (layer ∷ []))).tree (first_state (design_of_strata (layer ∷ [])))
 one_stratum layer means strata =
     count_in states.StratifiedCube (elim [ states.StratifiedCube state ↦ Some state | other ↦ None ]) (λ _. refl)
     (stratified_cube.method_of (units_of (layer ∷ []))) (started (units_of (layer ∷ []))) (one_count layer means.member.are strata.0)
 
-module _ (way : Procedure) (request : Request) (values : List (List ℤ)) (design : AnyDesign) (made : design ≡ design_of way request values) (means : MeansAlone (variant_of design)) where
-  by_strata : StrataAlone design → way.method ≡ StratifiedCube → HasCount (method_of design).tree (first_state design)
+module _ (way : Procedure) (request : Request) (values : List (List ℤ)) (design : AnyDesign) (made : design ≡ design_of way request values) (means : MeansAlone (variant_of design) (first_state design)) where
+  by_strata : StrataAlone design (first_state design) → way.method ≡ StratifiedCube → HasCount (method_of design).tree (first_state design)
   by_strata strata is =
       let layer : Layer = layer_of request (balancing_values way.near way.columns values) in
       let same : design ≡ design_of_strata (layer ∷ []) = made ∙ ap (λ m. design_by m way.order way.near way.columns request values) is in
       subst (λ (d : AnyDesign). HasCount (method_of d).tree (first_state d)) (sym same)
-      (one_stratum layer (subst (λ (d : AnyDesign). MeansAlone (variant_of d)) same means) (subst StrataAlone same strata))
+      (one_stratum layer (subst (λ (d : AnyDesign). MeansAlone (variant_of d) (first_state d)) same means) (subst (λ (d : AnyDesign). StrataAlone d (first_state d)) same strata))
 
-  starts_all : CountAlone (variant_of design) → StrataAlone design → Starts (method_of design) (first_state design)
+  starts_all : CountAlone (variant_of design) (first_state design) → StrataAlone design (first_state design) → Starts (method_of design) (first_state design)
   starts_all count strata = record {
     means = means_among (variant_of design) means;
     count = elim (cases_Bool (draws_together way.method)) [
@@ -106,12 +107,13 @@ module _ (way : Procedure) (request : Request) (values : List (List ℤ)) (desig
 
 -- the design of the request by the method, at its first state
 pub is_started : (way : Procedure) (request : Request) (values : List (List ℤ)) (design : AnyDesign) (state : AnyState)
-    → NeedsWhole way request → design ≡ design_of way request values → RequestedAlone request (variant_of design) → state ≡ first_state design → MeansAlone (variant_of design) → CountAlone (variant_of design) → StrataAlone design
-    → AroundAlone (variant_of design)
+    → NeedsWhole way request → design ≡ design_of way request values → RequestedAlone request (variant_of design) → state ≡ first_state design → MeansAlone (variant_of design) state → CountAlone (variant_of design) state → StrataAlone design state
+    → AroundAlone (variant_of design) state
     → IsStarted way request values (record { design = design; state = state })
 is_started way request values design state whole made requested there means count strata around =
     let own : AnyDesign = design_of way request values in
-    let start : Starts (method_of own) (first_state own) = subst (λ (d : AnyDesign). Starts (method_of d) (first_state d)) made (starts_all way request values design made means count strata) in
+    let start : Starts (method_of own) (first_state own) = subst (λ (d : AnyDesign). Starts (method_of d) (first_state d)) made
+    (starts_all way request values design made (subst (MeansAlone (variant_of design)) there means) (subst (CountAlone (variant_of design)) there count) (subst (StrataAlone design) there strata)) in
     let asked : IsRequested (method_of own).tree request (first_state own) =
     subst (λ (d : AnyDesign). IsRequested (method_of d).tree request (first_state d)) made (requested_among (variant_of design) request requested) in
     let same : state ≡ first_state own = there ∙ ap first_state made in
@@ -121,19 +123,19 @@ is_started way request values design state whole made requested there means coun
       state = same;
       starts = subst (λ (s : AnyState). Starts (method_of own) s) (sym same) start;
       requested = subst (λ (s : AnyState). IsRequested (method_of own).tree request s) (sym same) asked;
-      around = subst (λ (s : AnyState). SelectsAround own s) (sym same) (selects_around request own start asked (subst (λ (m : named.Method). IsTrue (row m).draws_whole → IsWhole request) (sym by_way) (is_needed (row way.method).draws_whole (IsWhole request) whole)) (subst (λ (d : AnyDesign). AroundAlone (variant_of d)) made around));
+      around = subst (λ (s : AnyState). SelectsAround own s) (sym same) (selects_around request own start asked (subst (λ (m : named.Method). IsTrue (row m).draws_whole → IsWhole request) (sym by_way) (is_needed (row way.method).draws_whole (IsWhole request) whole)) (subst (λ (d : AnyDesign). AroundAlone (variant_of d) (first_state d)) made (subst (AroundAlone (variant_of design)) there around)));
     }
 
 -- ---- all strata together
 
 pub are_started : (layers : List Layer) (design : AnyDesign) (state : AnyState) → design ≡ design_of_strata layers → AreRequested layers (started (units_of layers)) → state ≡ first_state design
-    → MeansAlone (variant_of design) → StrataAlone design → AreStarted layers (record { design = design; state = state })
+    → MeansAlone (variant_of design) state → StrataAlone design state → AreStarted layers (record { design = design; state = state })
 are_started layers design state made requested there means strata =
     let own : AnyDesign = design_of_strata layers in
     let same : state ≡ first_state own = there ∙ ap first_state made in
     let its : HasMeans (method_of own) (first_state own) =
-    means_among (variant_of own) (subst (λ (d : AnyDesign). MeansAlone (variant_of d)) made means) in
-    let kept : StrataAlone own = subst StrataAlone made strata in
+    means_among (variant_of own) (subst (λ (d : AnyDesign). MeansAlone (variant_of d) (first_state d)) made (subst (MeansAlone (variant_of design)) there means)) in
+    let kept : StrataAlone own (first_state own) = subst (λ (d : AnyDesign). StrataAlone d (first_state d)) made (subst (StrataAlone design) there strata) in
     record {
       design = made;
       state = same;

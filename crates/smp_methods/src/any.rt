@@ -1,6 +1,6 @@
 //! The design of a request by any of the methods, and its states.
 
-ghost use Rattle.std.specs.Prelude.{◌≡◌, ◌<◌, false, length, IfOk, OnOk};
+ghost use Rattle.std.specs.Prelude.{◌≡◌, ◌<◌, false, length, IfOk};
 ghost use Rattle.smp_prob.specs.Requests.{IsRequest};
 ghost use Rattle.smp_split.specs.Trees.{weight_sum};
 ghost use Rattle.smp_stratcube.specs.Cube as stratified;
@@ -143,10 +143,10 @@ impl AnyDesign {
     #[tactic(auto, unfolding(smp_design::specs::Words::row))]
     pub(crate) fn start(&self, alloc: Global) -> Result<AnyState, NoMemory>
         ensures state { IfOk result (λ state. state ≡ first_state self.now) }
-        ensures means { OnOk result (MeansAlone (variant_of self.now)) }
-        ensures count { OnOk result (CountAlone (variant_of self.now)) }
-        ensures strata { OnOk result (StrataAlone self.now) }
-        ensures around { OnOk result (AroundAlone (variant_of self.now)) }
+        ensures means { IfOk result (MeansAlone (variant_of self.now)) }
+        ensures count { IfOk result (CountAlone (variant_of self.now)) }
+        ensures strata { IfOk result (StrataAlone self.now) }
+        ensures around { IfOk result (AroundAlone (variant_of self.now)) }
     {
         by_method!(self, design => state design.start(alloc)?)
     }

@@ -8,26 +8,31 @@ use Rattle.smp_split.specs.Trees.{picked}
 use Rattle.smp_values.specs.Starts.{IsRequested}
 use Rattle.smp_stratcube.specs.Balances.{IsBalanced}
 use Rattle.smp_stratcube.specs.Counts.{HasCounts}
-use Rattle.smp_stratcube.specs.Cube.{started}
 use Rattle.smp_methods.specs.declared.any.AnyDesign.{AnyDesign}
 use Rattle.smp_methods.specs.declared.any.AnyDesign.TheVariants as designs
 use Rattle.smp_methods.specs.declared.any.AnyState.{AnyState}
+use Rattle.smp_methods.specs.declared.any.AnyState.TheVariants as states
 use Rattle.smp_methods.specs.Designs.{Variant, variant}
 
--- a selection starts with the design
-abbrev pub MeansAlone : Variant → Type 0
-MeansAlone (variant name method design into out back) = HasMeans method design
+-- what holds of a method's own state
+abbrev pub OfOwn : {State : Type 0} → (State → Type 0) → Option State → Type 0
+OfOwn holds None = ⊥
+OfOwn holds (Some state) = holds state
+
+-- in such a state a selection starts
+abbrev pub MeansAlone : Variant → AnyState → Type 0
+MeansAlone (variant name method design into out back) from = OfOwn (HasMeans method) (out from)
 
 -- as many units are selected as the values add up to, by a method that draws each stratum by itself
-abbrev pub CountAlone : Variant → Type 0
-CountAlone (variant name method design into out back) =
-    draws_together name ≡ false → HasCount method.tree design
+abbrev pub CountAlone : Variant → AnyState → Type 0
+CountAlone (variant name method design into out back) from =
+    OfOwn (λ state. draws_together name ≡ false → HasCount method.tree state) (out from)
 
 -- in each stratum that many, by the one that draws all strata together, and it is balanced
-abbrev pub StrataAlone : AnyDesign → Type 0
-StrataAlone (designs.StratifiedCube units) =
-    HasCounts units (started units) × IsBalanced units (started units)
-StrataAlone other = Unit {0}
+abbrev pub StrataAlone : AnyDesign → AnyState → Type 0
+StrataAlone (designs.StratifiedCube units) (states.StratifiedCube state) =
+    HasCounts units state × IsBalanced units state
+StrataAlone other from = Unit {0}
 
 -- and its values are those that are requested
 abbrev pub RequestedAlone : Request → Variant → Type 0
@@ -36,9 +41,10 @@ RequestedAlone request (variant name method design into out back) =
 
 -- Each leaf selects one of the whole numbers of units around the sum of the values, whatever the sum, by a
 -- method that draws not only a whole number of units and doesn't balance.
-abbrev pub AroundAlone : Variant → Type 0
-AroundAlone (variant name method design into out back) =
-    (row name).draws_whole ≡ false → balances name ≡ false → LeavesSelectAround method.tree design
+abbrev pub AroundAlone : Variant → AnyState → Type 0
+AroundAlone (variant name method design into out back) from =
+    OfOwn (λ state. (row name).draws_whole ≡ false → balances name ≡ false → LeavesSelectAround method.tree state)
+    (out from)
 
 -- the draw leads from the method's own state to that of its part
 abbrev pub IsStep : {State : Type 0} → (State → AnyState) → Method State → Option State
