@@ -1,4 +1,3 @@
 pub mod Masks
-pub mod Values
 pub mod Ends
 pub mod Rows

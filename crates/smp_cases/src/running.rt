@@ -17,8 +17,7 @@ ghost use Rattle.smp_values.specs.Starts.{IsWhole};
 use crate::CaseFault;
 use smp_design::{Method, Order};
 use smp_frac::NoMemory;
-use smp_frame::Numbers;
-use smp_methods::{Procedure, Started};
+use smp_methods::{Procedure, Started, no_values};
 use smp_prob::{ProbFault, Request, requested};
 use smp_rows::Rows;
 use smp_split::{NoTrace, Splitting, WalkFault, walk};
@@ -42,17 +41,6 @@ fn procedure(method: Method) -> Procedure
         Some(procedure) => procedure,
         None => unreachable!(),
     }
-}
-
-// No values for each free unit of a request.
-fn no_values(alloc: Global, request: &Request) -> Result<Vec<Numbers>, NoMemory>
-    ensures { IfOk result (λ values. values.items ≡ map (λ _. []) request.now.free) }
-{
-    let mut values = Vec::new(alloc);
-    for _ in request.free.as_slice() {
-        values.push(Numbers::from_slice(alloc, &[])?)?;
-    }
-    Ok(values)
 }
 
 // Starts to draw the free units of a request by a method.

@@ -4,3 +4,4 @@ pub mod Columns
 pub mod Wholes
 pub mod Ways
 pub mod OneStratum
+pub mod Values

@@ -14,4 +14,4 @@ mod stratified;
 
 pub use any::{AnyDesign, AnyState};
 pub use procedure::Procedure;
-pub use start::Started;
+pub use start::{Started, no_values};

@@ -1,6 +1,6 @@
 //! Where a selection starts.
 
-ghost use Rattle.std.specs.Prelude.{◌≡◌, length, IfOk};
+ghost use Rattle.std.specs.Prelude.{◌≡◌, [], length, map, IfOk};
 ghost use Rattle.smp_prob.specs.Requests.{IsRequest};
 ghost use Rattle.smp_stratcube.specs.Layers.{AreLayers};
 ghost use Rattle.smp_methods.specs.Procedures.{NeedsWhole, TakesValues};
@@ -54,4 +54,15 @@ impl Started {
         let state = design.start(alloc)?;
         Ok(Started { design, state })
     }
+}
+
+/// No values for each free unit of a request, as a method gets them that takes none.
+pub fn no_values(alloc: Global, request: &Request) -> Result<Vec<Numbers>, NoMemory>
+    ensures { IfOk result (λ values. values.items ≡ map (λ _. []) request.now.free) }
+{
+    let mut values = Vec::new(alloc);
+    for _ in request.free.as_slice() {
+        values.push(Numbers::from_slice(alloc, &[])?)?;
+    }
+    Ok(values)
 }

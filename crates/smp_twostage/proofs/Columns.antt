@@ -4,7 +4,7 @@ use Rattle.std.specs.Prelude.{is_some, unwrap_or}
 use Rattle.std.specs.List.{slice_get}
 use Rattle.std.proofs.lemmas.List.{get_or-map}
 use Rattle.std.proofs.lemmas.List.Elements.{All-get_or, All-map, All-weaker}
-use Rattle.std.proofs.lemmas.Option.{slice_get_within, get_or_from_slice_get}
+use Rattle.std.proofs.lemmas.Option.{slice_get_read, slice_get_within, get_or_from_slice_get}
 use Rattle.smp_stages.specs.Laws.Reads.{some_within}
 use Rattle.smp_frame.specs.Bounds.{AreNear}
 use Rattle.smp_kernel.specs.Vectors.{Within}
@@ -23,6 +23,10 @@ use Rattle.smp_twostage.specs.Kept.{IsPlanned}
 use Rattle.smp_twostage.specs.Plans.{CanBeDrawn}
 use Rattle.smp_balance.specs.Strata.{column_count, free_values, values_of}
 use Rattle.smp_twostage.specs.Selections.{balance_count, balancing, valued}
+
+-- a stratum that is read at its number
+pub stratum_at : (strata : List Stratum) (h : ℕ) (s : Stratum) → h < length strata → s ≡ get_or strata h s → slice_get strata h ≡ Some s
+stratum_at strata h s within is = slice_get_read strata (length strata) h s refl within is
 
 -- a procedure that is there
 given : (way : Option Procedure) (other : Procedure) → is_some way ≡ true → way ≡ Some (unwrap_or way other)

@@ -15,15 +15,16 @@ use Rattle.smp_methods.proofs.OneStratum.{are_numbers}
 use Rattle.smp_methods.proofs.Wholes.{takes_some}
 use Rattle.smp_balance.specs.Strata.{StratumUnits, column_count, free_values, values_of}
 use Rattle.smp_stratcube.specs.Layers.{AreLayers, AreNumbers, Layer, layer_of, no_layer, variables, width}
+use Rattle.smp_prob.specs.declared.requests.Request.{Request}
 use Rattle.smp_strata.specs.Bounds.{IsStratum}
 use Rattle.smp_strata.specs.Plans.{Parts}
 use Rattle.smp_strata.specs.declared.strata.FirstUnit.{FirstUnit}
 use Rattle.smp_strata.specs.declared.strata.Stratum.{Stratum}
 use Rattle.smp_twostage.specs.Kept.{IsPlanned}
 use Rattle.smp_twostage.specs.Plans.{CanBeDrawn, IsTogether}
-use Rattle.smp_twostage.specs.Selections.{balance_count, balancing, certain_from, free_from, layers_of, units_before, valued}
-use Rattle.smp_twostage.proofs.Columns.{columns_are, free_counted, free_near, is_planned, planned_columns}
-use Rattle.smp_twostage.proofs.OverAll.{certain_next, free_next, one_before}
+use Rattle.smp_twostage.specs.Selections.{balance_count, balancing, layers_of, numbers_from, units_before, valued}
+use Rattle.smp_twostage.proofs.Columns.{columns_are, free_counted, free_near, is_planned, planned_columns, stratum_at}
+use Rattle.smp_twostage.proofs.OverAll.{numbers_next, one_before}
 
 -- ---- how many units there are
 
@@ -43,10 +44,10 @@ module _ (plan : Parts) (drawable : CanBeDrawn plan) (few : length plan.strata �
 
   -- the numbers of a stratum's units among all fit
   pub numbers_fit : (h before : ℕ) (s : Stratum) → h ≤ length plan.strata → before ≡ units_before plan.strata h → IsStratum plan.second s
-      → (units : List ℕ) → All (λ u. u < length s.units) units → All (λ number. before + number < 2 ^ 64) units
-  numbers_fit h before s l is stratum units below =
+      → (units own : List ℕ) → units ≡ own → All (λ u. u < length s.units) own → All (λ number. before + number < 2 ^ 64) units
+  numbers_fit h before s l is stratum units own same below =
       All-weaker (λ u. u < length s.units) (λ number. before + number < 2 ^ 64)
-      (λ u le. (let most = few_before h l in let own = stratum.few in omega (arith, most, own, is, le))) units below
+      (λ u le. (let most = few_before h l in let own = stratum.few in omega (arith, most, own, is, le))) units (subst (All (λ u. u < length s.units)) (sym same) below)
 
 -- ---- one stratum more
 
@@ -56,35 +57,20 @@ module _ (strata : List Stratum) (h : ℕ) (s : Stratum) (is : slice_get strata 
       let on : suc h ≡ h + 1 = omega arith in
       ap₂ (λ (m n : ℕ). m + n) so_far (ap length units_are) ∙ sym (one_before strata h s is) ∙ ap (units_before strata) on
 
-  pub next_certain : (done new more whole : List ℕ) → new ≡ done ++ map (λ u. before + u) more → more ≡ s.request.certain → done ++ certain_from before (drop h strata) ≡ whole
-      → new ++ certain_from (before + length units) (drop (h + 1) strata) ≡ whole
-  next_certain done new more whole made own so_far =
+  pub next_numbers : (counted : Request → List ℕ) (done new more whole : List ℕ) → new ≡ done ++ map (λ u. before + u) more → more ≡ counted s.request → done ++ numbers_from counted before (drop h strata) ≡ whole
+      → new ++ numbers_from counted (before + length units) (drop (h + 1) strata) ≡ whole
+  next_numbers counted done new more whole made own so_far =
       let on : h + 1 ≡ suc h = omega arith in
-      ap (λ xs. xs ++ certain_from (before + length units) (drop (h + 1) strata)) (made ∙ ap (λ us. done ++ map (λ u. before + u) us) own)
-      ∙ append_assoc done (map (λ u. before + u) s.request.certain) (certain_from (before + length units) (drop (h + 1) strata))
-      ∙ ap (λ n. done ++ (map (λ u. before + u) s.request.certain ++ certain_from (before + length units) (drop n strata))) on
-      ∙ ap (λ us. done ++ (map (λ u. before + u) s.request.certain ++ certain_from (before + length us) (drop (suc h) strata))) units_are
-      ∙ ap (λ xs. done ++ xs) (sym (certain_next before strata h s is)) ∙ so_far
+      ap (λ xs. xs ++ numbers_from counted (before + length units) (drop (h + 1) strata)) (made ∙ ap (λ us. done ++ map (λ u. before + u) us) own)
+      ∙ append_assoc done (map (λ u. before + u) (counted s.request)) (numbers_from counted (before + length units) (drop (h + 1) strata))
+      ∙ ap (λ n. done ++ (map (λ u. before + u) (counted s.request) ++ numbers_from counted (before + length units) (drop n strata))) on
+      ∙ ap (λ us. done ++ (map (λ u. before + u) (counted s.request) ++ numbers_from counted (before + length us) (drop (suc h) strata))) units_are
+      ∙ ap (λ xs. done ++ xs) (sym (numbers_next counted before strata h s is)) ∙ so_far
 
-  pub next_free : (done new more whole : List ℕ) → new ≡ done ++ map (λ u. before + u) more → more ≡ s.request.free → done ++ free_from before (drop h strata) ≡ whole
-      → new ++ free_from (before + length units) (drop (h + 1) strata) ≡ whole
-  next_free done new more whole made own so_far =
-      let on : h + 1 ≡ suc h = omega arith in
-      ap (λ xs. xs ++ free_from (before + length units) (drop (h + 1) strata)) (made ∙ ap (λ us. done ++ map (λ u. before + u) us) own)
-      ∙ append_assoc done (map (λ u. before + u) s.request.free) (free_from (before + length units) (drop (h + 1) strata))
-      ∙ ap (λ n. done ++ (map (λ u. before + u) s.request.free ++ free_from (before + length units) (drop n strata))) on
-      ∙ ap (λ us. done ++ (map (λ u. before + u) s.request.free ++ free_from (before + length us) (drop (suc h) strata))) units_are
-      ∙ ap (λ xs. done ++ xs) (sym (free_next before strata h s is)) ∙ so_far
-
-module _ (strata : List Stratum) (h before : ℕ) (all : h ≡ length strata) (done whole : List ℕ) where
-  none_left : drop h strata ≡ []
-  none_left = drop_all h strata (omega (arith, all))
-
-  pub last_certain : done ++ certain_from before (drop h strata) ≡ whole → done ≡ whole
-  last_certain so_far = sym (append-nil done) ∙ ap (λ (rest : List Stratum). done ++ certain_from before rest) (sym none_left) ∙ so_far
-
-  pub last_free : done ++ free_from before (drop h strata) ≡ whole → done ≡ whole
-  last_free so_far = sym (append-nil done) ∙ ap (λ (rest : List Stratum). done ++ free_from before rest) (sym none_left) ∙ so_far
+pub last_numbers : (counted : Request → List ℕ) (strata : List Stratum) (h before : ℕ) → h ≡ length strata → (done whole : List ℕ) → done ++ numbers_from counted before (drop h strata) ≡ whole → done ≡ whole
+last_numbers counted strata h before all done whole so_far =
+    let none : drop h strata ≡ [] = drop_all h strata (omega (arith, all)) in
+    sym (append-nil done) ∙ ap (λ (rest : List Stratum). done ++ numbers_from counted before rest) (sym none) ∙ so_far
 
 -- ---- what is balanced
 
@@ -125,13 +111,23 @@ module _ (plan : Parts) (drawable : CanBeDrawn plan) (together : draws_together 
         let all : planned.columns ≤ balance_count plan s = omega (arith, columns_are plan s planned, none_near) in
         ap (λ vs. record { request = s.request; values = vs }) (cut planned.columns (balance_count plan s) s.units planned.counted all)
 
-    pub numbers : AreNumbers (free_values (valued s))
+    numbers : AreNumbers (free_values (valued s))
     numbers =
         let few : planned.columns ≤ 15 = omega (arith, few_columns, planned_columns plan drawable h s is) in
         are_numbers (free_values (valued s)) (are_values planned.columns (free_values (valued s)) (free_counted plan s planned) (free_near plan s planned) few)
 
     pub one_each : length (free_values (valued s)) ≡ length s.request.free
     one_each = length-map s.request.free (values_of (valued s))
+
+  -- the values that are read of a stratum
+  pub record AreRead (s : Stratum) (values : List (List ℤ)) : Type 0 where
+    pub one_each : length values ≡ length s.request.free
+    pub numbers : AreNumbers values
+
+  pub are_read : (h : ℕ) (s : Stratum) → h < length plan.strata → s ≡ get_or plan.strata h s → (values : List (List ℤ)) → values ≡ free_values (valued s) → AreRead s values
+  are_read h s within is values own =
+      let there : slice_get plan.strata h ≡ Some s = stratum_at plan.strata h s within is in
+      record { one_each = ap length own ∙ one_each h s there; numbers = subst AreNumbers (sym own) (numbers h s there) }
 
   -- ---- one more stratum
 

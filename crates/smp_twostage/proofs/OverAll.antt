@@ -10,9 +10,10 @@ use Rattle.std.proofs.lemmas.Option.{same_Some}
 use Rattle.smp_prob.specs.declared.inclusions.Inclusion.{Inclusion}
 use Rattle.smp_prob.specs.declared.inclusions.Inclusion.TheVariants.{Certain, Free, Never}
 use Rattle.smp_prob.specs.Inclusions.{IsRising, Rises, free_or_never, inclusion}
+use Rattle.smp_prob.specs.declared.requests.Request.{Request}
 use Rattle.smp_strata.specs.Bounds.{IsOver}
 use Rattle.smp_strata.specs.declared.strata.Stratum.{Stratum}
-use Rattle.smp_twostage.specs.Selections.{certain_from, free_from, request_over, units_before}
+use Rattle.smp_twostage.specs.Selections.{numbers_from, request_over, units_before}
 
 -- ---- places in a list
 
@@ -109,17 +110,11 @@ AreOver strata = All (λ (s : Stratum). IsOver (length s.units) s.request) strat
 misses_moved : (m b : ℕ) (xs : List ℕ) → m < b → Misses m (map (λ u. b + u) xs)
 misses_moved m b xs l = All-map (λ y. nat_eq m y ≡ false) (λ u. b + u) xs (λ i d k. apart m (b + get_or xs i d) (omega (arith, l)))
 
-misses_free : (m b : ℕ) (strata : List Stratum) → m < b → Misses m (free_from b strata)
-misses_free m b [] l = All-nil (λ y. nat_eq m y ≡ false)
-misses_free m b (s ∷ strata) l =
-    All-append (λ y. nat_eq m y ≡ false) (map (λ u. b + u) s.request.free) (free_from (b + length s.units) strata) (misses_moved m b s.request.free l)
-    (misses_free m (b + length s.units) strata (omega (arith, l)))
-
-misses_certain : (m b : ℕ) (strata : List Stratum) → m < b → Misses m (certain_from b strata)
-misses_certain m b [] l = All-nil (λ y. nat_eq m y ≡ false)
-misses_certain m b (s ∷ strata) l =
-    All-append (λ y. nat_eq m y ≡ false) (map (λ u. b + u) s.request.certain) (certain_from (b + length s.units) strata) (misses_moved m b s.request.certain l)
-    (misses_certain m (b + length s.units) strata (omega (arith, l)))
+misses_from : (counted : Request → List ℕ) (m b : ℕ) (strata : List Stratum) → m < b → Misses m (numbers_from counted b strata)
+misses_from counted m b [] l = All-nil (λ y. nat_eq m y ≡ false)
+misses_from counted m b (s ∷ strata) l =
+    All-append (λ y. nat_eq m y ≡ false) (map (λ u. b + u) (counted s.request)) (numbers_from counted (b + length s.units) strata) (misses_moved m b (counted s.request) l)
+    (misses_from counted m (b + length s.units) strata (omega (arith, l)))
 
 -- and those of a stratum earlier than the numbers past it
 misses_own : (m b n : ℕ) (xs : List ℕ) → b + n ≤ m → All (λ u. u < n) xs → Misses m (map (λ u. b + u) xs)
@@ -153,7 +148,7 @@ stands_more a b (Free unit) = ap Free (omega arith)
 stands_more a b Never = refl
 
 stands_from : (b : ℕ) (strata : List Stratum) → AreOver strata → (h k : ℕ) (s : Stratum) → slice_get strata h ≡ Some s → k < length s.units
-    → stands (position (nat_eq (b + (units_before strata h + k))) (certain_from b strata)) (position (nat_eq (b + (units_before strata h + k))) (free_from b strata))
+    → stands (position (nat_eq (b + (units_before strata h + k))) (numbers_from (λ (r : Request). r.certain) b strata)) (position (nat_eq (b + (units_before strata h + k))) (numbers_from (λ (r : Request). r.free) b strata))
     ≡ stands_behind (free_before strata h) (inclusion s.request k)
 stands_from b [] over h k s is l = absurd (cc)
 stands_from b (t ∷ strata) over zero k s is l =
@@ -161,9 +156,9 @@ stands_from b (t ∷ strata) over zero k s is l =
     let m : b + (0 + k) ≡ b + k = omega arith in
     let here : k < length t.units = subst (λ (u : Stratum). k < length u.units) (sym same) l in
     let past : b + k < b + length t.units = omega (arith, here) in
-    ap (λ n. stands (position (nat_eq n) (certain_from b (t ∷ strata))) (position (nat_eq n) (free_from b (t ∷ strata)))) m
-    ∙ ap₂ stands (pos_left b k t.request.certain (certain_from (b + length t.units) strata) (misses_certain (b + k) (b + length t.units) strata past))
-    (pos_left b k t.request.free (free_from (b + length t.units) strata) (misses_free (b + k) (b + length t.units) strata past))
+    ap (λ n. stands (position (nat_eq n) (numbers_from (λ (r : Request). r.certain) b (t ∷ strata))) (position (nat_eq n) (numbers_from (λ (r : Request). r.free) b (t ∷ strata)))) m
+    ∙ ap₂ stands (pos_left b k t.request.certain (numbers_from (λ (r : Request). r.certain) (b + length t.units) strata) (misses_from (λ (r : Request). r.certain) (b + k) (b + length t.units) strata past))
+    (pos_left b k t.request.free (numbers_from (λ (r : Request). r.free) (b + length t.units) strata) (misses_from (λ (r : Request). r.free) (b + k) (b + length t.units) strata past))
     ∙ stands_own (inclusion t.request k)
     ∙ ap (λ (u : Stratum). stands_behind 0 (inclusion u.request k)) same
 stands_from b (t ∷ strata) over (suc h) k s is l =
@@ -174,10 +169,10 @@ stands_from b (t ∷ strata) over (suc h) k s is l =
     let certain_own : List ℕ = map (λ u. b + u) t.request.certain in
     let free_own : List ℕ = map (λ u. b + u) t.request.free in
     let count : length free_own ≡ length t.request.free = length-map t.request.free (λ u. b + u) in
-    ap (λ i. stands (position (nat_eq i) (certain_from b (t ∷ strata))) (position (nat_eq i) (free_from b (t ∷ strata)))) m
-    ∙ ap₂ stands (pos_right n certain_own (certain_from (b + length t.units) strata) (misses_own n b (length t.units) t.request.certain (omega arith) o.certain))
-    (pos_right n free_own (free_from (b + length t.units) strata) (misses_own n b (length t.units) t.request.free (omega arith) o.free))
-    ∙ stands_moved (length free_own) (position (nat_eq n) (certain_from (b + length t.units) strata)) (position (nat_eq n) (free_from (b + length t.units) strata)) (length certain_own)
+    ap (λ i. stands (position (nat_eq i) (numbers_from (λ (r : Request). r.certain) b (t ∷ strata))) (position (nat_eq i) (numbers_from (λ (r : Request). r.free) b (t ∷ strata)))) m
+    ∙ ap₂ stands (pos_right n certain_own (numbers_from (λ (r : Request). r.certain) (b + length t.units) strata) (misses_own n b (length t.units) t.request.certain (omega arith) o.certain))
+    (pos_right n free_own (numbers_from (λ (r : Request). r.free) (b + length t.units) strata) (misses_own n b (length t.units) t.request.free (omega arith) o.free))
+    ∙ stands_moved (length free_own) (position (nat_eq n) (numbers_from (λ (r : Request). r.certain) (b + length t.units) strata)) (position (nat_eq n) (numbers_from (λ (r : Request). r.free) (b + length t.units) strata)) (length certain_own)
     ∙ ap (stands_behind (length free_own)) (stands_from (b + length t.units) strata rest h k s is l)
     ∙ stands_more (length free_own) (free_before strata h) (inclusion s.request k)
     ∙ ap (λ i. stands_behind (i + free_before strata h) (inclusion s.request k)) count
@@ -220,36 +215,26 @@ rises_on b n xs ys rising within behind past i j l m =
           ])
     ]
 
-past_free : (b : ℕ) (strata : List Stratum) → All (λ u. b ≤ u) (free_from b strata)
-past_free b [] = All-nil (λ u. b ≤ u)
-past_free b (s ∷ strata) =
-    All-append (λ u. b ≤ u) (map (λ u. b + u) s.request.free) (free_from (b + length s.units) strata)
-    (All-map (λ u. b ≤ u) (λ u. b + u) s.request.free (λ k d l. omega arith))
-    (All-weaker (λ u. b + length s.units ≤ u) (λ u. b ≤ u) (λ u le. omega (arith, le)) (free_from (b + length s.units) strata) (past_free (b + length s.units) strata))
+past_from : (counted : Request → List ℕ) (b : ℕ) (strata : List Stratum) → All (λ u. b ≤ u) (numbers_from counted b strata)
+past_from counted b [] = All-nil (λ u. b ≤ u)
+past_from counted b (s ∷ strata) =
+    All-append (λ u. b ≤ u) (map (λ u. b + u) (counted s.request)) (numbers_from counted (b + length s.units) strata)
+    (All-map (λ u. b ≤ u) (λ u. b + u) (counted s.request) (λ k d l. omega arith))
+    (All-weaker (λ u. b + length s.units ≤ u) (λ u. b ≤ u) (λ u le. omega (arith, le)) (numbers_from counted (b + length s.units) strata) (past_from counted (b + length s.units) strata))
 
-past_certain : (b : ℕ) (strata : List Stratum) → All (λ u. b ≤ u) (certain_from b strata)
-past_certain b [] = All-nil (λ u. b ≤ u)
-past_certain b (s ∷ strata) =
-    All-append (λ u. b ≤ u) (map (λ u. b + u) s.request.certain) (certain_from (b + length s.units) strata)
-    (All-map (λ u. b ≤ u) (λ u. b + u) s.request.certain (λ k d l. omega arith))
-    (All-weaker (λ u. b + length s.units ≤ u) (λ u. b ≤ u) (λ u le. omega (arith, le)) (certain_from (b + length s.units) strata) (past_certain (b + length s.units) strata))
-
-free_rises : (b : ℕ) (strata : List Stratum) → AreOver strata → Rises (free_from b strata)
-free_rises b [] over = λ i j l m. absurd (omega (arith, m))
-free_rises b (s ∷ strata) over =
-    let own : IsOver (length s.units) s.request = All-head (λ (u : Stratum). IsOver (length u.units) u.request) s strata over in
-    rises_on b (length s.units) s.request.free (free_from (b + length s.units) strata) own.rising.free own.free
-    (free_rises (b + length s.units) strata (All-tail (λ (u : Stratum). IsOver (length u.units) u.request) s strata over)) (past_free (b + length s.units) strata)
-
-certain_rises : (b : ℕ) (strata : List Stratum) → AreOver strata → Rises (certain_from b strata)
-certain_rises b [] over = λ i j l m. absurd (omega (arith, m))
-certain_rises b (s ∷ strata) over =
-    let own : IsOver (length s.units) s.request = All-head (λ (u : Stratum). IsOver (length u.units) u.request) s strata over in
-    rises_on b (length s.units) s.request.certain (certain_from (b + length s.units) strata) own.rising.certain own.certain
-    (certain_rises (b + length s.units) strata (All-tail (λ (u : Stratum). IsOver (length u.units) u.request) s strata over)) (past_certain (b + length s.units) strata)
+-- where those of each request rise, and are units of its stratum
+numbers_rise : (counted : Request → List ℕ) → ((n : ℕ) (r : Request) → IsOver n r → Rises (counted r) × All (λ u. u < n) (counted r)) → (b : ℕ) (strata : List Stratum) → AreOver strata → Rises (numbers_from counted b strata)
+numbers_rise counted own b [] over = λ i j l m. absurd (omega (arith, m))
+numbers_rise counted own b (s ∷ strata) over =
+    let here = own (length s.units) s.request (All-head (λ (u : Stratum). IsOver (length u.units) u.request) s strata over) in
+    rises_on b (length s.units) (counted s.request) (numbers_from counted (b + length s.units) strata) here.0 here.1
+    (numbers_rise counted own (b + length s.units) strata (All-tail (λ (u : Stratum). IsOver (length u.units) u.request) s strata over)) (past_from counted (b + length s.units) strata)
 
 pub over_rises : (strata : List Stratum) → AreOver strata → IsRising (request_over strata)
-over_rises strata over = record { certain = certain_rises 0 strata over; free = free_rises 0 strata over }
+over_rises strata over = record {
+  certain = numbers_rise (λ (r : Request). r.certain) (λ n r is. (is.rising.certain, is.certain)) 0 strata over;
+  free = numbers_rise (λ (r : Request). r.free) (λ n r is. (is.rising.free, is.free)) 0 strata over;
+}
 
 -- ---- one stratum more
 
@@ -265,18 +250,10 @@ one_before (t ∷ strata) zero s is =
 one_before (t ∷ strata) (suc h) s is = omega (arith, one_before strata h s is)
 
 -- and of the numbers of the others the next stratum's come first
-pub certain_next : (b : ℕ) (strata : List Stratum) (h : ℕ) (s : Stratum) → slice_get strata h ≡ Some s
-    → certain_from b (drop h strata) ≡ map (λ u. b + u) s.request.certain ++ certain_from (b + length s.units) (drop (suc h) strata)
-certain_next b [] h s is = absurd (cc)
-certain_next b (t ∷ strata) zero s is =
+pub numbers_next : (counted : Request → List ℕ) (b : ℕ) (strata : List Stratum) (h : ℕ) (s : Stratum) → slice_get strata h ≡ Some s
+    → numbers_from counted b (drop h strata) ≡ map (λ u. b + u) (counted s.request) ++ numbers_from counted (b + length s.units) (drop (suc h) strata)
+numbers_next counted b [] h s is = absurd (cc)
+numbers_next counted b (t ∷ strata) zero s is =
     let same : t ≡ s = same_Some t s is in
-    ap (λ (u : Stratum). map (λ n. b + n) u.request.certain ++ certain_from (b + length u.units) strata) same
-certain_next b (t ∷ strata) (suc h) s is = certain_next b strata h s is
-
-pub free_next : (b : ℕ) (strata : List Stratum) (h : ℕ) (s : Stratum) → slice_get strata h ≡ Some s
-    → free_from b (drop h strata) ≡ map (λ u. b + u) s.request.free ++ free_from (b + length s.units) (drop (suc h) strata)
-free_next b [] h s is = absurd (cc)
-free_next b (t ∷ strata) zero s is =
-    let same : t ≡ s = same_Some t s is in
-    ap (λ (u : Stratum). map (λ n. b + n) u.request.free ++ free_from (b + length u.units) strata) same
-free_next b (t ∷ strata) (suc h) s is = free_next b strata h s is
+    ap (λ (u : Stratum). map (λ n. b + n) (counted u.request) ++ numbers_from counted (b + length u.units) strata) same
+numbers_next counted b (t ∷ strata) (suc h) s is = numbers_next counted b strata h s is

@@ -5,7 +5,7 @@ use Rattle.std.specs.List.{range_with_len, slice_get}
 use Rattle.std.proofs.lemmas.Bool.{lt-ltb}
 use Rattle.std.proofs.lemmas.List.Elements.{All-from_get_or, All-get_or}
 use Rattle.std.proofs.lemmas.List.FromFn.{get_or-map-range_with_len, length-map-range_with_len, map-range_with_len_more}
-use Rattle.std.proofs.lemmas.Option.{get_or_from_slice_get, slice_get_read, slice_get_within}
+use Rattle.std.proofs.lemmas.Option.{get_or_from_slice_get, slice_get_within}
 use Rattle.smp_fractions.specs.Fractions.{Fraction, Same, times, whole}
 use Rattle.smp_fractions.proofs.Fractions.{same_sym, same_trans, times-one}
 use Rattle.smp_frac.specs.declared.fractions.Frac.{Frac}
@@ -38,7 +38,7 @@ use Rattle.smp_twostage.specs.Selections.{Coverage, covers, is_together, place_o
 use Rattle.smp_twostage.specs.Starts.{row_fraction}
 use Rattle.smp_twostage.specs.Laws.Places.{StandsIn, place_is_seat}
 use Rattle.smp_twostage.specs.Laws.Staged.{first_is, none_in, place_stands}
-use Rattle.smp_twostage.proofs.Columns.{balanced_count, has_columns, is_planned, near_within}
+use Rattle.smp_twostage.proofs.Columns.{balanced_count, has_columns, is_planned, near_within, stratum_at}
 use Rattle.smp_twostage.proofs.Told.{covered_open}
 
 -- one row more
@@ -175,7 +175,7 @@ module _ (c : Coverage) (drawable : CanBeDrawn c.plan) (yes : draws_together c.p
   pub columns_found : (s : Stratum) → s ≡ get_or c.plan.strata 0 s → column_count (balancing c.plan s) ≡ (drawn_rows c states).columns
   columns_found s is =
       let some = (drawable.together yes).some in
-      let there : slice_get c.plan.strata 0 ≡ Some s = slice_get_read c.plan.strata (length c.plan.strata) 0 s refl some is in
+      let there : slice_get c.plan.strata 0 ≡ Some s = stratum_at c.plan.strata 0 s some is in
       rw there refl
 
   at_row : {A : Type 0} (f : ℕ → A) (i : ℕ) (d : A) → i < rows → get_or (map f (range_with_len 0 rows)) i d ≡ f i

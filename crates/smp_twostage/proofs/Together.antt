@@ -51,7 +51,7 @@ use Rattle.smp_stratcube.proofs.StratumSums.{whole_same, whole_sum}
 use Rattle.smp_balance.specs.Strata.{free_values}
 use Rattle.smp_twostage.specs.Cubes.{balancing, units_together}
 use Rattle.smp_twostage.specs.Plans.{CanBeDrawn}
-use Rattle.smp_twostage.specs.Selections.{BelongsToWhole, Selecting, all_of, belongs_to, free_from, is_in_section, layers_of, place_of, seat_together}
+use Rattle.smp_twostage.specs.Selections.{BelongsToWhole, Selecting, all_of, belongs_to, is_in_section, layers_of, numbers_from, place_of, seat_together}
 use Rattle.smp_twostage.specs.Selections.{seats_together, section_count_by, stage_of_strata, stages_before_by, stages_by, tree_of, units_before}
 use Rattle.smp_twostage.specs.Kept.{EachFirst}
 use Rattle.smp_twostage.specs.Starts.{row_fraction}
@@ -78,7 +78,7 @@ offset_is plan (s ∷ strata) over (suc h) =
     ap₂ (λ (m n : ℕ). m + n) own.sound.paired (offset_is plan strata (All-tail (λ (t : Stratum). IsOver (length t.units) t.request) s strata over) h)
 
 -- the free units of all strata are those of the design
-free_count : (plan : Parts) (strata : List Stratum) → All (λ (s : Stratum). IsOver (length s.units) s.request) strata → (b count h : ℕ) → length (free_from b strata) ≡ length (members_from count h (map (layer_in plan) strata))
+free_count : (plan : Parts) (strata : List Stratum) → All (λ (s : Stratum). IsOver (length s.units) s.request) strata → (b count h : ℕ) → length (numbers_from (λ (r : Request). r.free) b strata) ≡ length (members_from count h (map (layer_in plan) strata))
 free_count plan [] over b count h = refl
 free_count plan (s ∷ strata) over b count h =
     let own : IsOver (length s.units) s.request = All-head (λ (t : Stratum). IsOver (length t.units) t.request) s strata over in
@@ -87,7 +87,7 @@ free_count plan (s ∷ strata) over b count h =
       arith,
       rest,
       own.sound.paired,
-      length-append (map (λ u. b + u) s.request.free) (free_from (b + length s.units) strata),
+      length-append (map (λ u. b + u) s.request.free) (numbers_from (λ (r : Request). r.free) (b + length s.units) strata),
       length-map s.request.free (λ u. b + u),
       length-append (map (member_of count h (layer_in plan s)) (range_with_len 0 (length s.request.shape))) (members_from count (suc h) (map (layer_in plan) strata)),
       length-map-range_with_len (member_of count h (layer_in plan s)) 0 (length s.request.shape),

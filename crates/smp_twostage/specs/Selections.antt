@@ -134,23 +134,18 @@ units_before (s ∷ strata) (suc h) = length s.units + units_before strata h
 abbrev pub unit_count : List stratum.Stratum → ℕ
 unit_count strata = units_before strata (length strata)
 
--- the certain units of all strata, and the free ones, by their numbers among the units of all: the strata stand one after another, and so
--- many units stand before them
-abbrev pub certain_from : ℕ → List stratum.Stratum → List ℕ
-certain_from before [] = []
-certain_from before (s ∷ strata) =
-    map (λ unit. before + unit) s.request.certain ++ certain_from (before + length s.units) strata
-
-abbrev pub free_from : ℕ → List stratum.Stratum → List ℕ
-free_from before [] = []
-free_from before (s ∷ strata) =
-    map (λ unit. before + unit) s.request.free ++ free_from (before + length s.units) strata
+-- units of all strata, of those that each request counts, by their numbers among the units of all: the strata stand one after another,
+-- and so many units stand before them
+abbrev pub numbers_from : (Request → List ℕ) → ℕ → List stratum.Stratum → List ℕ
+numbers_from counted before [] = []
+numbers_from counted before (s ∷ strata) =
+    map (λ unit. before + unit) (counted s.request) ++ numbers_from counted (before + length s.units) strata
 
 -- Where the units of all strata stand. It has no shapes: the probability of a free unit is what the request of its stratum says.
 abbrev pub request_over : List stratum.Stratum → Request
 request_over strata = record {
-  certain = certain_from 0 strata;
-  free = free_from 0 strata;
+  certain = numbers_from (λ request. request.certain) 0 strata;
+  free = numbers_from (λ request. request.free) 0 strata;
   shape = [];
   r = 0;
   total = 0;

@@ -21,7 +21,7 @@ use crate::StageDesign;
 use smp_design::{Method, Order};
 use smp_frac::NoMemory;
 use smp_frame::Numbers;
-use smp_methods::{AnyState, Procedure, Started};
+use smp_methods::{AnyState, Procedure, Started, no_values};
 use smp_prob::{Places, Request, Shapes};
 use smp_stages::{Place, Stage};
 use smp_strata::{FirstUnit, Plan, Stratum};
@@ -72,17 +72,6 @@ fn free_values(alloc: Global, stratum: &Stratum) -> Result<Vec<Numbers>, NoMemor
     let mut values = Vec::new(alloc);
     for unit in stratum.request.free.as_slice() {
         values.push(values_at(alloc, stratum.units.as_slice(), *unit)?)?;
-    }
-    Ok(values)
-}
-
-// No values for each free row of a request.
-fn no_values(alloc: Global, request: &Request) -> Result<Vec<Numbers>, NoMemory>
-    ensures { IfOk result (λ values. values.items ≡ map (λ _. []) request.now.free) }
-{
-    let mut values = Vec::new(alloc);
-    for _ in request.free.as_slice() {
-        values.push(Numbers::from_slice(alloc, &[])?)?;
     }
     Ok(values)
 }

@@ -1,6 +1,6 @@
-use Rattle.std.proofs.Common.{◌≡◌, ◌<◌, Some, length, arith, refl, sym}
+use Rattle.std.proofs.Common.{◌≡◌, Some, arith, sym}
 use Rattle.std.specs.List.{slice_get}
-use Rattle.std.proofs.lemmas.Option.{slice_get_read}
+use Rattle.smp_twostage.proofs.Columns.{stratum_at}
 use Rattle.smp_twostage.proofs.Layers.{few_before, next_before}
 use Rattle.smp_twostage.proofs.OverAll.{none_before}
 use Rattle.smp_twostage.proofs.made.units_before.Goals as goal
@@ -16,6 +16,5 @@ overflow_add-before c =
 pub loop-number-preserved : goal.loop-number-preserved
 loop-number-preserved c =
     let plan = c.args.plan.now in
-    let within : c.loop-number.number < length plan.strata = omega (arith, c.loop-number-test.true, c.requires.stratum) in
-    let there : slice_get plan.strata c.loop-number.number ≡ Some c.stratum.result.now = slice_get_read plan.strata (length plan.strata) c.loop-number.number c.stratum.result.now refl within c.stratum.ensures.value in
+    let there : slice_get plan.strata c.loop-number.number ≡ Some c.stratum.result.now = stratum_at plan.strata c.loop-number.number _ (omega (arith, c.loop-number-test.true, c.requires.stratum)) c.stratum.ensures.value in
     next_before plan.strata c.loop-number.number c.stratum.result.now there c.loop-number.before c.as_slice.result.now c.as_slice.ensures c.loop-number.invariant

@@ -1,15 +1,14 @@
-use Rattle.std.proofs.Common.{◌≡◌, ◌<◌, suc, [], ◌∷◌, ◌++◌, Some, length, map, arith, rules, refl, sym, ap, ◌∙◌}
+use Rattle.std.proofs.Common.{◌≡◌, suc, [], ◌∷◌, ◌++◌, Some, length, map, arith, rules, sym, ap, ◌∙◌}
 use Rattle.std.specs.List.{range_with_len, slice_get}
 use Rattle.std.specs.Vec.{vec_len}
-use Rattle.std.proofs.lemmas.Option.{slice_get_read}
 use Rattle.smp_twostage.specs.Selections.{first_number}
+use Rattle.smp_twostage.proofs.Columns.{stratum_at}
 use Rattle.smp_twostage.proofs.Built.{last_number, next_below, next_number}
 use Rattle.smp_twostage.proofs.made.Made.push_strata.Goals as goal
 
 pub loop-number-preserved : goal.loop-number-preserved
 loop-number-preserved c =
-    let within : c.loop-number.number < length c.args.plan.now.strata = omega (arith, c.loop-number-test.true, c.strata-number-end.ensures) in
-    let there : slice_get c.args.plan.now.strata c.loop-number.number ≡ Some c.stratum.result.now = slice_get_read c.args.plan.now.strata (length c.args.plan.now.strata) c.loop-number.number c.stratum.result.now refl within c.stratum.ensures.value in
+    let there : slice_get c.args.plan.now.strata c.loop-number.number ≡ Some c.stratum.result.now = stratum_at c.args.plan.now.strata c.loop-number.number _ (omega (arith, c.loop-number-test.true, c.strata-number-end.ensures)) c.stratum.ensures.value in
     let len : length c.loop-number.self.stages.items ≡ vec_len c.loop-number.self.stages = search rules in
     record {
       stages = next_below c.args.plan.now c.loop-number.number c.stratum.result.now c.loop-number.self.stages.items _ there c.loop-number.invariant.stages c.in_ok-push_stratum.ensures.stages;

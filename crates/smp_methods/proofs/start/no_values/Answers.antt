@@ -1,6 +1,6 @@
 use Rattle.std.proofs.Common.{◌≡◌, ◌<◌, length, arith, ap}
-use Rattle.smp_cases.proofs.Values.{one_more}
-use Rattle.smp_cases.proofs.running.no_values.Goals as goal
+use Rattle.smp_methods.proofs.Values.{one_more}
+use Rattle.smp_methods.proofs.start.no_values.Goals as goal
 
 pub loop-preserved : goal.loop-preserved
 loop-preserved c =

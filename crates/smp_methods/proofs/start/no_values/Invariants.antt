@@ -1,5 +1,5 @@
 use Rattle.std.proofs.Common.{◌≡◌, ◌++◌, drop, map, []}
-use Rattle.smp_cases.proofs.running.no_values.Given as goal
+use Rattle.smp_methods.proofs.start.no_values.Given as goal
 
 -- the lists so far, and those for the other units
 abbrev pub invariant-loop : goal.invariant-loop

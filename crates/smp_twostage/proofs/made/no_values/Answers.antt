@@ -1,9 +1,0 @@
-use Rattle.std.proofs.Common.{◌≡◌, [], ◌<◌, length, arith, ap}
-use Rattle.smp_balance.proofs.Told.{next_mapped}
-use Rattle.smp_twostage.proofs.made.no_values.Goals as goal
-
-pub loop-preserved : goal.loop-preserved
-loop-preserved c =
-    let same : c.as_slice-items.result.now ≡ c.args.request.now.free = c.as_slice-items.ensures in
-    let within : c.loop.index < length c.args.request.now.free = omega (arith, c.loop-test.true, ap length same) in
-    rw c.in_ok-push.ensures.items (next_mapped (λ _. []) c.args.request.now.free 0 c.loop.index c.loop.values.items c.in_ok-from_slice.field-0 _ within c.in_ok-from_slice.ensures c.loop.invariant)
