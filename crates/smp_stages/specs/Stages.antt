@@ -96,6 +96,10 @@ module _ {Design State : Type 0} (tree_of : Design → Tree State) where
     abbrev pub waits : List State → ℕ → Bool
     waits states i = is_drawn states i && not (stage_done states i)
 
+    -- no stage before this one waits
+    abbrev pub NoneWaits : List State → ℕ → Type 0
+    NoneWaits states number = (i : ℕ) → i < number → waits states i ≡ false
+
     -- the first stage that waits, or the number of stages
     abbrev pub next_stage : List State → ℕ
     next_stage states = first_among (waits states) (length stages) 0

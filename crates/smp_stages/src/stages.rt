@@ -1,10 +1,10 @@
 //! The stages, and the selection through them.
 
 ghost use Rattle.std.proofs.Props.{props};
-ghost use Rattle.std.specs.Prelude.{◌≡◌, ◌<◌, ℕ, true, false, length, set, Option, Some};
+ghost use Rattle.std.specs.Prelude.{◌≡◌, ◌<◌, true, length, set, Option, Some};
 ghost use Rattle.std.specs.List.{slice_get};
 ghost use Rattle.smp_stages.specs.Laws.Staged.{staged_lawful};
-ghost use Rattle.smp_stages.specs.Stages.{EachBelongs, IsFirstUnit, IsStaged, IsUnderWay, IsUnitWithin, is_drawn, next_stage, progress, seat_selected, selected_in, stage_done, stage_kind, stage_parts, staged_tree, unit_selected, units_of, waits};
+ghost use Rattle.smp_stages.specs.Stages.{EachBelongs, IsFirstUnit, IsStaged, IsUnderWay, IsUnitWithin, NoneWaits, is_drawn, next_stage, progress, seat_selected, selected_in, stage_done, stage_kind, stage_parts, staged_tree, unit_selected, units_of, waits};
 ghost use Rattle.smp_stages.specs.Starts.{StartsInStages};
 ghost use Rattle.smp_stages.specs.declared.places.Place.{Place};
 ghost use Rattle.smp_stages.specs.declared.places.Seat.TheVariants as Seat;
@@ -75,8 +75,7 @@ impl<D: Splitting> Stages<D> {
     fn is_drawn(&self, states: &[D::State], number: usize) -> bool
         requires each { EachBelongs D.tree D.belongs self.now.stages.items states.now }
         requires stage { number < length self.now.stages.items }
-        requires passed { (i : ℕ) → i < number
-            → waits D.tree self.now.stages.items states.now i ≡ false }
+        requires passed { NoneWaits D.tree self.now.stages.items states.now number }
         ensures { result ≡ is_drawn D.tree self.now.stages.items states.now number }
     {
         let stage = &self.stages[number];
@@ -90,8 +89,7 @@ impl<D: Splitting> Stages<D> {
     fn waits(&self, states: &[D::State], number: usize) -> bool
         requires each { EachBelongs D.tree D.belongs self.now.stages.items states.now }
         requires stage { number < length self.now.stages.items }
-        requires passed { (i : ℕ) → i < number
-            → waits D.tree self.now.stages.items states.now i ≡ false }
+        requires passed { NoneWaits D.tree self.now.stages.items states.now number }
         ensures { result ≡ waits D.tree self.now.stages.items states.now number }
     {
         if !self.is_drawn(states, number) {
@@ -105,8 +103,7 @@ impl<D: Splitting> Stages<D> {
     // The first stage that waits, where none before this one does.
     fn next_from(&self, states: &[D::State], from: usize) -> usize
         requires each { EachBelongs D.tree D.belongs self.now.stages.items states.now }
-        requires passed { (i : ℕ) → i < from
-            → waits D.tree self.now.stages.items states.now i ≡ false }
+        requires passed { NoneWaits D.tree self.now.stages.items states.now from }
         ensures { result ≡ next_stage D.tree self.now.stages.items states.now }
     {
         for number in from..self.stages.len() {
@@ -160,8 +157,8 @@ impl<D: Splitting> Stages<D> {
     // Whether a row that has this seat is selected, where no stage waits.
     fn selects_seat(&self, states: &[D::State], seat: Seat) -> bool
         requires each { EachBelongs D.tree D.belongs self.now.stages.items states.now }
-        requires ended { (i : ℕ) → i < length self.now.stages.items
-            → waits D.tree self.now.stages.items states.now i ≡ false }
+        requires ended { NoneWaits D.tree self.now.stages.items states.now
+            (length self.now.stages.items) }
         requires first { (place : Place) → seat ≡ Seat.First place
             → IsFirstUnit D.tree self.now.stages.items place }
         requires second { (first second : Place) → seat ≡ Seat.Second first second
