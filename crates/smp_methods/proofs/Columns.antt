@@ -7,7 +7,7 @@ use Rattle.std.proofs.lemmas.List.{take_all}
 use Rattle.std.proofs.lemmas.List.Elements.{All-get_or, All-map, All-take}
 use Rattle.smp_kernel.specs.Vectors.{Within}
 use Rattle.smp_design.specs.declared.method.Method.{Method}
-use Rattle.smp_design.specs.declared.method.Method.TheVariants.{Cube, LocalCube, StratifiedCube}
+use Rattle.smp_design.specs.declared.method.Method.TheVariants.{Cube, LocalCube}
 use Rattle.smp_design.specs.Words.{row, balances, fits_columns, is_balance, most_balance, takes_columns}
 use Rattle.smp_design.proofs.Rows.{TakesBoth, balances_few, takes_both}
 use Rattle.smp_prob.specs.declared.orders.Order.{Order}
@@ -78,7 +78,7 @@ no_cut columns (v ∷ values) counted =
     (no_cut columns values (λ k d l. counted (suc k) d (suc-le-suc l)))
 
 module _ (way : Procedure) (values : List (List ℤ)) (takes : TakesValues way values) (is : (row way.method).needs ≡ (row Cube).needs) where
-  balanced_whole : balancing_values way.near way.columns values ≡ values
+  pub balanced_whole : balancing_values way.near way.columns values ≡ values
   unfolding row
   balanced_whole =
       let fits : (nat_eq way.near 0 && nat_le way.columns most_balance) ≡ true = subst (λ needs. fits_columns needs way.near way.columns ≡ true) is takes.columns in
@@ -87,28 +87,10 @@ module _ (way : Procedure) (values : List (List ℤ)) (takes : TakesValues way v
       let each : All (λ v. length v ≡ way.columns) values = subst (λ needs. NeededIf (is_balance needs) (All (λ v. length v ≡ way.columns) values)) is takes.each in
       ap (λ near. balancing_values near way.columns values) none ∙ no_cut way.columns values each
 
-  whole_values : AreValues values
+  pub whole_values : AreValues values
   unfolding row
   whole_values =
       subst AreValues balanced_whole (subst (λ needs. NeededIf (is_balance needs) (AreValues (balancing_values way.near way.columns values))) is takes.balancing)
-
--- by the cube
-pub all_balanced : (way : Procedure) (values : List (List ℤ)) → TakesValues way values → way.method ≡ Cube → balancing_values way.near way.columns values ≡ values
-unfolding row
-all_balanced way values takes is = balanced_whole way values takes (ap (λ m. (row m).needs) is)
-
-pub cube_values : (way : Procedure) (values : List (List ℤ)) → TakesValues way values → way.method ≡ Cube → AreValues values
-unfolding row
-cube_values way values takes is = whole_values way values takes (ap (λ m. (row m).needs) is)
-
--- by the cube over all strata
-pub strata_balanced : (way : Procedure) (values : List (List ℤ)) → TakesValues way values → way.method ≡ StratifiedCube → balancing_values way.near way.columns values ≡ values
-unfolding row
-strata_balanced way values takes is = balanced_whole way values takes (ap (λ m. (row m).needs) is)
-
-pub strata_values : (way : Procedure) (values : List (List ℤ)) → TakesValues way values → way.method ≡ StratifiedCube → AreValues values
-unfolding row
-strata_values way values takes is = whole_values way values takes (ap (λ m. (row m).needs) is)
 
 -- ---- what the local cube needs of them
 

@@ -80,7 +80,7 @@ macro_rules! by_method {
 
 impl AnyDesign {
     /// The design of a request by a procedure. Each free unit has the value that is requested.
-    #[tactic(auto, using(crate::proofs::Columns::few_points, crate::proofs::Columns::cube_values, crate::proofs::Columns::local_near, crate::proofs::Columns::local_within, crate::proofs::Columns::local_values, crate::proofs::Columns::all_balanced, crate::proofs::Columns::strata_values, crate::proofs::Columns::strata_balanced), unfolding(smp_design::specs::Words::row))]
+    #[tactic(auto, using(crate::proofs::Columns::few_points, crate::proofs::Columns::whole_values, crate::proofs::Columns::local_near, crate::proofs::Columns::local_within, crate::proofs::Columns::local_values, crate::proofs::Columns::balanced_whole), unfolding(smp_design::specs::Words::row))]
     pub(crate) fn new(
         alloc: Global,
         procedure: Procedure,
