@@ -52,9 +52,9 @@ use Rattle.smp_status.specs.declared.status.Status.TheVariants.{TapeLong}
 use Rattle.smp_status.specs.Codes.{class_of, tape_status}
 use Rattle.smp_plan.specs.Plans.{Plan, parts, quick_design}
 use Rattle.smp_app.specs.Drawn.{Drawn, tree_of, start_of, sections_of, covered, drawn_rows}
-use Rattle.smp_app.specs.Texts.{ids_text, log_text, migrated_text, report_text, sample_text, steps_text}
+use Rattle.smp_app.specs.Texts.{log_text, report_text, sample_text}
 use Rattle.smp_plan.specs.Inputs.{Given, Held, FrameHeld, ReadDesign, design_stage, frame_stage, plan_stage}
-use Rattle.smp_app.specs.Commands.{DrawnFile, ByTape, ByLog, ByOldLog, BySection, Draws, Job, source_of, log_source, job_of, job_for, outputs_by, written_by}
+use Rattle.smp_app.specs.Commands.{DrawnFile, ByLog, ByOldLog, BySection, Draws, Job, source_of, log_source, job_of, job_for, outputs_by, written_by}
 use Rattle.smp_app.specs.Commands as drawing
 use Rattle.smp_faults.specs.Steps.{◌>>=◌}
 use Rattle.smp_plan.specs.Stops.{Stop, Refused, content, or_fault}
@@ -339,9 +339,9 @@ record Drew (job : Job) (source : drawing.Source) (files : List DrawnFile) (put 
   written : now.files ≡ Some (with_files (map (written_by drawn) files) fs)
   shown : now.written ≡ with_bytes (put drawn) before.written
 
-drew : (words : List (List ℕ)) (job : Job) (fs : Files) (before now : Outside) (source : drawing.Source) (files : List DrawnFile) (put : Drawn → List ℕ)
+drew : (words : List (List ℕ)) (job : Job) (fs : Files) (before now : Outside) {source : drawing.Source} {files : List DrawnFile} {put : Drawn → List ℕ}
     → job_for words ≡ Some job → job.work ≡ Draws source files put → Done words before now → before.files ≡ Some fs → Drew job source files put fs before now
-drew words job fs before now source files put asked work_is done told =
+drew words job fs before now {source = source} {files = files} {put = put} asked work_is done told =
     let same : done.job ≡ job = some_same _ _ (sym done.asked ∙ asked) in
     let work : IsWork words job fs before now = subst (λ (j : Job). IsWork words j fs before now) same (done.done fs told) in
     let plan = work.exact.plan in
@@ -422,18 +422,9 @@ module _ (drawn : Drawn) (by : IsDrawnBy drawn.plan drawn) (is_head : IsHead dra
       ∙ ap (λ (o : Option ℕ). ok_drawn (record { plan = drawn.plan; only = o; leaf = drawn.leaf; path = drawn.path })) (sym by.all)
 
 module _ (a : DrawArguments) (fs : Files) (before now : Outside) (words : List (List ℕ)) (asked : command_of words ≡ Some (commands.Draw a)) where
-  abbrev draw_files : List DrawnFile
-  draw_files = record { name = a.log; text = log_text } ∷ record { name = a.sample; text = sample_text } ∷ []
-
-  abbrev draw_job : Job
-  draw_job = record { design = Held a.design; frame = FrameHeld a.frame; work = Draws (source_of a.chance) draw_files report_text }
-
-  draw_asked : job_for words ≡ Some draw_job
-  draw_asked = ap (option_map job_of) asked
-
   pub exact_draw : Done words before now → before.files ≡ Some fs → IsExactDraw a fs before now
   exact_draw done told =
-      let d = drew words draw_job fs before now (source_of a.chance) draw_files report_text draw_asked refl done told in
+      let d = drew words (job_of (commands.Draw a)) fs before now (ap (option_map job_of) asked) refl done told in
       let same = chance_same d.plan a.chance fs d.drawn d.staged in
       let whole = by_whole d.plan d.drawn same.only_so d.by_plan in
       record {
@@ -448,7 +439,7 @@ module _ (a : DrawArguments) (fs : Files) (before now : Outside) (words : List (
   -- what it wrote is accepted
   pub is_replayed : Done words before now → before.files ≡ Some fs → (exact : IsExactDraw a fs before now) → IsReplayed exact.drawn
   is_replayed done told exact =
-      let d = drew words draw_job fs before now (source_of a.chance) draw_files report_text draw_asked refl done told in
+      let d = drew words (job_of (commands.Draw a)) fs before now (ap (option_map job_of) asked) refl done told in
       let same = chance_same d.plan a.chance fs d.drawn d.staged in
       let whole = by_whole d.plan d.drawn same.only_so d.by_plan in
       let one : d.plan ≡ exact.drawn.plan = read_once a.design a.frame fs d.plan exact.drawn.plan (read_plan a.design a.frame fs d.plan (read a.design a.frame fs d.plan d.planned)) exact.read in
@@ -457,17 +448,8 @@ module _ (a : DrawArguments) (fs : Files) (before now : Outside) (words : List (
 -- ---- a quick draw that ended well
 
 module _ (a : QuickArguments) (fs : Files) (before now : Outside) (words : List (List ℕ)) (asked : command_of words ≡ Some (commands.Quick a)) where
-  abbrev quick_files : List DrawnFile
-  quick_files = record { name = a.out; text = ids_text } ∷ []
-
-  abbrev quick_job : Job
-  quick_job = record { design = Given (quick_design a.n); frame = FrameHeld a.frame; work = Draws (ByTape a.tape) quick_files steps_text }
-
   abbrev quick_read : ReadDesign
   quick_read = record { design = quick_design a.n; bytes = [] }
-
-  quick_asked : job_for words ≡ Some quick_job
-  quick_asked = ap (option_map job_of) asked
 
   quick_planned : (plan : Plan) → design_stage (Given (quick_design a.n)) fs >>= (λ d. frame_stage d (FrameHeld a.frame) fs) ≡ Ok plan → Planned quick_read a.frame fs plan
   unfolding design_stage
@@ -475,7 +457,7 @@ module _ (a : QuickArguments) (fs : Files) (before now : Outside) (words : List 
 
   pub exact_quick : Done words before now → before.files ≡ Some fs → IsExactQuick a fs before now
   exact_quick done told =
-      let d = drew words quick_job fs before now (ByTape a.tape) quick_files steps_text quick_asked refl done told in
+      let d = drew words (job_of (commands.Quick a)) fs before now (ap (option_map job_of) asked) refl done told in
       let from = frame_plan quick_read a.frame fs d.plan (quick_planned d.plan d.planned) in
       let same = chance_same d.plan (Tape a.tape) fs d.drawn d.staged in
       let whole = by_whole d.plan d.drawn same.only_so d.by_plan in
@@ -503,7 +485,7 @@ module _ (a : ReplayArguments) (fs : Files) (before now : Outside) (words : List
     replay_asked = ap (option_map job_of) asked ∙ ap (λ (s : drawing.Source). Some (replay_job s)) from_words
 
     replay_drew : Done words before now → before.files ≡ Some fs → Drew (replay_job source) source replay_files report_text fs before now
-    replay_drew = drew words (replay_job source) fs before now source replay_files report_text replay_asked refl
+    replay_drew = drew words (replay_job source) fs before now replay_asked refl
 
   pub exact_replay : a.stratum ≡ None → Done words before now → before.files ≡ Some fs → IsExactReplay a fs before now
   exact_replay none done told_files =
@@ -575,18 +557,9 @@ module _ (a : ReplayArguments) (fs : Files) (before now : Outside) (words : List
 -- ---- a migration that ended well
 
 module _ (a : MigrateArguments) (fs : Files) (before now : Outside) (words : List (List ℕ)) (asked : command_of words ≡ Some (commands.Migrate a)) where
-  abbrev migrate_files : List DrawnFile
-  migrate_files = record { name = a.to; text = log_text } ∷ []
-
-  abbrev migrate_job : Job
-  migrate_job = record { design = Held a.design; frame = FrameHeld a.frame; work = Draws (ByOldLog a.log) migrate_files migrated_text }
-
-  migrate_asked : job_for words ≡ Some migrate_job
-  migrate_asked = ap (option_map job_of) asked
-
   pub exact_migration : Done words before now → before.files ≡ Some fs → IsExactMigration a fs before now
   exact_migration done told_files =
-      let d = drew words migrate_job fs before now (ByOldLog a.log) migrate_files migrated_text migrate_asked refl done told_files in
+      let d = drew words (job_of (commands.Migrate a)) fs before now (ap (option_map job_of) asked) refl done told_files in
       let plan = d.plan in
       let drawn = d.drawn in
       let from = read_plan a.design a.frame fs plan (read a.design a.frame fs plan d.planned) in
@@ -655,7 +628,7 @@ module _ (answer : Status) (words : List (List ℕ)) (before now : Outside) (fs 
 
   migrate_line : (a : MigrateArguments) → Ends answer words before (status.LogDiffers line) (commands.Migrate a) fs → IsRefusedLog a.design a.frame a.log fs (λ plan log. OldDiffers plan log line)
   migrate_line a ends =
-      refused_log a.design a.frame a.log fs line (migrate_job a fs before now words ends.asked) (λ plan log. OldDiffers plan log line) refl refl (λ plan r. r)
+      refused_log a.design a.frame a.log fs line (job_of (commands.Migrate a)) (λ plan log. OldDiffers plan log line) refl refl (λ plan r. r)
       (refused_by words fs line before.files ends.told (refuses_line ends.answered) (commands.Migrate a) ends.asked)
 
 pub headline : (answer : Status) (words : List (List ℕ)) (before now : Outside) → Says (class_of answer) answer words before now → Headline answer words before now

@@ -130,11 +130,17 @@ pub unread : {A : Type 0} (plan : Plan) (source : Source) (fs : Files) (name : L
 unread plan source fs name error answer ends follows = rw ends (read_line name (fs name) error (IsRefusedAt plan source fs) follows)
 
 -- what differs in the bytes that were read differs in the log
-pub in_log : {A : Type 0} (Differs : List ℕ → ℕ → Type 0) (name bytes log : List ℕ) (fs : Files) (answer : Result A Status) → content name (fs name) ≡ Ok bytes → log ≡ bytes → IfErr answer (λ refusal. IfLine refusal (Differs log))
+in_log : {A : Type 0} (Differs : List ℕ → ℕ → Type 0) (name bytes log : List ℕ) (fs : Files) (answer : Result A Status) → content name (fs name) ≡ Ok bytes → log ≡ bytes → IfErr answer (λ refusal. IfLine refusal (Differs log))
     → IfErr answer (λ refusal. IfLine refusal (λ line. RefusesLog (λ b. Differs b line) name fs))
 in_log Differs name bytes log fs answer read same =
     if_more answer (Differs log) (λ line. RefusesLog (λ b. Differs b line) name fs)
     (λ line differs. log_refused (λ b. Differs b line) name bytes fs read (subst (λ (b : List ℕ). Differs b line) same differs))
+
+-- what differs in the file that was read
+pub in_file : {A : Type 0} (Differs : List ℕ → ℕ → Type 0) {name there bytes log : List ℕ} (fs : Files) (answer : Result A Status) → there ≡ name → content there (fs there) ≡ Ok bytes → log ≡ bytes → IfErr answer (λ refusal. IfLine refusal (Differs log))
+    → IfErr answer (λ refusal. IfLine refusal (λ line. RefusesLog (λ b. Differs b line) name fs))
+in_file Differs {name = name} {bytes = bytes} {log = log} fs answer is read same =
+    in_log Differs name bytes log fs answer (rw is at read) same
 
 -- ---- a stratum by its number
 

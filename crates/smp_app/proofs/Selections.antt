@@ -159,10 +159,9 @@ is_one_by (Some h) plan = one_by (draws_together plan.method) plan h
 pub is_one : (plan : Parts) (only : Option ℕ) (started : StartedWhole) → IsStart plan only started → IfSome only (λ h. (strata_sections started.whole).count ≡ 1)
 is_one plan only started start = subst (λ (c : Coverage). IfSome only (λ h. (strata_sections c).count ≡ 1)) (sym start.whole) (is_one_by only plan)
 
-pub taken_small : (plan : Parts) (taken : Taken) → HasStratum plan (only_of taken) → IfSome (only_of taken) (λ h. h < 2 ^ 32)
-taken_small plan takes.Either has = tt
-taken_small plan takes.Old has = tt
-taken_small plan (takes.Stratum h) has = has.1
+pub has_parts : (plan : Parts) (only : Option ℕ) → HasStratum plan only → IfSome only (λ h. h < section_count (all_of plan)) × IfSome only (λ h. h < 2 ^ 32)
+has_parts plan None has = (tt, tt)
+has_parts plan (Some h) has = has
 
 pub taken_stage : (plan : FramePlan) → IsPlanned plan → (started : StartedWhole) (taken : Taken) → IsStart plan.plan (only_of taken) started → (log : List ℕ)
     → drawn_by_taken taken (plan_view plan) log ≡ tells_by (plan_view plan) taken log started.whole started.state

@@ -1,10 +1,10 @@
 -- Texts that are written row by row.
-use Rattle.std.proofs.Common.{◌≡◌, ℕ, ◌+◌, ◌-◌, ◌*◌, ◌<◌, ◌≤◌, suc, zero, Bool, cond, true, false, ℤ, pos, negsuc, ◌*ℤ◌, List, [], ◌∷◌, ◌++◌, length, get_or, drop, Option, Some, Result, Ok, Err, IfOk, arith, sym, ap, subst, ◌∙◌, drop-cons, true≢false}
+use Rattle.std.proofs.Common.{◌≡◌, ℕ, ◌+◌, ◌-◌, ◌*◌, ◌<◌, ◌≤◌, suc, zero, Bool, cond, true, false, ℤ, pos, negsuc, ◌*ℤ◌, List, [], ◌∷◌, ◌++◌, length, get_or, drop, Option, Some, Result, Ok, Err, IfOk, arith, sym, ap, subst, ◌∙◌, true≢false}
 use Rattle.std.specs.List.{count_by, flat_map, range_with_len}
 use Rattle.std.specs.Prelude.{nat_eq, option_map}
 use Rattle.std.proofs.lemmas.Int.{ints}
 use Rattle.std.proofs.lemmas.List.Sums.{sum_by-cons}
-use Rattle.std.proofs.lemmas.List.{append-nil, drop_all, get_or-map}
+use Rattle.std.proofs.lemmas.List.{get_or-map}
 use Rattle.smp_fractions.specs.Fractions.{Same, inverse}
 use Rattle.smp_fractions.proofs.Fractions.{same_trans, numerator_positive, inverse_same}
 use Rattle.smp_frac.specs.declared.fractions.Frac.{Frac}
@@ -19,9 +19,9 @@ use Rattle.smp_twostage.specs.Selections.{Coverage, covered_seats, covered_tree,
 use Rattle.smp_twostage.specs.Starts.{is_positive, row_fraction}
 use Rattle.smp_twostage.specs.Laws.Places.{place_is_seat}
 use Rattle.smp_twostage.proofs.Numbers.{passing}
-use Rattle.smp_weights.specs.Rows.{AddsRow, row}
+use Rattle.smp_weights.specs.Rows.{row}
 use Rattle.smp_weights.specs.Sample.{sample_row}
-use Rattle.smp_weights.proofs.Written.{row_added}
+use Rattle.smp_joint.proofs.Pairs.{all_rows, answer_is}
 use Rattle.smp_plan.specs.declared.plan.FramePlan.{FramePlan}
 use Rattle.smp_app.specs.declared.selection.Selection.{Selection}
 use Rattle.smp_plan.specs.Plans.{Plan, parts, row_id, row_probability}
@@ -31,23 +31,6 @@ use Rattle.smp_app.specs.Kept.Stages.{IsSelection, selection_view}
 use Rattle.smp_twostage.proofs.Positive.{covered_positive}
 use Rattle.smp_app.proofs.Alone.{seats_long}
 
--- the row of one more element
-pub next_row : {A : Type 0} (line : A → List ℕ) (xs : List A) (i : ℕ) (d : A) (old new : Option (List ℕ)) (text whole : List ℕ) → i < length xs → AddsRow old new text → text ≡ line (get_or xs i d)
-    → option_map (λ before. before ++ flat_map line (drop i xs)) old ≡ Some whole → option_map (λ before. before ++ flat_map line (drop (i + 1) xs)) new ≡ Some whole
-next_row line xs i d old new text whole within adds row_is so_far =
-    let on : i + 1 ≡ suc i = omega arith in
-    let rest : flat_map line (drop i xs) ≡ text ++ flat_map line (drop (i + 1) xs) = ap (flat_map line) (drop-cons xs i d within) ∙ ap (λ front. front ++ flat_map line (drop (suc i) xs)) (sym row_is) ∙ ap (λ n. text ++ flat_map line (drop n xs)) (sym on) in
-    row_added old new text (flat_map line (drop (i + 1) xs)) whole adds (ap (λ tail. option_map (λ before. before ++ tail) old) (sym rest) ∙ so_far)
-
--- all rows are there
-all_rows : {A : Type 0} (line : A → List ℕ) (xs : List A) (i : ℕ) (written : Option (List ℕ)) (text whole : List ℕ) → length xs ≤ i → written ≡ Some text
-    → option_map (λ before. before ++ flat_map line (drop i xs)) written ≡ Some whole → text ≡ whole
-all_rows line xs i written text whole ended is so_far =
-    let rest : flat_map line (drop i xs) ≡ [] = ap (flat_map line) (drop_all i xs ended) in
-    let same : ◌≡◌ {A = Option (List ℕ)} (Some text) (Some whole) =
-    ap Some (sym (append-nil text) ∙ ap (λ tail. text ++ tail) (sym rest)) ∙ ap (option_map (λ before. before ++ flat_map line (drop i xs))) (sym is) ∙ so_far in
-    cc
-
 pub if_ok : {T E : Type 0} (r : Result T E) (P Q : T → Type 0) → ((x : T) → P x → Q x) → IfOk r P → IfOk r Q
 if_ok (Ok x) P Q f p = f x p
 if_ok (Err e) P Q f p = tt
@@ -55,7 +38,7 @@ if_ok (Err e) P Q f p = tt
 pub rows_written : {A E : Type 0} (line : A → List ℕ) (xs : List A) (i : ℕ) (written : Option (List ℕ)) (whole : List ℕ) (result : Result (List ℕ) E) → length xs ≤ i
     → option_map (λ before. before ++ flat_map line (drop i xs)) written ≡ Some whole → IfOk result (λ text. written ≡ Some text) → IfOk result (λ text. text ≡ whole)
 rows_written line xs i written whole result ended so_far answer =
-    if_ok result (λ text. written ≡ Some text) (λ text. text ≡ whole) (λ text is. all_rows line xs i written text whole ended is so_far) answer
+    answer_is result written whole (all_rows line xs i written whole ended so_far) answer
 
 -- ---- how many numbers pass a test
 

@@ -163,18 +163,13 @@ fn draw_job<'a>(alloc: Global, arguments: &'a DrawArguments) -> Result<Job<'a>, 
     ensures job { IfOk result (λ job. job_view job ≡ job_of (Draw arguments.now)) }
     ensures is_job { IfOk result IsJob }
 {
+    let from = DrawSource::of(&arguments.chance);
+    let put = DrawnText::Report;
     let mut files = Vec::new(alloc);
     files.push(drawn_file(&arguments.log, DrawnText::Log))?;
     files.push(drawn_file(&arguments.sample, DrawnText::Sample))?;
-    Ok(Job {
-        design: DesignSource::Held(&arguments.design),
-        frame: FrameSource::Held(&arguments.frame),
-        work: Work::Draws {
-            from: DrawSource::of(&arguments.chance),
-            files,
-            put: DrawnText::Report,
-        },
-    })
+    let work = Work::Draws { from, files, put };
+    Ok(held_job(&arguments.design, &arguments.frame, work))
 }
 
 fn replay_job<'a>(alloc: Global, arguments: &'a ReplayArguments) -> Result<Job<'a>, NoMemory>
@@ -182,17 +177,12 @@ fn replay_job<'a>(alloc: Global, arguments: &'a ReplayArguments) -> Result<Job<'
     ensures job { IfOk result (λ job. job_view job ≡ job_of (Replay arguments.now)) }
     ensures is_job { IfOk result IsJob }
 {
+    let from = DrawSource::of_log(&arguments.log, arguments.stratum);
+    let put = DrawnText::Report;
     let mut files = Vec::new(alloc);
     files.push(drawn_file(&arguments.sample, DrawnText::Sample))?;
-    Ok(Job {
-        design: DesignSource::Held(&arguments.design),
-        frame: FrameSource::Held(&arguments.frame),
-        work: Work::Draws {
-            from: DrawSource::of_log(&arguments.log, arguments.stratum),
-            files,
-            put: DrawnText::Report,
-        },
-    })
+    let work = Work::Draws { from, files, put };
+    Ok(held_job(&arguments.design, &arguments.frame, work))
 }
 
 fn migrate_job<'a>(alloc: Global, arguments: &'a MigrateArguments) -> Result<Job<'a>, NoMemory>
@@ -200,17 +190,12 @@ fn migrate_job<'a>(alloc: Global, arguments: &'a MigrateArguments) -> Result<Job
     ensures job { IfOk result (λ job. job_view job ≡ job_of (Migrate arguments.now)) }
     ensures is_job { IfOk result IsJob }
 {
+    let from = DrawSource::OldLog(&arguments.log);
+    let put = DrawnText::Migrated;
     let mut files = Vec::new(alloc);
     files.push(drawn_file(&arguments.to, DrawnText::Log))?;
-    Ok(Job {
-        design: DesignSource::Held(&arguments.design),
-        frame: FrameSource::Held(&arguments.frame),
-        work: Work::Draws {
-            from: DrawSource::OldLog(&arguments.log),
-            files,
-            put: DrawnText::Migrated,
-        },
-    })
+    let work = Work::Draws { from, files, put };
+    Ok(held_job(&arguments.design, &arguments.frame, work))
 }
 
 // The joint probabilities are put, of a design that has them and of a frame that isn't too large for them.
@@ -256,9 +241,18 @@ fn listing<'a>(arguments: &'a DesignArguments, text: PlanText) -> Job<'a>
     ensures frame { (job_view result).frame ≡ FrameHeld arguments.now.frame }
     ensures work { (job_view result).work ≡ Lists (plan_text text) }
 {
+    held_job(&arguments.design, &arguments.frame, Work::Lists(text))
+}
+
+// The job of a design and a frame that are held in files.
+fn held_job<'a>(design: &'a Text, frame: &'a Text, work: Work<'a>) -> Job<'a>
+    ensures design { (job_view result).design ≡ Held design.now }
+    ensures frame { (job_view result).frame ≡ FrameHeld frame.now }
+    ensures work { result.work ≡ work.entry }
+{
     Job {
-        design: DesignSource::Held(&arguments.design),
-        frame: FrameSource::Held(&arguments.frame),
-        work: Work::Lists(text),
+        design: DesignSource::Held(design),
+        frame: FrameSource::Held(frame),
+        work,
     }
 }

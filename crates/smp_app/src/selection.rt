@@ -88,14 +88,14 @@ pub struct Selection<'a> {
     pub lines: Lines,
 }
 
-// The start of a selection of all strata, or of the one with this number.
-fn started_for<'a>(
+/// The start of a selection of all strata, or of the one with this number.
+pub(crate) fn started_for<'a>(
     alloc: Global,
     plan: &'a FramePlan,
     only: Option<usize>,
 ) -> Result<StartedWhole<'a>, NoMemory>
     requires planned { IsPlanned plan.now }
-    requires only { HasStratum plan.now.plan only }
+    requires only { IfSome only (λ stratum. stratum < section_count (all_of plan.now.plan)) }
     ensures { IfOk result (IsStart plan.now.plan only) }
 {
     match only {

@@ -1,4 +1,4 @@
-ghost use Rattle.std.specs.Prelude.{◌≡◌, ◌++◌, ◌∷◌, [], ◌<◌, length, map, IfOk, IfSome, OnOk, Some, codes, string_bytes};
+ghost use Rattle.std.specs.Prelude.{◌≡◌, ◌++◌, ◌∷◌, [], ◌<◌, length, map, IfOk, OnOk, Some, codes, string_bytes};
 ghost use Rattle.std.specs.Fmt.{decimal};
 ghost use Rattle.smp_app.specs.Texts;
 ghost use Rattle.smp_app.specs.Drawn.{rows_by};
@@ -6,11 +6,10 @@ ghost use Rattle.smp_app.specs.Kept.Stages as Stages;
 ghost use Rattle.smp_plan.specs.Planned.{IsPlanned, plan_view};
 ghost use Rattle.smp_app.specs.Kept.Stages.{IsSelection, selection_view};
 ghost use Rattle.smp_frac.specs.Fractions.{fraction, fraction_text};
-ghost use Rattle.smp_twostage.specs.Selections.{BelongsToCovered, all_of, covered_start, section_count};
 ghost use Rattle.smp_weights.specs.Rows.{AddsRow, row};
 
 use crate::job::{DrawnText, PlanText};
-use crate::selection::Selection;
+use crate::selection::{Selection, started_for};
 use smp_frac::{Bytes, Frac, NoMemory, Text};
 use smp_frame::Unit;
 use smp_joint::joint_bytes;
@@ -18,7 +17,7 @@ use smp_log::{log_bytes, one_section_log_bytes, replay, step_lines};
 use smp_plan::FramePlan;
 use smp_split::Sections;
 use smp_strata::asked;
-use smp_twostage::{StartedWhole, Whole, balance_lines};
+use smp_twostage::{StartedWhole, balance_lines};
 use smp_weights::{CsvRows, push_sample_row, sample_rows};
 use std::alloc::Global;
 
@@ -61,26 +60,6 @@ impl DrawnText {
     }
 }
 
-// The selection of all strata or of one alone once more, before its first step.
-fn started_again<'a>(
-    alloc: Global,
-    plan: &'a FramePlan,
-    only: Option<usize>,
-) -> Result<StartedWhole<'a>, NoMemory>
-    requires planned { IsPlanned plan.now }
-    requires only { IfSome only (λ stratum. stratum < section_count (all_of plan.now.plan)) }
-    ensures whole { IfOk result (λ started. started.whole
-        ≡ record { plan = plan.now.plan; only = only }) }
-    ensures state { IfOk result (λ started. started.state
-        ≡ covered_start (record { plan = plan.now.plan; only = only })) }
-    ensures belongs { IfOk result (λ started. BelongsToCovered started.whole started.state) }
-{
-    match only {
-        None => Whole::start(alloc, &plan.plan),
-        Some(stratum) => Whole::only(alloc, &plan.plan, stratum),
-    }
-}
-
 // The log: its head, the steps of a stratum after the other, and its end. Where one stratum is drawn, all steps are its own.
 fn log_text(alloc: Global, plan: &FramePlan, selection: &Selection) -> Result<Bytes, NoMemory>
     requires planned { IsPlanned plan.now }
@@ -91,7 +70,7 @@ fn log_text(alloc: Global, plan: &FramePlan, selection: &Selection) -> Result<By
     if selection.whole.sections() == 1 {
         return one_section_log_bytes(alloc, &plan.head, &selection.lines);
     }
-    let StartedWhole { whole, mut state } = started_again(alloc, plan, selection.only)?;
+    let StartedWhole { whole, mut state } = started_for(alloc, plan, selection.only)?;
     log_bytes(alloc, &whole, &mut state, &plan.head, &selection.lines)
 }
 
@@ -206,7 +185,7 @@ fn replay_own_log(alloc: Global, plan: &FramePlan, selection: &Selection) -> Res
     requires selection { IsSelection (plan_view plan.now) selection.now }
 {
     let log = log_text(alloc, plan, selection)?;
-    let StartedWhole { whole, mut state } = started_again(alloc, plan, selection.only)?;
+    let StartedWhole { whole, mut state } = started_for(alloc, plan, selection.only)?;
     match replay(&whole, &mut state, &plan.head, log.as_slice()) {
         Ok(()) => Ok(()),
         Err(_) => unreachable!(),

@@ -37,7 +37,7 @@ use Rattle.smp_app.specs.declared.job.DrawnFile as code_file
 use Rattle.smp_app.specs.declared.job.Work as code_work
 use Rattle.smp_app.specs.declared.job.Work.TheVariants as works
 use Rattle.smp_app.specs.declared.job.Job as code_job
-use Rattle.smp_status.specs.Codes.{Class, IsDone, IsUsage, IsRefusal, IsReadFault, IsWriteFault, IsNoMemory}
+use Rattle.smp_status.specs.Codes.{Class, IsUsage, IsRefusal}
 use Rattle.smp_plan.specs.Plans.{Plan}
 use Rattle.smp_app.specs.Drawn.{tree_of, Drawn, covered, drawn_rows}
 use Rattle.smp_app.specs.Texts.{ids_text, steps_text, log_text, sample_text, report_text, migrated_text, demo_text, probabilities_text}
@@ -46,7 +46,7 @@ use Rattle.smp_app.specs.Commands.{Source, ByTape, BySeed, ByLog, ByOldLog, BySe
 use Rattle.smp_plan.specs.Stops.{Stop, Refused}
 use Rattle.smp_app.specs.Verdict.{draw_status, drawn_at, drawn_by_log, drawn_by_old_log, drawn_by_section}
 use Rattle.smp_app.specs.Draws.{IsDrawnOf, OldDiffers, StratumDiffers, WholeDiffers}
-use Rattle.smp_app.specs.Answers.{Outside, Untouched, RefusesBy, Done, ReadFault, WriteFault, NoMemory}
+use Rattle.smp_app.specs.Answers.{Outside, Untouched, RefusesBy, Says}
 use Rattle.smp_status.specs.Reports.{HasLine}
 use Rattle.smp_plan.specs.Reads.{Follows}
 use Rattle.smp_plan.specs.Planned.{source_view, frame_view, IsInRanges, IsFrameInRanges}
@@ -226,9 +226,6 @@ pub record Refusing (class : Class) (refusal : Status) (words : List (List ℕ))
 
 -- what a status of each class says before the line of a refusal is put
 abbrev pub WorkSays : Class → Status → List (List ℕ) → Outside → Outside → Type 0
-WorkSays IsDone answer words before now = Done words before now
 WorkSays IsUsage answer words before now = Refusing IsUsage answer words before now
 WorkSays IsRefusal answer words before now = Refusing IsRefusal answer words before now
-WorkSays IsReadFault answer words before now = ReadFault words before now
-WorkSays IsWriteFault answer words before now = WriteFault words before now
-WorkSays IsNoMemory answer words before now = NoMemory words before now
+WorkSays class answer words before now = Says class answer words before now

@@ -3,8 +3,11 @@ use Rattle.smp_app.specs.Kept.Stages.{DiffersTaken, drawn_by_taken, only_of, sel
 use Rattle.smp_plan.specs.Planned.{plan_view}
 use Rattle.smp_plan.specs.Reads.{Follows, result_view}
 use Rattle.smp_app.proofs.Refusals.{if_line, taken_differs}
-use Rattle.smp_app.proofs.Selections.{start_belongs}
+use Rattle.smp_app.proofs.Selections.{has_parts, start_belongs}
 use Rattle.smp_app.proofs.selection.select_by_log.Goals as goal
+
+pub started_for-requires-clause-only : goal.started_for-requires-clause-only
+started_for-requires-clause-only c = rw c.only.ensures (has_parts c.args.plan.now.plan (only_of c.args.taken) c.requires.only).0
 
 pub returns-clause-differs : goal.returns-clause-differs
 returns-clause-differs c =

@@ -1,10 +1,9 @@
-use Rattle.std.proofs.Common.{◌≡◌, ℕ, ◌-◌, Ok, rules, subst}
+use Rattle.std.proofs.Common.{ℕ, ◌-◌, rules, subst}
 use Rattle.std.specs.Prelude.{IfErr}
 use Rattle.smp_app.specs.Draws.{IfLine, OldDiffers, StratumDiffers, WholeDiffers}
 use Rattle.smp_app.specs.Kept.Stages.{draw_view}
 use Rattle.smp_plan.specs.Planned.{plan_view}
-use Rattle.smp_plan.specs.Stops.{content}
-use Rattle.smp_app.proofs.Refusals.{in_log, stratum_is, unread}
+use Rattle.smp_app.proofs.Refusals.{in_file, stratum_is, unread}
 use Rattle.smp_app.proofs.selection.selection_from.Goals as goal
 
 pub returns-in_err-bytes-in-Log-clause-differs : goal.returns-in_err-bytes-in-Log-clause-differs
@@ -21,27 +20,16 @@ returns-in_err-bytes-in-Section-clause-differs g c fs held =
 
 pub returns-in_ok-bytes-in-Log-clause-differs : goal.returns-in_ok-bytes-in-Log-clause-differs
 returns-in_ok-bytes-in-Log-clause-differs g c fs held =
-    let view = plan_view c.args.plan.now in
-    let name = c.in-Log.name.now in
-    let bytes = c.in_ok-bytes-in-Log.bytes in
-    let read : content name (fs name) ≡ Ok bytes = rw c.as_str-in-Log.ensures at (c.in_ok-bytes-in-Log.ensures.follows fs held) in
-    rw c.in-Log.is (in_log (WholeDiffers view) name bytes c.as_slice-in-Log.result.now fs c.select_by_log.result read c.as_slice-in-Log.ensures c.select_by_log.ensures.differs)
+    rw c.in-Log.is (in_file (WholeDiffers (plan_view c.args.plan.now)) fs _ c.as_str-in-Log.ensures (c.in_ok-bytes-in-Log.ensures.follows fs held) c.as_slice-in-Log.ensures c.select_by_log.ensures.differs)
 
 pub returns-in_ok-bytes-in-OldLog-clause-differs : goal.returns-in_ok-bytes-in-OldLog-clause-differs
 returns-in_ok-bytes-in-OldLog-clause-differs g c fs held =
-    let view = plan_view c.args.plan.now in
-    let name = c.in-OldLog.name.now in
-    let bytes = c.in_ok-bytes-in-OldLog.bytes in
-    let read : content name (fs name) ≡ Ok bytes = rw c.as_str-in-OldLog.ensures at (c.in_ok-bytes-in-OldLog.ensures.follows fs held) in
-    rw c.in-OldLog.is (in_log (OldDiffers view) name bytes c.as_slice-in-OldLog.result.now fs c.select_by_log-in-OldLog.result read c.as_slice-in-OldLog.ensures c.select_by_log-in-OldLog.ensures.differs)
+    rw c.in-OldLog.is (in_file (OldDiffers (plan_view c.args.plan.now)) fs _ c.as_str-in-OldLog.ensures (c.in_ok-bytes-in-OldLog.ensures.follows fs held) c.as_slice-in-OldLog.ensures c.select_by_log-in-OldLog.ensures.differs)
 
 pub returns-in_ok-bytes-in-Section-clause-differs : goal.returns-in_ok-bytes-in-Section-clause-differs
 returns-in_ok-bytes-in-Section-clause-differs g c fs held =
     let view = plan_view c.args.plan.now in
-    let name = c.in-Section.name.now in
-    let bytes = c.in_ok-bytes-in-Section.bytes in
-    let read : content name (fs name) ≡ Ok bytes = rw c.as_str-in-Section.ensures at (c.in_ok-bytes-in-Section.ensures.follows fs held) in
     let log = c.as_slice-in-Section.result.now in
     let there = stratum_is view c.in-Section.number c.in_ok-stratum-in-Section.stratum c.in_ok-stratum-in-Section.ensures.follows in
     let differs = subst (λ (h : ℕ). IfErr c.select_by_log-in-Section.result (λ refusal. IfLine refusal (StratumDiffers h view log))) there c.select_by_log-in-Section.ensures.differs in
-    rw c.in-Section.is (in_log (StratumDiffers (c.in-Section.number - 1) view) name bytes log fs c.select_by_log-in-Section.result read c.as_slice-in-Section.ensures differs)
+    rw c.in-Section.is (in_file (StratumDiffers (c.in-Section.number - 1) view) fs _ c.as_str-in-Section.ensures (c.in_ok-bytes-in-Section.ensures.follows fs held) c.as_slice-in-Section.ensures differs)

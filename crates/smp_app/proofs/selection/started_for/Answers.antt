@@ -12,7 +12,7 @@ starts_so plan only (Ok s) whole state starts = record { whole = whole; state = 
 starts_so plan only (Err e) whole state starts = tt
 
 pub only-requires-clause-stratum : goal.only-requires-clause-stratum
-only-requires-clause-stratum c = (rw c.in-Some.is at c.requires.only).0
+only-requires-clause-stratum c = rw c.in-Some.is at c.requires.only
 
 pub returns-in-None : goal.returns-in-None
 returns-in-None c = rw c.in-None.is (starts_so c.args.plan.now.plan None c.start.result c.start.ensures.plan c.start.ensures.state c.start.ensures.starts)

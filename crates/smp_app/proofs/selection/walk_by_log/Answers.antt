@@ -5,7 +5,7 @@ use Rattle.smp_twostage.specs.Selections.{covered_tree}
 use Rattle.smp_app.specs.declared.selection.Stopped.{Stopped}
 use Rattle.smp_app.specs.Kept.Stages.{EndsAsTold, IsWalked, drawn_by_taken, only_of, path_by}
 use Rattle.smp_plan.specs.Planned.{plan_view}
-use Rattle.smp_app.proofs.Selections.{belongs, ends_told, is_one, on_both, taken_stage, taken_small, taken_walked, told_holds, told_is}
+use Rattle.smp_app.proofs.Selections.{belongs, ends_told, has_parts, is_one, on_both, taken_stage, taken_walked, told_holds, told_is}
 use Rattle.smp_app.proofs.selection.walk_by_log.Goals as goal
 
 pub replay_taken-told-requires-clause-belongs : goal.replay_taken-told-requires-clause-belongs
@@ -15,7 +15,7 @@ pub replay_taken-told-requires-clause-one : goal.replay_taken-told-requires-clau
 replay_taken-told-requires-clause-one c = is_one c.args.plan.now.plan (only_of c.args.taken) c.args.started c.requires.started
 
 pub replay_taken-told-requires-clause-room : goal.replay_taken-told-requires-clause-room
-replay_taken-told-requires-clause-room c = taken_small c.args.plan.now.plan c.args.taken c.requires.only
+replay_taken-told-requires-clause-room c = (has_parts c.args.plan.now.plan (only_of c.args.taken) c.requires.only).1
 
 pub returns-clause-ends : goal.returns-clause-ends
 returns-clause-ends c =

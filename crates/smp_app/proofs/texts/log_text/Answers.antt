@@ -11,8 +11,8 @@ returns-then-sections-eq1 c =
     (one_log c.args.plan.now c.requires.planned selection.only selection.state selection.lines c.requires.selection.drawn one)
     c.one_section_log_bytes.ensures
 
-pub started_again-requires-clause-only : goal.started_again-requires-clause-only
-started_again-requires-clause-only c =
+pub started_for-requires-clause-only : goal.started_for-requires-clause-only
+started_for-requires-clause-only c =
     let selection = c.args.selection.now in
     own_strata c.args.plan.now c.requires.planned selection.only selection.state selection.lines c.requires.selection.drawn
 

@@ -3,8 +3,8 @@ use Rattle.smp_twostage.specs.Selections.{covered_tree, strata_sections}
 use Rattle.smp_app.proofs.Selections.{own_path, own_strata, own_text, never_differs}
 use Rattle.smp_app.proofs.texts.replay_own_log.Goals as goal
 
-pub started_again-requires-clause-only : goal.started_again-requires-clause-only
-started_again-requires-clause-only c =
+pub started_for-requires-clause-only : goal.started_for-requires-clause-only
+started_for-requires-clause-only c =
     let selection = c.args.selection.now in
     own_strata c.args.plan.now c.requires.planned selection.only selection.state selection.lines c.requires.selection.drawn
 
