@@ -54,7 +54,7 @@ use Rattle.smp_plan.specs.Plans.{Plan, parts, quick_design}
 use Rattle.smp_app.specs.Drawn.{Drawn, tree_of, start_of, sections_of, covered, drawn_rows}
 use Rattle.smp_app.specs.Texts.{log_text, report_text, sample_text}
 use Rattle.smp_plan.specs.Inputs.{Given, Held, FrameHeld, ReadDesign, design_stage, frame_stage, plan_stage}
-use Rattle.smp_app.specs.Commands.{DrawnFile, ByLog, ByOldLog, BySection, Draws, Job, source_of, log_source, job_of, job_for, outputs_by, written_by}
+use Rattle.smp_app.specs.Commands.{DrawnFile, ByLog, ByOldLog, BySection, Draws, Job, source_of, log_source, held_job, job_of, job_for, outputs_by, written_by}
 use Rattle.smp_app.specs.Commands as drawing
 use Rattle.smp_faults.specs.Steps.{◌>>=◌}
 use Rattle.smp_plan.specs.Stops.{Stop, Refused, content, or_fault}
@@ -478,7 +478,7 @@ module _ (a : ReplayArguments) (fs : Files) (before now : Outside) (words : List
   replay_files = record { name = a.sample; text = sample_text } ∷ []
 
   abbrev replay_job : drawing.Source → Job
-  replay_job source = record { design = Held a.design; frame = FrameHeld a.frame; work = Draws source replay_files report_text }
+  replay_job source = held_job a.design a.frame (Draws source replay_files report_text)
 
   module _ (source : drawing.Source) (from_words : log_source a.log a.stratum ≡ source) where
     replay_asked : job_for words ≡ Some (replay_job source)

@@ -50,6 +50,10 @@ pub record Job : Type 0 where
 
 -- ---- the table
 
+-- the job of a design and a frame that files hold
+abbrev pub held_job : List ℕ → List ℕ → Work → Job
+held_job design frame work = record { design = Held design; frame = FrameHeld frame; work = work }
+
 -- the work of each command
 abbrev pub job_of : Command → Job
 job_of (commands.Quick a) = record {
@@ -57,38 +61,21 @@ job_of (commands.Quick a) = record {
   frame = FrameHeld a.frame;
   work = Draws (ByTape a.tape) (record { name = a.out; text = ids_text } ∷ []) steps_text;
 }
-job_of (commands.Draw a) = record {
-  design = Held a.design;
-  frame = FrameHeld a.frame;
-  work = Draws (source_of a.chance)
-      (record { name = a.log; text = log_text } ∷ record { name = a.sample; text = sample_text } ∷ [])
-      report_text;
-}
-job_of (commands.Probs a) = record {
-  design = Held a.design;
-  frame = FrameHeld a.frame;
-  work = Lists probabilities_text;
-}
-job_of (commands.Check a) = record {
-  design = Held a.design;
-  frame = FrameHeld a.frame;
-  work = Lists accepted_text;
-}
+job_of (commands.Draw a) = held_job a.design a.frame
+    (Draws (source_of a.chance)
+    (record { name = a.log; text = log_text } ∷ record { name = a.sample; text = sample_text } ∷ [])
+    report_text)
+job_of (commands.Probs a) = held_job a.design a.frame (Lists probabilities_text)
+job_of (commands.Check a) = held_job a.design a.frame (Lists accepted_text)
 job_of (commands.Joint a) = record {
   design = HeldForJoint a.design;
   frame = FrameForJoint a.frame;
   work = Lists joints_text;
 }
-job_of (commands.Replay a) = record {
-  design = Held a.design;
-  frame = FrameHeld a.frame;
-  work = Draws (log_source a.log a.stratum) (record { name = a.sample; text = sample_text } ∷ []) report_text;
-}
-job_of (commands.Migrate a) = record {
-  design = Held a.design;
-  frame = FrameHeld a.frame;
-  work = Draws (ByOldLog a.log) (record { name = a.to; text = log_text } ∷ []) migrated_text;
-}
+job_of (commands.Replay a) = held_job a.design a.frame
+    (Draws (log_source a.log a.stratum) (record { name = a.sample; text = sample_text } ∷ []) report_text)
+job_of (commands.Migrate a) = held_job a.design a.frame
+    (Draws (ByOldLog a.log) (record { name = a.to; text = log_text } ∷ []) migrated_text)
 job_of (commands.Demo a) = record {
   design = Made (demo_design_text a.n);
   frame = FrameMade (demo_frame_text a.n a.seed);
