@@ -1,6 +1,6 @@
 //! The table of the commands.
 
-ghost use Rattle.std.specs.Prelude.{◌≡◌, IfOk};
+ghost use Rattle.std.specs.Prelude.{◌≡◌, ◌∷◌, [], map, IfOk};
 ghost use Rattle.smp_words.specs.Words.{IsAsked};
 ghost use Rattle.smp_words.specs.declared.command.Command.TheVariants.{Demo, Draw, Joint, Migrate, Quick, Replay};
 ghost use Rattle.smp_plan.specs.declared.source.DesignSource.TheVariants as DesignSource;
@@ -145,8 +145,7 @@ fn quick_job<'a>(alloc: Global, arguments: &'a QuickArguments) -> Result<Job<'a>
     ensures job { IfOk result (λ job. job_view job ≡ job_of (Quick arguments.now)) }
     ensures is_job { IfOk result IsJob }
 {
-    let mut files = Vec::new(alloc);
-    files.push(drawn_file(&arguments.out, DrawnText::Ids))?;
+    let files = one_file(alloc, &arguments.out, DrawnText::Ids)?;
     Ok(Job {
         design: DesignSource::Quick(arguments.n),
         frame: FrameSource::Held(&arguments.frame),
@@ -164,10 +163,9 @@ fn draw_job<'a>(alloc: Global, arguments: &'a DrawArguments) -> Result<Job<'a>, 
     ensures is_job { IfOk result IsJob }
 {
     let from = DrawSource::of(&arguments.chance);
-    let put = DrawnText::Report;
-    let mut files = Vec::new(alloc);
-    files.push(drawn_file(&arguments.log, DrawnText::Log))?;
+    let mut files = one_file(alloc, &arguments.log, DrawnText::Log)?;
     files.push(drawn_file(&arguments.sample, DrawnText::Sample))?;
+    let put = DrawnText::Report;
     let work = Work::Draws { from, files, put };
     Ok(held_job(&arguments.design, &arguments.frame, work))
 }
@@ -178,9 +176,8 @@ fn replay_job<'a>(alloc: Global, arguments: &'a ReplayArguments) -> Result<Job<'
     ensures is_job { IfOk result IsJob }
 {
     let from = DrawSource::of_log(&arguments.log, arguments.stratum);
+    let files = one_file(alloc, &arguments.sample, DrawnText::Sample)?;
     let put = DrawnText::Report;
-    let mut files = Vec::new(alloc);
-    files.push(drawn_file(&arguments.sample, DrawnText::Sample))?;
     let work = Work::Draws { from, files, put };
     Ok(held_job(&arguments.design, &arguments.frame, work))
 }
@@ -191,9 +188,8 @@ fn migrate_job<'a>(alloc: Global, arguments: &'a MigrateArguments) -> Result<Job
     ensures is_job { IfOk result IsJob }
 {
     let from = DrawSource::OldLog(&arguments.log);
+    let files = one_file(alloc, &arguments.to, DrawnText::Log)?;
     let put = DrawnText::Migrated;
-    let mut files = Vec::new(alloc);
-    files.push(drawn_file(&arguments.to, DrawnText::Log))?;
     let work = Work::Draws { from, files, put };
     Ok(held_job(&arguments.design, &arguments.frame, work))
 }
@@ -227,6 +223,20 @@ fn demo_job<'a>(alloc: Global, arguments: &DemoArguments) -> Job<'a>
             put: DrawnText::Summary,
         },
     }
+}
+
+// One file, alone.
+fn one_file<'a>(
+    alloc: Global,
+    name: &'a Text,
+    text: DrawnText,
+) -> Result<Vec<DrawnFile<'a>>, NoMemory>
+    ensures { IfOk result (λ files. map file_view files.items
+        ≡ record { name = name.now; text = drawn_text text } ∷ []) }
+{
+    let mut files = Vec::new(alloc);
+    files.push(drawn_file(name, text))?;
+    Ok(files)
 }
 
 fn drawn_file<'a>(name: &'a Text, text: DrawnText) -> DrawnFile<'a>
