@@ -1,12 +1,10 @@
 -- The properties of a step fix it: there is one greatest fraction, one state at the end of a line and one pair of weights, and so one step.
-use Rattle.std.proofs.Common.{◌≡◌, ℕ, ◌+◌, ◌*◌, ◌^◌, ◌<◌, ◌≤◌, max, pos, List, ℤ, length, get_or, arith, refl, sym, ap, ap₂, ◌∙◌, subst, inl, inr, mul-pos, eq-zero-or-pos}
-use Rattle.std.proofs.lemmas.Int.{ints}
+use Rattle.std.proofs.Common.{◌≡◌, ℕ, ◌+◌, ◌*◌, ◌^◌, ◌<◌, ◌≤◌, pos, List, ℤ, length, get_or, arith, refl, sym, ap, ap₂, ◌∙◌, subst, inl, inr, mul-pos, eq-zero-or-pos}
 use Rattle.std.proofs.lemmas.List.{ext_get_or}
 use Rattle.std.proofs.Math.Nat.{dvd-mul_left, dvd-zero, le_of_dvd}
 use Rattle.std.proofs.lemmas.Nat.Gcd.{IsGcd-swap}
 use Rattle.std.specs.Int.{IsGcd}
 use Prim.Native.Nat.{◌∣◌}
-use Rattle.smp_fractions.specs.Fractions.{Same, AtMost, whole, times}
 use Rattle.smp_fractions.proofs.Fractions.{cancel, same_sym, same_trans}
 use Rattle.smp_kernel.specs.Elimination.{cut}
 use Rattle.smp_kernel.specs.Reduced.{IsReduced}
@@ -16,7 +14,7 @@ use Rattle.smp_kernel.proofs.SearchLaw.{one_answer}
 use Rattle.smp_prob.specs.Shares.{Shares}
 use Rattle.smp_moves.specs.declared.lines.Ratio.{Ratio}
 use Rattle.smp_flight.specs.States.{Units, Flight, IsFlight, columns_of}
-use Rattle.smp_moves.specs.Moves.{independent, Line, Move, IsOrder, IsLine, IsGreatest, MakesWhole, IsMoved, Fits, fraction_of, turned, Next, move, wide}
+use Rattle.smp_moves.specs.Moves.{independent, Line, Move, IsOrder, IsLine, MakesWhole, IsMoved, Fits, turned, Next, move, wide}
 use Rattle.smp_flight.specs.Moves.{IsDirection, IsMove, sized}
 use Rattle.smp_moves.specs.Ends.{extent}
 use Rattle.smp_flight.specs.Statements.{GoesBothWays}
@@ -25,24 +23,8 @@ use Rattle.smp_moves.specs.Kept.Ends.{IsOver}
 use Rattle.smp_fractions.proofs.Differences.{over_cross}
 use Rattle.smp_moves.proofs.Entries.{turned_line}
 use Rattle.smp_moves.proofs.LineEnds.{greatest, extent_some}
-use Rattle.smp_moves.proofs.LowestTerms.{same_coprime}
+use Rattle.smp_moves.proofs.Fixed.{one_greatest, one_weights, weights_cross}
 use Rattle.smp_flight.specs.Laws.Nexts.{direction_line, flight_over}
-
--- ---- the greatest fraction
-
-cross_at_most : (r t : Ratio) → 1 ≤ r.den → 1 ≤ t.den → AtMost (fraction_of r) (fraction_of t) → r.num * t.den ≤ t.num * r.den
-cross_at_most r t pr pt h =
-    let er : max 1 r.den ≡ r.den = omega arith in
-    let et : max 1 t.den ≡ t.den = omega arith in
-    let k : r.num * max 1 t.den ≤ t.num * max 1 r.den = omega (arith, ints, h.cross) in
-    omega (arith, k, ap (λ x. t.num * x) er, ap (λ x. r.num * x) et)
-
-one_greatest : (s : Shares) (line : Line) (r t : Ratio) → IsGreatest s line r → IsGreatest s line t → r ≡ t
-one_greatest s line r t g h =
-    let a = cross_at_most r t g.some h.some (h.greatest (fraction_of r) g.stays) in
-    let b = cross_at_most t r h.some g.some (g.greatest (fraction_of t) h.stays) in
-    let both = same_coprime r.num r.den t.num t.den g.reduced h.reduced g.some (omega (arith, a, b)) in
-    ap₂ (λ n d. record { num = n; den = d }) both.0 both.1
 
 -- ---- the values at the end
 
@@ -83,18 +65,6 @@ one_direction units order w l k a b =
     let other = subst (λ (ks : List ℕ). IsReduced (sized units ks w) k.entries) (sym us) b.entries in
     ap₂ (λ (x : List ℕ) (e : List ℤ). record { units = x; entries = e }) us
     (ext_get_or (pos 0) l.entries k.entries (a.lengths ∙ ap length us ∙ sym b.lengths) (λ i h. one_reduced (sized units l.units w) l.entries k.entries a.entries other i))
-
-weights_cross : (w x : ℕ) (r t : Ratio) → 1 ≤ r.den → 1 ≤ t.den → Same (times (whole w) (fraction_of r)) (times (whole x) (fraction_of t)) → w * (r.num * t.den) ≡ x * (t.num * r.den)
-weights_cross w x r t pr pt h =
-    let er : max 1 r.den ≡ r.den = omega arith in
-    let et : max 1 t.den ≡ t.den = omega arith in
-    let k : w * r.num * (1 * max 1 t.den) ≡ x * t.num * (1 * max 1 r.den) = omega (arith, ints, h.cross) in
-    omega (arith, k, ap (λ y. x * t.num * y) er, ap (λ y. w * r.num * y) et)
-
-one_weights : (w x w' x' p q : ℕ) → 1 ≤ p → 1 ≤ x → w * p ≡ x * q → w' * p ≡ x' * q → IsGcd w x 1 → IsGcd w' x' 1 → (w ≡ w') × (x ≡ x')
-one_weights w x w' x' p q pp px h k r s =
-    same_coprime w x w' x' r s px
-    (cancel (w * x') (w' * x) p pp (let a : w * p * x' ≡ x * q * x' = ap (λ y. y * x') h in let b : w' * p * x ≡ x' * q * x = ap (λ y. y * x) k in omega (arith, a, b)))
 
 -- neither of two weights without common divisor is 0
 some_weight : (w x p q : ℕ) → 1 ≤ p → w * p ≡ x * q → IsGcd w x 1 → 1 ≤ x

@@ -1,6 +1,5 @@
 -- What a search that found a circuit leads to, and what an answer allows.
-use Rattle.std.proofs.Common.{◌≡◌, ℕ, ◌+◌, ◌≤◌, ◌^◌, false, List, ℤ, pos, take, length, arith, refl, sym, ap, ◌∙◌, subst, inl, inr, length-take, get_or-take}
-use Rattle.std.proofs.lemmas.Bool.{cases_lt}
+use Rattle.std.proofs.Common.{◌≡◌, ℕ, ◌+◌, ◌≤◌, ◌^◌, false, List, ℤ, pos, take, length, arith, refl, sym, ap, ◌∙◌, subst, length-take}
 use Rattle.std.proofs.lemmas.List.{take-take}
 use Rattle.std.specs.Int.RustNames.{unsigned_abs}
 use Rattle.smp_kernel.specs.Vectors.{entry, IsZero, Within}
@@ -19,11 +18,19 @@ use Rattle.smp_flight.specs.Answers.{Allows, AreSearched, IsFirstMove, IsMoveOf,
 use Rattle.smp_flight.specs.declared.steps.Next.{Next as Answer}
 use Rattle.smp_flight.specs.declared.steps.Next.TheVariants as answers
 use Rattle.smp_moves.proofs.Entries.{frame_order, order_front}
+use Rattle.smp_moves.proofs.FirstPlaces.{front_small}
 use Rattle.smp_flight.proofs.Firsts.{from_each}
 use Rattle.smp_flight.proofs.Fitting.{moves_within}
 use Rattle.smp_flight.proofs.Reordered.{independent_in_frame}
 use Rattle.smp_flight.proofs.Nexts.{independent_columns, known, next_on_front}
 use Rattle.smp_flight.specs.Laws.Nexts.{circuit_within, direction_line, is_direction, some_sized}
+
+-- the circuit in the first places of an array, and its line
+pub record IsCircuitOf (units : Units) (s : Flight) (us : List ℕ) (number : ℕ) (w : List ℤ) (n : ℕ) : Type 0 where
+  pub fewer : n ≤ number
+  pub small : (j : ℕ) → unsigned_abs (entry w j) ≤ 2 ^ 44
+  pub some : IsZero (sized units (take n us) (take n w)) → ⊥
+  pub line : IsLine s.shares (direction units (take number us) (take n w))
 
 module _ (units : Units) (s : Flight) (is_flight : IsFlight units s) (us : List ℕ) (number : ℕ) (lu : number ≤ length us) (ok : IsOrder s.shares (take number us)) (w : List ℤ) (n : ℕ) (lw : n ≤ length w) (e : found (take n w) ≡ search s.rows (columns_of units (take number us))) (past : (i : ℕ) → n ≤ i → entry w i ≡ pos 0) where
   pub finds : Finds units s (take number us) (found (take n w))
@@ -32,27 +39,23 @@ module _ (units : Units) (s : Flight) (is_flight : IsFlight units s) (us : List 
   count : length (take n w) ≡ n
   count = omega (arith, length-take n w)
 
-  pub found_fewer : n ≤ number
+  found_fewer : n ≤ number
   found_fewer = omega (arith, count, circuit_within units s (take number us) (take n w) finds, length-take number us)
 
-  pub found_small : (j : ℕ) → unsigned_abs (entry w j) ≤ 2 ^ 44
-  found_small j =
-      elim (cases_lt j n) [
-        | inr m ↦ rw (past j m) (omega arith)
-        | inl l ↦
-            (let within : Within (2 ^ 44) (take n w) = subst (Within (2 ^ 44)) (sym finds.is) finds.closes.fits in
-            let h : unsigned_abs (entry (take n w) j) ≤ 2 ^ 44 = within j (pos 0) (omega (arith, l, count)) in
-            rw (get_or-take n w j (pos 0) l) at h)
-      ]
+  found_small : (j : ℕ) → unsigned_abs (entry w j) ≤ 2 ^ 44
+  found_small = front_small w n past lw (subst (Within (2 ^ 44)) (sym finds.is) finds.closes.fits)
 
   pub found_units : take (length (take n w)) (take number us) ≡ take n us
   found_units = ap (λ k. take k (take number us)) count ∙ take-take n number us found_fewer
 
-  pub found_some : IsZero (sized units (take n us) (take n w)) → ⊥
+  found_some : IsZero (sized units (take n us) (take n w)) → ⊥
   found_some z = some_sized units s is_flight (take number us) ok (take n w) finds (subst (λ ks. IsZero (sized units ks (take n w))) (sym found_units) z)
 
-  pub found_line : IsLine s.shares (direction units (take number us) (take n w))
+  found_line : IsLine s.shares (direction units (take number us) (take n w))
   found_line = direction_line units s.shares (take number us) ok (take n w) (direction units (take number us) (take n w)) (is_direction units s is_flight (take number us) ok (take n w) finds)
+
+  pub found_circuit : IsCircuitOf units s us number w n
+  found_circuit = record { fewer = found_fewer; small = found_small; some = found_some; line = found_line }
 
   pub found_next : next_along units.requested.den s.shares (direction units (take number us) (take n w)) ≡ next_by units (take number us) s
   found_next = ap (next_of units s.shares (take number us)) e

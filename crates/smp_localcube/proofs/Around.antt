@@ -14,7 +14,7 @@ use Rattle.smp_moves.specs.Moves.{IsOrder}
 use Rattle.smp_flight.specs.Selections.{IsWholeOrder}
 use Rattle.smp_flight.specs.States.{Tracked, Units}
 use Rattle.smp_flight.specs.Steps.{next_on}
-use Rattle.smp_flight.proofs.Ahead.{filter_twice}
+use Rattle.smp_moves.proofs.Filtered.{filter_twice}
 use Rattle.smp_moves.proofs.Entries.{order_front}
 use Rattle.smp_flight.proofs.Firsts.{fractional_in, from_each}
 use Rattle.smp_flight.proofs.Nexts.{next_on_front}

@@ -1,48 +1,19 @@
 -- The first fractional units, and those from a place on.
-use Rattle.std.proofs.Common.{◌≡◌, ℕ, suc, ◌+◌, ◌-◌, ◌<◌, ◌≤◌, Bool, true, false, List, [], ◌∷◌, ◌++◌, length, get_or, arith, refl, sym, ap, ap₂, ◌∙◌, subst, inl, inr, suc-le-suc, length-append, length-take, get_or-take}
+use Rattle.std.proofs.Common.{◌≡◌, ℕ, suc, ◌+◌, ◌-◌, ◌<◌, ◌≤◌, true, List, [], ◌∷◌, ◌++◌, length, get_or, arith, refl, sym, ap, ap₂, ◌∙◌, subst, inl, inr, length-append, length-take, get_or-take}
 use Rattle.std.specs.List.{AllPairs, filter, range_with_len}
 use Rattle.std.proofs.lemmas.List.Kept.{AllPairs-filter}
-use Rattle.std.proofs.lemmas.Bool.{cases_Bool, cases_lt}
+use Rattle.std.proofs.lemmas.Bool.{cases_lt}
 use Rattle.std.proofs.lemmas.List.{get_or_append_left, get_or-append-add}
 use Rattle.std.proofs.lemmas.List.Elements.{filter-append}
 use Rattle.std.proofs.lemmas.List.FromFn.{length-range_with_len, get_or-range_with_len}
 use Rattle.smp_values.specs.Values.{fractional}
-use Rattle.smp_moves.proofs.Places.{rest_at, rest_of}
+use Rattle.smp_moves.proofs.Filtered.{filter_all, filter_twice}
 use Rattle.smp_stratcube.specs.declared.fronts.Front.{Front}
 use Rattle.smp_stratcube.specs.declared.values.Value.{Value}
 use Rattle.smp_stratcube.specs.Values.{fractional_count, fractional_units, is_fractional, value}
 use Rattle.smp_stratcube.specs.Kept.Fronts.{IsAhead, IsFilled, IsFront, IsStanding, front_units, units_on}
 use Rattle.smp_stratcube.specs.Laws.Splits.{order_count}
 use Rattle.smp_stratcube.specs.Laws.Units.{fractional_in, order_going}
-
--- ---- filtered lists
-
--- by two tests, of which the second implies the first
-pub filter_twice : (p q : ℕ → Bool) → ((k : ℕ) → q k ≡ true → p k ≡ true) → (xs : List ℕ) → filter q (filter p xs) ≡ filter q xs
-filter_twice p q h [] = refl
-filter_twice p q h (x ∷ xs) =
-    elim (cases_Bool (q x)) [
-      | inl t ↦ rw (h x t, t) (ap (λ zs. x ∷ zs) (filter_twice p q h xs))
-      | inr f ↦ elim (cases_Bool (p x)) [
-        | inl t ↦ rw (t, f) (filter_twice p q h xs)
-        | inr g ↦ rw (g, f) (filter_twice p q h xs)
-      ]
-    ]
-
-pub filter_all : (p : ℕ → Bool) (xs : List ℕ) → ((i : ℕ) → i < length xs → p (get_or xs i 0) ≡ true) → filter p xs ≡ xs
-filter_all p [] h = refl
-filter_all p (x ∷ xs) h = rw (h 0 (omega arith)) (ap (λ zs. x ∷ zs) (filter_all p xs (λ i l. h (suc i) (suc-le-suc l))))
-
-pub filter_none : (p : ℕ → Bool) (xs : List ℕ) → ((i : ℕ) → i < length xs → p (get_or xs i 0) ≡ false) → filter p xs ≡ []
-filter_none p [] h = refl
-filter_none p (x ∷ xs) h = rw (h 0 (omega arith)) (filter_none p xs (λ i l. h (suc i) (suc-le-suc l)))
-
--- what is left of the first places of an array
-pub rest_in : (p : ℕ → Bool) (n : ℕ) (us : List ℕ) (j : ℕ) → j < n → j < length us → p (get_or us j 0) ≡ true → filter p (rest_of n us j) ≡ get_or us j 0 ∷ filter p (rest_of n us (j + 1))
-rest_in p n us j l m t = ap (filter p) (rest_at n us j 0 l m) ∙ (let e : filter p (get_or us j 0 ∷ rest_of n us (j + 1)) ≡ get_or us j 0 ∷ filter p (rest_of n us (j + 1)) = rw t refl in e)
-
-pub rest_out : (p : ℕ → Bool) (n : ℕ) (us : List ℕ) (j : ℕ) → j < n → j < length us → p (get_or us j 0) ≡ false → filter p (rest_of n us j) ≡ filter p (rest_of n us (j + 1))
-rest_out p n us j l m f = ap (filter p) (rest_at n us j 0 l m) ∙ (let e : filter p (get_or us j 0 ∷ rest_of n us (j + 1)) ≡ filter p (rest_of n us (j + 1)) = rw f refl in e)
 
 -- ---- the units from a place on
 

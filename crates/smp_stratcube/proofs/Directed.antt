@@ -2,15 +2,14 @@
 use Rattle.std.proofs.Common.{◌≡◌, ℕ, zero, suc, le_of_suc-le-suc, map, ◌+◌, ◌*◌, ◌/◌, ◌<◌, ◌≤◌, ◌^◌, nat_le, true, false, Some, None, List, [], ◌∷◌, ℤ, pos, take, length, get_or, arith, refl, sym, ap, ap₂, ◌∙◌, subst, inl, inr, length-take, get_or-take}
 use Rattle.std.specs.Int.RustNames.{unsigned_abs}
 use Rattle.std.proofs.lemmas.Bool.{and_from, and_parts, cases_Bool, cases_lt, le-leb, leb-true}
-use Rattle.std.proofs.lemmas.List.{ext_get_or, length-map, get_or-map, get_or_past}
+use Rattle.std.proofs.lemmas.List.{ext_get_or, length-map, get_or-map}
 use Rattle.std.proofs.lemmas.List.Elements.{All-take}
 use Rattle.std.proofs.Math.Nat.{mul-le-mul_left, mul-le-mul_right}
 use Rattle.smp_kernel.specs.Vectors.{entry, IsZero, Within}
 use Rattle.smp_kernel.specs.Reduced.{IsReduced, IsTooLong, primitive_part}
-use Rattle.smp_kernel.proofs.Ring.{positive_some, zero_of_product}
-use Rattle.smp_kernel.proofs.Reduce.{primitive_part_is, length-primitive_part, one_reduced, reduced_within}
 use Rattle.smp_moves.specs.declared.lines.Ratio.{Ratio}
 use Rattle.smp_moves.specs.Ends.{entries_fit}
+use Rattle.smp_moves.proofs.FirstPlaces.{front_is, front_long}
 use Rattle.smp_moves.proofs.LineEnds.{lowest_is}
 use Rattle.smp_moves.proofs.Weights.{within_from, within_to}
 use Rattle.smp_moves.specs.Moves.{Line}
@@ -104,34 +103,6 @@ over_most r scale is narrow =
     let b : r.den * q ≤ scale = times-div scale r.den in
     omega (arith, a, b, narrow)
 
--- ---- the reduced row of an array
-
-same_rows : (row other e : List ℤ) → ((i : ℕ) → entry row i ≡ entry other i) → IsReduced row e → IsReduced other e
-same_rows row other e h r = record { primitive = r.primitive; divisor = r.divisor; positive = r.positive; product = λ j. r.product j ∙ h j }
-
-module _ (row : List ℤ) (n : ℕ) (past : (j : ℕ) → n ≤ j → entry row j ≡ pos 0) where
-  -- a row that is 0 from a place on
-  front_row : (i : ℕ) → entry (take n row) i ≡ entry row i
-  front_row i =
-      elim (cases_lt i n) [
-        | inl l ↦ get_or-take n row i (pos 0) l
-        | inr m ↦ get_or_past (take n row) i (pos 0) (omega (arith, m, length-take n row)) ∙ sym (past i m)
-      ]
-
-  pub past_reduced : (e : List ℤ) → IsReduced row e → (j : ℕ) → n ≤ j → entry e j ≡ pos 0
-  past_reduced e r j l = zero_of_product r.divisor (entry e j) (positive_some r.divisor r.positive) (r.product j ∙ past j l)
-
-  pub front_is : (e : List ℤ) → n ≤ length row → length e ≡ length row → (IsZero (take n row) → ⊥) → IsReduced row e → take n e ≡ primitive_part (take n row)
-  front_is e lr le some r =
-      let whole : IsReduced (take n row) e = same_rows row (take n row) e (λ i. sym (front_row i)) r in
-      ext_get_or (pos 0) (take n e) (primitive_part (take n row)) (omega (arith, length-take n e, length-take n row, length-primitive_part (take n row)))
-      (λ k l. (let b : k < n = omega (arith, l, length-take n e) in get_or-take n e k (pos 0) b ∙ one_reduced (take n row) e (primitive_part (take n row)) whole (primitive_part_is (take n row) some) k))
-
-  -- where the reduced row is too long, so is the direction
-  pub front_long : (IsZero (take n row) → ⊥) → IsTooLong row → Within (2 ^ 44) (primitive_part (take n row)) → ⊥
-  front_long some t w =
-      t.long (reduced_within (2 ^ 44) (take n row) (primitive_part (take n row)) t.reduced (primitive_part_is (take n row) some) (same_rows row (take n row) t.reduced (λ i. sym (front_row i)) t.is) w)
-
 -- ---- the direction that arrays hold
 
 module _ (units : Units) (prefix : List ℕ) (w row : List ℤ) (n : ℕ) (lr : n ≤ length row) (is : take n row ≡ scaled units (scale_of units prefix w) prefix w) (past : (j : ℕ) → n ≤ j → entry row j ≡ pos 0) (some : IsZero (scaled units (scale_of units prefix w) prefix w) → ⊥) where
@@ -172,14 +143,6 @@ held_none m e =
     elim (cases_Bool (nat_le m (2 ^ 80))) [
       | inr f ↦ f
       | inl t ↦ absurd (let some : None ≡ Some m = rw t at e in cc)
-    ]
-
--- a row that is 0 is so in its first places
-pub zero_front : (row : List ℤ) (n : ℕ) → IsZero row → IsZero (take n row)
-zero_front row n z i =
-    elim (cases_lt i n) [
-      | inl l ↦ get_or-take n row i (pos 0) l ∙ z i
-      | inr m ↦ get_or_past (take n row) i (pos 0) (omega (arith, m, length-take n row))
     ]
 
 not_scaled : (units : Units) (prefix : List ℕ) (w : List ℤ) → nat_le (scale_of units prefix w) (2 ^ 80) ≡ false → direction_fits units prefix w ≡ false

@@ -35,7 +35,8 @@ use Rattle.smp_stratcube.specs.Laws.Ends.{after_fractional, after_values, moving
 use Rattle.smp_stratcube.specs.Laws.Multiples.{multiple_some, some_map}
 use Rattle.smp_stratcube.specs.Laws.Taken.{length_over, length_taken, numer_over, over_values, taken_kept, taken_moved}
 use Rattle.smp_stratcube.specs.Laws.Units.{denominators_some}
-use Rattle.smp_stratcube.proofs.Ahead.{filter_none, filter_twice, front_inside, unit_on}
+use Rattle.smp_moves.proofs.Filtered.{filter_none, filter_twice}
+use Rattle.smp_stratcube.proofs.Ahead.{front_inside, unit_on}
 use Rattle.smp_stratcube.proofs.Gated.{from_append, gate_all, gate_held}
 
 -- ---- what some units add to a common denominator

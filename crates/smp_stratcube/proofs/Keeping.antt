@@ -20,7 +20,9 @@ use Rattle.smp_stratcube.specs.Pairs.{first_pair, is_either, paired_parts, parts
 use Rattle.smp_stratcube.specs.Cube.{Balancing, IsBalancing, IsFlying, IsPairing, dropped, flight_parts, flying, landed, pairing, strat_parts, strat_tree, values_in}
 use Rattle.smp_stratcube.specs.Laws.Splits.{strat_lawful}
 use Rattle.smp_stratcube.specs.Kept.Fronts.{IsAhead, IsFront, front_units}
-use Rattle.smp_stratcube.specs.Kept.States.{balancing_of}
+use Rattle.smp_stratcube.specs.Kept.States.{IsInFlight, IsNextOf, balancing_of}
+use Rattle.smp_stratcube.specs.Kept.Moves.{IsStep}
+use Rattle.smp_stratcube.specs.declared.steps.Next.{Next as Answer}
 use Rattle.smp_stratcube.specs.Laws.Directions.{IsKnown, known}
 use Rattle.smp_stratcube.specs.Laws.Ends.{still}
 use Rattle.smp_stratcube.specs.Laws.Moves.{minus_end, plus_end}
@@ -35,6 +37,17 @@ use Rattle.smp_stratcube.proofs.Stepped.{off_units}
 pub values_of : (p : Phase) (values : List Value) (rows left : ℕ) → values_in (balancing_of p values rows left) ≡ values
 values_of Flying values rows left = refl
 values_of Pairing values rows left = refl
+
+-- ---- a state in flight
+
+pub in_flight : (units : Units) (p : Phase) (values : List Value) (rows left : ℕ) → IsInFlight units (balancing_of p values rows left) → IsFlying units (record { values = values; rows = rows })
+in_flight units Flying values rows left h = h
+in_flight units Pairing values rows left h = absurd h
+
+pub next_of : (units : Units) (p : Phase) (values : List Value) (rows left : ℕ) (answer : Answer) → IsInFlight units (balancing_of p values rows left) → IsStep units (record { values = values; rows = rows }) answer →
+    IsNextOf units (balancing_of p values rows left) answer
+next_of units Flying values rows left answer h step = step
+next_of units Pairing values rows left answer h step = absurd h
 
 -- ---- the part that a draw picks
 

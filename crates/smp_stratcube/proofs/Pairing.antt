@@ -20,7 +20,8 @@ use Rattle.smp_stratcube.specs.Kept.Behind.{IsBehind, IsLeastOf, dens_behind}
 use Rattle.smp_stratcube.specs.Kept.Fronts.{IsFront, front_units, units_on}
 use Rattle.smp_stratcube.specs.Kept.Pairs.{HasStratum, common_in}
 use Rattle.smp_stratcube.specs.Laws.Multiples.{AllSome, AllDivide, from, from_each, from_least, from_some, from_start, least, multiple_some, some_map}
-use Rattle.smp_stratcube.proofs.Ahead.{filter_none, front_before, front_inside, in_front, order_rises, unit_on, units_none}
+use Rattle.smp_moves.proofs.Filtered.{filter_none, rest_in, rest_out}
+use Rattle.smp_stratcube.proofs.Ahead.{front_before, front_inside, in_front, order_rises, unit_on, units_none}
 use Rattle.smp_stratcube.specs.Laws.Units.{filter_from}
 use Rattle.smp_stratcube.proofs.Gated.{from_append}
 
@@ -153,6 +154,18 @@ module _ (units : Units) (values : List Value) (ok : IsPairing units values) (fr
 
   pub dens_some : (ks : List ℕ) → AllSome (dens ks)
   dens_some ks = some_map (λ k. (value values k).at.den) (filter (λ k. nat_eq (stratum units k) h) ks) (λ k. (ok.values.each k).positive)
+
+  -- at a place of the front: its unit is of the stratum, or it isn't
+  pub dens_here : (m j : ℕ) → j < front.number → stratum units (get_or front.units j 0) ≡ h →
+      from m (dens (rest_of front.number front.units j)) ≡ from (least_multiple m (value values (get_or front.units j 0)).at.den) (dens (rest_of front.number front.units (j + 1)))
+  dens_here m j l e =
+      ap (λ ks. from m (map (λ k. (value values k).at.den) ks))
+      (rest_in (λ k. nat_eq (stratum units k) h) front.number front.units j l (omega (arith, l, long)) (eq-eqb (stratum units (get_or front.units j 0)) h e))
+
+  pub dens_past : (m j : ℕ) → j < front.number → stratum units (get_or front.units j 0) ≢ h → from m (dens (rest_of front.number front.units j)) ≡ from m (dens (rest_of front.number front.units (j + 1)))
+  dens_past m j l away =
+      ap (λ ks. from m (map (λ k. (value values k).at.den) ks))
+      (rest_out (λ k. nat_eq (stratum units k) h) front.number front.units j l (omega (arith, l, long)) (ne_eqb (stratum units (get_or front.units j 0)) h away))
 
   pub front_some : 1 ≤ common_in units values h (front_units front)
   front_some = multiple_some (dens (front_units front)) (dens_some (front_units front))

@@ -21,7 +21,7 @@ use Rattle.smp_stratcube.specs.Values.{is_fractional, value}
 use Rattle.smp_stratcube.specs.Cube.{requested_value, requested_values, started}
 use Rattle.smp_stratcube.specs.Method.{method_of}
 use Rattle.smp_stratcube.specs.Kept.Fronts.{IsAhead, units_on}
-use Rattle.smp_stratcube.proofs.Ahead.{filter_all}
+use Rattle.smp_moves.proofs.Filtered.{filter_all}
 use Rattle.smp_stratcube.proofs.Balances.{first_at, started_flying}
 
 pub strat_means : (units : Units) → IsUnits units → HasMeans (method_of units) (started units)

@@ -1,7 +1,7 @@
 -- The step that the first fractional units lead to is that of the state.
 use Rattle.std.proofs.Common.{◌≡◌, ℕ, ◌+◌, ◌<◌, ◌≤◌, ◌^◌, ◌*◌, ◌&&◌, ◌++◌, nat_le, Bool, true, false, Some, None, mul-pos, ℤ, pos, List, take, length, get_or, arith, refl, sym, ap, ap₂, ◌∙◌, subst, inl, inr, length-take, get_or-take}
 use Rattle.std.specs.Int.RustNames.{unsigned_abs}
-use Rattle.std.proofs.lemmas.Bool.{and_from, and_parts, cases_Bool, cases_lt, le-leb, true≢false}
+use Rattle.std.proofs.lemmas.Bool.{and_from, and_parts, cases_Bool, le-leb, true≢false}
 use Rattle.std.proofs.lemmas.List.{append-nil, length-map, take-append-le, take-map, take-take}
 use Rattle.smp_kernel.specs.Vectors.{entry, IsZero, Within}
 use Rattle.smp_kernel.specs.Elimination.{cut}
@@ -32,6 +32,7 @@ use Rattle.smp_stratcube.specs.Kept.Gates.{held}
 use Rattle.smp_stratcube.specs.Kept.Steps.{HasDirection}
 use Rattle.smp_stratcube.specs.Cube.{IsFlying}
 use Rattle.smp_stratcube.specs.Laws.Directions.{den_divides, den_some, line_ok, prefix_in, prefix_length, some_scaled}
+use Rattle.smp_moves.proofs.FirstPlaces.{front_small}
 use Rattle.smp_stratcube.proofs.Directed.{held_none, held_some}
 use Rattle.smp_stratcube.proofs.Ending.{end_held, inside, some_left, some_size}
 use Rattle.smp_stratcube.proofs.Ahead.{front_before, units_none}
@@ -327,14 +328,7 @@ module _ (units : Units) (f : Flight) (ok : IsFlying units f) (front : Front) (i
     found_fewer = omega (arith, count, front_circuit units f front is long few (take n w) h)
 
     pub found_small : (j : ℕ) → unsigned_abs (entry w j) ≤ 2 ^ 44
-    found_small j =
-        elim (cases_lt j n) [
-          | inr m ↦ rw (past j m) (omega arith)
-          | inl l ↦
-              (let within : Within (2 ^ 44) (take n w) = subst (Within (2 ^ 44)) (sym finds.is) finds.closes.fits in
-              let b : unsigned_abs (entry (take n w) j) ≤ 2 ^ 44 = within j (pos 0) (omega (arith, l, count)) in
-              rw (get_or-take n w j (pos 0) l) at b)
-        ]
+    found_small = front_small w n past lw (subst (Within (2 ^ 44)) (sym finds.is) finds.closes.fits)
 
     found_prefix : take (length (take n w)) (fractional_units f.values) ≡ take n front.units
     found_prefix =

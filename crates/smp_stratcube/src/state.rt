@@ -8,7 +8,7 @@ ghost use Rattle.smp_stratcube.specs.Values.{fractional_count, is_one, is_settle
 ghost use Rattle.smp_stratcube.specs.Cube.{Balancing, IsBalancing, IsFlying, landed, strat_kind, strat_parts, values_in};
 ghost use Rattle.smp_stratcube.specs.Kept.Fronts.{IsFront};
 ghost use Rattle.smp_stratcube.specs.Kept.Moves.{HasGone, IsMoveOf};
-ghost use Rattle.smp_stratcube.specs.Kept.States.{IsKept, balancing_of};
+ghost use Rattle.smp_stratcube.specs.Kept.States.{IsInFlight, IsKept, IsNextOf, balancing_of};
 
 use crate::ends::go;
 use crate::found::{Found, forget, found_of, keep, next_step};
@@ -101,19 +101,27 @@ impl StratCubeState {
         value.at.num == value.at.den
     }
 
+    /// The next step of a state in flight: the one that is kept, where it was found for these units.
+    fn next_step(&self, units: &Units) -> Next
+        requires { IsInFlight units.now self.now }
+        ensures { IsNextOf units.now self.now result }
+    {
+        next_step(
+            units,
+            self.values.as_slice(),
+            self.rows,
+            &self.front,
+            &*self.found,
+        )
+    }
+
     /// The kind of the next step.
     pub(crate) fn kind(&self, units: &Units) -> Kind
         requires { IsBalancing units.now self.now }
         ensures { result ≡ strat_kind units.now self.now }
     {
         match self.phase {
-            Phase::Flying => match next_step(
-                units,
-                self.values.as_slice(),
-                self.rows,
-                &self.front,
-                &*self.found,
-            ) {
+            Phase::Flying => match self.next_step(units) {
                 Next::Move(_) => Kind::Flight,
                 Next::Independent => Kind::Drop,
                 Next::Wide => Kind::Wide,
@@ -129,13 +137,7 @@ impl StratCubeState {
         ensures { result ≡ weight_sum (strat_parts units.now self.now) }
     {
         match self.phase {
-            Phase::Flying => match next_step(
-                units,
-                self.values.as_slice(),
-                self.rows,
-                &self.front,
-                &*self.found,
-            ) {
+            Phase::Flying => match self.next_step(units) {
                 Next::Move(mv) => mv.plus_weight + mv.minus_weight,
                 Next::Independent => 1,
                 Next::Wide => 1,
@@ -152,13 +154,7 @@ impl StratCubeState {
         ensures { self.new ≡ picked self.old (strat_parts units.now self.old) draw }
     {
         match self.phase {
-            Phase::Flying => match next_step(
-                units,
-                self.values.as_slice(),
-                self.rows,
-                &self.front,
-                &*self.found,
-            ) {
+            Phase::Flying => match self.next_step(units) {
                 Next::Independent => {
                     self.left = landed(self.values.as_slice(), &self.front, self.left);
                     self.rows -= 1;

@@ -5,14 +5,27 @@ use Rattle.smp_stratcube.specs.declared.found.Found.{Found}
 use Rattle.smp_stratcube.specs.declared.fronts.Front.{Front}
 use Rattle.smp_stratcube.specs.declared.state.Phase.{Phase}
 use Rattle.smp_stratcube.specs.declared.state.Phase.TheVariants.{Flying, Pairing}
+use Rattle.smp_stratcube.specs.declared.steps.Next.{Next as Answer}
 use Rattle.smp_stratcube.specs.declared.values.Value.{Value}
-use Rattle.smp_stratcube.specs.Cube.{Balancing, flying, pairing}
+use Rattle.smp_stratcube.specs.Units.{Units}
+use Rattle.smp_stratcube.specs.Cube.{Balancing, IsFlying, flying, pairing}
 use Rattle.smp_stratcube.specs.Kept.Fronts.{IsFront}
 use Rattle.smp_stratcube.specs.Kept.Founds.{IsFound}
+use Rattle.smp_stratcube.specs.Kept.Moves.{IsStep}
 
 abbrev pub balancing_of : Phase → List Value → ℕ → ℕ → Balancing
 balancing_of Flying values rows left = flying (record { values = values; rows = rows }) left
 balancing_of Pairing values rows left = pairing values left
+
+-- a state in flight
+abbrev pub IsInFlight : Units → Balancing → Type 0
+IsInFlight units (flying f left) = IsFlying units f
+IsInFlight units (pairing values left) = ⊥
+
+-- the answer is its next step
+abbrev pub IsNextOf : Units → Balancing → Answer → Type 0
+IsNextOf units (flying f left) answer = IsStep units f answer
+IsNextOf units (pairing values left) answer = ⊥
 
 -- the units can be counted, the first fractional ones are known, and so is the next step, where it was looked for
 pub record IsKept (values : List Value) (rows : ℕ) (front : Front) (kept : Option Found) : Type 0 where

@@ -6,20 +6,5 @@ use Rattle.smp_stratcube.proofs.WholeStrata.{has_counts}
 use Rattle.smp_stratcube.specs.Laws.Splits.{strat_lawful}
 use Rattle.smp_stratcube.proofs.laws.strat_law.Goals as goal
 
-pub returns-clause-lawful : goal.returns-clause-lawful
-returns-clause-lawful c = strat_lawful
-
-pub returns-clause-balanced : goal.returns-clause-balanced
-returns-clause-balanced c = strat_balanced
-
-pub returns-clause-next : goal.returns-clause-next
-returns-clause-next c = next_is
-
-pub returns-clause-counted : goal.returns-clause-counted
-returns-clause-counted c = has_counts
-
-pub returns-clause-one : goal.returns-clause-one
-returns-clause-one c = one_next
-
-pub returns-clause-pair : goal.returns-clause-pair
-returns-clause-pair c = each_pair
+pub returns : goal.returns
+returns c = record { lawful = strat_lawful; balanced = strat_balanced; next = next_is; counted = has_counts; one = one_next; pair = each_pair }

@@ -41,25 +41,14 @@ pub returns-clause-is : goal.returns-clause-is
 returns-clause-is c =
     let layers = c.args.layers.now in
     let all : c.as_slice.result.now ≡ c.args.layers.now = c.as_slice.ensures.value ∙ c.layers.view_is in
-    let view = units_view layers c.in_ok-members.members.items c.in_ok-members.firsts.items c.len.result c.variables_of.result
+    units_view layers c.in_ok-members.members.items c.in_ok-members.firsts.items c.len.result c.variables_of.result
     (c.in_ok-members.ensures.0 ∙ ap (λ (ls : List Layer). members_from (length ls) 0 ls) all) (c.in_ok-members.ensures.1 ∙ ap (map first_of) all)
-    (omega (arith, c.len.ensures, c.layers.inside.layers.ok.0, ap (λ (ls : List Layer). length ls) c.layers.view_is)) (c.variables_of.ensures ∙ ap variables (c.as_slice-3.ensures.value ∙ c.layers.view_is)) in
-    view
+    (omega (arith, c.len.ensures, c.layers.inside.layers.ok.0, ap (λ (ls : List Layer). length ls) c.layers.view_is)) (c.variables_of.ensures ∙ ap variables (c.as_slice-3.ensures.value ∙ c.layers.view_is))
 
 pub returns-clause-are : goal.returns-clause-are
-returns-clause-are c =
-    let layers = c.args.layers.now in
-    let all : c.as_slice.result.now ≡ c.args.layers.now = c.as_slice.ensures.value ∙ c.layers.view_is in
-    let view = units_view layers c.in_ok-members.members.items c.in_ok-members.firsts.items c.len.result c.variables_of.result
-    (c.in_ok-members.ensures.0 ∙ ap (λ (ls : List Layer). members_from (length ls) 0 ls) all) (c.in_ok-members.ensures.1 ∙ ap (map first_of) all)
-    (omega (arith, c.len.ensures, c.layers.inside.layers.ok.0, ap (λ (ls : List Layer). length ls) c.layers.view_is)) (c.variables_of.ensures ∙ ap variables (c.as_slice-3.ensures.value ∙ c.layers.view_is)) in
-    subst IsUnits (sym view) (units_are layers c.requires (subst EachIsLayer c.layers.view_is c.layers.invariant))
+returns-clause-are c = subst IsUnits (sym (returns-clause-is c)) (units_are c.args.layers.now c.requires (subst EachIsLayer c.layers.view_is c.layers.invariant))
 
 pub returns-clause-requested : goal.returns-clause-requested
 returns-clause-requested c =
-    let layers = c.args.layers.now in
-    let all : c.as_slice.result.now ≡ c.args.layers.now = c.as_slice.ensures.value ∙ c.layers.view_is in
-    let view = units_view layers c.in_ok-members.members.items c.in_ok-members.firsts.items c.len.result c.variables_of.result
-    (c.in_ok-members.ensures.0 ∙ ap (λ (ls : List Layer). members_from (length ls) 0 ls) all) (c.in_ok-members.ensures.1 ∙ ap (map first_of) all)
-    (omega (arith, c.len.ensures, c.layers.inside.layers.ok.0, ap (λ (ls : List Layer). length ls) c.layers.view_is)) (c.variables_of.ensures ∙ ap variables (c.as_slice-3.ensures.value ∙ c.layers.view_is)) in
-    subst (λ (units : Units). AreRequested layers (started units)) (sym view) (are_requested layers c.requires (subst EachIsLayer c.layers.view_is c.layers.invariant))
+    subst (λ (units : Units). AreRequested c.args.layers.now (started units)) (sym (returns-clause-is c))
+    (are_requested c.args.layers.now c.requires (subst EachIsLayer c.layers.view_is c.layers.invariant))

@@ -3,16 +3,20 @@ use Rattle.std.proofs.lemmas.List.{length-map}
 use Rattle.smp_stratcube.specs.Layers.{Layer, variables, width}
 use Rattle.smp_stratcube.proofs.Stored.{first_has, first_none, here_of, none_left}
 use Rattle.smp_stratcube.proofs.making.variables_of.Goals as goal
+use Rattle.smp_stratcube.proofs.making.variables_of.Goals.{After-len}
+
+-- how many values a layer has
+count : (c : After-len) → length c.layer.inside.values.items ≡ length c.index-layers-stratum.result.values
+count c =
+    let l = c.layer.inside in
+    sym (length-map l.values.items (take l.variables)) ∙ ap (λ (y : Layer). length y.values) c.layer.view_is
 
 pub returns-then-len-gt0 : goal.returns-then-len-gt0
 returns-then-len-gt0 c =
     let layers = c.args.layers.now in
     let i = c.loop-stratum.stratum in
     let layer = c.index-layers-stratum.result in
-    let l = c.layer.inside in
-    let values : length c.layer.inside.values.items ≡ length c.index-layers-stratum.result.values =
-    sym (length-map l.values.items (take l.variables)) ∙ ap (λ (y : Layer). length y.values) c.layer.view_is in
-    let some : 1 ≤ length c.index-layers-stratum.result.values = omega (arith, c.if-len-gt0.true, c.len.ensures, l.values.ok.0, values) in
+    let some : 1 ≤ length c.index-layers-stratum.result.values = omega (arith, c.if-len-gt0.true, c.len.ensures, c.layer.inside.values.ok.0, count (goal.at.returns-then-len-gt0 c).After-len) in
     c.layer.invariant.variables_is ∙ ap width c.layer.view_is
     ∙ sym (c.loop-stratum.invariant ∙ ap variables (here_of layers i layer c.loop-stratum-test.true c.index-layers-stratum.is) ∙ first_has layer (drop (i + 1) layers) some)
 
@@ -21,10 +25,7 @@ loop-stratum-preserved c =
     let layers = c.args.layers.now in
     let i = c.loop-stratum.stratum in
     let layer = c.index-layers-stratum.result in
-    let l = c.layer.inside in
-    let values : length c.layer.inside.values.items ≡ length c.index-layers-stratum.result.values =
-    sym (length-map l.values.items (take l.variables)) ∙ ap (λ (y : Layer). length y.values) c.layer.view_is in
-    let empty : length c.index-layers-stratum.result.values ≡ 0 = omega (arith, c.if-len-gt0.false, c.len.ensures, l.values.ok.0, values) in
+    let empty : length c.index-layers-stratum.result.values ≡ 0 = omega (arith, c.if-len-gt0.false, c.len.ensures, c.layer.inside.values.ok.0, count (goal.at.loop-stratum-preserved c).After-len) in
     c.loop-stratum.invariant ∙ ap variables (here_of layers i layer c.loop-stratum-test.true c.index-layers-stratum.is) ∙ first_none layer (drop (i + 1) layers) empty
 
 pub returns : goal.returns

@@ -1,14 +1,12 @@
-use Rattle.std.proofs.Common.{arith, ◌≡◌, ◌+◌, ◌≤◌, ◌^◌, ℕ, true, false, List, map, get_or, nat_eq, sym, ap, ◌∙◌, subst}
-use Rattle.std.specs.List.{filter}
-use Rattle.std.proofs.lemmas.Bool.{eq-eqb, ne_eqb}
+use Rattle.std.proofs.Common.{arith, ◌≡◌, ◌+◌, ◌≤◌, ◌^◌, ℕ, true, false, List, get_or, sym, ap, ◌∙◌, subst}
 use Rattle.smp_prob.specs.Given.{least_multiple}
 use Rattle.smp_moves.proofs.Places.{rest_all, rest_none, rest_of}
 use Rattle.smp_stratcube.specs.declared.values.Value.{Value}
 use Rattle.smp_stratcube.specs.Units.{stratum}
 use Rattle.smp_stratcube.specs.Values.{value}
 use Rattle.smp_stratcube.specs.Laws.Multiples.{from, least}
-use Rattle.smp_stratcube.proofs.Ahead.{front_inside, rest_in, rest_out}
-use Rattle.smp_stratcube.proofs.Pairing.{dens, dens_some, front_narrow, most_of}
+use Rattle.smp_stratcube.proofs.Ahead.{front_inside}
+use Rattle.smp_stratcube.proofs.Pairing.{dens, dens_here, dens_past, dens_some, front_narrow, most_of}
 use Rattle.smp_stratcube.proofs.pairs.front_common.Goals as goal
 use Rattle.smp_stratcube.proofs.pairs.front_common.Goals.{then-stratum, else-stratum}
 
@@ -30,47 +28,32 @@ least_multiple-common-requires-clause-b c =
 
 pub least_multiple-common-requires-clause-within : goal.least_multiple-common-requires-clause-within
 least_multiple-common-requires-clause-within c =
-    let units = c.args.units.now in
-    let values = c.args.values.now in
-    let n = c.args.front.now.number in
-    let us = c.args.front.now.units in
-    let j = c.loop-place.place in
-    let unit = get_or us j 0 in
-    let ds : List ℕ → List ℕ = dens units values c.requires.pairing c.args.front.now c.requires.front (omega (arith, c.requires.front.short)) c.args.stratum in
-    let here : nat_eq (stratum units unit) c.args.stratum ≡ true = eq-eqb (stratum units unit) c.args.stratum (sym c.stratum.ensures ∙ c.if-stratum.true) in
-    let rest : List ℕ = rest_of n us (j + 1) in
-    let total : from (least_multiple c.loop-place.common (value values unit).at.den) (ds rest) ≡ _ =
-    sym (ap (λ ks. from c.loop-place.common (map (λ k. (value values k).at.den) ks)) (rest_in (λ k. nat_eq (stratum units k) c.args.stratum) n us j (omega arith) (omega (arith, c.requires.front.short)) here)) ∙ c.loop-place.invariant.0 in
-    let some = (least c.loop-place.common (value values unit).at.den c.loop-place.invariant.1 (c.requires.pairing.values.each unit).positive).common.positive in
-    let most = most_of (least_multiple c.loop-place.common (value values unit).at.den) (ds rest) some (dens_some units values c.requires.pairing c.args.front.now c.requires.front (omega (arith, c.requires.front.short)) c.args.stratum rest) in
-    let narrow = front_narrow units values c.requires.pairing c.args.front.now c.requires.front (omega (arith, c.requires.front.short)) c.args.stratum in
+    let m = c.loop-place.common in
+    let unit = get_or c.args.front.now.units c.loop-place.place 0 in
+    let d : ℕ = (value c.args.values.now unit).at.den in
+    let ds : List ℕ = dens c.args.units.now c.args.values.now c.requires.pairing c.args.front.now c.requires.front (omega (arith, c.requires.front.short)) c.args.stratum (rest_of c.args.front.now.number c.args.front.now.units (c.loop-place.place + 1)) in
+    let total : from (least_multiple m d) ds ≡ _ = sym (dens_here c.args.units.now c.args.values.now c.requires.pairing c.args.front.now c.requires.front (omega (arith, c.requires.front.short)) c.args.stratum m c.loop-place.place (omega arith) (sym c.stratum.ensures ∙ c.if-stratum.true)) ∙ c.loop-place.invariant.0 in
+    let some = (least m d c.loop-place.invariant.1 (c.requires.pairing.values.each unit).positive).common.positive in
+    let most = most_of (least_multiple m d) ds some (dens_some c.args.units.now c.args.values.now c.requires.pairing c.args.front.now c.requires.front (omega (arith, c.requires.front.short)) c.args.stratum (rest_of c.args.front.now.number c.args.front.now.units (c.loop-place.place + 1))) in
+    let narrow = front_narrow c.args.units.now c.args.values.now c.requires.pairing c.args.front.now c.requires.front (omega (arith, c.requires.front.short)) c.args.stratum in
     subst (λ (v : Value). least_multiple c.loop-place.common v.at.den ≤ 2 ^ 80) (sym c.at.ensures) (omega (arith, most, total, narrow))
 
 pub loop-place-preserved : goal.loop-place-preserved
 loop-place-preserved c =
-    let units = c.args.units.now in
-    let values = c.args.values.now in
-    let n = c.args.front.now.number in
-    let us = c.args.front.now.units in
-    let j = c.loop-place.place in
-    let unit = get_or us j 0 in
-    let in_h : ℕ → _ = λ k. nat_eq (stratum units k) c.args.stratum in
-    let den : ℕ → ℕ = λ k. (value values k).at.den in
+    let unit = get_or c.args.front.now.units c.loop-place.place 0 in
+    let ds : List ℕ = dens c.args.units.now c.args.values.now c.requires.pairing c.args.front.now c.requires.front (omega (arith, c.requires.front.short)) c.args.stratum (rest_of c.args.front.now.number c.args.front.now.units (c.loop-place.place + 1)) in
     elim c.if-stratum.branch [
       | then-stratum w ↦
-          (let here : nat_eq (stratum units unit) c.args.stratum ≡ true = eq-eqb (stratum units unit) c.args.stratum (sym c.stratum.ensures ∙ w.if-stratum.true) in
-          let is : c.if-stratum.common ≡ least_multiple c.loop-place.common (value values unit).at.den =
+          (let is : c.if-stratum.common ≡ least_multiple c.loop-place.common (value c.args.values.now unit).at.den =
           w.common-is ∙ w.least_multiple-common.ensures ∙ ap (λ (v : Value). least_multiple c.loop-place.common v.at.den) w.at.ensures in (
-            ap (λ m. from m (map den (filter in_h (rest_of n us (j + 1))))) is
-                ∙ sym (ap (λ ks. from c.loop-place.common (map den ks)) (rest_in in_h n us j (omega arith) (omega (arith, c.requires.front.short)) here)) ∙ c.loop-place.invariant.0,
-            subst (λ m. 1 ≤ m) (sym is) (least c.loop-place.common (value values unit).at.den c.loop-place.invariant.1 (c.requires.pairing.values.each unit).positive).common.positive,
+            ap (λ m. from m ds) is ∙ sym (dens_here c.args.units.now c.args.values.now c.requires.pairing c.args.front.now c.requires.front (omega (arith, c.requires.front.short)) c.args.stratum c.loop-place.common c.loop-place.place (omega arith) (sym c.stratum.ensures ∙ w.if-stratum.true)) ∙ c.loop-place.invariant.0,
+            subst (λ m. 1 ≤ m) (sym is) (least c.loop-place.common (value c.args.values.now unit).at.den c.loop-place.invariant.1 (c.requires.pairing.values.each unit).positive).common.positive,
           ))
-      | else-stratum w ↦
-          (let away : nat_eq (stratum units unit) c.args.stratum ≡ false = ne_eqb (stratum units unit) c.args.stratum (λ e. w.if-stratum.false (c.stratum.ensures ∙ e)) in (
-            ap (λ m. from m (map den (filter in_h (rest_of n us (j + 1))))) w.common-is
-                ∙ sym (ap (λ ks. from c.loop-place.common (map den ks)) (rest_out in_h n us j (omega arith) (omega (arith, c.requires.front.short)) away)) ∙ c.loop-place.invariant.0,
-            subst (λ m. 1 ≤ m) (sym w.common-is) c.loop-place.invariant.1,
-          ))
+      | else-stratum w ↦ (
+        ap (λ m. from m ds) w.common-is
+            ∙ sym (dens_past c.args.units.now c.args.values.now c.requires.pairing c.args.front.now c.requires.front (omega (arith, c.requires.front.short)) c.args.stratum c.loop-place.common c.loop-place.place (omega arith) (λ e. w.if-stratum.false (c.stratum.ensures ∙ e))) ∙ c.loop-place.invariant.0,
+        subst (λ m. 1 ≤ m) (sym w.common-is) c.loop-place.invariant.1,
+      )
     ]
 
 pub returns : goal.returns

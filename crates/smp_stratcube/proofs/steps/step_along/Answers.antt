@@ -1,113 +1,98 @@
-use Rattle.std.proofs.Common.{arith, length, sym, ◌∙◌}
+use Rattle.std.proofs.Common.{ℕ, ◌<◌, ◌≤◌, ◌^◌, arith, get_or, length, sym, ◌∙◌}
+use Rattle.smp_moves.specs.declared.lines.Line.{Line}
+use Rattle.smp_moves.specs.declared.reaches.Reach.{Reach}
+use Rattle.smp_moves.specs.Answers.{IsPadded}
+use Rattle.smp_moves.specs.Kept.Ends.{HasSmallEntries}
+use Rattle.smp_stratcube.specs.Units.{IsUnits}
+use Rattle.smp_stratcube.specs.Values.{IsValue, value}
+use Rattle.smp_stratcube.specs.Kept.Lines.{AreInside}
+use Rattle.smp_stratcube.specs.Kept.Moves.{IsAlong}
 use Rattle.smp_stratcube.proofs.Ahead.{front_inside}
 use Rattle.smp_stratcube.proofs.Ending.{some_size}
 use Rattle.smp_stratcube.proofs.Parts.{product_fits}
 use Rattle.smp_stratcube.proofs.Stepped.{back_inside, backward, den_narrow, forth, is_move_of, line_inside, no_denominator, no_minus, no_plus, reaches_some}
 use Rattle.smp_stratcube.proofs.steps.step_along.Goals as goal
+use Rattle.smp_stratcube.proofs.steps.step_along.Goals.{After-reach_along-down, After-reach_along-up, In-Some}
 
 pub denominator-requires-clause-line : goal.denominator-requires-clause-line
 denominator-requires-clause-line c =
     λ j l. line_inside c.args.units.now (record { values = c.args.values.now; rows = c.args.rows }) c.requires.flying c.args.line c.requires.line j l
 
 pub denominator-requires-clause-are : goal.denominator-requires-clause-are
-denominator-requires-clause-are c =
-    c.requires.flying.are
+denominator-requires-clause-are c = c.requires.flying.are
 
 pub denominator-requires-clause-values : goal.denominator-requires-clause-values
-denominator-requires-clause-values c =
-    c.requires.flying.values
+denominator-requires-clause-values c = c.requires.flying.values
 
 pub denominator-requires-clause-front : goal.denominator-requires-clause-front
-denominator-requires-clause-front c =
-    c.requires.front
+denominator-requires-clause-front c = c.requires.front
 
 pub denominator-requires-clause-padded : goal.denominator-requires-clause-padded
-denominator-requires-clause-padded c =
-    c.requires.line.is_line.padded
+denominator-requires-clause-padded c = c.requires.line.is_line.padded
 
 pub turned-back-requires-clause-padded : goal.turned-back-requires-clause-padded
-turned-back-requires-clause-padded c =
-    c.requires.line.is_line.padded
+turned-back-requires-clause-padded c = c.requires.line.is_line.padded
 
 pub turned-back-requires-clause-small : goal.turned-back-requires-clause-small
-turned-back-requires-clause-small c =
-    c.requires.line.is_line.small
+turned-back-requires-clause-small c = c.requires.line.is_line.small
 
-pub reach_along-up-requires-clause-values : goal.reach_along-up-requires-clause-values
-reach_along-up-requires-clause-values c =
-    c.requires.flying.values.each
+-- how far a line is followed, whose units are there
+can_reach : (c : In-Some) (along : Line) → IsPadded along → HasSmallEntries along → ((j : ℕ) → j < along.number → get_or along.units j 0 < length c.args.values.now) → record {
+  values : (k : ℕ) → IsValue (value c.args.values.now k);
+  den : c.in-Some.den ≤ 2 ^ 80;
+  padded : IsPadded along;
+  small : HasSmallEntries along;
+  line : (j : ℕ) → j < along.number → get_or along.units j 0 < length c.args.values.now;
+}
+can_reach c along padded small inside = record {
+  values = c.requires.flying.values.each;
+  den = den_narrow c.args.units.now (record { values = c.args.values.now; rows = c.args.rows }) c.requires.flying c.args.front.now c.requires.front (omega (arith, c.requires.front.short)) c.args.line c.requires.line c.in-Some.den c.in-Some.ensures;
+  padded = padded;
+  small = small;
+  line = inside;
+}
 
-pub reach_along-up-requires-clause-den : goal.reach_along-up-requires-clause-den
-reach_along-up-requires-clause-den c =
-    den_narrow c.args.units.now (record { values = c.args.values.now; rows = c.args.rows }) c.requires.flying c.args.front.now c.requires.front (omega (arith, c.requires.front.short)) c.args.line c.requires.line c.in-Some.den c.in-Some.ensures
+pub reach_along-up-requires : goal.reach_along-up-requires
+reach_along-up-requires c =
+    can_reach (goal.at.reach_along-up-requires c).In-Some c.args.line c.requires.line.is_line.padded c.requires.line.is_line.small
+    (λ j l. (let b = line_inside c.args.units.now (record { values = c.args.values.now; rows = c.args.rows }) c.requires.flying c.args.line c.requires.line j l in omega (arith, b, c.requires.flying.values.count)))
 
-pub reach_along-up-requires-clause-padded : goal.reach_along-up-requires-clause-padded
-reach_along-up-requires-clause-padded c =
-    c.requires.line.is_line.padded
+pub reach_along-down-requires : goal.reach_along-down-requires
+reach_along-down-requires c =
+    can_reach (goal.at.reach_along-down-requires c).In-Some c.turned-back.result c.turned-back.ensures.padded c.turned-back.ensures.small
+    (back_inside c.args.units.now (record { values = c.args.values.now; rows = c.args.rows }) c.requires.flying c.args.front.now c.requires.front (omega (arith, c.requires.front.short)) c.args.line c.requires.line c.in-Some.den c.in-Some.ensures c.turned-back.result c.turned-back.ensures.line c.turned-back.ensures.padded c.turned-back.ensures.small)
 
-pub reach_along-up-requires-clause-small : goal.reach_along-up-requires-clause-small
-reach_along-up-requires-clause-small c =
-    c.requires.line.is_line.small
+-- both ways, and whether the common denominator fits there
+along_up : (c : After-reach_along-up) → IsAlong (length c.args.units.now.members) c.args.values.now c.args.line c.in-Some.den c.reach_along-up.result
+along_up c = forth c.args.units.now (record { values = c.args.values.now; rows = c.args.rows }) c.requires.flying c.args.front.now c.requires.front (omega (arith, c.requires.front.short)) c.args.line c.requires.line c.in-Some.den c.in-Some.ensures c.reach_along-up.result c.reach_along-up.ensures.is
 
-pub reach_along-up-requires-clause-line : goal.reach_along-up-requires-clause-line
-reach_along-up-requires-clause-line c =
-    λ j l. (let b = line_inside c.args.units.now (record { values = c.args.values.now; rows = c.args.rows }) c.requires.flying c.args.line c.requires.line j l in omega (arith, b, c.requires.flying.values.count))
+along_down : (c : After-reach_along-down) → IsAlong (length c.args.units.now.members) c.args.values.now c.turned-back.result c.in-Some.den c.reach_along-down.result
+along_down c = backward c.args.units.now (record { values = c.args.values.now; rows = c.args.rows }) c.requires.flying c.args.front.now c.requires.front (omega (arith, c.requires.front.short)) c.args.line c.requires.line c.in-Some.den c.in-Some.ensures c.turned-back.result c.turned-back.ensures.line c.turned-back.ensures.padded c.turned-back.ensures.small c.reach_along-down.result c.reach_along-down.ensures.is
 
-pub reach_along-down-requires-clause-values : goal.reach_along-down-requires-clause-values
-reach_along-down-requires-clause-values c =
-    c.requires.flying.values.each
+can_fit : (c : In-Some) (line : Line) (r : Reach) → IsAlong (length c.args.units.now.members) c.args.values.now line c.in-Some.den r → record {
+  are : IsUnits c.args.units.now;
+  along : IsAlong (length c.args.units.now.members) c.args.values.now line c.in-Some.den r;
+  inside : AreInside (length c.args.values.now) c.args.front.now;
+  size : 1 ≤ r.size;
+}
+can_fit c line r along = record {
+  are = c.requires.flying.are;
+  along = along;
+  inside = record { short = c.requires.front.short; inside = λ j l. front_inside c.args.values.now c.args.front.now c.requires.front (omega (arith, c.requires.front.short)) j l };
+  size = some_size (length c.args.units.now.members) c.args.values.now line c.in-Some.den r along;
+}
 
-pub reach_along-down-requires-clause-den : goal.reach_along-down-requires-clause-den
-reach_along-down-requires-clause-den c =
-    den_narrow c.args.units.now (record { values = c.args.values.now; rows = c.args.rows }) c.requires.flying c.args.front.now c.requires.front (omega (arith, c.requires.front.short)) c.args.line c.requires.line c.in-Some.den c.in-Some.ensures
-
-pub reach_along-down-requires-clause-padded : goal.reach_along-down-requires-clause-padded
-reach_along-down-requires-clause-padded c =
-    c.turned-back.ensures.padded
-
-pub reach_along-down-requires-clause-small : goal.reach_along-down-requires-clause-small
-reach_along-down-requires-clause-small c =
-    c.turned-back.ensures.small
-
-pub reach_along-down-requires-clause-line : goal.reach_along-down-requires-clause-line
-reach_along-down-requires-clause-line c =
-    back_inside c.args.units.now (record { values = c.args.values.now; rows = c.args.rows }) c.requires.flying c.args.front.now c.requires.front (omega (arith, c.requires.front.short)) c.args.line c.requires.line c.in-Some.den c.in-Some.ensures c.turned-back.result c.turned-back.ensures.line c.turned-back.ensures.padded c.turned-back.ensures.small
-
-pub end_fits-requires-clause-are : goal.end_fits-requires-clause-are
-end_fits-requires-clause-are c =
-    c.requires.flying.are
-
-pub end_fits-requires-clause-along : goal.end_fits-requires-clause-along
-end_fits-requires-clause-along c =
-    forth c.args.units.now (record { values = c.args.values.now; rows = c.args.rows }) c.requires.flying c.args.front.now c.requires.front (omega (arith, c.requires.front.short)) c.args.line c.requires.line c.in-Some.den c.in-Some.ensures c.reach_along-up.result c.reach_along-up.ensures.is
-
-pub end_fits-requires-clause-inside : goal.end_fits-requires-clause-inside
-end_fits-requires-clause-inside c =
-    record { short = c.requires.front.short; inside = λ j l. front_inside c.args.values.now c.args.front.now c.requires.front (omega (arith, c.requires.front.short)) j l }
-
-pub end_fits-requires-clause-size : goal.end_fits-requires-clause-size
-end_fits-requires-clause-size c =
-    some_size (length c.args.units.now.members) c.args.values.now c.args.line c.in-Some.den c.reach_along-up.result (forth c.args.units.now (record { values = c.args.values.now; rows = c.args.rows }) c.requires.flying c.args.front.now c.requires.front (omega (arith, c.requires.front.short)) c.args.line c.requires.line c.in-Some.den c.in-Some.ensures c.reach_along-up.result c.reach_along-up.ensures.is)
+pub end_fits-requires : goal.end_fits-requires
+end_fits-requires c =
+    can_fit (goal.at.end_fits-requires c).In-Some c.args.line c.reach_along-up.result (along_up (goal.at.end_fits-requires c).After-reach_along-up)
 
 pub returns-then-not-end_fits : goal.returns-then-not-end_fits
 returns-then-not-end_fits c =
     no_plus c.args.units.now (record { values = c.args.values.now; rows = c.args.rows }) c.requires.flying c.args.front.now c.requires.front (omega (arith, c.requires.front.short)) c.args.line c.requires.line c.in-Some.den c.in-Some.ensures c.reach_along-up.result c.reach_along-up.ensures.is (sym c.end_fits.ensures ∙ c.if-not-end_fits.true)
 
-pub end_fits-requires-in-Some-clause-are : goal.end_fits-requires-in-Some-clause-are
-end_fits-requires-in-Some-clause-are c =
-    c.requires.flying.are
-
-pub end_fits-requires-in-Some-clause-along : goal.end_fits-requires-in-Some-clause-along
-end_fits-requires-in-Some-clause-along c =
-    backward c.args.units.now (record { values = c.args.values.now; rows = c.args.rows }) c.requires.flying c.args.front.now c.requires.front (omega (arith, c.requires.front.short)) c.args.line c.requires.line c.in-Some.den c.in-Some.ensures c.turned-back.result c.turned-back.ensures.line c.turned-back.ensures.padded c.turned-back.ensures.small c.reach_along-down.result c.reach_along-down.ensures.is
-
-pub end_fits-requires-in-Some-clause-inside : goal.end_fits-requires-in-Some-clause-inside
-end_fits-requires-in-Some-clause-inside c =
-    record { short = c.requires.front.short; inside = λ j l. front_inside c.args.values.now c.args.front.now c.requires.front (omega (arith, c.requires.front.short)) j l }
-
-pub end_fits-requires-in-Some-clause-size : goal.end_fits-requires-in-Some-clause-size
-end_fits-requires-in-Some-clause-size c =
-    some_size (length c.args.units.now.members) c.args.values.now c.turned-back.result c.in-Some.den c.reach_along-down.result (backward c.args.units.now (record { values = c.args.values.now; rows = c.args.rows }) c.requires.flying c.args.front.now c.requires.front (omega (arith, c.requires.front.short)) c.args.line c.requires.line c.in-Some.den c.in-Some.ensures c.turned-back.result c.turned-back.ensures.line c.turned-back.ensures.padded c.turned-back.ensures.small c.reach_along-down.result c.reach_along-down.ensures.is)
+pub end_fits-requires-in-Some : goal.end_fits-requires-in-Some
+end_fits-requires-in-Some c =
+    can_fit (goal.at.end_fits-requires-in-Some c).In-Some c.turned-back.result c.reach_along-down.result (along_down (goal.at.end_fits-requires-in-Some c).After-reach_along-down)
 
 pub returns-then-not-end_fits-2 : goal.returns-then-not-end_fits-2
 returns-then-not-end_fits-2 c =

@@ -1,4 +1,4 @@
-use Rattle.std.proofs.Common.{◌≡◌, ℕ, List, length, arith, refl, sym, ap, ap₂, ◌∙◌, subst}
+use Rattle.std.proofs.Common.{ℕ, List, length, arith, refl, sym, ap, ap₂, ◌∙◌, subst}
 use Rattle.std.proofs.lemmas.List.{length-map}
 use Rattle.smp_stratcube.specs.declared.values.Value.{Value}
 use Rattle.smp_stratcube.specs.Units.{IsUnits}
@@ -29,21 +29,12 @@ returns-clause-state c =
 
 pub returns-clause-means : goal.returns-clause-means
 returns-clause-means c =
-    let are : IsUnits c.args.self.now = subst IsUnits c.self.view_is c.self.invariant in
-    let state : flying (record { values = c.in_ok-values.values.items; rows = c.rows.result }) 0 ≡ started c.args.self.now =
-    ap₂ (λ (vs : List Value) (n : ℕ). flying (record { values = vs; rows = n }) 0) c.in_ok-values.ensures c.rows.ensures ∙ ap started c.self.view_is in
-    subst (HasMeans (method_of c.args.self.now)) (sym state) (strat_means c.args.self.now are)
+    subst (HasMeans (method_of c.args.self.now)) (sym (returns-clause-state c)) (strat_means c.args.self.now (subst IsUnits c.self.view_is c.self.invariant))
 
 pub returns-clause-counts : goal.returns-clause-counts
 returns-clause-counts c =
-    let are : IsUnits c.args.self.now = subst IsUnits c.self.view_is c.self.invariant in
-    let state : flying (record { values = c.in_ok-values.values.items; rows = c.rows.result }) 0 ≡ started c.args.self.now =
-    ap₂ (λ (vs : List Value) (n : ℕ). flying (record { values = vs; rows = n }) 0) c.in_ok-values.ensures c.rows.ensures ∙ ap started c.self.view_is in
-    subst (HasCounts c.args.self.now) (sym state) (has_counts c.args.self.now are)
+    subst (HasCounts c.args.self.now) (sym (returns-clause-state c)) (has_counts c.args.self.now (subst IsUnits c.self.view_is c.self.invariant))
 
 pub returns-clause-balanced : goal.returns-clause-balanced
 returns-clause-balanced c =
-    let are : IsUnits c.args.self.now = subst IsUnits c.self.view_is c.self.invariant in
-    let state : flying (record { values = c.in_ok-values.values.items; rows = c.rows.result }) 0 ≡ started c.args.self.now =
-    ap₂ (λ (vs : List Value) (n : ℕ). flying (record { values = vs; rows = n }) 0) c.in_ok-values.ensures c.rows.ensures ∙ ap started c.self.view_is in
-    subst (IsBalanced c.args.self.now) (sym state) (strat_balanced c.args.self.now are)
+    subst (IsBalanced c.args.self.now) (sym (returns-clause-state c)) (strat_balanced c.args.self.now (subst IsUnits c.self.view_is c.self.invariant))

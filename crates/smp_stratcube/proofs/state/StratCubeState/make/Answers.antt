@@ -1,44 +1,33 @@
-use Rattle.std.proofs.Common.{arith, ◌≡◌, ◌+◌, ◌-◌, ◌≤◌, ◌<◌, nat_lt, false, List, IfSome, length, sym, ap, ◌∙◌, subst}
+use Rattle.std.proofs.Common.{arith, ◌≡◌, ◌+◌, ◌-◌, ◌≤◌, ◌<◌, nat_lt, false, List, length, sym, ap, ◌∙◌, subst}
 use Rattle.smp_split.specs.Trees.{weight_sum}
 use Rattle.smp_moves.specs.Answers.{line_of}
-use Rattle.smp_moves.specs.Moves.{Next, independent, wide}
+use Rattle.smp_moves.specs.Moves.{Next}
 use Rattle.smp_stratcube.specs.declared.values.Value.{Value}
 use Rattle.smp_stratcube.specs.Values.{is_settled}
 use Rattle.smp_stratcube.specs.Steps.{chosen, next, next_along}
 use Rattle.smp_stratcube.specs.Pairs.{paired_parts}
 use Rattle.smp_stratcube.specs.Cube.{IsFlying, IsPairing, flight_parts, flying, landed, pairing, strat_parts}
-use Rattle.smp_stratcube.specs.Kept.Founds.{IsFound}
 use Rattle.smp_stratcube.specs.Kept.Fronts.{IsAhead, IsFront}
-use Rattle.smp_stratcube.specs.Kept.Moves.{IsMoveOf}
 use Rattle.smp_stratcube.specs.Laws.Splits.{some_row}
 use Rattle.smp_stratcube.proofs.Keeping.{move_ahead, move_count, pair_ahead, pair_behind, pair_sum, picks_drop, picks_move, picks_pair, picks_wide}
 use Rattle.smp_stratcube.proofs.state.StratCubeState.make.Goals as goal
 
-pub next_step-requires-clause-flying : goal.next_step-requires-clause-flying
-next_step-requires-clause-flying c =
-    (let ok : IsFlying c.args.units.now (record { values = c.self.inside.values.items; rows = c.self.inside.rows }) = (rw (← c.self.view_is, c.in-Flying.is) at c.requires.state) in subst (λ (vs : List Value). IsFlying c.args.units.now (record { values = vs; rows = c.self.inside.rows })) (sym c.as_slice.ensures.value) ok)
-
-pub next_step-requires-clause-found : goal.next_step-requires-clause-found
-next_step-requires-clause-found c =
-    rw c.deref.ensures (subst (λ (vs : List Value). IfSome c.self.inside.found.value (IsFound vs c.self.inside.rows c.self.inside.front)) (sym c.as_slice.ensures.value) c.self.invariant.step)
-
-pub next_step-requires-clause-front : goal.next_step-requires-clause-front
-next_step-requires-clause-front c =
-    subst (λ (vs : List Value). IsFront vs c.self.inside.front) (sym c.as_slice.ensures.value) c.self.invariant.first
+pub next_step-requires : goal.next_step-requires
+next_step-requires c = rw (← c.self.view_is, c.in-Flying.is) (rw (← c.self.view_is, c.in-Flying.is) at c.requires.state)
 
 pub landed-self-inside-requires-clause-few : goal.landed-self-inside-requires-clause-few
 landed-self-inside-requires-clause-few c =
-    subst (λ (vs : List Value). length vs ≤ 3000000) (sym c.as_slice-in-Independent.ensures.value) c.self.invariant.few
+    subst (λ (vs : List Value). length vs ≤ 3000000) (sym c.as_slice.ensures.value) c.self.invariant.few
 
 pub landed-self-inside-requires-clause-front : goal.landed-self-inside-requires-clause-front
 landed-self-inside-requires-clause-front c =
-    subst (λ (vs : List Value). IsFront vs c.self.inside.front) (sym c.as_slice-in-Independent.ensures.value) c.self.invariant.first
+    subst (λ (vs : List Value). IsFront vs c.self.inside.front) (sym c.as_slice.ensures.value) c.self.invariant.first
 
 pub overflow_sub-self : goal.overflow_sub-self
 overflow_sub-self c =
     (let ok : IsFlying c.args.units.now (record { values = c.self.inside.values.items; rows = c.self.inside.rows }) = (rw (← c.self.view_is, c.in-Flying.is) at c.requires.state) in
     let going : is_settled c.self.inside.values.items ≡ false = (rw (← c.self.view_is, c.in-Flying.is) at c.requires.going) in
-    some_row c.args.units.now (record { values = c.self.inside.values.items; rows = c.self.inside.rows }) ok (subst (λ (vs : List Value). next c.args.units.now (record { values = vs; rows = c.self.inside.rows }) ≡ independent) c.as_slice.ensures.value c.in-Independent.ensures) going)
+    some_row c.args.units.now (record { values = c.self.inside.values.items; rows = c.self.inside.rows }) ok (rw (← c.self.view_is, c.in-Flying.is) at c.in-Independent.ensures) going)
 
 pub invariant_of-self : goal.invariant_of-self
 invariant_of-self c =
@@ -62,18 +51,18 @@ fly-requires-clause-flying c =
 
 pub fly-requires-clause-mv : goal.fly-requires-clause-mv
 fly-requires-clause-mv c =
-    (subst (λ (vs : List Value). IsMoveOf c.args.units.now (record { values = vs; rows = c.self.inside.rows }) c.in-Move.mv) c.as_slice.ensures.value c.in-Move.ensures)
+    (rw (← c.self.view_is, c.in-Flying.is) at c.in-Move.ensures)
 
 pub front_of-self-inside-requires : goal.front_of-self-inside-requires
 front_of-self-inside-requires c =
     (let ok : IsFlying c.args.units.now (record { values = c.self.inside.values.items; rows = c.self.inside.rows }) = (rw (← c.self.view_is, c.in-Flying.is) at c.requires.state) in
-    let m = (subst (λ (vs : List Value). IsMoveOf c.args.units.now (record { values = vs; rows = c.self.inside.rows }) c.in-Move.mv) c.as_slice.ensures.value c.in-Move.ensures) in
+    let m = (rw (← c.self.view_is, c.in-Flying.is) at c.in-Move.ensures) in
     subst (λ (vs : List Value). IsAhead vs c.self.inside.front) (sym (c.as_slice-in-Move.ensures.value ∙ c.fly.ensures.is)) (move_ahead c.args.units.now (record { values = c.self.inside.values.items; rows = c.self.inside.rows }) ok c.self.inside.front c.self.invariant.first (omega (arith, c.self.invariant.first.short)) (next_along c.args.units.now c.self.inside.values.items (line_of c.in-Move.mv.line)) m.next (nat_lt c.args.draw c.in-Move.mv.plus_weight)))
 
 pub invariant_of-self-in-Move : goal.invariant_of-self-in-Move
 invariant_of-self-in-Move c =
     (let ok : IsFlying c.args.units.now (record { values = c.self.inside.values.items; rows = c.self.inside.rows }) = (rw (← c.self.view_is, c.in-Flying.is) at c.requires.state) in
-    let m = (subst (λ (vs : List Value). IsMoveOf c.args.units.now (record { values = vs; rows = c.self.inside.rows }) c.in-Move.mv) c.as_slice.ensures.value c.in-Move.ensures) in
+    let m = (rw (← c.self.view_is, c.in-Flying.is) at c.in-Move.ensures) in
     record {
       few = omega (arith, ap length c.fly.ensures.is, move_count c.args.units.now (record { values = c.self.inside.values.items; rows = c.self.inside.rows }) ok c.self.inside.front c.self.invariant.first (omega (arith, c.self.invariant.first.short)) (next_along c.args.units.now c.self.inside.values.items (line_of c.in-Move.mv.line)) m.next (nat_lt c.args.draw c.in-Move.mv.plus_weight), c.self.invariant.few);
       first = subst (λ (vs : List Value). IsFront vs c.front_of-self-inside.result) c.as_slice-in-Move.ensures.value c.front_of-self-inside.ensures;
@@ -122,18 +111,18 @@ invariant_of-self-in-Pairing c =
 pub returns-in-Independent : goal.returns-in-Independent
 returns-in-Independent c =
     (let w : c.args.draw < weight_sum (strat_parts c.args.units.now (flying (record { values = c.self.inside.values.items; rows = c.self.inside.rows }) c.self.inside.left)) = (rw (← c.self.view_is, c.in-Flying.is) at c.requires.within) in
-    let one : c.args.draw < 1 = subst (λ n. c.args.draw < n) (ap (λ (a : Next). weight_sum (flight_parts c.args.units.now (record { values = c.self.inside.values.items; rows = c.self.inside.rows }) c.self.inside.left a)) (subst (λ (vs : List Value). next c.args.units.now (record { values = vs; rows = c.self.inside.rows }) ≡ independent) c.as_slice.ensures.value c.in-Independent.ensures)) w in
-    rw (← c.self.view_is, c.in-Flying.is) (ap (λ l. flying (record { values = c.self.inside.values.items; rows = c.self.inside.rows - 1 }) l) (c.landed-self-inside.ensures ∙ ap (λ (vs : List Value). landed vs c.self.inside.left) c.as_slice-in-Independent.ensures.value) ∙ sym (picks_drop c.args.units.now (record { values = c.self.inside.values.items; rows = c.self.inside.rows }) c.self.inside.left c.args.draw (subst (λ (vs : List Value). next c.args.units.now (record { values = vs; rows = c.self.inside.rows }) ≡ independent) c.as_slice.ensures.value c.in-Independent.ensures) one)))
+    let one : c.args.draw < 1 = subst (λ n. c.args.draw < n) (ap (λ (a : Next). weight_sum (flight_parts c.args.units.now (record { values = c.self.inside.values.items; rows = c.self.inside.rows }) c.self.inside.left a)) (rw (← c.self.view_is, c.in-Flying.is) at c.in-Independent.ensures)) w in
+    rw (← c.self.view_is, c.in-Flying.is) (ap (λ l. flying (record { values = c.self.inside.values.items; rows = c.self.inside.rows - 1 }) l) (c.landed-self-inside.ensures ∙ ap (λ (vs : List Value). landed vs c.self.inside.left) c.as_slice.ensures.value) ∙ sym (picks_drop c.args.units.now (record { values = c.self.inside.values.items; rows = c.self.inside.rows }) c.self.inside.left c.args.draw (rw (← c.self.view_is, c.in-Flying.is) at c.in-Independent.ensures) one)))
 
 pub returns-in-Wide : goal.returns-in-Wide
 returns-in-Wide c =
     (let w : c.args.draw < weight_sum (strat_parts c.args.units.now (flying (record { values = c.self.inside.values.items; rows = c.self.inside.rows }) c.self.inside.left)) = (rw (← c.self.view_is, c.in-Flying.is) at c.requires.within) in
-    let one : c.args.draw < 1 = subst (λ n. c.args.draw < n) (ap (λ (a : Next). weight_sum (flight_parts c.args.units.now (record { values = c.self.inside.values.items; rows = c.self.inside.rows }) c.self.inside.left a)) (subst (λ (vs : List Value). next c.args.units.now (record { values = vs; rows = c.self.inside.rows }) ≡ wide) c.as_slice.ensures.value c.in-Wide.ensures)) w in
-    rw (← c.self.view_is, c.in-Flying.is) (ap (λ l. pairing c.self.inside.values.items l) (c.landed-self-inside-in-Wide.ensures ∙ ap (λ (vs : List Value). landed vs c.self.inside.left) c.as_slice-in-Wide.ensures.value) ∙ sym (picks_wide c.args.units.now (record { values = c.self.inside.values.items; rows = c.self.inside.rows }) c.self.inside.left c.args.draw (subst (λ (vs : List Value). next c.args.units.now (record { values = vs; rows = c.self.inside.rows }) ≡ wide) c.as_slice.ensures.value c.in-Wide.ensures) one)))
+    let one : c.args.draw < 1 = subst (λ n. c.args.draw < n) (ap (λ (a : Next). weight_sum (flight_parts c.args.units.now (record { values = c.self.inside.values.items; rows = c.self.inside.rows }) c.self.inside.left a)) (rw (← c.self.view_is, c.in-Flying.is) at c.in-Wide.ensures)) w in
+    rw (← c.self.view_is, c.in-Flying.is) (ap (λ l. pairing c.self.inside.values.items l) (c.landed-self-inside-in-Wide.ensures ∙ ap (λ (vs : List Value). landed vs c.self.inside.left) c.as_slice-in-Wide.ensures.value) ∙ sym (picks_wide c.args.units.now (record { values = c.self.inside.values.items; rows = c.self.inside.rows }) c.self.inside.left c.args.draw (rw (← c.self.view_is, c.in-Flying.is) at c.in-Wide.ensures) one)))
 
 pub returns-in-Move : goal.returns-in-Move
 returns-in-Move c =
-    (let m = (subst (λ (vs : List Value). IsMoveOf c.args.units.now (record { values = vs; rows = c.self.inside.rows }) c.in-Move.mv) c.as_slice.ensures.value c.in-Move.ensures) in
+    (let m = (rw (← c.self.view_is, c.in-Flying.is) at c.in-Move.ensures) in
     let w : c.args.draw < weight_sum (strat_parts c.args.units.now (flying (record { values = c.self.inside.values.items; rows = c.self.inside.rows }) c.self.inside.left)) = (rw (← c.self.view_is, c.in-Flying.is) at c.requires.within) in
     let sum : c.args.draw < (next_along c.args.units.now c.self.inside.values.items (line_of c.in-Move.mv.line)).plus_weight + ((next_along c.args.units.now c.self.inside.values.items (line_of c.in-Move.mv.line)).minus_weight + 0) = subst (λ n. c.args.draw < n) (ap (λ (a : Next). weight_sum (flight_parts c.args.units.now (record { values = c.self.inside.values.items; rows = c.self.inside.rows }) c.self.inside.left a)) m.next) w in
     rw (← c.self.view_is, c.in-Flying.is)
