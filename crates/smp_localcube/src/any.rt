@@ -11,6 +11,7 @@ use crate::design::LocalCube;
 use crate::state::LocalCubeState;
 use smp_flight::Shape;
 use smp_frac::NoMemory;
+use smp_near::ByDimensions;
 use smp_split::{Kind, Splitting};
 use std::alloc::Global;
 use std::marker::Model;
@@ -20,61 +21,43 @@ use std::marker::Model;
 /// Its draw tree is that of [`LocalCube`], which doesn't depend on the number of coordinates.
 #[derive(Drop)]
 pub struct AnyLocalCube {
-    design: Designs,
-}
-
-// The design by the number of coordinates.
-#[derive(Drop)]
-enum Designs {
-    One(LocalCube<1>),
-    Two(LocalCube<2>),
-    Three(LocalCube<3>),
-    Four(LocalCube<4>),
+    design: ByDimensions<LocalCube<1>, LocalCube<2>, LocalCube<3>, LocalCube<4>>,
 }
 
 impl Model for AnyLocalCube {
     ghost use Rattle.smp_localcube.specs.Method.{LocalUnits};
-    ghost use Rattle.smp_localcube.specs.Kept.Dimensions.{design_in};
+    ghost use Rattle.smp_near.specs.Dimensions.{in_any};
 
     ghost Value = { LocalUnits };
 
-    ghost view = { λ a. design_in a.design };
+    ghost view = { λ a. in_any a.design };
 }
 
 /// A state of a selection by the local cube over points with one to four coordinates.
 #[derive(Drop)]
 pub struct AnyLocalCubeState {
-    state: States,
-}
-
-// The state by the number of coordinates.
-#[derive(Drop)]
-enum States {
-    One(LocalCubeState<1>),
-    Two(LocalCubeState<2>),
-    Three(LocalCubeState<3>),
-    Four(LocalCubeState<4>),
+    state: ByDimensions<LocalCubeState<1>, LocalCubeState<2>, LocalCubeState<3>, LocalCubeState<4>>,
 }
 
 impl Model for AnyLocalCubeState {
     ghost use Rattle.smp_localcube.specs.Local.{Local};
-    ghost use Rattle.smp_localcube.specs.Kept.Dimensions.{state_in};
+    ghost use Rattle.smp_near.specs.Dimensions.{in_any};
 
     ghost Value = { Local };
 
-    ghost view = { λ a. state_in a.state };
+    ghost view = { λ a. in_any a.state };
 }
 
 // Whatever the number of coordinates: the state that a design makes, or what is said of either.
 macro_rules! in_each {
     (of [$($count:ident),*] state $of:expr, $design:ident => $made:expr) => {
         match $of {
-            $(Designs::$count($design) => Ok(AnyLocalCubeState { state: States::$count($made) }),)*
+            $(ByDimensions::$count($design) => Ok(AnyLocalCubeState { state: ByDimensions::$count($made) }),)*
         }
     };
-    (of [$($count:ident),*] $kind:ident, $of:expr, $inner:ident => $answer:expr) => {
+    (of [$($count:ident),*] $of:expr, $inner:ident => $answer:expr) => {
         match $of {
-            $($kind::$count($inner) => $answer,)*
+            $(ByDimensions::$count($inner) => $answer,)*
         }
     };
     ($($said:tt)*) => {
@@ -88,7 +71,7 @@ impl AnyLocalCube {
         ensures { result ≡ design }
     {
         AnyLocalCube {
-            design: Designs::One(design),
+            design: ByDimensions::One(design),
         }
     }
 
@@ -97,7 +80,7 @@ impl AnyLocalCube {
         ensures { result ≡ design }
     {
         AnyLocalCube {
-            design: Designs::Two(design),
+            design: ByDimensions::Two(design),
         }
     }
 
@@ -106,7 +89,7 @@ impl AnyLocalCube {
         ensures { result ≡ design }
     {
         AnyLocalCube {
-            design: Designs::Three(design),
+            design: ByDimensions::Three(design),
         }
     }
 
@@ -115,7 +98,7 @@ impl AnyLocalCube {
         ensures { result ≡ design }
     {
         AnyLocalCube {
-            design: Designs::Four(design),
+            design: ByDimensions::Four(design),
         }
     }
 
@@ -134,14 +117,14 @@ impl AnyLocalCube {
     pub fn left(&self, state: &AnyLocalCubeState) -> u32
         ensures { result ≡ left_in state.now.at }
     {
-        in_each!(States, &state.state, inner => inner.left())
+        in_each!(&state.state, inner => inner.left())
     }
 
     // The units, their sizes, columns and probabilities.
     fn shape(&self) -> &Shape
         ensures { result.now ≡ self.now.units }
     {
-        in_each!(Designs, &self.design, design => design.shape())
+        in_each!(&self.design, design => design.shape())
     }
 }
 
@@ -155,26 +138,26 @@ impl Splitting for AnyLocalCube {
     ghost lawful = { λ design. (method_of design).lawful };
 
     fn units(&self) -> usize {
-        in_each!(Designs, &self.design, design => design.units())
+        in_each!(&self.design, design => design.units())
     }
 
     fn done(&self, state: &AnyLocalCubeState) -> bool {
-        in_each!(States, &state.state, inner => inner.is_done())
+        in_each!(&state.state, inner => inner.is_done())
     }
 
     fn kind(&self, state: &AnyLocalCubeState) -> Kind {
-        in_each!(States, &state.state, inner => inner.kind(self.shape()))
+        in_each!(&state.state, inner => inner.kind(self.shape()))
     }
 
     fn bound(&self, state: &AnyLocalCubeState) -> u128 {
-        in_each!(States, &state.state, inner => inner.bound(self.shape()))
+        in_each!(&state.state, inner => inner.bound(self.shape()))
     }
 
     fn advance(&self, state: &mut AnyLocalCubeState, draw: u128) {
-        in_each!(States, &mut state.state, inner => inner.advance(self.shape(), draw))
+        in_each!(&mut state.state, inner => inner.advance(self.shape(), draw))
     }
 
     fn selected(&self, state: &AnyLocalCubeState, unit: usize) -> bool {
-        in_each!(States, &state.state, inner => inner.is_one(unit))
+        in_each!(&state.state, inner => inner.is_one(unit))
     }
 }

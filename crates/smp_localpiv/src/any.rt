@@ -14,6 +14,7 @@ use crate::dimensions::{Dimensions, points};
 use crate::state::LocalState;
 use smp_frac::NoMemory;
 use smp_frame::Numbers;
+use smp_near::ByDimensions;
 use smp_prob::Request;
 use smp_split::{Kind, Splitting};
 use smp_values::SelectionState;
@@ -26,66 +27,48 @@ use std::marker::Model;
 /// number of coordinates.
 #[derive(Drop)]
 pub struct AnyLocalPivotal {
-    design: Designs,
-}
-
-// The design by the number of coordinates.
-#[derive(Drop)]
-enum Designs {
-    One(LocalPivotal<1>),
-    Two(LocalPivotal<2>),
-    Three(LocalPivotal<3>),
-    Four(LocalPivotal<4>),
+    design: ByDimensions<LocalPivotal<1>, LocalPivotal<2>, LocalPivotal<3>, LocalPivotal<4>>,
 }
 
 impl Model for AnyLocalPivotal {
     ghost use Rattle.smp_localpiv.specs.Local.{Local};
-    ghost use Rattle.smp_localpiv.specs.Kept.Dimensions.{design_in};
+    ghost use Rattle.smp_near.specs.Dimensions.{in_any};
 
     ghost Value = { Local };
 
-    ghost view = { λ a. design_in a.design };
+    ghost view = { λ a. in_any a.design };
 }
 
 /// A state of a local pivotal selection over points with one to four coordinates.
 #[derive(Drop)]
 pub struct AnyLocalState {
-    state: States,
-}
-
-// The state by the number of coordinates.
-#[derive(Drop)]
-enum States {
-    One(LocalState<1>),
-    Two(LocalState<2>),
-    Three(LocalState<3>),
-    Four(LocalState<4>),
+    state: ByDimensions<LocalState<1>, LocalState<2>, LocalState<3>, LocalState<4>>,
 }
 
 impl Model for AnyLocalState {
     ghost use Rattle.smp_localpiv.specs.Local.{Local};
-    ghost use Rattle.smp_localpiv.specs.Kept.Dimensions.{state_in};
+    ghost use Rattle.smp_near.specs.Dimensions.{in_any};
 
     ghost Value = { Local };
 
-    ghost view = { λ a. state_in a.state };
+    ghost view = { λ a. in_any a.state };
 }
 
 // Whatever the number of coordinates: a design with so many; its state; or what is said of either.
 macro_rules! in_each {
     (of [$($count:ident),*] design $dimensions:expr => $made:expr) => {
         match $dimensions {
-            $(Dimensions::$count => Ok(AnyLocalPivotal { design: Designs::$count($made) }),)*
+            $(Dimensions::$count => Ok(AnyLocalPivotal { design: ByDimensions::$count($made) }),)*
         }
     };
     (of [$($count:ident),*] state $of:expr, $design:ident => $made:expr) => {
         match $of {
-            $(Designs::$count($design) => Ok(AnyLocalState { state: States::$count($made) }),)*
+            $(ByDimensions::$count($design) => Ok(AnyLocalState { state: ByDimensions::$count($made) }),)*
         }
     };
-    (of [$($count:ident),*] $kind:ident, $of:expr, $inner:ident => $answer:expr) => {
+    (of [$($count:ident),*] $of:expr, $inner:ident => $answer:expr) => {
         match $of {
-            $($kind::$count($inner) => $answer,)*
+            $(ByDimensions::$count($inner) => $answer,)*
         }
     };
     ($($said:tt)*) => {
@@ -176,23 +159,23 @@ impl SelectionState for AnyLocalState {
     ghost belongs = { λ s. IsLocal (length s.state.numer) s };
 
     fn is_done(&self) -> bool {
-        in_each!(States, &self.state, inner => inner.is_done())
+        in_each!(&self.state, inner => inner.is_done())
     }
 
     fn kind(&self) -> Kind {
-        in_each!(States, &self.state, inner => inner.kind())
+        in_each!(&self.state, inner => inner.kind())
     }
 
     fn bound(&self) -> u128 {
-        in_each!(States, &self.state, inner => inner.bound())
+        in_each!(&self.state, inner => inner.bound())
     }
 
     fn advance(&mut self, draw: u128) {
-        in_each!(States, &mut self.state, inner => inner.advance(draw))
+        in_each!(&mut self.state, inner => inner.advance(draw))
     }
 
     fn is_selected(&self, unit: usize) -> bool {
-        in_each!(States, &self.state, inner => inner.is_selected(unit))
+        in_each!(&self.state, inner => inner.is_selected(unit))
     }
 }
 
@@ -206,7 +189,7 @@ impl Splitting for AnyLocalPivotal {
     ghost lawful = { λ design. (method_of design).lawful };
 
     fn units(&self) -> usize {
-        in_each!(Designs, &self.design, design => design.units())
+        in_each!(&self.design, design => design.units())
     }
 
     fn done(&self, state: &AnyLocalState) -> bool {

@@ -5,6 +5,7 @@
 #![tactic(auto)]
 
 mod counts;
+mod dimensions;
 mod distance;
 mod near;
 mod orders;
@@ -14,4 +15,5 @@ mod regions;
 mod searches;
 mod tree;
 
+pub use crate::dimensions::ByDimensions;
 pub use crate::points::{NoMemory, Points};
