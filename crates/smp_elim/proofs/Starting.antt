@@ -25,7 +25,7 @@ use Rattle.smp_split.proofs.Sums.{adds_up, numerators_add}
 use Rattle.smp_split.proofs.Units.{each_unit}
 use Rattle.smp_values.specs.Starts.{IsRequested}
 use Rattle.smp_elim.specs.Elimination.{Remaining, all_left, is_left, left_count, fewer, fraction_at, may_go, weight_of, without, value_of, eliminate_parts, elimination_tree, AreSizes, IsRemaining}
-use Rattle.smp_elim.specs.Method.{method_of, draws_of, started}
+use Rattle.smp_elim.specs.Method.{BoundsAreBelow, HasFractions, draws_of, method_of, started, tree_of}
 use Rattle.smp_elim.specs.Laws.Splits.{elimination_lawful}
 use Rattle.smp_elim.specs.Laws.Sums.{sum_by-most, sum_by-plus, sum_by-times}
 use Rattle.smp_elim.specs.Laws.Values.{fraction_certain, fraction_open}
@@ -76,6 +76,13 @@ module _ (sizes : List ℕ) (positive : (k : ℕ) → k < length sizes → 1 ≤
       let none : open_total (length sizes) sizes ≡ 0 = omega (arith, sum_by-most (open_size (length sizes)) (λ k. 0 * one_certain (length sizes) k) (length sizes) 0 each, sum_by-times 0 (one_certain (length sizes)) ks, sum_open (length sizes)) in
       (omega (arith, none, all_within (length sizes), count_by-le-length (is_certain (length sizes) sizes) sizes), none)
 
+-- a state of a design, over all draws from which on each unit is selected with its probability
+pub record HasBegun (design state : Remaining) : Type 0 where
+  pub starts : Starts (method_of design) state
+  pub values : HasFractions design state
+  pub count : LeavesSelect (tree_of design) design.wanted state
+  pub bounds : BoundsAreBelow (2 ^ 67) (tree_of design) state
+
 module _ (sizes : List ℕ) (wanted : ℕ) (are : AreSizes (length sizes) sizes wanted) (within : wanted ≤ length sizes) where
   abbrev start : Remaining
   start = all_left sizes wanted
@@ -102,7 +109,7 @@ module _ (sizes : List ℕ) (wanted : ℕ) (are : AreSizes (length sizes) sizes 
       (same_trans (times_same (same_refl (fraction_at start wanted unit)) (record { cross = refl })) (times-one (fraction_at start wanted unit)))
 
   -- each leaf has as many units left as are wanted
-  pub start_leaves : LeavesSelect (elimination_tree (length sizes)) wanted start
+  start_leaves : LeavesSelect (elimination_tree (length sizes)) wanted start
   start_leaves =
       leaves_select (elimination_tree (length sizes)) (IsRemaining (length sizes)) (elimination_lawful (length sizes)) wanted (λ s. s.wanted ≡ wanted) (record {
         kept = λ s ok going same. each_unit (may_go s) (weight_of s) (without s) (λ p. p.state.wanted ≡ wanted) (length s.sizes) (λ unit here may. same);
@@ -110,7 +117,7 @@ module _ (sizes : List ℕ) (wanted : ℕ) (are : AreSizes (length sizes) sizes 
       }) start start_belongs refl
 
   -- the bound of each step below the start
-  pub start_bounds : (path : List Entry) (to : Remaining) → Leads (elimination_tree (length sizes)) start path to → nat_eq (left_count to) to.wanted ≡ false → weight_sum (eliminate_parts to) < 2 ^ 67
+  start_bounds : (path : List Entry) (to : Remaining) → Leads (elimination_tree (length sizes)) start path to → nat_eq (left_count to) to.wanted ≡ false → weight_sum (eliminate_parts to) < 2 ^ 67
   start_bounds path to leads going =
       let ok = leads_belong (elimination_tree (length sizes)) (IsRemaining (length sizes)) (elimination_lawful (length sizes)) path start to leads start_belongs in
       let ne : left_count to ≢ to.wanted = eqb-false (left_count to) to.wanted going in
@@ -166,13 +173,16 @@ module _ (sizes : List ℕ) (wanted : ℕ) (are : AreSizes (length sizes) sizes 
   pub start_adds_up : AddsUp (elimination_tree (length sizes)) wanted start
   start_adds_up = adds_up (elimination_tree (length sizes)) start numerator (max 1 rest) (omega arith) value_over wanted total
 
-  pub start_starts : Starts (method_of start) start
+  start_starts : Starts (method_of start) start
   start_starts =
       starts (method_of start) start start_belongs
       (λ n adds.
       (let other = numerators_add (elimination_tree (length sizes)) start numerator (max 1 rest) (omega arith) value_over n adds in
       let same : wanted ≡ n = cancel wanted n (max 1 rest) (omega arith) (sym total ∙ other) in
       subst (λ m. LeavesSelect (elimination_tree (length sizes)) m start) same start_leaves))
+
+  pub begun_at : HasBegun start start
+  begun_at = record { starts = start_starts; values = λ unit here. start_value unit here; count = start_leaves; bounds = start_bounds }
 
 -- ---- what is kept at the start
 
