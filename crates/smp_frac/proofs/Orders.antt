@@ -101,21 +101,23 @@ not_greater x y le e = grind (arith, nat_tests)
 not_less : (x y : ℕ) → y ≤ x → nat_cmp x y ≢ Less
 not_less x y le e = grind (arith, nat_tests)
 
+-- an answer that says that one value is above the other, and only then
+unless : (p q : Frac) (r above : Ordering) → (q.num * p.den < p.num * q.den → r ≡ above) → (p.num * q.den ≤ q.num * p.den → r ≢ above) → (r ≢ above) ↔ AtMost (fraction p) (fraction q)
+unless p q r above beyond within = (
+  (λ other. elim (cases_lt (q.num * p.den) (p.num * q.den)) [
+    | inl more ↦ absurd (other (beyond more))
+    | inr le ↦ record { cross = omega (arith, ints, le) }
+  ]),
+  (λ least. within (omega (arith, ints, least.cross))),
+)
+
 module _ (p q : Frac) (r : Ordering) (is : r ≡ nat_cmp (p.num * q.den) (q.num * p.den)) where
   pub at_most_is : (r ≢ Greater) ↔ AtMost (fraction p) (fraction q)
-  at_most_is = (
-    (λ other. elim (cases_lt (q.num * p.den) (p.num * q.den)) [
-      | inl above ↦ absurd (other (is ∙ nat_cmp_greater (p.num * q.den) (q.num * p.den) above))
-      | inr le ↦ record { cross = omega (arith, ints, le) }
-    ]),
-    (λ least greater. not_greater (p.num * q.den) (q.num * p.den) (omega (arith, ints, least.cross)) (sym is ∙ greater)),
-  )
+  at_most_is =
+      unless p q r Greater (λ more. is ∙ nat_cmp_greater (p.num * q.den) (q.num * p.den) more)
+      (λ le greater. not_greater (p.num * q.den) (q.num * p.den) le (sym is ∙ greater))
 
   pub at_least_is : (r ≢ Less) ↔ AtMost (fraction q) (fraction p)
-  at_least_is = (
-    (λ other. elim (cases_lt (p.num * q.den) (q.num * p.den)) [
-      | inl below ↦ absurd (other (is ∙ nat_cmp_less (p.num * q.den) (q.num * p.den) below))
-      | inr le ↦ record { cross = omega (arith, ints, le) }
-    ]),
-    (λ least less. not_less (p.num * q.den) (q.num * p.den) (omega (arith, ints, least.cross)) (sym is ∙ less)),
-  )
+  at_least_is =
+      unless q p r Less (λ more. is ∙ nat_cmp_less (p.num * q.den) (q.num * p.den) more)
+      (λ le less. not_less (p.num * q.den) (q.num * p.den) le (sym is ∙ less))

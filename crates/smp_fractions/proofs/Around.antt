@@ -49,19 +49,22 @@ right_at p p' d q q' e r r' f pf x y =
     let b : (q * f + r' * e) * d ≡ (r * e + q' * f) * d = ap (λ n. n * d) y in
     lt_of_mul-lt-mul_right e (let c : (p * f + r' * d) * e < (r * d + p' * f) * e = omega (arith, a, b) in c)
 
+by_three : (P : Fraction → Fraction → Fraction → Type 0) → ((p p' d : ℕ) (h : 1 ≤ d) (q q' e : ℕ) (k : 1 ≤ e) (r r' f : ℕ) (l : 1 ≤ f) → P (apart p p' d h) (apart q q' e k) (apart r r' f l)) → (a b c : Fraction) → P a b c
+by_three P each =
+    by_parts (λ a. (b c : Fraction) → P a b c)
+    (λ p p' d h. by_parts (λ b. (c : Fraction) → P (apart p p' d h) b c)
+    (λ q q' e k. by_parts (λ c. P (apart p p' d h) (apart q q' e k) c)
+    (λ r r' f l. each p p' d h q q' e k r r' f l)))
+
 less_left : (a b c : Fraction) → Same a b → LessThan b c → LessThan a c
 less_left =
-    by_parts (λ a. (b c : Fraction) → Same a b → LessThan b c → LessThan a c)
-    (λ p p' i h. by_parts (λ b. (c : Fraction) → Same (apart p p' i h) b → LessThan b c → LessThan (apart p p' i h) c)
-    (λ q q' e k. by_parts (λ c. Same (apart p p' i h) (apart q q' e k) → LessThan (apart q q' e k) c → LessThan (apart p p' i h) c)
-    (λ r r' f l x y. less p p' i h r r' f l (left_at p p' i q q' e r r' f h (equal p p' i h q q' e k x) (under q q' e k r r' f l y)))))
+    by_three (λ a b c. Same a b → LessThan b c → LessThan a c)
+    (λ p p' d h q q' e k r r' f l x y. less p p' d h r r' f l (left_at p p' d q q' e r r' f h (equal p p' d h q q' e k x) (under q q' e k r r' f l y)))
 
 less_right : (a b c : Fraction) → LessThan a b → Same b c → LessThan a c
 less_right =
-    by_parts (λ a. (b c : Fraction) → LessThan a b → Same b c → LessThan a c)
-    (λ p p' i h. by_parts (λ b. (c : Fraction) → LessThan (apart p p' i h) b → Same b c → LessThan (apart p p' i h) c)
-    (λ q q' e k. by_parts (λ c. LessThan (apart p p' i h) (apart q q' e k) → Same (apart q q' e k) c → LessThan (apart p p' i h) c)
-    (λ r r' f l x y. less p p' i h r r' f l (right_at p p' i q q' e r r' f l (under p p' i h q q' e k x) (equal q q' e k r r' f l y)))))
+    by_three (λ a b c. LessThan a b → Same b c → LessThan a c)
+    (λ p p' d h q q' e k r r' f l x y. less p p' d h r r' f l (right_at p p' d q q' e r r' f l (under p p' d h q q' e k x) (equal q q' e k r r' f l y)))
 
 pub same_less : {a b c d : Fraction} → Same a b → Same c d → LessThan b d → LessThan a c
 same_less {a} {b} {c} {d} x y h = less_right a d c (less_left a b d x h) (same_sym y)

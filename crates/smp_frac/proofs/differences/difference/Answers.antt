@@ -5,8 +5,7 @@ use Rattle.smp_fractions.proofs.Fractions.{numerator_positive, minus_from_sum, p
 use Rattle.smp_fractions.proofs.Over.{cross_from_over}
 use Rattle.smp_frac.specs.Fractions.{fraction}
 use Rattle.smp_frac.specs.Laws.Coprime.{part_positive}
-use Rattle.smp_frac.specs.Laws.Lowest.{coprime_from_lowest}
-use Rattle.smp_frac.proofs.Sums.{difference_apart, difference_rest_apart, difference_value, difference_value_below}
+use Rattle.smp_frac.proofs.Sums.{terms_difference_apart, terms_difference_rest_apart, difference_value, difference_value_below}
 use Rattle.smp_frac.proofs.differences.difference.Goals as goal
 
 pub reduced-requires-clause-some_part : goal.reduced-requires-clause-some_part
@@ -14,17 +13,11 @@ reduced-requires-clause-some_part c = part_positive _ _ c.args.left.positive c.g
 
 pub reduced-requires-clause-apart : goal.reduced-requires-clause-apart
 reduced-requires-clause-apart c =
-    let p = c.args.left in
-    let q = c.args.right in
-    rw (c.abs_diff-apart.ensures, c.in_ok-first.ensures.1, c.in_ok-second.ensures.1)
-    (difference_apart p.num p.den q.num q.den c.gcd-common.result q.positive (coprime_from_lowest p.num p.den p.lowest) c.gcd-common.ensures.divides)
+    rw (c.abs_diff-apart.ensures, c.in_ok-first.ensures.1, c.in_ok-second.ensures.1) (terms_difference_apart c.args.left c.args.right c.gcd-common.ensures.divides)
 
 pub reduced-requires-clause-rest_apart : goal.reduced-requires-clause-rest_apart
 reduced-requires-clause-rest_apart c =
-    let p = c.args.left in
-    let q = c.args.right in
-    rw (c.abs_diff-apart.ensures, c.in_ok-first.ensures.1, c.in_ok-second.ensures.1)
-    (difference_rest_apart p.num p.den q.num q.den c.gcd-common.result p.positive (coprime_from_lowest q.num q.den q.lowest) c.gcd-common.ensures.divides)
+    rw (c.abs_diff-apart.ensures, c.in_ok-first.ensures.1, c.in_ok-second.ensures.1) (terms_difference_rest_apart c.args.left c.args.right c.gcd-common.ensures.divides)
 
 pub invariant_of-result : goal.invariant_of-result
 invariant_of-result c = record {
