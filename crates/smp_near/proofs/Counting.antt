@@ -4,7 +4,7 @@ use Rattle.std.proofs.lemmas.Bool.{cases_Bool, cases_lt, both_ways}
 use Rattle.std.proofs.lemmas.List.{get_or-set_same, get_or-set_other, get_or_past}
 use Rattle.smp_near.specs.Kept.Trees.{IsCounted, lives_at, living_before, one_if}
 use Rattle.smp_places.specs.Trees.{middle, EachRoot}
-use Rattle.smp_places.proofs.Roots.{from_parts, each_root_as, root_of_tree}
+use Rattle.smp_places.proofs.Roots.{from_parts, each_root_as, first_half, second_half, root_of_tree}
 
 module _ (living : List Bool) (order : List ℕ) where
   pub before_more : (place : ℕ) → living_before living order (place + 1) ≡ living_before living order place + one_if (lives_at living order place)
@@ -127,3 +127,36 @@ module _ (living : List Bool) (order : List ℕ) (place : ℕ) (within : place <
       (λ k s t. (let other : k ≢ root = omega arith in get_or-set_other once root k less 0 other))
       (counted_root counts (set once root less) low root high p q end was (omega arith))
       first second
+
+-- ---- when one point is taken out of a half, or of the root, and the root's number is lowered
+
+module _ (living : List Bool) (order : List ℕ) (place : ℕ) (alive : lives_at living order place ≡ true) (alone : (k : ℕ) → k < length order → get_or order k 0 ≡ get_or order place 0 → k ≡ place)
+    (counts : List ℕ) (low root high : ℕ) (is_root : root ≡ middle low high) (from : low ≤ place) (before : place < high) (within : high ≤ length order) (counted : EachRoot (IsCounted living order counts) low high) where
+  abbrev without : List Bool
+  without = set living (get_or order place 0) false
+
+  pub lowered_first : (once : List ℕ) (gone : List Bool) → gone ≡ without → place < root → root < length once → EachRoot (IsCounted gone order once) low root → ((k : ℕ) → root ≤ k → get_or once k 0 ≡ get_or counts k 0)
+      → EachRoot (IsCounted gone order (set once root (get_or once root 0 - 1))) low high
+  lowered_first once gone is less inside first kept =
+      let here : place < length order = omega arith in
+      let apart = counted_apart living order place here alive alone counts (root + 1) high within (inr (omega arith)) (second_half _ low root high is_root (omega arith) counted) in
+      rw is (lowered living order place here alive alone counts once low root high is_root from before within inside counted (kept root (omega arith)) (rw is at first)
+      (counted_kept without order counts once (root + 1) high (λ k p q. kept k (omega arith)) apart))
+
+  pub lowered_second : (once : List ℕ) (gone : List Bool) → gone ≡ without → root < place → root < length once → EachRoot (IsCounted gone order once) (root + 1) high → ((k : ℕ) → k < root + 1 → get_or once k 0 ≡ get_or counts k 0)
+      → EachRoot (IsCounted gone order (set once root (get_or once root 0 - 1))) low high
+  lowered_second once gone is less inside second kept =
+      let here : place < length order = omega arith in
+      let apart = counted_apart living order place here alive alone counts low root (omega arith) (inl (omega arith)) (first_half _ low root high is_root (omega arith) counted) in
+      rw is (lowered living order place here alive alone counts once low root high is_root from before within inside counted (kept root (omega arith))
+      (counted_kept without order counts once low root (λ k p q. kept k (omega arith)) apart) (rw is at second))
+
+  pub lowered_root : root ≡ place → root < length counts → EachRoot (IsCounted without order (set counts root (get_or counts root 0 - 1))) low high
+  lowered_root is inside =
+      let here : place < length order = omega arith in
+      lowered living order place here alive alone counts counts low root high is_root from before within inside counted refl
+      (counted_apart living order place here alive alone counts low root (omega arith) (inl (omega arith)) (first_half _ low root high is_root (omega arith) counted))
+      (counted_apart living order place here alive alone counts (root + 1) high within (inr (omega arith)) (second_half _ low root high is_root (omega arith) counted))
+
+  pub some_at_root : 1 ≤ get_or counts root 0
+  some_at_root = some_counted living order place (omega arith) alive alone counts low root high from before (root_of_tree _ low root high is_root (omega arith) counted)
