@@ -1,5 +1,5 @@
 -- What is true of each part of a design that was read.
-use Rattle.std.proofs.Common.{◌≡◌, ℕ, true, false, not, ◌&&◌, List, [], ◌++◌, length, Option, Some, None, IfSome, Result, Ok, codes, refl, ap, ◌∙◌, subst, arith}
+use Rattle.std.proofs.Common.{◌≡◌, ℕ, true, false, not, ◌&&◌, List, [], ◌++◌, length, Option, Some, None, IfSome, Result, Ok, codes, refl, ap, ◌∙◌, arith}
 use Rattle.std.specs.Option.{option_map_or}
 use Rattle.std.specs.Prelude.{All, IfNone, option_and_then, is_some, unwrap_or}
 use Rattle.toml.specs.Data.{Data, Members, get_member, as_str, as_table}
@@ -14,10 +14,9 @@ use Rattle.smp_design.specs.declared.reading.ValueColumns.{ValueColumns}
 use Rattle.smp_design.specs.Bounds.{InRange}
 use Rattle.smp_design.specs.Designs.{unit_columns, sample_size, value_columns, second_stage_of, second_stage}
 use Rattle.smp_design.specs.Keys.{has, lacks, needs, missing_key, rival_keys, clash}
-use Rattle.smp_design.specs.Faults.{good}
 use Rattle.smp_design.specs.Values.{number, method, second_method, order, names, quotas, optional}
 use Rattle.smp_design.specs.Words.{row, in_second, is_balance, is_near, takes_second}
-use Rattle.smp_design.proofs.Went.{went, is_good, neither, first_fails, goes_on}
+use Rattle.smp_design.proofs.Went.{as_read, read, neither, first_fails, goes_on}
 use Rattle.smp_design.proofs.ValueBounds.{Few, number-range, quotas-range, names-few, second_method-is, optional-holds, optional-there}
 
 -- no needed key is missing
@@ -82,13 +81,12 @@ pub record UnitFacts (t : Members) (u : UnitColumns) : Type 0 where
 pub unit_facts : (t : Members) (u : UnitColumns) → unit_columns t ≡ Ok u → UnitFacts t u
 unfolding unit_columns
 unit_facts t u h =
-    let id = went (good (codes "id") (option_and_then as_str (get_member (codes "id") t))) _ u h in
-    let stratum = went (good (codes "stratum") (optional as_str (get_member (codes "stratum") t))) _ u id.gives in
-    let size = went (good (codes "size") (optional as_str (get_member (codes "size") t))) _ u stratum.gives in
-    let is : record { id = id.value; stratum = stratum.value; size = size.value } ≡ u = (let same : ◌≡◌ {A = Result UnitColumns _} (Ok (record { id = id.value; stratum = stratum.value; size = size.value })) (Ok u) = size.gives in cc) in
-    subst (λ (v : UnitColumns). UnitFacts t v) is record {
-      stratum_there = optional-there as_str (get_member (codes "stratum") t) stratum.value (is_good (codes "stratum") (optional as_str (get_member (codes "stratum") t)) stratum.value stratum.is);
-      size_there = optional-there as_str (get_member (codes "size") t) size.value (is_good (codes "size") (optional as_str (get_member (codes "size") t)) size.value size.is);
+    let id = read (codes "id") (option_and_then as_str (get_member (codes "id") t)) _ u h in
+    let stratum = read (codes "stratum") (optional as_str (get_member (codes "stratum") t)) _ u id.gives in
+    let size = read (codes "size") (optional as_str (get_member (codes "size") t)) _ u stratum.gives in
+    as_read (UnitFacts t) size.gives record {
+      stratum_there = optional-there as_str (get_member (codes "stratum") t) stratum.value stratum.is;
+      size_there = optional-there as_str (get_member (codes "size") t) size.value size.is;
     }
 
 -- the numbers of units, the probabilities and the order
@@ -111,22 +109,17 @@ all_or_none P none (Some xs) h = h
 pub sample_facts : (t : Members) (s : SampleSize) → sample_size t ≡ Ok s → SampleFacts t s
 unfolding sample_size
 sample_facts t s h =
-    let n = went (good (codes "n") (optional number (get_member (codes "n") t))) _ s h in
-    let sizes = went (good (codes "sizes") (optional quotas (get_member (codes "sizes") t))) _ s n.gives in
-    let prob = went (good (codes "prob") (optional as_str (get_member (codes "prob") t))) _ s sizes.gives in
-    let o = went (good (codes "order") (optional order (get_member (codes "order") t))) _ s prob.gives in
-    let n_is = is_good (codes "n") (optional number (get_member (codes "n") t)) n.value n.is in
-    let sizes_is = is_good (codes "sizes") (optional quotas (get_member (codes "sizes") t)) sizes.value sizes.is in
-    let prob_is = is_good (codes "prob") (optional as_str (get_member (codes "prob") t)) prob.value prob.is in
-    let o_is = is_good (codes "order") (optional order (get_member (codes "order") t)) o.value o.is in
-    let is : record { n = n.value; sizes = unwrap_or sizes.value []; prob = prob.value; order = unwrap_or o.value the_order.Frame } ≡ s = (let same : ◌≡◌ {A = Result SampleSize _} (Ok (record { n = n.value; sizes = unwrap_or sizes.value []; prob = prob.value; order = unwrap_or o.value the_order.Frame })) (Ok s) = o.gives in cc) in
-    subst (λ (v : SampleSize). SampleFacts t v) is record {
-      size = optional-holds InRange number number-range (get_member (codes "n") t) n.value n_is;
-      quotas = all_or_none (λ (qs : List quota.Quota). All (λ q. InRange q.n) qs) (λ k d within. absurd (omega arith)) sizes.value (optional-holds (λ (qs : List quota.Quota). All (λ q. InRange q.n) qs) quotas quotas-range (get_member (codes "sizes") t) sizes.value sizes_is);
-      n_there = optional-there number (get_member (codes "n") t) n.value n_is;
-      no_sizes = λ none. nothing_there sizes.value [] (optional-there quotas (get_member (codes "sizes") t) sizes.value sizes_is ∙ none);
-      prob_there = optional-there as_str (get_member (codes "prob") t) prob.value prob_is;
-      no_order = λ none. nothing_there o.value the_order.Frame (optional-there order (get_member (codes "order") t) o.value o_is ∙ none);
+    let n = read (codes "n") (optional number (get_member (codes "n") t)) _ s h in
+    let sizes = read (codes "sizes") (optional quotas (get_member (codes "sizes") t)) _ s n.gives in
+    let prob = read (codes "prob") (optional as_str (get_member (codes "prob") t)) _ s sizes.gives in
+    let o = read (codes "order") (optional order (get_member (codes "order") t)) _ s prob.gives in
+    as_read (SampleFacts t) o.gives record {
+      size = optional-holds InRange number number-range (get_member (codes "n") t) n.value n.is;
+      quotas = all_or_none (λ (qs : List quota.Quota). All (λ q. InRange q.n) qs) (λ k d within. absurd (omega arith)) sizes.value (optional-holds (λ (qs : List quota.Quota). All (λ q. InRange q.n) qs) quotas quotas-range (get_member (codes "sizes") t) sizes.value sizes.is);
+      n_there = optional-there number (get_member (codes "n") t) n.value n.is;
+      no_sizes = λ none. nothing_there sizes.value [] (optional-there quotas (get_member (codes "sizes") t) sizes.value sizes.is ∙ none);
+      prob_there = optional-there as_str (get_member (codes "prob") t) prob.value prob.is;
+      no_order = λ none. nothing_there o.value the_order.Frame (optional-there order (get_member (codes "order") t) o.value o.is ∙ none);
     }
 
 -- the columns of `balance` and of `near`
@@ -142,17 +135,15 @@ pub record ValueFacts (t : Members) (columns : ValueColumns) : Type 0 where
 pub value_facts : (t : Members) (columns : ValueColumns) → value_columns t ≡ Ok columns → ValueFacts t columns
 unfolding value_columns
 value_facts t columns h =
-    let balance = went (good (codes "balance") (optional (names 15) (get_member (codes "balance") t))) _ columns h in
-    let near = went (good (codes "near") (optional (names 4) (get_member (codes "near") t))) _ columns balance.gives in
-    let balance_is = is_good (codes "balance") (optional (names 15) (get_member (codes "balance") t)) balance.value balance.is in
-    let near_is = is_good (codes "near") (optional (names 4) (get_member (codes "near") t)) near.value near.is in
+    let balance = read (codes "balance") (optional (names 15) (get_member (codes "balance") t)) _ columns h in
+    let near = read (codes "near") (optional (names 4) (get_member (codes "near") t)) _ columns balance.gives in
     record {
       balance = balance.value;
       near = near.value;
-      balance_few = optional-holds (Few 15) (names 15) (names-few 15) (get_member (codes "balance") t) balance.value balance_is;
-      near_few = optional-holds (Few 4) (names 4) (names-few 4) (get_member (codes "near") t) near.value near_is;
-      balance_there = optional-there (names 15) (get_member (codes "balance") t) balance.value balance_is;
-      near_there = optional-there (names 4) (get_member (codes "near") t) near.value near_is;
+      balance_few = optional-holds (Few 15) (names 15) (names-few 15) (get_member (codes "balance") t) balance.value balance.is;
+      near_few = optional-holds (Few 4) (names 4) (names-few 4) (get_member (codes "near") t) near.value near.is;
+      balance_there = optional-there (names 15) (get_member (codes "balance") t) balance.value balance.is;
+      near_there = optional-there (names 4) (get_member (codes "near") t) near.value near.is;
       is = let same : ◌≡◌ {A = Result ValueColumns _} (Ok (record { names = unwrap_or balance.value [] ++ unwrap_or near.value []; near = length (unwrap_or near.value []) })) (Ok columns) = near.gives in cc;
     }
 
@@ -167,14 +158,13 @@ pub record SecondFacts (o : Option Data) (s : SecondStage) : Type 0 where
 second_facts_of : (version : ℕ) (t : Members) (value : Data) (s : SecondStage) → second_stage_of version t ≡ Ok s → SecondFacts (Some value) s
 unfolding second_stage_of
 second_facts_of version t value s h =
-    let psu = went (good (codes "second.psu") (option_and_then as_str (get_member (codes "psu") t))) _ s h in
-    let m = went (good (codes "second.method") (option_and_then (second_method version) (get_member (codes "method") t))) _ s psu.gives in
-    let n = went (good (codes "second.n") (option_and_then number (get_member (codes "n") t))) _ s m.gives in
-    let size = went (good (codes "second.size") (optional as_str (get_member (codes "size") t))) _ s n.gives in
-    let m_is = goes_on (second_method version) (get_member (codes "method") t) m.value (is_good (codes "second.method") (option_and_then (second_method version) (get_member (codes "method") t)) m.value m.is) in
-    let n_is = goes_on number (get_member (codes "n") t) n.value (is_good (codes "second.n") (option_and_then number (get_member (codes "n") t)) n.value n.is) in
-    let is : record { psu = Some psu.value; size = size.value; second = Some (record { method = m.value; n = n.value }) } ≡ s = (let same : ◌≡◌ {A = Result SecondStage _} (Ok (record { psu = Some psu.value; size = size.value; second = Some (record { method = m.value; n = n.value }) })) (Ok s) = size.gives in cc) in
-    subst (λ (v : SecondStage). SecondFacts (Some value) v) is record {
+    let psu = read (codes "second.psu") (option_and_then as_str (get_member (codes "psu") t)) _ s h in
+    let m = read (codes "second.method") (option_and_then (second_method version) (get_member (codes "method") t)) _ s psu.gives in
+    let n = read (codes "second.n") (option_and_then number (get_member (codes "n") t)) _ s m.gives in
+    let size = read (codes "second.size") (optional as_str (get_member (codes "size") t)) _ s n.gives in
+    let m_is = goes_on (second_method version) (get_member (codes "method") t) m.value m.is in
+    let n_is = goes_on number (get_member (codes "n") t) n.value n.is in
+    as_read (SecondFacts (Some value)) size.gives record {
       size = number-range n_is.value n.value n_is.gives;
       method = second_method-is version m_is.value m.value m_is.gives;
       psu = refl;
@@ -184,10 +174,9 @@ second_facts_of version t value s h =
 
 pub second_facts : (version : ℕ) (o : Option Data) (s : SecondStage) → second_stage version o ≡ Ok s → SecondFacts o s
 second_facts version None s h =
-    let is : record { psu = None; size = None; second = None } ≡ s = (let same : ◌≡◌ {A = Result SecondStage _} (Ok (record { psu = None; size = None; second = None })) (Ok s) = h in cc) in
-    subst (λ (v : SecondStage). SecondFacts None v) is record { size = tt; method = tt; psu = refl; sizes = refl; there = refl }
+    as_read (SecondFacts None) h record { size = tt; method = tt; psu = refl; sizes = refl; there = refl }
 second_facts version (Some value) s h =
-    let table = went (good (codes "second") (as_table value)) (second_stage_of version) s h in
+    let table = read (codes "second") (as_table value) (second_stage_of version) s h in
     second_facts_of version table.value value s table.gives
 
 -- what the method of a design needs is in the method's row

@@ -1,5 +1,5 @@
 -- Readings that had no fault, and tests of which none held.
-use Rattle.std.proofs.Common.{◌≡◌, ℕ, Bool, true, false, cond, List, Option, Some, None, option_map, Result, Ok, Err, refl}
+use Rattle.std.proofs.Common.{◌≡◌, ℕ, Bool, true, false, cond, List, Option, Some, None, option_map, Result, Ok, Err, refl, subst}
 use Rattle.std.specs.Prelude.{option_and_then}
 use Rattle.smp_design.specs.Keys.{or_else}
 use Rattle.smp_faults.specs.Steps.{◌>>=◌, or_fault}
@@ -23,6 +23,19 @@ is_there fault (Some y) x h = cc
 
 pub is_good : {A : Type 0} (key : List ℕ) (o : Option A) (x : A) → good key o ≡ Ok x → o ≡ Some x
 is_good key o x h = is_there (BadValue key) o x h
+
+-- the value of a key, which a reading went on from
+pub record Read {A B : Type 0} (o : Option A) (next : A → Result B DesignFault) (y : B) : Type 0 where
+  pub value : A
+  pub is : o ≡ Some value
+  pub gives : next value ≡ Ok y
+
+pub read : {A B : Type 0} (key : List ℕ) (o : Option A) (next : A → Result B DesignFault) (y : B) → (good key o >>= next) ≡ Ok y → Read o next y
+read key o next y h = (let w = went (good key o) next y h in record { value = w.value; is = is_good key o w.value w.is; gives = w.gives })
+
+-- what holds of the parts that were read holds of what was made of them
+pub as_read : {B : Type 0} (P : B → Type 0) {made y : B} → ◌≡◌ {A = Result B DesignFault} (Ok made) (Ok y) → P made → P y
+as_read P {made} {y} e holds = (let same : made ≡ y = cc in subst P same holds)
 
 pub found_none : {A : Type 0} (fault : A → DesignFault) (o : Option A) (u : Unit {0}) → none_found fault o ≡ Ok u → o ≡ None
 found_none fault None u h = refl
