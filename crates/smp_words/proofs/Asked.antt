@@ -5,10 +5,10 @@ use Rattle.std.specs.Str.{bytes_eq}
 use Rattle.std.proofs.lemmas.Bool.{and_parts, leb-true}
 use Rattle.smp_lines.specs.Decimals.{number_below}
 use Rattle.smp_words.specs.declared.command.DesignArguments.{DesignArguments}
-use Rattle.smp_words.specs.declared.command.Command.TheVariants.{Migrate, Probs, Check, Joint}
+use Rattle.smp_words.specs.declared.command.Command.TheVariants.{Probs, Check, Joint}
 use Rattle.smp_words.specs.declared.command.Chance.TheVariants.{Seed}
 use Rattle.smp_fractions.specs.Limits.{most_rows}
-use Rattle.smp_words.specs.Words.{Given, DrawFiles, IsAsked, ◌>>=◌, when, in_range, number_from, all_distinct, is_empty, has_only, options_for, seed_from, have_own_names, least_demo_units, most_demo_units, stratum_from, draw_command, replay_command, quick_words, demo_words, design_arguments, draw_files, draw_by, draw, replay, migrate, by_name, command_given}
+use Rattle.smp_words.specs.Words.{Given, LogFiles, IsAsked, ◌>>=◌, when, in_range, number_from, all_distinct, is_empty, has_only, options_for, seed_from, have_own_names, least_demo_units, most_demo_units, stratum_from, draw_command, migrate_command, replay_command, quick_words, demo_words, design_arguments, log_files, draw_by, draw, replay, migrate, by_name, command_given}
 
 -- ---- what holds of something that may not be there
 
@@ -69,8 +69,8 @@ demo_asked (n ∷ seed ∷ []) =
     some_then IsAsked (number_from 0 18446744073709551615 seed) _ (λ start. record { distinct = refl; sized = within }))
 demo_asked (n ∷ seed ∷ third ∷ more) = tt
 
-draw_asked : (files : DrawFiles) (tape seed : Option (List ℕ)) → IfSome (draw_by files tape seed) IsAsked
-draw_asked files (Some tape) None = when_some IsAsked (all_distinct (files.design ∷ files.frame ∷ tape ∷ files.log ∷ files.sample ∷ [])) _ (λ apart. record { distinct = apart; sized = tt })
+draw_asked : (files : LogFiles) (tape seed : Option (List ℕ)) → IfSome (draw_by files tape seed) IsAsked
+draw_asked files (Some tape) None = when_some IsAsked (all_distinct (files.design ∷ files.frame ∷ tape ∷ files.log ∷ files.out ∷ [])) _ (λ apart. record { distinct = apart; sized = tt })
 draw_asked files None (Some seed) =
     when_some IsAsked (have_own_names files) (seed_from seed >>= λ key. Some (draw_command files (Seed key))) (λ apart.
     some_then IsAsked (seed_from seed) _ (λ key. record { distinct = apart; sized = tt }))
@@ -84,18 +84,14 @@ stratum_ranged : (number : Option (List ℕ)) → IfSome (stratum_from number) W
 stratum_ranged (Some number) = some_map WithinStrata Some (number_from 1 most_rows number) (number_ranged 1 most_rows number)
 stratum_ranged None = tt
 
-replay_asked : (files : DrawFiles) (number : Option (List ℕ)) → IfSome (when (have_own_names files) (option_map (replay_command files) (stratum_from number))) IsAsked
+replay_asked : (files : LogFiles) (number : Option (List ℕ)) → IfSome (when (have_own_names files) (option_map (replay_command files) (stratum_from number))) IsAsked
 replay_asked files number =
     when_some IsAsked (have_own_names files) (option_map (replay_command files) (stratum_from number)) (λ apart.
     some_map IsAsked (replay_command files) (stratum_from number)
     (if_some WithinStrata (λ stratum. IsAsked (replay_command files stratum)) (stratum_from number) (stratum_ranged number) (λ stratum within. record { distinct = apart; sized = within })))
 
-migrate_asked : (g : Given) → IfSome (migrate g) IsAsked
-migrate_asked g =
-    when_some IsAsked (is_empty g.rest) _ (λ alone.
-    some_then IsAsked g.design _ (λ design. some_then IsAsked g.frame _ (λ frame. some_then IsAsked g.log _ (λ log. some_then IsAsked g.to _ (λ to.
-    when_some IsAsked (all_distinct (design ∷ frame ∷ log ∷ to ∷ [])) (Some (Migrate (record { design = design; frame = frame; log = log; to = to })))
-    (λ apart. record { distinct = apart; sized = tt }))))))
+migrate_asked : (files : LogFiles) → IfSome (when (have_own_names files) (Some (migrate_command files))) IsAsked
+migrate_asked files = when_some IsAsked (have_own_names files) (Some (migrate_command files)) (λ apart. record { distinct = apart; sized = tt })
 
 -- the two files have names of their own
 abbrev Apart : DesignArguments → Type 0
@@ -121,9 +117,9 @@ joint_asked g = if_some Apart _ (design_arguments g) (design_apart g) (λ argume
 named_asked : (name : List ℕ) (g : Given) → IfSome (by_name name g) IsAsked
 named_asked name g =
     either_some IsAsked (bytes_eq name (codes "quick")) (quick_words g.rest) _ (quick_asked g.rest)
-    (either_some IsAsked (bytes_eq name (codes "draw")) (draw g) _ (some_then IsAsked (draw_files g) (λ files. draw_by files g.tape g.seed) (λ files. draw_asked files g.tape g.seed))
-    (either_some IsAsked (bytes_eq name (codes "replay")) (replay g) _ (some_then IsAsked (draw_files g) _ (λ files. replay_asked files g.stratum))
-    (either_some IsAsked (bytes_eq name (codes "migrate")) (migrate g) _ (migrate_asked g)
+    (either_some IsAsked (bytes_eq name (codes "draw")) (draw g) _ (some_then IsAsked (log_files g g.sample) (λ files. draw_by files g.tape g.seed) (λ files. draw_asked files g.tape g.seed))
+    (either_some IsAsked (bytes_eq name (codes "replay")) (replay g) _ (some_then IsAsked (log_files g g.sample) _ (λ files. replay_asked files g.stratum))
+    (either_some IsAsked (bytes_eq name (codes "migrate")) (migrate g) _ (some_then IsAsked (log_files g g.to) _ migrate_asked)
     (either_some IsAsked (bytes_eq name (codes "probs")) (option_map Probs (design_arguments g)) _ (some_map IsAsked Probs (design_arguments g) (probs_asked g))
     (either_some IsAsked (bytes_eq name (codes "check")) (option_map Check (design_arguments g)) _ (some_map IsAsked Check (design_arguments g) (check_asked g))
     (either_some IsAsked (bytes_eq name (codes "joint")) (option_map Joint (design_arguments g)) _ (some_map IsAsked Joint (design_arguments g) (joint_asked g))

@@ -1,9 +1,9 @@
 -- What is given, as the definitions see it.
 use Rattle.std.specs.Prelude.{ℕ, List, [], map, Option, Some, None, option_map}
 use Rattle.std.specs.Borrow.{Bor}
-use Rattle.smp_words.specs.Words.{Given, DrawFiles}
+use Rattle.smp_words.specs.Words.{Given, LogFiles}
 use Rattle.smp_words.specs.declared.given.Given as code
-use Rattle.smp_words.specs.declared.words.DrawFiles as draw_files
+use Rattle.smp_words.specs.declared.words.LogFiles as log_files
 
 abbrev pub option_view : Option (Bor (List ℕ)) → Option (List ℕ)
 option_view o = option_map (λ text. text.now) o
@@ -33,5 +33,5 @@ names_view names = map (λ name. name.now) names
 abbrev pub named_view : Bor (List ℕ) × Option (Bor (List ℕ)) → List ℕ × Option (List ℕ)
 named_view option = (option.0.now, option_view option.1)
 
-abbrev pub files_view : draw_files.DrawFiles → DrawFiles
-files_view files = record { design = files.design.now; frame = files.frame.now; log = files.log.now; sample = files.sample.now }
+abbrev pub files_view : log_files.LogFiles → LogFiles
+files_view files = record { design = files.design.now; frame = files.frame.now; log = files.log.now; out = files.out.now }

@@ -129,39 +129,39 @@ design_arguments g = when (is_empty g.rest) (do
   frame ← g.frame
   when (all_distinct (design ∷ frame ∷ [])) (Some (record { design = design; frame = frame })))
 
--- the files that both `draw` and `replay` name
-pub record DrawFiles : Type 0 where
+-- the files that `draw`, `replay` and `migrate` name, of which the last one is written
+pub record LogFiles : Type 0 where
   pub design : List ℕ
   pub frame : List ℕ
   pub log : List ℕ
-  pub sample : List ℕ
+  pub out : List ℕ
 
 -- these files, where all are named and no other word is there
-abbrev pub draw_files : Given → Option DrawFiles
-draw_files g = when (is_empty g.rest) (do
+abbrev pub log_files : Given → Option (List ℕ) → Option LogFiles
+log_files g last = when (is_empty g.rest) (do
   design ← g.design
   frame ← g.frame
   log ← g.log
-  sample ← g.sample
-  Some (record { design = design; frame = frame; log = log; sample = sample }))
+  out ← last
+  Some (record { design = design; frame = frame; log = log; out = out }))
 
 -- no two of these have the same name
-abbrev pub have_own_names : DrawFiles → Bool
-have_own_names files = all_distinct (files.design ∷ files.frame ∷ files.log ∷ files.sample ∷ [])
+abbrev pub have_own_names : LogFiles → Bool
+have_own_names files = all_distinct (files.design ∷ files.frame ∷ files.log ∷ files.out ∷ [])
 
-abbrev pub draw_command : DrawFiles → Chance → Command
+abbrev pub draw_command : LogFiles → Chance → Command
 draw_command files chance = Draw (record {
   design = files.design;
   frame = files.frame;
   chance = chance;
   log = files.log;
-  sample = files.sample;
+  sample = files.out;
 })
 
 -- exactly one of a tape and a seed
-abbrev pub draw_by : DrawFiles → Option (List ℕ) → Option (List ℕ) → Option Command
+abbrev pub draw_by : LogFiles → Option (List ℕ) → Option (List ℕ) → Option Command
 draw_by files (Some tape) None =
-    when (all_distinct (files.design ∷ files.frame ∷ tape ∷ files.log ∷ files.sample ∷ []))
+    when (all_distinct (files.design ∷ files.frame ∷ tape ∷ files.log ∷ files.out ∷ []))
     (Some (draw_command files (Tape tape)))
 draw_by files None (Some seed) =
     when (have_own_names files) (seed_from seed >>= λ key. Some (draw_command files (Seed key)))
@@ -169,34 +169,31 @@ draw_by files None None = None
 draw_by files (Some tape) (Some seed) = None
 
 abbrev pub draw : Given → Option Command
-draw g = draw_files g >>= λ files. draw_by files g.tape g.seed
+draw g = log_files g g.sample >>= λ files. draw_by files g.tape g.seed
 
 -- the number of a stratum, from 1 to 200,000, where one is given
 abbrev pub stratum_from : Option (List ℕ) → Option (Option ℕ)
 stratum_from (Some number) = option_map Some (number_from 1 most_rows number)
 stratum_from None = Some None
 
-abbrev pub replay_command : DrawFiles → Option ℕ → Command
+abbrev pub replay_command : LogFiles → Option ℕ → Command
 replay_command files stratum = Replay (record {
   design = files.design;
   frame = files.frame;
   log = files.log;
-  sample = files.sample;
+  sample = files.out;
   stratum = stratum;
 })
 
 abbrev pub replay : Given → Option Command
-replay g = draw_files g >>= λ files. when (have_own_names files) (option_map (replay_command files) (stratum_from g.stratum))
+replay g = log_files g g.sample >>= λ files. when (have_own_names files) (option_map (replay_command files) (stratum_from g.stratum))
 
--- the files of a design, a frame, a log and the log that is written of it
+-- the log is read, and another one is written of it
+abbrev pub migrate_command : LogFiles → Command
+migrate_command files = Migrate (record { design = files.design; frame = files.frame; log = files.log; to = files.out })
+
 abbrev pub migrate : Given → Option Command
-migrate g = when (is_empty g.rest) (do
-  design ← g.design
-  frame ← g.frame
-  log ← g.log
-  to ← g.to
-  when (all_distinct (design ∷ frame ∷ log ∷ to ∷ []))
-      (Some (Migrate (record { design = design; frame = frame; log = log; to = to }))))
+migrate g = log_files g g.to >>= λ files. when (have_own_names files) (Some (migrate_command files))
 
 -- the options that a command takes
 abbrev pub options_for : List ℕ → List (List ℕ)

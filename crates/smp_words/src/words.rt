@@ -128,42 +128,43 @@ fn design_arguments(alloc: Global, given: &Given) -> Result<Option<DesignArgumen
     }))
 }
 
-// The four files that `draw` and `replay` name by options.
+// The four files that `draw`, `replay` and `migrate` name by options: the last one is written.
 #[derive(Clone, Copy)]
-struct DrawFiles<'a> {
+struct LogFiles<'a> {
     design: &'a str,
     frame: &'a str,
     log: &'a str,
-    sample: &'a str,
+    out: &'a str,
 }
 
-impl<'a> DrawFiles<'a> {
+impl<'a> LogFiles<'a> {
     // No two of the names are the same.
     fn are_distinct(&self) -> bool
         ensures { result ≡ have_own_names (files_view self.now) }
     {
-        are_distinct(&[self.design, self.frame, self.log, self.sample])
+        are_distinct(&[self.design, self.frame, self.log, self.out])
     }
 }
 
-fn draw_files<'a>(given: &Given<'_, 'a>) -> Option<DrawFiles<'a>>
-    ensures { option_map files_view result ≡ Words.draw_files (given_view given.now) }
+fn log_files<'a>(given: &Given<'_, 'a>, out: Option<&'a str>) -> Option<LogFiles<'a>>
+    ensures { option_map files_view result
+        ≡ Words.log_files (given_view given.now) (option_view out.entry) }
 {
     if !given.has_no_rest() {
         return None;
     }
-    Some(DrawFiles {
+    Some(LogFiles {
         design: given.design?,
         frame: given.frame?,
         log: given.log?,
-        sample: given.sample?,
+        out: out?,
     })
 }
 
 fn draw(alloc: Global, given: &Given) -> Result<Option<Command>, NoMemory>
     ensures { IfOk result (λ command. command ≡ Words.draw (given_view given.now)) }
 {
-    let Some(files) = draw_files(given) else {
+    let Some(files) = log_files(given, given.sample) else {
         return Ok(None);
     };
     match (given.tape, given.seed) {
@@ -173,18 +174,18 @@ fn draw(alloc: Global, given: &Given) -> Result<Option<Command>, NoMemory>
     }
 }
 
-fn draw_by_tape(alloc: Global, files: &DrawFiles, tape: &str) -> Result<Option<Command>, NoMemory>
+fn draw_by_tape(alloc: Global, files: &LogFiles, tape: &str) -> Result<Option<Command>, NoMemory>
     ensures { IfOk result (λ command.
         command ≡ draw_by (files_view files.now) (Some tape.now) None) }
 {
-    if !are_distinct(&[files.design, files.frame, tape, files.log, files.sample]) {
+    if !are_distinct(&[files.design, files.frame, tape, files.log, files.out]) {
         return Ok(None);
     }
     let tape = Text::from_str(alloc, tape)?;
     Ok(Some(draw_command(alloc, files, Chance::Tape(tape))?))
 }
 
-fn draw_by_seed(alloc: Global, files: &DrawFiles, seed: &str) -> Result<Option<Command>, NoMemory>
+fn draw_by_seed(alloc: Global, files: &LogFiles, seed: &str) -> Result<Option<Command>, NoMemory>
     ensures { IfOk result (λ command.
         command ≡ draw_by (files_view files.now) None (Some seed.now)) }
 {
@@ -197,7 +198,7 @@ fn draw_by_seed(alloc: Global, files: &DrawFiles, seed: &str) -> Result<Option<C
     }
 }
 
-fn draw_command(alloc: Global, files: &DrawFiles, chance: Chance) -> Result<Command, NoMemory>
+fn draw_command(alloc: Global, files: &LogFiles, chance: Chance) -> Result<Command, NoMemory>
     ensures { IfOk result (λ command. command ≡ Words.draw_command (files_view files.now) chance) }
 {
     Ok(Command::Draw(DrawArguments {
@@ -205,14 +206,14 @@ fn draw_command(alloc: Global, files: &DrawFiles, chance: Chance) -> Result<Comm
         frame: Text::from_str(alloc, files.frame)?,
         chance,
         log: Text::from_str(alloc, files.log)?,
-        sample: Text::from_str(alloc, files.sample)?,
+        sample: Text::from_str(alloc, files.out)?,
     }))
 }
 
 fn replay(alloc: Global, given: &Given) -> Result<Option<Command>, NoMemory>
     ensures { IfOk result (λ command. command ≡ Words.replay (given_view given.now)) }
 {
-    let Some(files) = draw_files(given) else {
+    let Some(files) = log_files(given, given.sample) else {
         return Ok(None);
     };
     if !files.are_distinct() {
@@ -225,7 +226,7 @@ fn replay(alloc: Global, given: &Given) -> Result<Option<Command>, NoMemory>
         design: Text::from_str(alloc, files.design)?,
         frame: Text::from_str(alloc, files.frame)?,
         log: Text::from_str(alloc, files.log)?,
-        sample: Text::from_str(alloc, files.sample)?,
+        sample: Text::from_str(alloc, files.out)?,
         stratum,
     })))
 }
@@ -243,19 +244,16 @@ fn stratum_from(number: Option<&str>) -> Option<Option<u32>>
 fn migrate(alloc: Global, given: &Given) -> Result<Option<Command>, NoMemory>
     ensures { IfOk result (λ command. command ≡ Words.migrate (given_view given.now)) }
 {
-    if !given.has_no_rest() {
+    let Some(files) = log_files(given, given.to) else {
+        return Ok(None);
+    };
+    if !files.are_distinct() {
         return Ok(None);
     }
-    match (given.design, given.frame, given.log, given.to) {
-        (Some(design), Some(frame), Some(log), Some(to))
-            if are_distinct(&[design, frame, log, to]) => {
-            Ok(Some(Command::Migrate(MigrateArguments {
-                design: Text::from_str(alloc, design)?,
-                frame: Text::from_str(alloc, frame)?,
-                log: Text::from_str(alloc, log)?,
-                to: Text::from_str(alloc, to)?,
-            })))
-        }
-        _ => Ok(None),
-    }
+    Ok(Some(Command::Migrate(MigrateArguments {
+        design: Text::from_str(alloc, files.design)?,
+        frame: Text::from_str(alloc, files.frame)?,
+        log: Text::from_str(alloc, files.log)?,
+        to: Text::from_str(alloc, files.out)?,
+    })))
 }
