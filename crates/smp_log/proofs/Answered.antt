@@ -105,3 +105,7 @@ module _ {State : Type 0} (tree : Tree State) (belongs : State → Type 0) (lawf
     right = subst (IsAnswer (IsGenuine tree from head) log) (sym read_as) (read_right (log_script tree end_line from) (before from (head_lines h)) closed (IsGenuine tree from head) logs log_leaf (λ s. refl) told log);
     alone = λ answer is. read_alone (log_script tree end_line from) (before from (head_lines h)) closed (IsGenuine tree from head) logs log_leaf (λ s. refl) told log answer is ∙ sym read_as;
   }
+
+-- the function names a line with which no genuine log goes on
+pub old_reads : {State : Type 0} {tree : Tree State} {belongs : State → Type 0} (lawful : Lawful tree belongs) {from : State} (member : belongs from) {head : List ℕ} (h : IsHead head) (log : List ℕ) (line : ℕ) → DiffersAt (IsGenuine tree from head) log line → log_reading tree from head log ≡ Err line
+old_reads {tree} {belongs} lawful {from} member {head} h log line d = sym ((exact_reading tree belongs lawful from member head h log).alone (Err line) d)

@@ -1,10 +1,11 @@
 -- The function answers of a log of version 2 what the definitions say.
-use Rattle.std.proofs.Common.{◌≡◌, ℕ, List, Option, Some, None, refl, sym, ap, ◌∙◌, subst}
+use Rattle.std.proofs.Common.{◌≡◌, ℕ, List, Option, Some, None, Err, refl, sym, ap, ◌∙◌, subst}
 use Rattle.smp_split.specs.Trees.{Tree, Lawful}
 use Rattle.smp_split.specs.Sectioning.{Sectioning, IsSectioned}
 use Rattle.smp_log.specs.Lines.{whole_lines}
 use Rattle.smp_log.specs.Heads.{IsHead}
 use Rattle.smp_log.specs.Answers.{IsAnswer, IsExactAnswer, read_by}
+use Rattle.smp_log.specs.Genuine.{DiffersAt}
 use Rattle.smp_log.specs.SectionLogs.{sectioned_head, IsSectionedGenuine}
 use Rattle.smp_log.specs.SectionReading.{SectionPlace, heading, opening, inside, closed, before, section_script, section_leaf, sectioned_reading}
 use Rattle.smp_log.proofs.Answered.{read_right, read_alone}
@@ -34,3 +35,8 @@ module _ {State : Type 0} (tree : Tree State) (belongs : State → Type 0) (lawf
         (read_right (section_script tree sections from) (before from (sectioned_head_lines h)) closed (IsSectionedGenuine tree sections from head) logs section_leaf (λ s. refl) told log);
     alone = λ answer is. read_alone (section_script tree sections from) (before from (sectioned_head_lines h)) closed (IsSectionedGenuine tree sections from head) logs section_leaf (λ s. refl) told log answer is ∙ sym read_as;
   }
+
+-- the function names a line with which no genuine log goes on
+pub sectioned_reads : {State : Type 0} {tree : Tree State} {belongs : State → Type 0} (lawful : Lawful tree belongs) {sections : Sectioning State} (sectioned : IsSectioned tree belongs sections) {from : State} (member : belongs from) {head : List ℕ} (h : IsHead head) (log : List ℕ) (line : ℕ)
+    → DiffersAt (IsSectionedGenuine tree sections from head) log line → sectioned_reading tree sections from head log ≡ Err line
+sectioned_reads {tree} {belongs} lawful {sections} sectioned {from} member {head} h log line d = sym ((exact_sectioned tree belongs lawful sections sectioned from member head h log).alone (Err line) d)

@@ -1,5 +1,5 @@
 -- The first line of what is left.
-use Rattle.std.proofs.Common.{◌≡◌, ℕ, ◌+◌, ◌≤◌, Bool, true, false, cond, List, ◌∷◌, length, Option, Some, None, option_map, refl, sym, ap, ◌∙◌, arith, length-append, inl, inr, ◌⊎◌}
+use Rattle.std.proofs.Common.{◌≡◌, ℕ, ◌+◌, ◌<◌, ◌≤◌, Bool, true, false, cond, List, ◌∷◌, length, Option, Some, None, option_map, refl, sym, ap, ◌∙◌, arith, length-append, inl, inr, ◌⊎◌}
 use Rattle.std.specs.Prelude.{option_and_then}
 use Rattle.std.specs.Str.{bytes_eq}
 use Rattle.std.proofs.lemmas.Slice.Eq.{bytes_eq-Decides}
@@ -7,6 +7,7 @@ use Rattle.smp_lines.specs.Cuts.{cut_at}
 use Rattle.smp_split.specs.declared.kind.Kind.{Kind}
 use Rattle.smp_log.specs.Reading.{Script, step_value, after_line, step_first}
 use Rattle.smp_log.proofs.Options.{goes_on, mapped, some_cond}
+use Rattle.smp_log.proofs.StepLines.{step_value-is}
 use Rattle.smp_log.proofs.Texts.{cut_parts}
 
 none_cond : {A B : Type 0} (b : Bool) (x : A) (y : B) → cond b (Some x) None ≡ None → cond b (Some y) None ≡ None
@@ -65,3 +66,11 @@ shorter_by rest line after cut =
     let parts = cut_parts 10 rest (line, after) cut in
     let size : length rest ≡ length line + (length after + 1) = ap length parts.0 ∙ length-append line (10 ∷ after) ∙ omega arith in
     omega (arith, size)
+
+-- of a step that stands first the value is less than its bound, and it is a line
+module _ (kind : Kind) (bound value : ℕ) (rest after : List ℕ) (some : step_first kind bound rest ≡ Some (value, after)) where
+  pub first_within : value < bound
+  first_within = (let f = first_step kind bound value rest after some in (step_value-is kind bound value f.line f.read).1)
+
+  pub first_shorter : length after < length rest
+  first_shorter = (let f = first_step kind bound value rest after some in let short = shorter_by rest f.line after f.cut in omega (arith, short))

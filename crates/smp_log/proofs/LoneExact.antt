@@ -186,7 +186,7 @@ module _ {State : Type 0} (tree : Tree State) (belongs : State → Type 0) (lawf
 
   decided_behind : (rest : List ℕ) → log ≡ sectioned_head head ++ rest → Has ⊎ Differs
   decided_behind rest is = elim (first_opens number (whole_lines rest)) [
-    | inl none ↦ inr (4 + length (whole_lines rest), no_opening tree belongs lawful from member head number log rest (4 + length (whole_lines rest)) h is none refl)
+    | inl none ↦ inr (4 + length (whole_lines rest), no_opening lawful member head number log rest (4 + length (whole_lines rest)) h is none refl)
     | inr f ↦
         (let parts = by_lines rest in
         let are = are_split f.before (f.first ∷ f.after) (subst AreLines f.is parts.2) in
@@ -194,7 +194,7 @@ module _ {State : Type 0} (tree : Tree State) (belongs : State → Type 0) (lawf
         let split : rest ≡ lines_text f.before ++ found =
         parts.1 ∙ ap (λ ls. lines_text ls ++ parts.0) f.is ∙ ap (λ t. t ++ parts.0) (lines_text-append f.before (f.first ∷ f.after)) ∙ append_assoc (lines_text f.before) (f.first ++ 10 ∷ lines_text f.after) parts.0
         ∙ ap (λ t. lines_text f.before ++ t) (append_assoc f.first (10 ∷ lines_text f.after) parts.0) in
-        let o = opened tree belongs lawful from member head number log rest found (4 + length f.before) h is
+        let o = opened lawful member head number log rest found (4 + length f.before) h is
         (record { before = f.before; log_is = split; are = are.0; none = f.none; first = f.first; rest = lines_text f.after ++ parts.0; text_is = refl; first_lacks = are.1.0; opening = f.opening; counted = refl }) in
         decided_here rest is found (4 + length f.before) o)
   ]
@@ -204,7 +204,7 @@ module _ {State : Type 0} (tree : Tree State) (belongs : State → Type 0) (lawf
     | inl r ↦ decided_behind r.rest (r.is ∙ ap (λ t. t ++ r.rest) (sym (sectioned_head-text head h)))
     | inr s ↦ inr (
       length s.same + 1,
-      stops tree belongs lawful from member head number log (length s.same + 1) h (record {
+      stops lawful member head number log (length s.same + 1) h (record {
         same = s.same;
         wanted = s.wanted;
         others = s.others;

@@ -16,14 +16,13 @@ use Rattle.smp_log.specs.Told.{path_along}
 use Rattle.smp_log.specs.LoneSections.{IsGenuineSection, opens, NoneOpens, IsOpened, HasSection, SectionLine, place_of, opening_first, LonePlace, start, lone_script, is_over, section_reading, section_in_first_lines}
 use Rattle.smp_log.proofs.Options.{goes_on, mapped}
 use Rattle.smp_log.proofs.Texts.{AreLines-append, lines_text-append, whole_lines-text, whole_lines-cons, cut_parts}
-use Rattle.smp_log.proofs.StepLines.{step_value-is}
 use Rattle.smp_log.proofs.OpeningLines.{NoneOpens-append, lines_long}
 use Rattle.smp_log.proofs.KeptSections.{sectioned_head_lines, sectioned_head_lines_are, sectioned_head-text}
 use Rattle.smp_log.proofs.LoneScripts.{over_at, described, place_of-is}
 use Rattle.smp_log.proofs.LoneAnswers.{Differing, differing, stops_reading, unopened_reading, stopped_reading, section_part}
 use Rattle.smp_log.proofs.Reached.{Reached, reached_more, stuck}
 use Rattle.smp_log.proofs.Described.{Describes, differs, genuine_front}
-use Rattle.smp_log.proofs.FirstLines.{first_is, first_stuck, step_stuck, first_step, shorter_by}
+use Rattle.smp_log.proofs.FirstLines.{first_is, first_stuck, step_stuck, first_step, first_within, shorter_by}
 use Rattle.smp_log.proofs.SectionTelling.{passed_over, stratum_is_no_step}
 
 abbrev stepped : {State : Type 0} → LogPlace State → LonePlace State
@@ -63,7 +62,7 @@ map_map f g (Some x) = refl
 none_reached : {Place : Type 0} (script : Script Place) (place : Place) (text : List ℕ) → Reached script place place text text 0
 none_reached script place text = record { lines = []; text_is = refl; are = tt; counted = refl; leads = refl }
 
-module _ {State : Type 0} (tree : Tree State) (belongs : State → Type 0) (lawful : Lawful tree belongs) (from : State) (member : belongs from) (head : List ℕ) (number : ℕ) (log : List ℕ) where
+module _ {State : Type 0} {tree : Tree State} {belongs : State → Type 0} (lawful : Lawful tree belongs) {from : State} (member : belongs from) (head : List ℕ) (number : ℕ) (log : List ℕ) where
   abbrev script : Script (LonePlace State)
   script = lone_script tree number from
 
@@ -164,7 +163,7 @@ module _ {State : Type 0} (tree : Tree State) (belongs : State → Type 0) (lawf
 
   -- ---- in the section
 
-  module _ (at own : ℕ) (s : State) (rest : List ℕ) (r : ReadsSection tree belongs from head number log at own s rest) where
+  module _ {at own : ℕ} {s : State} {rest : List ℕ} (r : ReadsSection tree belongs from head number log at own s rest) where
     abbrev next : ℕ → LonePlace State
     next v = LonePlace.at (stepping (own + 1) (picked s (tree.parts s) v))
 
@@ -185,16 +184,10 @@ module _ {State : Type 0} (tree : Tree State) (belongs : State → Type 0) (lawf
     step_none e none = subst DiffersHere one_more (stopped r.is_head r.behind_head r.head_is r.text rest at (own + 1) (LonePlace.at (stepping own s)) r.opened refl r.reached
         (step_stuck script (LonePlace.at (stepping own s)) (tree.kind s) (weight_sum (tree.parts s)) next rest (goes e) none))
 
-    pub step_within : (v : ℕ) (after : List ℕ) → step_first (tree.kind s) (weight_sum (tree.parts s)) rest ≡ Some (v, after) → v < weight_sum (tree.parts s)
-    step_within v after some = (let f = first_step (tree.kind s) (weight_sum (tree.parts s)) v rest after some in (step_value-is (tree.kind s) (weight_sum (tree.parts s)) v f.line f.read).1)
-
-    pub step_shorter : (v : ℕ) (after : List ℕ) → step_first (tree.kind s) (weight_sum (tree.parts s)) rest ≡ Some (v, after) → length after < length rest
-    step_shorter v after some = (let f = first_step (tree.kind s) (weight_sum (tree.parts s)) v rest after some in let short = shorter_by rest f.line after f.cut in omega (arith, short))
-
     pub step_some : (v : ℕ) (after : List ℕ) → tree.done s ≡ false → step_first (tree.kind s) (weight_sum (tree.parts s)) rest ≡ Some (v, after) → ReadsSection tree belongs from head number log at (own + 1) (picked s (tree.parts s) v) after
     step_some v after e some =
         let f = first_step (tree.kind s) (weight_sum (tree.parts s)) v rest after some in
-        let within : v < weight_sum (tree.parts s) = step_within v after some in
+        let within : v < weight_sum (tree.parts s) = first_within (tree.kind s) (weight_sum (tree.parts s)) v rest after some in
         let short = shorter_by rest f.line after f.cut in
         record {
           is_head = r.is_head;

@@ -1,8 +1,8 @@
 -- What a replay of one section tells.
-use Rattle.std.proofs.Common.{◌≡◌, ℕ, ◌+◌, true, false, List, [], ◌∷◌, ◌++◌, length, take, Option, Some, refl, sym, ap, ◌∙◌, subst}
+use Rattle.std.proofs.Common.{◌≡◌, ℕ, ◌+◌, Bool, true, false, List, [], ◌∷◌, ◌++◌, length, take, Option, Some, Err, refl, sym, ap, ◌∙◌, subst}
 use Rattle.std.proofs.Math.Seq.{take-length}
 use Rattle.std.proofs.lemmas.List.{take_at}
-use Rattle.smp_split.specs.Trees.{Tree, weight_sum, picked}
+use Rattle.smp_split.specs.Trees.{Tree, Lawful, weight_sum, picked}
 use Rattle.smp_split.specs.Paths.{Entry, entry_at}
 use Rattle.smp_split.specs.Runs.{and_then}
 use Rattle.smp_log.specs.Fronts.{StopsAt}
@@ -11,15 +11,18 @@ use Rattle.smp_log.specs.Heads.{IsHead}
 use Rattle.smp_log.specs.Reading.{stepping, step_first}
 use Rattle.smp_log.specs.SectionLogs.{sectioned_head}
 use Rattle.smp_log.specs.Told.{path_along, IsToldAlong, IsToldPart}
+use Rattle.smp_log.specs.Replayed.{Replays, section_form}
+use Rattle.smp_log.specs.declared.fault.ReplayFault.TheVariants.{Differs}
 use Rattle.smp_log.specs.LoneSections.{NoneOpens, IsOpened, LonePlace, start, lone_script, from_opening, section_in_first_lines, section_told}
 use Rattle.smp_log.proofs.Texts.{whole_lines-text}
 use Rattle.smp_log.proofs.Described.{whole_text}
 use Rattle.smp_log.proofs.FirstLines.{first_step}
 use Rattle.smp_log.proofs.KeptSections.{sectioned_head_lines, sectioned_head_lines_are, sectioned_head-text}
-use Rattle.smp_log.proofs.LoneAnswers.{from_opened, opening_nowhere, section_part}
+use Rattle.smp_log.proofs.LoneAnswers.{Differing, from_opened, opening_nowhere, section_part}
 use Rattle.smp_log.proofs.LoneReplays.{ReadsSection, head_opens_none}
 use Rattle.smp_log.proofs.Reached.{next_lines, reached_lines}
-use Rattle.smp_log.proofs.Telling.{none_told, step_told, begins, all_told}
+use Rattle.smp_log.proofs.Telling.{none_told, none_begins, step_told, begins, all_told}
+use Rattle.smp_log.proofs.Replied.{refused}
 
 -- ---- the lines before the opening line
 
@@ -80,3 +83,17 @@ module _ {State : Type 0} (tree : Tree State) (from : State) (old : Option (List
     -- at a leaf all is told
     pub section_all : tree.done s ≡ true → now ≡ and_then old (section_told tree from number log)
     section_all e = all_told tree from old (lines_in (at + own)) (whole_lines rest) (from_opening number (whole_lines log)).1 s now t all_lines e
+
+-- ---- a replay stops at a line with which no genuine section goes on
+
+module _ {State : Type 0} {tree : Tree State} {belongs : State → Type 0} {lawful : Lawful tree belongs} {from : State} {member : belongs from} {head : List ℕ} {number : ℕ} {log : List ℕ} {here : ℕ} (d : Differing tree belongs lawful from member head number log here) {old : Option (List Entry)} {refuses : Bool} where
+  -- before the opening line
+  pub refused_unopened : (count : ℕ) → count + 1 ≡ here → NoneOpens number (take count (whole_lines log)) → Replays tree belongs (section_form tree from head number log) from from old old refuses (Err (Differs here))
+  refused_unopened count next none =
+      refused tree belongs (section_form tree from head number log) from from old old refuses count here next d.differs d.reads (none_begins tree from old (section_told tree from number log)) (unopened_told tree from old number log count none) member
+
+  -- behind lines that were read
+  pub refused_inside : {at own : ℕ} {s : State} {rest : List ℕ} (r : ReadsSection tree belongs from head number log at own s rest) {now : Option (List Entry)} → IsToldAlong tree (section_in_first_lines tree from number (at + own) log) from s old now
+      → at + own + 1 ≡ here → Replays tree belongs (section_form tree from head number log) from s old now refuses (Err (Differs here))
+  refused_inside {at} {own} {s} r {now} along next =
+      refused tree belongs (section_form tree from head number log) from s old now refuses (at + own) here next d.differs d.reads (section_begins tree from old number log r now along) along r.member

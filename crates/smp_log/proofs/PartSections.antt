@@ -58,18 +58,7 @@ module _ {State Inner : Type 0} (tree : Tree State) (belongs : State → Type 0)
 
 step_word : (kind : Kind) (rest : List ℕ) → behind (codes "stratum ") (kind_word kind ++ 32 ∷ rest) ≡ None
 step_word Order rest = refl
-step_word Pivot rest = refl
-step_word Lone rest = refl
-step_word System rest = refl
-step_word Support rest = refl
-step_word Offer rest = refl
-step_word Take rest = refl
-step_word Spent rest = refl
-step_word Eliminate rest = refl
-step_word Choose rest = refl
-step_word Flight rest = refl
-step_word Drop rest = refl
-step_word Wide rest = refl
+step_word _ rest = refl
 
 steps_open : (number : ℕ) (steps : List Entry) → NoneOpens number (map step_line steps)
 steps_open number [] = tt
@@ -184,7 +173,7 @@ module _ {State Inner : Type 0} (tree : Tree State) (belongs : State → Type 0)
         head_is = refl;
         text = text;
         line = 4 + length (earlier 0 h steps);
-        opened = LoneReplays.opened part part_belongs part_lawful (at from) part_member head (h + 1) (sections_text head sections.count steps) behind_head text (4 + length (earlier 0 h steps)) is_head refl skips;
+        opened = LoneReplays.opened part_lawful part_member head (h + 1) (sections_text head sections.count steps) behind_head text (4 + length (earlier 0 h steps)) is_head refl skips;
         section = section_text steps h;
         after = after;
         text_is = refl;

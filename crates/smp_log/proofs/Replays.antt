@@ -10,10 +10,9 @@ use Rattle.smp_log.specs.Fronts.{IsWhole, StopsAt}
 use Rattle.smp_log.specs.Heads.{IsHead}
 use Rattle.smp_log.specs.Genuine.{IsGenuine, DiffersAt}
 use Rattle.smp_log.specs.Reading.{heading, stepping, closed, before, after_line, step_first, step_value, next_step, end_line, log_script}
-use Rattle.smp_log.proofs.FirstLines.{FirstStep, first_is, first_step, first_stuck, shorter_by, step_stuck}
+use Rattle.smp_log.proofs.FirstLines.{FirstStep, first_is, first_step, first_stuck, first_within, shorter_by, step_stuck}
 use Rattle.smp_log.proofs.Heads.{head_lines, head_lines_are}
 use Rattle.smp_log.proofs.Kept.{described}
-use Rattle.smp_log.proofs.StepLines.{step_value-is}
 use Rattle.smp_log.proofs.Reached.{LeadsAlong, Reached, reached_more}
 use Rattle.smp_log.proofs.Described.{Describes, whole_text, differs, differs_behind, genuine}
 
@@ -35,7 +34,7 @@ module _ {State : Type 0} (tree : Tree State) (from : State) where
   head_leads [] others = refl
   head_leads (l ∷ same) others = (before from (same ++ others), ap (λ (b : Bool). cond b (Some (before from (same ++ others))) None) ((bytes_eq-Decides l l).1 refl), head_leads same others)
 
-module _ {State : Type 0} (tree : Tree State) (belongs : State → Type 0) (lawful : Lawful tree belongs) (from : State) (member : belongs from) (head log : List ℕ) where
+module _ {State : Type 0} {tree : Tree State} {belongs : State → Type 0} (lawful : Lawful tree belongs) {from : State} (member : belongs from) (head log : List ℕ) where
   pub logs : (h : IsHead head) → Describes (log_script tree end_line from) (before from (head_lines h)) closed (IsGenuine tree from head)
   logs h = described tree belongs lawful from member head (head_lines h) h.text (head_lines_are h)
 
@@ -65,7 +64,7 @@ module _ {State : Type 0} (tree : Tree State) (belongs : State → Type 0) (lawf
       (record { lines = at.same; text_is = at.text_is; are = at.are; counted = refl; leads = leads })
       (elim at.other [ inl none ↦ inl none | inr w ↦ inr (w.0, w.1, ap (λ (b : Bool). cond b (Some (before from at.others)) None) w.2) ]))
 
-  module _ (s : State) (rest : List ℕ) (steps : ℕ) (r : IsReplaying tree belongs from head log s rest steps) where
+  module _ {s : State} {rest : List ℕ} {steps : ℕ} (r : IsReplaying tree belongs from head log s rest steps) where
     four : steps + 3 + 1 ≡ steps + 4
     four = omega arith
 
@@ -88,12 +87,6 @@ module _ {State : Type 0} (tree : Tree State) (belongs : State → Type 0) (lawf
       step : FirstStep (tree.kind s) (weight_sum (tree.parts s)) v rest after
       step = first_step (tree.kind s) (weight_sum (tree.parts s)) v rest after some
 
-      pub within : v < weight_sum (tree.parts s)
-      within = (step_value-is (tree.kind s) (weight_sum (tree.parts s)) v step.line step.read).1
-
-      pub shorter : length after < length rest
-      shorter = (let short = shorter_by rest step.line after step.cut in omega (arith, short))
-
       pub more : tree.done s ≡ false → IsReplaying tree belongs from head log (picked s (tree.parts s) v) after (steps + 1)
       more e =
           let to : State = picked s (tree.parts s) v in
@@ -104,7 +97,7 @@ module _ {State : Type 0} (tree : Tree State) (belongs : State → Type 0) (lawf
           record {
             is_head = r.is_head;
             reached = subst (Reached (log_script tree end_line from) (before from (head_lines r.is_head)) (stepping (steps + 1) to) log after) count reached;
-            member = picked_belongs tree belongs lawful s to v r.member e within refl;
+            member = picked_belongs tree belongs lawful s to v r.member e (first_within (tree.kind s) (weight_sum (tree.parts s)) v rest after some) refl;
             room = omega (arith, r.room, short);
           }
 

@@ -1,18 +1,23 @@
 -- The three ways in which a replay answers.
-use Rattle.std.proofs.Common.{◌≡◌, ℕ, ◌+◌, ◌-◌, Bool, true, List, Option, Result, Ok, Err, OnOk, sym, ap, subst, arith}
+use Rattle.std.proofs.Common.{◌≡◌, ℕ, ◌+◌, ◌-◌, ◌≤◌, Bool, true, List, Option, Result, Ok, Err, OnOk, length, sym, ap, subst, arith}
 use Rattle.smp_split.specs.Trees.{Tree}
 use Rattle.smp_split.specs.Paths.{Entry}
 use Rattle.smp_split.specs.Runs.{and_then}
 use Rattle.smp_log.specs.Answers.{AnswersAs}
-use Rattle.smp_log.specs.Replayed.{Form, Replays, ReplaysUntold}
-use Rattle.smp_log.specs.Told.{IsToldAlong, IsToldPart}
+use Rattle.smp_log.specs.Fronts.{StopsAt}
+use Rattle.smp_log.specs.Lines.{whole_lines}
+use Rattle.smp_log.specs.Reading.{Script}
+use Rattle.smp_log.specs.Replayed.{Form, Replays, ReplaysUntold, path_form}
+use Rattle.smp_log.specs.Told.{path_told, path_in_first_lines, IsToldAlong, IsToldPart}
 use Rattle.smp_log.specs.declared.fault.LogFault.{LogFault}
 use Rattle.smp_log.specs.declared.fault.LogFault.TheVariants as untold
 use Rattle.smp_log.specs.declared.fault.ReplayFault.{ReplayFault}
 use Rattle.smp_log.specs.declared.fault.ReplayFault.TheVariants.{Differs, NoMemory}
+use Rattle.smp_log.proofs.Reached.{Reached}
+use Rattle.smp_log.proofs.Telling.{few_told, none_begins, stops_early, told_part}
 
 -- answers that name a line name the same one
-abbrev Answer : Type 0
+abbrev pub Answer : Type 0
 Answer = Result (Unit {0}) ReplayFault
 
 abbrev Untold : Type 0
@@ -108,3 +113,30 @@ module _ {State : Type 0} (tree : Tree State) (member : State → Type 0) (form 
     belongs = r.belongs;
     reading = subst (AnswersAs result to) same r.reading;
   }
+
+-- ---- a log whose lines behind the head tell the path stops at a line with which no genuine log goes on
+
+module _ {State : Type 0} {tree : Tree State} {member : State → Type 0} {from : State} (log : List ℕ) {genuine : State → Type 0} {differs : ℕ → Type 0} {reading : Result State ℕ} (reads : (line : ℕ) → differs line → reading ≡ Err line)
+    {to : State} (in_all : member to) {old now : Option (List Entry)} {refuses : Bool} where
+  pub refused_at : (count here : ℕ) → count + 1 ≡ here → differs here → IsToldPart tree (path_told tree from log) from to old now → IsToldAlong tree (path_in_first_lines tree from count log) from to old now
+      → Replays tree member (path_form tree from log genuine differs reading) from to old now refuses (Err (Differs here))
+  refused_at count here next d part along = refused tree member (path_form tree from log genuine differs reading) from to old now refuses count here next d (reads here d) part along in_all
+
+  -- that line stands behind those that were read
+  pub refused_behind : {Place : Type 0} {script : Script Place} {start place : Place} {rest : List ℕ} {count : ℕ} (r : Reached script start place log rest count) → 3 ≤ count → IsToldAlong tree (path_in_first_lines tree from count log) from to old now
+      → (here : ℕ) → count + 1 ≡ here → differs here → Replays tree member (path_form tree from log genuine differs reading) from to old now refuses (Err (Differs here))
+  refused_behind {count} r behind along here next d = refused_at count here next d (told_part tree from old r behind to now along) along
+
+  -- memory ran out behind them
+  pub out_behind : {Place : Type 0} {script : Script Place} {start place : Place} {rest : List ℕ} {count : ℕ} (r : Reached script start place log rest count) → 3 ≤ count → IsToldAlong tree (path_in_first_lines tree from count log) from to old now
+      → {new : Option (List Entry)} → new ≡ now → refuses ≡ true → Replays tree member (path_form tree from log genuine differs reading) from to old new refuses (Err NoMemory)
+  out_behind {count} r behind along same may =
+      rw same (ran_out tree member (path_form tree from log genuine differs reading) from to old now refuses may (told_part tree from old r behind to now along) in_all)
+
+-- the head isn't there
+pub refused_head : {State : Type 0} {tree : Tree State} {member : State → Type 0} {from : State} (log : List ℕ) {genuine : State → Type 0} {differs : ℕ → Type 0} {reading : Result State ℕ} (reads : (line : ℕ) → differs line → reading ≡ Err line)
+    → member from → {old : Option (List Entry)} {refuses : Bool} {front head : List ℕ} {line : ℕ} → front ≡ head → length (whole_lines head) ≡ 3 → StopsAt front log line → (StopsAt head log line → differs line)
+    → Replays tree member (path_form tree from log genuine differs reading) from from old old refuses (Err (Differs line))
+refused_head {tree} {from} log reads in_all {old} {line} same three stops differ =
+    let at = subst (λ f. StopsAt f log line) same stops in
+    refused_at log reads in_all (length at.same) line (sym at.counted) (differ at) (none_begins tree from old (path_told tree from log)) (few_told tree from old log (length at.same) (stops_early at three))

@@ -243,20 +243,24 @@ module _ {State : Type 0} (tree : Tree State) (belongs : State → Type 0) (lawf
         end = end.1;
       }
 
+  -- a line before them that is of no step
+  line_more : {s : State} {to : SectionPlace State} {lines : List (List ℕ)} {lines_of more_of : List (ℕ × Entry) → List (List ℕ)} (line first : List ℕ) → line ≡ first → (on : HasSections s to lines lines_of) → more_of (placed tree sections s on.path) ≡ first ∷ lines_of (placed tree sections s on.path) → HasSections s to (line ∷ lines) more_of
+  line_more {lines} line first is on more = record {
+    leaf = on.leaf;
+    path = on.path;
+    leads = on.leads;
+    done = on.done;
+    lines_are = ap (λ l. l ∷ lines) is ∙ ap (λ ls. first ∷ ls) on.lines_are ∙ sym more;
+    end = on.end;
+  }
+
   at_enter : (line : List ℕ) (lines : List (List ℕ)) → FromInside lines → (k h taken n : ℕ) (s : State) (to next : SectionPlace State) → h + suc k ≡ sections.count → h ≤ sections.of s → belongs s → script.follow (opening h taken n s) line ≡ Some next → Accepts script next lines to → HasSections s to (line ∷ lines) (open_lines h (suc k) taken n)
   at_enter line lines inner k h taken n s to next at le b follows rest =
       let more : nat_lt h sections.count ≡ true = lt-ltb h sections.count (omega arith) in
       let test = some_cond (bytes_eq line (stratum_line (h + 1) taken)) (inside h taken n 0 s) next (sym (follow_enter h taken n s line more) ∙ follows) in
       let on = inner k h taken n 0 s to at le b (subst (λ p. Accepts script p lines to) (sym test.1) rest) in
-      record {
-        leaf = on.leaf;
-        path = on.path;
-        leads = on.leads;
-        done = on.done;
-        lines_are = ap (λ l. l ∷ lines) ((bytes_eq-Decides line (stratum_line (h + 1) taken)).0 test.0) ∙ ap (λ ls. stratum_line (h + 1) taken ∷ ls) on.lines_are
-            ∙ sym (open_lines-enter h (sections.of s) k taken n (placed tree sections s on.path) le (placed_from on.path s on.leaf b on.leads));
-        end = on.end;
-      }
+      line_more line (stratum_line (h + 1) taken) ((bytes_eq-Decides line (stratum_line (h + 1) taken)).0 test.0) on
+      (open_lines-enter h (sections.of s) k taken n (placed tree sections s on.path) le (placed_from on.path s on.leaf b on.leads))
 
   at_step : (line : List ℕ) (lines : List (List ℕ)) → FromInside lines → (k h taken n own : ℕ) (s : State) (to next : SectionPlace State) → h + suc k ≡ sections.count → belongs s → sections.of s ≡ h → script.follow (inside h taken n own s) line ≡ Some next → Accepts script next lines to → HasSections s to (line ∷ lines) (inside_lines h k taken n own)
   at_step line lines inner k h taken n own s to next at b is follows rest =
@@ -283,15 +287,8 @@ module _ {State : Type 0} (tree : Tree State) (belongs : State → Type 0) (lawf
       let other : (sections.of s == h) ≡ false = ne_eqb (sections.of s) h (λ e. omega arith) in
       let test = some_cond (bytes_eq line (done_line (h + 1) own)) (opening (h + 1) taken n s) next (sym (follow_leave h taken n own s line other) ∙ follows) in
       let on = outer k (h + 1) taken n s to (omega arith) (omega arith) b (subst (λ p. Accepts script p lines to) (sym test.1) rest) in
-      record {
-        leaf = on.leaf;
-        path = on.path;
-        leads = on.leads;
-        done = on.done;
-        lines_are = ap (λ l. l ∷ lines) ((bytes_eq-Decides line (done_line (h + 1) own)).0 test.0) ∙ ap (λ ls. done_line (h + 1) own ∷ ls) on.lines_are
-            ∙ sym (inside_lines-leave h (sections.of s) k taken n own (placed tree sections s on.path) less (placed_from on.path s on.leaf b on.leads));
-        end = on.end;
-      }
+      line_more line (done_line (h + 1) own) ((bytes_eq-Decides line (done_line (h + 1) own)).0 test.0) on
+      (inside_lines-leave h (sections.of s) k taken n own (placed tree sections s on.path) less (placed_from on.path s on.leaf b on.leads))
 
   from_line : (line : List ℕ) (lines : List (List ℕ)) → FromOpening lines → FromInside lines → FromOpening (line ∷ lines)
   from_line line lines outer inner zero h taken n s to at le b h' = at_last line lines h taken n s to h'.0 (omega arith) le b h'.1 h'.2

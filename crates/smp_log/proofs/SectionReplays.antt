@@ -13,8 +13,7 @@ use Rattle.smp_log.specs.Reading.{Script, step_value, end_line, after_line, step
 use Rattle.smp_split.specs.Sectioning.{Sectioning, IsSectioned}
 use Rattle.smp_log.specs.SectionLogs.{sectioned_head, IsSectionedGenuine}
 use Rattle.smp_log.specs.SectionReading.{stratum_line, done_line, SectionPlace, heading, opening, inside, closed, before, section_script, taken_at}
-use Rattle.smp_log.proofs.StepLines.{step_value-is}
-use Rattle.smp_log.proofs.FirstLines.{first_is, first_stuck, step_stuck, first_step, shorter_by}
+use Rattle.smp_log.proofs.FirstLines.{first_is, first_stuck, step_stuck, first_step, first_within, shorter_by}
 use Rattle.smp_log.proofs.Reached.{LeadsAlong, Reached, reached_more}
 use Rattle.smp_log.proofs.Described.{Describes, whole_text, differs, differs_behind, genuine}
 use Rattle.smp_log.proofs.SectionLines.{later_section, going_here, done_here}
@@ -57,7 +56,7 @@ module _ {State : Type 0} (tree : Tree State) (sections : Sectioning State) (fro
   head_leads [] others = refl
   head_leads (l ∷ same) others = (before from (same ++ others), ap (λ (b : Bool). cond b (Some (before from (same ++ others))) None) ((bytes_eq-Decides l l).1 refl), head_leads same others)
 
-module _ {State : Type 0} (tree : Tree State) (belongs : State → Type 0) (lawful : Lawful tree belongs) (sections : Sectioning State) (sectioned : IsSectioned tree belongs sections) (from : State) (member : belongs from) (head log : List ℕ) where
+module _ {State : Type 0} {tree : Tree State} {belongs : State → Type 0} (lawful : Lawful tree belongs) {sections : Sectioning State} (sectioned : IsSectioned tree belongs sections) {from : State} (member : belongs from) (head log : List ℕ) where
   abbrev script : Script (SectionPlace State)
   script = section_script tree sections from
 
@@ -97,7 +96,7 @@ module _ {State : Type 0} (tree : Tree State) (belongs : State → Type 0) (lawf
       (elim at.other [ inl none ↦ inl none | inr w ↦ inr (w.0, w.1, ap (λ (b : Bool). cond b (Some (before from at.others)) None) w.2) ]))
 
   -- ---- before a section, or before the last line
-  module _ (h taken steps : ℕ) (s : State) (rest : List ℕ) (lines : ℕ) (r : IsOpening tree belongs sections from head log h taken steps s rest lines) where
+  module _ {h taken steps : ℕ} {s : State} {rest : List ℕ} {lines : ℕ} (r : IsOpening tree belongs sections from head log h taken steps s rest lines) where
     enters : h < sections.count → (line : List ℕ) → script.follow (opening h taken steps s) line ≡ cond (bytes_eq line (stratum_line (h + 1) taken)) (Some (inside h taken steps 0 s)) None
     enters less line = let e : nat_lt h sections.count ≡ true = lt-ltb h sections.count less in rw e refl
 
@@ -153,7 +152,7 @@ module _ {State : Type 0} (tree : Tree State) (belongs : State → Type 0) (lawf
         nil (b ∷ t) h = absurd (omega arith)
 
   -- ---- in a section
-  module _ (h taken steps own : ℕ) (s : State) (rest : List ℕ) (lines : ℕ) (r : IsInside tree belongs sections from head log h taken steps own s rest lines) where
+  module _ {h taken steps own : ℕ} {s : State} {rest : List ℕ} {lines : ℕ} (r : IsInside tree belongs sections from head log h taken steps own s rest lines) where
     abbrev next : ℕ → SectionPlace State
     next v = inside h (taken + taken_at tree s) (steps + 1) (own + 1) (picked s (tree.parts s) v)
 
@@ -170,17 +169,11 @@ module _ {State : Type 0} (tree : Tree State) (belongs : State → Type 0) (lawf
     step_none is none = differs script (before from (sectioned_head_lines r.is_head)) closed Genuine (logs r.is_head) log rest lines (inside h taken steps own s) refl r.reached
         (step_stuck script (inside h taken steps own s) (tree.kind s) (weight_sum (tree.parts s)) next rest (goes is) none)
 
-    pub step_within : (v : ℕ) (after : List ℕ) → step_first (tree.kind s) (weight_sum (tree.parts s)) rest ≡ Some (v, after) → v < weight_sum (tree.parts s)
-    step_within v after some = (let f = first_step (tree.kind s) (weight_sum (tree.parts s)) v rest after some in (step_value-is (tree.kind s) (weight_sum (tree.parts s)) v f.line f.read).1)
-
-    pub step_shorter : (v : ℕ) (after : List ℕ) → step_first (tree.kind s) (weight_sum (tree.parts s)) rest ≡ Some (v, after) → length after < length rest
-    step_shorter v after some = (let f = first_step (tree.kind s) (weight_sum (tree.parts s)) v rest after some in let short = shorter_by rest f.line after f.cut in omega (arith, short))
-
     pub step_some : (v : ℕ) (after : List ℕ) → sections.of s ≡ h → step_first (tree.kind s) (weight_sum (tree.parts s)) rest ≡ Some (v, after)
         → IsInside tree belongs sections from head log h (taken + taken_at tree s) (steps + 1) (own + 1) (picked s (tree.parts s) v) after (lines + 1)
     step_some v after is some =
         let f = first_step (tree.kind s) (weight_sum (tree.parts s)) v rest after some in
-        let within : v < weight_sum (tree.parts s) = step_within v after some in
+        let within : v < weight_sum (tree.parts s) = first_within (tree.kind s) (weight_sum (tree.parts s)) v rest after some in
         let short = shorter_by rest f.line after f.cut in
         let later : sections.of s ≤ sections.of (picked s (tree.parts s) v) = later_section tree belongs lawful sections sectioned from member s v r.member (going is) within in
         let one : taken_at tree s ≤ 1 = at_most (nat_lt 1 (weight_sum (tree.parts s))) in

@@ -4,7 +4,7 @@ use Rattle.std.specs.Prelude.{option_and_then}
 use Rattle.std.specs.Fmt.{decimal}
 use Rattle.std.proofs.lemmas.Bool.{cases_Bool, eqb-true, eqb-false}
 use Rattle.smp_split.specs.declared.kind.Kind.{Kind}
-use Rattle.smp_split.specs.declared.kind.Kind.TheVariants.{Order, Pivot, Lone, System, Support, Offer, Take, Spent, Eliminate, Choose, Flight, Drop, Wide}
+use Rattle.smp_split.specs.declared.kind.Kind.TheVariants.{Order}
 use Rattle.smp_split.specs.Kinds.{kind_word}
 use Rattle.smp_split.specs.Trees.{Tree, Lawful, weight_sum, picked}
 use Rattle.smp_split.specs.Paths.{Entry, Leads}
@@ -32,33 +32,11 @@ IsNoStep line = (kind : Kind) → behind (kind_word kind) line ≡ None
 
 stratum_no_step : (rest : List ℕ) (kind : Kind) → behind (kind_word kind) (codes "stratum " ++ rest) ≡ None
 stratum_no_step rest Order = refl
-stratum_no_step rest Pivot = refl
-stratum_no_step rest Lone = refl
-stratum_no_step rest System = refl
-stratum_no_step rest Support = refl
-stratum_no_step rest Offer = refl
-stratum_no_step rest Take = refl
-stratum_no_step rest Spent = refl
-stratum_no_step rest Eliminate = refl
-stratum_no_step rest Choose = refl
-stratum_no_step rest Flight = refl
-stratum_no_step rest Drop = refl
-stratum_no_step rest Wide = refl
+stratum_no_step rest _ = refl
 
 done_no_step : (rest : List ℕ) (kind : Kind) → behind (kind_word kind) (codes "done " ++ rest) ≡ None
 done_no_step rest Order = refl
-done_no_step rest Pivot = refl
-done_no_step rest Lone = refl
-done_no_step rest System = refl
-done_no_step rest Support = refl
-done_no_step rest Offer = refl
-done_no_step rest Take = refl
-done_no_step rest Spent = refl
-done_no_step rest Eliminate = refl
-done_no_step rest Choose = refl
-done_no_step rest Flight = refl
-done_no_step rest Drop = refl
-done_no_step rest Wide = refl
+done_no_step rest _ = refl
 
 pub stratum_is_no_step : (number place : ℕ) → IsNoStep (stratum_line number place)
 stratum_is_no_step number place kind = stratum_no_step (decimal number ++ 32 ∷ decimal place) kind

@@ -10,7 +10,7 @@ use Rattle.std.specs.Str.{bytes_eq}
 use Rattle.std.specs.Fmt.{decimal}
 use Rattle.smp_lines.specs.Cuts.{cut_at}
 use Rattle.smp_split.specs.declared.kind.Kind.{Kind}
-use Rattle.smp_split.specs.declared.kind.Kind.TheVariants.{Order, Pivot, Lone, System, Support, Offer, Take, Spent, Eliminate, Choose, Flight, Drop, Wide}
+use Rattle.smp_split.specs.declared.kind.Kind.TheVariants.{Order}
 use Rattle.smp_split.specs.Kinds.{kind_word}
 use Rattle.smp_split.specs.Paths.{Entry}
 use Rattle.smp_log.specs.Reading.{step_line, end_line, behind, written, below, value_of, numbers_of, step_value}
@@ -76,18 +76,7 @@ step_value-line kind bound value small narrow =
 
 word_lacks : (kind : Kind) → Lacks 10 (kind_word kind)
 word_lacks Order = refl
-word_lacks Pivot = refl
-word_lacks Lone = refl
-word_lacks System = refl
-word_lacks Support = refl
-word_lacks Offer = refl
-word_lacks Take = refl
-word_lacks Spent = refl
-word_lacks Eliminate = refl
-word_lacks Choose = refl
-word_lacks Flight = refl
-word_lacks Drop = refl
-word_lacks Wide = refl
+word_lacks _ = refl
 
 pub step_line_lacks : (line : Entry) → Lacks 10 (step_line line)
 step_line_lacks line =

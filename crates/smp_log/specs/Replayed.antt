@@ -25,37 +25,37 @@ pub record Form (State : Type 0) : Type 1 where
   pub first_told : ℕ → List Entry
   pub reading : Result State ℕ
 
--- a log of version 1
-abbrev pub old_form : {State : Type 0} → Tree State → State → List ℕ → List ℕ → Form State
-old_form tree from head log = record {
-  genuine = IsToldGenuine tree from head log;
-  differs = DiffersAt (IsGenuine tree from head) log;
+-- one whose lines behind the head tell the path
+abbrev pub path_form : {State : Type 0} → Tree State → State → List ℕ → (State → Type 0) → (ℕ → Type 0)
+    → Result State ℕ → Form State
+path_form tree from log genuine differs reading = record {
+  genuine = genuine;
+  differs = differs;
   told = path_told tree from log;
   first_told = λ count. path_in_first_lines tree from count log;
-  reading = log_reading tree from head log;
+  reading = reading;
 }
+
+-- a log of version 1
+abbrev pub old_form : {State : Type 0} → Tree State → State → List ℕ → List ℕ → Form State
+old_form tree from head log =
+    path_form tree from log (IsToldGenuine tree from head log) (DiffersAt (IsGenuine tree from head) log)
+    (log_reading tree from head log)
 
 -- of version 2
 abbrev pub sectioned_form : {State : Type 0} → Tree State → Sectioning State → State → List ℕ
     → List ℕ → Form State
-sectioned_form tree sections from head log = record {
-  genuine = IsToldSectioned tree sections from head log;
-  differs = DiffersAt (IsSectionedGenuine tree sections from head) log;
-  told = path_told tree from log;
-  first_told = λ count. path_in_first_lines tree from count log;
-  reading = sectioned_reading tree sections from head log;
-}
+sectioned_form tree sections from head log =
+    path_form tree from log (IsToldSectioned tree sections from head log)
+    (DiffersAt (IsSectionedGenuine tree sections from head) log)
+    (sectioned_reading tree sections from head log)
 
 -- of either version
 abbrev pub any_form : {State : Type 0} → Tree State → Sectioning State → State → List ℕ → List ℕ
     → Form State
-any_form tree sections from head log = record {
-  genuine = IsToldAny tree sections from head log;
-  differs = DiffersAt (IsAnyGenuine tree sections from head) log;
-  told = path_told tree from log;
-  first_told = λ count. path_in_first_lines tree from count log;
-  reading = any_reading tree sections from head log;
-}
+any_form tree sections from head log =
+    path_form tree from log (IsToldAny tree sections from head log)
+    (DiffersAt (IsAnyGenuine tree sections from head) log) (any_reading tree sections from head log)
 
 -- one section of a log of version 2
 abbrev pub section_form : {State : Type 0} → Tree State → State → List ℕ → ℕ → List ℕ → Form State

@@ -1,16 +1,14 @@
-use Rattle.std.proofs.Common.{◌≡◌, ◌+◌, ◌++◌, ◌∷◌, [], ◌<◌, true, false, Some, None, length, Ok, Err, rules, sym, ap, ◌∙◌, subst, arith}
-use Rattle.smp_split.specs.Trees.{picked, weight_sum}
-use Rattle.smp_log.specs.Fronts.{IsWhole, StopsAt}
-use Rattle.smp_log.specs.Genuine.{IsGenuine, DiffersAt}
-use Rattle.smp_log.specs.Replayed.{old_form}
-use Rattle.smp_log.specs.Reading.{step_first, end_line}
+use Rattle.std.proofs.Common.{◌≡◌, ◌+◌, ◌++◌, ◌∷◌, [], ◌<◌, true, false, length, Ok, Err, rules, sym, ap, ◌∙◌, subst, arith}
+use Rattle.smp_split.specs.Trees.{picked}
+use Rattle.smp_log.specs.Fronts.{IsWhole}
+use Rattle.smp_log.specs.Reading.{end_line}
 use Rattle.smp_log.specs.declared.fault.ReplayFault.TheVariants.{NoMemory}
-use Rattle.smp_log.specs.Told.{path_told, path_in_first_lines, IsToldAlong}
-use Rattle.smp_log.proofs.FirstLines.{first_is}
-use Rattle.smp_log.proofs.Replied.{refused, ran_out, taken}
-use Rattle.smp_log.proofs.Replays.{whole_head, head_count, first, stops, no_step, within, shorter, more, no_end, something_behind, replayed}
-use Rattle.smp_log.proofs.Answered.{exact_reading}
-use Rattle.smp_log.proofs.Telling.{few_told, none_along, none_begins, stops_early, told_step, told_over, told_part, told_all, genuine_told}
+use Rattle.smp_log.specs.Told.{path_in_first_lines, IsToldAlong}
+use Rattle.smp_log.proofs.FirstLines.{first_is, first_within, first_shorter}
+use Rattle.smp_log.proofs.Replied.{out_behind, refused_at, refused_behind, refused_head, taken}
+use Rattle.smp_log.proofs.Replays.{whole_head, head_count, first, stops, no_step, more, no_end, something_behind, replayed}
+use Rattle.smp_log.proofs.Answered.{exact_reading, old_reads}
+use Rattle.smp_log.proofs.Telling.{few_told, none_along, told_step, told_over, told_part, told_all, genuine_told}
 use Rattle.smp_log.proofs.replaying.old_replay_into.Goals as goal
 
 pub after_front-requires : goal.after_front-requires
@@ -18,106 +16,70 @@ after_front-requires g c = subst IsWhole (sym c.as_slice.ensures.bytes) (whole_h
 
 pub returns-in-Err : goal.returns-in-Err
 returns-in-Err g c =
-    let tree = g.S.Splitting.tree c.args.run.now in
-    let belongs = g.S.Splitting.belongs c.args.run.now in
-    let lawful = g.met.S.Splitting.lawful c.args.run.now in
-    let at = subst (λ h. StopsAt h c.args.log.now c.in-Err.line) c.as_slice.ensures.bytes c.in-Err.ensures.stops in
-    let differs : DiffersAt (IsGenuine tree c.args.state.now c.args.head.now) c.args.log.now (c.in-Err.line) = stops tree belongs lawful c.args.state.now c.requires c.args.head.now c.args.log.now c.in-Err.line c.as_slice.ensures.lines at in
-    let told = few_told tree c.args.state.now (g.T.Trace.lines c.args.trace.now) c.args.log.now (length at.same) (stops_early at (head_count c.args.head.now c.as_slice.ensures.lines)) in
-    refused tree belongs (old_form tree c.args.state.now c.args.head.now c.args.log.now) c.args.state.now c.args.state.now (g.T.Trace.lines c.args.trace.now) (g.T.Trace.lines c.args.trace.now) g.T.Trace.may_refuse (length at.same) c.in-Err.line (sym at.counted) differs
-    (sym ((exact_reading tree belongs lawful c.args.state.now c.requires c.args.head.now c.as_slice.ensures.lines c.args.log.now).alone (Err (c.in-Err.line)) differs)) (none_begins tree c.args.state.now (g.T.Trace.lines c.args.trace.now) (path_told tree c.args.state.now c.args.log.now)) told c.requires
+    let h = c.as_slice.ensures.lines in
+    refused_head c.args.log.now (old_reads (g.met.S.Splitting.lawful c.args.run.now) c.requires h c.args.log.now) c.requires c.as_slice.ensures.bytes (head_count c.args.head.now h) c.in-Err.ensures.stops (λ at. stops (g.met.S.Splitting.lawful c.args.run.now) c.requires c.args.head.now c.args.log.now c.in-Err.line h at)
 
 pub loop-state-init : goal.loop-state-init
 loop-state-init g c =
-    let tree = g.S.Splitting.tree c.args.run.now in
-    let belongs = g.S.Splitting.belongs c.args.run.now in
-    let lawful = g.met.S.Splitting.lawful c.args.run.now in
-    let front = c.in-Ok.ensures.front ∙ ap (λ h. h ++ c.in-Ok.rest.now) c.as_slice.ensures.bytes in (
-      first tree belongs lawful c.args.state.now c.requires c.args.head.now c.args.log.now c.in-Ok.rest.now c.as_slice.ensures.lines front,
-      few_told tree c.args.state.now (g.T.Trace.lines c.args.trace.now) c.args.log.now 3 (omega arith),
-    )
+    let front = c.in-Ok.ensures.front ∙ ap (λ h. h ++ c.in-Ok.rest.now) c.as_slice.ensures.bytes in
+    (first (g.met.S.Splitting.lawful c.args.run.now) c.requires _ _ c.in-Ok.rest.now c.as_slice.ensures.lines front, few_told _ _ _ c.args.log.now 3 (omega arith))
+
+-- ---- at a state that goes on
 
 pub returns-in_default : goal.returns-in_default
 returns-in_default g c =
-    let tree = g.S.Splitting.tree c.args.run.now in
-    let belongs = g.S.Splitting.belongs c.args.run.now in
-    let lawful = g.met.S.Splitting.lawful c.args.run.now in
-    let going : tree.done c.loop-state.state ≡ false = search rules in
-    let none : step_first (tree.kind c.loop-state.state) (weight_sum (tree.parts c.loop-state.state)) c.loop-state.rest.now ≡ None = rw (← c.kind-kind.ensures, ← c.bound-bound.ensures) (sym c.in_default.ensures) in
-    let differs : DiffersAt (IsGenuine tree c.args.state.now c.args.head.now) c.args.log.now (c.loop-state.steps + 4) = no_step tree belongs lawful c.args.state.now c.requires c.args.head.now c.args.log.now c.loop-state.state c.loop-state.rest.now c.loop-state.steps c.loop-state.invariant.0 going none in
-    refused tree belongs (old_form tree c.args.state.now c.args.head.now c.args.log.now) c.args.state.now c.loop-state.state (g.T.Trace.lines c.args.trace.now) (g.T.Trace.lines c.loop-state.trace) g.T.Trace.may_refuse (c.loop-state.steps + 3) (c.loop-state.steps + 4) (omega arith) differs
-    (sym ((exact_reading tree belongs lawful c.args.state.now c.requires c.args.head.now c.loop-state.invariant.0.is_head c.args.log.now).alone (Err (c.loop-state.steps + 4)) differs)) (told_part tree c.args.state.now (g.T.Trace.lines c.args.trace.now) c.loop-state.invariant.0.reached (omega arith) c.loop-state.state (g.T.Trace.lines c.loop-state.trace) c.loop-state.invariant.1) c.loop-state.invariant.1 c.loop-state.invariant.0.member
+    let at = c.loop-state.invariant.0 in
+    let going : (g.S.Splitting.tree c.args.run.now).done c.loop-state.state ≡ false = search rules in
+    let none = rw (c.kind-kind.ensures, c.bound-bound.ensures) at (sym c.in_default.ensures) in
+    refused_behind c.args.log.now (old_reads (g.met.S.Splitting.lawful c.args.run.now) c.requires at.is_head c.args.log.now) at.member at.reached (omega arith) c.loop-state.invariant.1 (c.loop-state.steps + 4) (omega arith) (no_step (g.met.S.Splitting.lawful c.args.run.now) c.requires _ _ at going none)
 
 pub returns-in_err-line : goal.returns-in_err-line
 returns-in_err-line g c =
-    let tree = g.S.Splitting.tree c.args.run.now in
-    let belongs = g.S.Splitting.belongs c.args.run.now in
-    let told = subst (λ now. IsToldAlong tree (path_in_first_lines tree c.args.state.now (c.loop-state.steps + 3) c.args.log.now) c.args.state.now c.loop-state.state (g.T.Trace.lines c.args.trace.now) now) (sym c.in_err-line.ensures.err) c.loop-state.invariant.1 in
+    let at = c.loop-state.invariant.0 in
     let same : c.from_residual.result ≡ Err NoMemory = search rules in
-    rw same (ran_out tree belongs (old_form tree c.args.state.now c.args.head.now c.args.log.now) c.args.state.now c.loop-state.state (g.T.Trace.lines c.args.trace.now) (g.T.Trace.lines c.line.new.self) g.T.Trace.may_refuse c.in_err-line.ensures.refused
-    (told_part tree c.args.state.now (g.T.Trace.lines c.args.trace.now) c.loop-state.invariant.0.reached (omega arith) c.loop-state.state _ told) c.loop-state.invariant.0.member)
+    rw same (out_behind c.args.log.now (old_reads (g.met.S.Splitting.lawful c.args.run.now) c.requires at.is_head c.args.log.now) at.member at.reached (omega arith) c.loop-state.invariant.1 c.in_err-line.ensures.err c.in_err-line.ensures.refused)
 
 pub advance-requires-clause-within : goal.advance-requires-clause-within
-advance-requires-clause-within g c =
-    let tree = g.S.Splitting.tree c.args.run.now in
-    let belongs = g.S.Splitting.belongs c.args.run.now in
-    let lawful = g.met.S.Splitting.lawful c.args.run.now in
-    let some : step_first (tree.kind c.loop-state.state) (weight_sum (tree.parts c.loop-state.state)) c.loop-state.rest.now ≡ Some (c.in-Some.value, c.in-Some.after.now) = rw (← c.kind-kind.ensures, ← c.bound-bound.ensures) (sym c.in-Some.ensures) in
-    within tree belongs lawful c.args.state.now c.requires c.args.head.now c.args.log.now c.loop-state.state c.loop-state.rest.now c.loop-state.steps c.loop-state.invariant.0 c.in-Some.value c.in-Some.after.now some
+advance-requires-clause-within g c = subst (λ bound. c.in-Some.value < bound) c.bound-bound.ensures (first_within c.kind-kind.result c.bound-bound.result _ c.loop-state.rest.now _ (sym c.in-Some.ensures))
 
 pub loop-state-smaller : goal.loop-state-smaller
-loop-state-smaller g c =
-    let tree = g.S.Splitting.tree c.args.run.now in
-    let belongs = g.S.Splitting.belongs c.args.run.now in
-    let lawful = g.met.S.Splitting.lawful c.args.run.now in
-    let some : step_first (tree.kind c.loop-state.state) (weight_sum (tree.parts c.loop-state.state)) c.loop-state.rest.now ≡ Some (c.in-Some.value, c.in-Some.after.now) = rw (← c.kind-kind.ensures, ← c.bound-bound.ensures) (sym c.in-Some.ensures) in
-    shorter tree belongs lawful c.args.state.now c.requires c.args.head.now c.args.log.now c.loop-state.state c.loop-state.rest.now c.loop-state.steps c.loop-state.invariant.0 c.in-Some.value c.in-Some.after.now some
+loop-state-smaller g c = first_shorter c.kind-kind.result c.bound-bound.result _ _ _ (sym c.in-Some.ensures)
 
 pub loop-state-preserved : goal.loop-state-preserved
 loop-state-preserved g c =
     let tree = g.S.Splitting.tree c.args.run.now in
-    let belongs = g.S.Splitting.belongs c.args.run.now in
-    let lawful = g.met.S.Splitting.lawful c.args.run.now in
+    let at = c.loop-state.invariant.0 in
     let going : tree.done c.loop-state.state ≡ false = search rules in
-    let some : step_first (tree.kind c.loop-state.state) (weight_sum (tree.parts c.loop-state.state)) c.loop-state.rest.now ≡ Some (c.in-Some.value, c.in-Some.after.now) = rw (← c.kind-kind.ensures, ← c.bound-bound.ensures) (sym c.in-Some.ensures) in
+    let found = rw (c.kind-kind.ensures, c.bound-bound.ensures) at (sym c.in-Some.ensures) in
     let count : c.loop-state.steps + 3 + 1 ≡ c.loop-state.steps + 1 + 3 = omega arith in
     rw c.advance.ensures (
-      more tree belongs lawful c.args.state.now c.requires c.args.head.now c.args.log.now c.loop-state.state c.loop-state.rest.now c.loop-state.steps c.loop-state.invariant.0 c.in-Some.value c.in-Some.after.now some going,
+      more (g.met.S.Splitting.lawful c.args.run.now) c.requires _ _ at c.in-Some.value c.in-Some.after.now found going,
       subst (λ n. IsToldAlong tree (path_in_first_lines tree c.args.state.now n c.args.log.now) c.args.state.now (picked c.loop-state.state (tree.parts c.loop-state.state) c.in-Some.value) (g.T.Trace.lines c.args.trace.now) (g.T.Trace.lines c.line.new.self)) count
-          (told_step tree c.args.state.now (g.T.Trace.lines c.args.trace.now) c.loop-state.invariant.0.reached (omega arith) c.loop-state.state (g.T.Trace.lines c.loop-state.trace) c.loop-state.invariant.1 c.in-Some.value c.in-Some.after.now _ going some
-          (rw (c.kind-kind.ensures, c.bound-bound.ensures) at c.in_ok-line.ensures).ok),
+          (told_step _ _ _ at.reached (omega arith) _ _ c.loop-state.invariant.1 c.in-Some.value c.in-Some.after.now _ going found (rw (c.kind-kind.ensures, c.bound-bound.ensures) at c.in_ok-line.ensures).ok),
     )
+
+-- ---- at a leaf
 
 pub returns-in_default-after_end : goal.returns-in_default-after_end
 returns-in_default-after_end g c =
-    let tree = g.S.Splitting.tree c.args.run.now in
-    let belongs = g.S.Splitting.belongs c.args.run.now in
-    let lawful = g.met.S.Splitting.lawful c.args.run.now in
-    let done : tree.done c.loop-state.state ≡ true = search rules in
-    let differs : DiffersAt (IsGenuine tree c.args.state.now c.args.head.now) c.args.log.now (c.loop-state.steps + 4) = no_end tree belongs lawful c.args.state.now c.requires c.args.head.now c.args.log.now c.loop-state.state c.loop-state.rest.now c.loop-state.steps c.loop-state.invariant.0 done (sym c.in_default-after_end.ensures) in
-    refused tree belongs (old_form tree c.args.state.now c.args.head.now c.args.log.now) c.args.state.now c.loop-state.state (g.T.Trace.lines c.args.trace.now) (g.T.Trace.lines c.loop-state.trace) g.T.Trace.may_refuse (c.loop-state.steps + 3) (c.loop-state.steps + 4) (omega arith) differs
-    (sym ((exact_reading tree belongs lawful c.args.state.now c.requires c.args.head.now c.loop-state.invariant.0.is_head c.args.log.now).alone (Err (c.loop-state.steps + 4)) differs)) (told_part tree c.args.state.now (g.T.Trace.lines c.args.trace.now) c.loop-state.invariant.0.reached (omega arith) c.loop-state.state (g.T.Trace.lines c.loop-state.trace) c.loop-state.invariant.1) c.loop-state.invariant.1 c.loop-state.invariant.0.member
+    let at = c.loop-state.invariant.0 in
+    refused_behind c.args.log.now (old_reads (g.met.S.Splitting.lawful c.args.run.now) c.requires at.is_head c.args.log.now) at.member at.reached (omega arith) c.loop-state.invariant.1 (c.loop-state.steps + 4) (omega arith) (no_end (g.met.S.Splitting.lawful c.args.run.now) c.requires _ _ at (search rules) (sym c.in_default-after_end.ensures))
 
 pub returns-then-not-is_empty : goal.returns-then-not-is_empty
 returns-then-not-is_empty g c =
-    let tree = g.S.Splitting.tree c.args.run.now in
-    let belongs = g.S.Splitting.belongs c.args.run.now in
-    let lawful = g.met.S.Splitting.lawful c.args.run.now in
-    let done : tree.done c.loop-state.state ≡ true = search rules in
+    let at = c.loop-state.invariant.0 in
+    let done : (g.S.Splitting.tree c.args.run.now).done c.loop-state.state ≡ true = search rules in
     let something : 0 < length c.in-Some-after_end.after.now = search rules in
-    let differs : DiffersAt (IsGenuine tree c.args.state.now c.args.head.now) c.args.log.now (c.loop-state.steps + 5) = something_behind tree belongs lawful c.args.state.now c.requires c.args.head.now c.args.log.now c.loop-state.state c.loop-state.rest.now c.loop-state.steps c.loop-state.invariant.0 c.in-Some-after_end.after.now done (sym c.in-Some-after_end.ensures) something in
-    let told = told_over tree c.args.state.now (g.T.Trace.lines c.args.trace.now) c.loop-state.invariant.0.reached (omega arith) c.loop-state.state (g.T.Trace.lines c.loop-state.trace) c.loop-state.invariant.1 (end_line c.loop-state.steps) c.in-Some-after_end.after.now
-    (first_is (end_line c.loop-state.steps) c.loop-state.rest.now c.in-Some-after_end.after.now (sym c.in-Some-after_end.ensures)) (none_along tree c.loop-state.state (end_line c.loop-state.steps ∷ []) done) in
-    refused tree belongs (old_form tree c.args.state.now c.args.head.now c.args.log.now) c.args.state.now c.loop-state.state (g.T.Trace.lines c.args.trace.now) (g.T.Trace.lines c.loop-state.trace) g.T.Trace.may_refuse (c.loop-state.steps + 3 + 1) (c.loop-state.steps + 5) (omega arith) differs
-    (sym ((exact_reading tree belongs lawful c.args.state.now c.requires c.args.head.now c.loop-state.invariant.0.is_head c.args.log.now).alone (Err (c.loop-state.steps + 5)) differs)) (told_part tree c.args.state.now (g.T.Trace.lines c.args.trace.now) c.loop-state.invariant.0.reached (omega arith) c.loop-state.state (g.T.Trace.lines c.loop-state.trace) c.loop-state.invariant.1) told c.loop-state.invariant.0.member
+    let cut = first_is (end_line c.loop-state.steps) c.loop-state.rest.now c.in-Some-after_end.after.now (sym c.in-Some-after_end.ensures) in
+    let none = none_along (g.S.Splitting.tree c.args.run.now) c.loop-state.state (end_line c.loop-state.steps ∷ []) done in
+    refused_at c.args.log.now (old_reads (g.met.S.Splitting.lawful c.args.run.now) c.requires at.is_head c.args.log.now) at.member (c.loop-state.steps + 3 + 1) (c.loop-state.steps + 5) (omega arith) (something_behind (g.met.S.Splitting.lawful c.args.run.now) c.requires _ _ at c.in-Some-after_end.after.now done (sym c.in-Some-after_end.ensures) something)
+    (told_part _ _ _ at.reached (omega arith) _ _ c.loop-state.invariant.1) (told_over _ _ _ at.reached (omega arith) _ _ c.loop-state.invariant.1 (end_line c.loop-state.steps) c.in-Some-after_end.after.now cut none)
 
 pub returns : goal.returns
 returns g c =
-    let tree = g.S.Splitting.tree c.args.run.now in
-    let belongs = g.S.Splitting.belongs c.args.run.now in
-    let lawful = g.met.S.Splitting.lawful c.args.run.now in
-    let done : tree.done c.loop-state.state ≡ true = search rules in
+    let at = c.loop-state.invariant.0 in
+    let done : (g.S.Splitting.tree c.args.run.now).done c.loop-state.state ≡ true = search rules in
     let none : length c.in-Some-after_end.after.now ≡ 0 = search rules in
-    let genuine : IsGenuine tree c.args.state.now c.args.head.now c.args.log.now c.loop-state.state = replayed tree belongs lawful c.args.state.now c.requires c.args.head.now c.args.log.now c.loop-state.state c.loop-state.rest.now c.loop-state.steps c.loop-state.invariant.0 c.in-Some-after_end.after.now done (sym c.in-Some-after_end.ensures) none in
-    taken tree belongs (old_form tree c.args.state.now c.args.head.now c.args.log.now) c.args.state.now c.loop-state.state (g.T.Trace.lines c.args.trace.now) (g.T.Trace.lines c.loop-state.trace) g.T.Trace.may_refuse _
-    (record { genuine = genuine; told = genuine_told tree belongs lawful c.args.state.now c.requires c.args.head.now c.args.log.now c.loop-state.invariant.0.is_head c.loop-state.state genuine }) (told_all tree c.args.state.now (g.T.Trace.lines c.args.trace.now) c.loop-state.invariant.0.reached (omega arith) c.loop-state.state (g.T.Trace.lines c.loop-state.trace) c.loop-state.invariant.1 done) (sym ((exact_reading tree belongs lawful c.args.state.now c.requires c.args.head.now c.loop-state.invariant.0.is_head c.args.log.now).alone (Ok c.loop-state.state) genuine)) done c.loop-state.invariant.0.member
+    let genuine = replayed (g.met.S.Splitting.lawful c.args.run.now) c.requires _ _ at c.in-Some-after_end.after.now done (sym c.in-Some-after_end.ensures) none in
+    taken _ _ _ _ _ _ _ _ _ (record { genuine = genuine; told = genuine_told _ _ (g.met.S.Splitting.lawful c.args.run.now) _ c.requires _ _ at.is_head _ genuine }) (told_all _ _ _ at.reached (omega arith) _ _ c.loop-state.invariant.1 done)
+    (sym ((exact_reading _ _ (g.met.S.Splitting.lawful c.args.run.now) _ c.requires _ at.is_head c.args.log.now).alone (Ok c.loop-state.state) genuine)) done at.member
