@@ -55,6 +55,11 @@ module _ (units : List unit.Unit) where
       (get_or-map (in_psu units) (psu_names units) (psu_number units row) [] d within
       ∙ ap (in_psu units) (sym (same_text (psu_at units row) (get_or (psu_names units) (psu_number units row) []) (passes_at_first (bytes_eq (psu_at units row)) (psu_names units) [] within))))
 
+  -- the first row of the psu of a row, as it is looked up
+  pub first_there : (second : second.Second) {clustered : List (List ℕ)} {homes : List ℕ} → clustered ≡ clusters (Some second) units → homes ≡ homes_of (Some second) units
+      → (row : ℕ) → row < length units → {first : ℕ} → first ≡ first_row (get_or clustered (get_or homes row 0) []) → first ≡ first_of row
+  first_there second rows homes row l is = is ∙ rw (rows, homes, home_is second row [] l) refl
+
   pub some_in : (row : ℕ) → row < length units → 1 ≤ length (in_psu units (psu_at units row))
   some_in row l =
       let p : ℕ → Bool = λ r. bytes_eq (psu_at units r) (psu_at units row) in

@@ -55,35 +55,39 @@ second_same units (Some s) g row place asks at is =
     let size : get_or (second_sizes units g) place 0 ≡ second_size_at units row = get_or-map (second_size_at units) g place 0 0 here ∙ ap (second_size_at units) (get_or_from_slice_get g place row 0 at) in
     rw (← is) (rw size at (asks place (omega (arith, here, length-map g (second_size_at units)))))
 
+-- each stratum of the frame is in the list, as it is built
+pub record AreListed (design : Design) (units : List unit.Unit) (strata : List stratum.Stratum) : Type 0 where
+  pub long : length strata ≡ length (stratum_names units)
+  pub each : (k : ℕ) (d : stratum.Stratum) → k < length (stratum_names units) → IsBuilt design units k (get_or strata k d)
+
 module _ (design : Design) (units : List unit.Unit) (rows : All (AreRows (length units)) (clusters design.second units)) (served : IsServed design units)
-    (strata : List stratum.Stratum) (long : length strata ≡ length (stratum_names units))
-    (each : (k : ℕ) (d : stratum.Stratum) → k < length (stratum_names units) → IsBuilt design units k (get_or strata k d)) where
+    (strata : List stratum.Stratum) (listed : AreListed design units strata) where
   abbrev numbers : List ℕ
   numbers = range_with_len 0 (length (stratum_names units))
 
   pub strata_are : strata ≡ map (stratum_of design units) numbers
   strata_are =
-      same_lists strata (map (stratum_of design units) numbers) (long ∙ sym (length-map-range_with_len (stratum_of design units) 0 (length (stratum_names units))))
-      (λ k d l. (let here : k < length (stratum_names units) = omega (arith, l, long) in
-      (each k d here).value ∙ sym (get_or-map-range_with_len (stratum_of design units) 0 (length (stratum_names units)) k k d here (omega arith))))
+      same_lists strata (map (stratum_of design units) numbers) (listed.long ∙ sym (length-map-range_with_len (stratum_of design units) 0 (length (stratum_names units))))
+      (λ k d l. (let here : k < length (stratum_names units) = omega (arith, l, listed.long) in
+      (listed.each k d here).value ∙ sym (get_or-map-range_with_len (stratum_of design units) 0 (length (stratum_names units)) k k d here (omega arith))))
 
   built : (k : ℕ) → k < length (stratum_names units) → IsBuilt design units k (stratum_of design units k)
-  built k l = (let b = each k (stratum_of design units k) l in rw b.value at b)
+  built k l = (let b = listed.each k (stratum_of design units k) l in rw b.value at b)
 
   pub are_strata : All (IsStratum (second_method design)) strata
-  are_strata k d l = (each k d (omega (arith, l, long))).stratum
+  are_strata k d l = (listed.each k d (omega (arith, l, listed.long))).stratum
 
   pub are_whole : IsTrue (row design.method).draws_whole → All (λ s. IsWhole s.request) strata
-  are_whole needed k d l = (each k d (omega (arith, l, long))).request.whole needed
+  are_whole needed k d l = (listed.each k d (omega (arith, l, listed.long))).request.whole needed
 
   pub draws_as_asked : (k : ℕ) (s : stratum.Stratum) → slice_get strata k ≡ Some s → DrawsInStratum design units k s
   draws_as_asked k s e =
-      rw (get_or_from_slice_get strata k s s e) at ((each k s (omega (arith, slice_get_within strata k s e, long))).draws)
+      rw (get_or_from_slice_get strata k s s e) at ((listed.each k s (omega (arith, slice_get_within strata k s e, listed.long))).draws)
 
   pub have_columns : All (λ s. All (λ f. length f.values ≡ length design.columns.values) s.units) strata
   have_columns k d l =
-      let here : k < length (stratum_names units) = omega (arith, l, long) in
-      rw (each k d here).value (All-map (λ (f : first.FirstUnit). length f.values ≡ length design.columns.values) (first_of design units) (clusters_in design units k)
+      let here : k < length (stratum_names units) = omega (arith, l, listed.long) in
+      rw (listed.each k d here).value (All-map (λ (f : first.FirstUnit). length f.values ≡ length design.columns.values) (first_of design units) (clusters_in design units k)
       (λ j g m. length-map-range_with_len (value_of units (get_or (clusters_in design units k) j g)) 0 (length design.columns.values)))
 
   module _ (row_places : List ℕ) (row_groups : AreGroups (homes_of design.second units) (length (clusters design.second units)) (clusters design.second units) row_places)

@@ -1,6 +1,7 @@
 -- What a loop over the strata reads of one of them, by its number.
 use Rattle.std.proofs.Common.{◌≡◌, ℕ, ◌<◌, List, [], length, map, get_or, rules, arith, ap, ◌∙◌}
 use Rattle.std.proofs.lemmas.List.{get_or_default}
+use Rattle.std.specs.Prelude.{slice_index}
 use Rattle.std.specs.Vec.{vec_len}
 use Rattle.smp_frac.specs.declared.fractions.Frac.{Frac}
 use Rattle.smp_frame.specs.declared.frame.Unit as unit
@@ -24,6 +25,10 @@ module _ (strata : Strata) (paired : length strata.members.items ≡ length stra
 
   pub group : (read : List ℕ) → read ≡ get_or strata.members.items k read → read ≡ get_or strata.members.items k []
   group read is = is ∙ get_or_default strata.members.items k read [] member
+
+  pub sizes : (cluster_sizes now slice read : List ℕ) → now ≡ map (slice_index cluster_sizes) slice → slice ≡ read → read ≡ get_or strata.members.items k read
+      → now ≡ map (slice_index cluster_sizes) (get_or strata.members.items k [])
+  sizes cluster_sizes now slice read are same is = are ∙ ap (map (slice_index cluster_sizes)) (same ∙ group read is)
 
   pub probs : (units : List unit.Unit) (clustered : List (List ℕ)) (now : List Frac) (slice read : List ℕ) → now ≡ map (prob_of units clustered) slice → slice ≡ read → read ≡ get_or strata.members.items k read
       → now ≡ probs_in units clustered strata.members.items k

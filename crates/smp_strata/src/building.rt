@@ -295,6 +295,12 @@ pub(crate) fn planned(
     let list = plan_strata(alloc, units, design, &clusters.rows, strata, sizes)?;
     let seats = seats_of(alloc, clusters, strata)?;
     let second = second_method(design);
-    let near = design.near as usize;
-    Ok(Plan::new(design.method, design.order, near, second, list, seats))
+    Ok(Plan {
+        method: design.method,
+        order: design.order,
+        near: design.near as usize,
+        second,
+        strata: list,
+        seats,
+    })
 }

@@ -1,12 +1,11 @@
 //! A plan: the strata of a frame, and what is asked of each.
 
-ghost use Rattle.std.specs.Prelude.{◌≡◌, ◌^◌, ◌<◌, ◌≤◌, All, length, slice_index_or};
+ghost use Rattle.std.specs.Prelude.{◌≡◌, ◌^◌, ◌<◌, ◌≤◌, length, slice_index_or};
 ghost use Rattle.smp_frac.specs.Fractions.{fraction};
 ghost use Rattle.smp_fractions.specs.Fractions.{Same, over, times};
 ghost use Rattle.smp_prob.specs.Inclusions.{IsRising, asked_fraction};
 ghost use Rattle.smp_prob.specs.Requests.{IsRequest};
 ghost use Rattle.smp_strata.specs.Bounds.{IsStratum};
-ghost use Rattle.smp_strata.specs.Kept.Built.{AreSeats};
 ghost use Rattle.smp_strata.specs.Seats.{IsSeat, first_fraction, seat_fraction};
 ghost use Rattle.smp_strata.specs.declared.strata.Seat.{Seat};
 
@@ -19,12 +18,12 @@ use std::marker::Model;
 /// A plan: the strata of a frame, and what is asked of each.
 #[derive(Drop)]
 pub struct Plan {
-    method: Method,
-    order: Order,
-    near: usize,
-    second: Option<Method>,
-    strata: Vec<Stratum>,
-    seats: Vec<Seat>,
+    pub(crate) method: Method,
+    pub(crate) order: Order,
+    pub(crate) near: usize,
+    pub(crate) second: Option<Method>,
+    pub(crate) strata: Vec<Stratum>,
+    pub(crate) seats: Vec<Seat>,
 }
 
 impl Model for Plan {
@@ -49,35 +48,6 @@ impl Model for Plan {
 }
 
 impl Plan {
-    pub(crate) fn new(
-        method: Method,
-        order: Order,
-        near: usize,
-        second: Option<Method>,
-        strata: Vec<Stratum>,
-        seats: Vec<Seat>,
-    ) -> Plan
-        requires sound { All (IsStratum second) strata.items }
-        requires seated { AreSeats strata.items seats.items }
-        ensures { result ≡ record {
-          method = method;
-          order = order;
-          near = near;
-          second = second;
-          rows = length seats.items;
-          strata = strata.items;
-        } }
-    {
-        Plan {
-            method,
-            order,
-            near,
-            second,
-            strata,
-            seats,
-        }
-    }
-
     /// How the first stage units of each stratum are drawn.
     pub fn method(&self) -> Method
         ensures { result ≡ self.now.method }

@@ -1,6 +1,6 @@
 use Rattle.std.proofs.Common.{refl}
 use Rattle.smp_prob.specs.Requested.{is_certain, is_free}
-use Rattle.smp_strata.proofs.Pushes.{places_below}
+use Rattle.smp_prob.proofs.Picks.{places_below}
 use Rattle.smp_strata.proofs.building.request_for.Goals as goal
 
 pub returns-in-Ok-clause-over : goal.returns-in-Ok-clause-over

@@ -12,7 +12,7 @@ use Rattle.smp_strata.specs.declared.misfit.Misfit.TheVariants.{UnitInTwo}
 use Rattle.smp_strata.proofs.Appearances.{same_text}
 use Rattle.smp_strata.proofs.ClusterRows.{number_at, psu_within}
 use Rattle.smp_strata.proofs.Founds.{none_more, found_at}
-use Rattle.smp_strata.proofs.Apart.{first_of, first_is, home_is, some_in, apart_is}
+use Rattle.smp_strata.proofs.Apart.{first_of, first_is, first_there, home_is, some_in, apart_is}
 use Rattle.smp_strata.proofs.checks.none_apart.Goals as goal
 
 pub first_with-first-requires-clause-row : goal.first_with-first-requires-clause-row
@@ -30,8 +30,7 @@ first_with-first-requires-clause-some c =
 
 pub same_stratum-requires-clause-row : goal.same_stratum-requires-clause-row
 same_stratum-requires-clause-row c =
-    let first : c.first_with-first.result ≡ first_of c.args.units.now c.loop-row.row = c.first_with-first.ensures
-    ∙ rw (c.requires.rows, c.requires.homes, home_is c.args.units.now c.args.second c.loop-row.row [] c.loop-row-test.true) refl in
+    let first = first_there c.args.units.now c.args.second c.requires.rows c.requires.homes c.loop-row.row c.loop-row-test.true c.first_with-first.ensures in
     let before = (first_is c.args.units.now c.loop-row.row c.loop-row-test.true).1 in
     omega (arith, c.loop-row-test.true, first, before)
 
@@ -40,8 +39,7 @@ returns-then-not-same_stratum c =
     let units : List unit.Unit = c.args.units.now in
     let k : ℕ = c.loop-row.row in
     let here : k < length units = c.loop-row-test.true in
-    let first : c.first_with-first.result ≡ first_of units k = c.first_with-first.ensures
-    ∙ rw (c.requires.rows, c.requires.homes, home_is units c.args.second k [] here) refl in
+    let first : c.first_with-first.result ≡ first_of units k = first_there units c.args.second c.requires.rows c.requires.homes k here c.first_with-first.ensures in
     let test : c.same_stratum.result ≡ false = search rules in
     let apart : is_apart units k ≡ true = apart_is units k here c.loop-row.invariant.together
     ∙ rw (← first, ← c.same_stratum.ensures, test) refl in
@@ -54,8 +52,7 @@ loop-row-preserved c =
     let units : List unit.Unit = c.args.units.now in
     let k : ℕ = c.loop-row.row in
     let here : k < length units = c.loop-row-test.true in
-    let first : c.first_with-first.result ≡ first_of units k = c.first_with-first.ensures
-    ∙ rw (c.requires.rows, c.requires.homes, home_is units c.args.second k [] here) refl in
+    let first : c.first_with-first.result ≡ first_of units k = first_there units c.args.second c.requires.rows c.requires.homes k here c.first_with-first.ensures in
     let test : c.same_stratum.result ≡ true = search rules in
     let same : bytes_eq (stratum_at units (first_of units k)) (stratum_at units k) ≡ true = rw (← first) (sym c.same_stratum.ensures ∙ test) in
     let apart : is_apart units k ≡ false = apart_is units k here c.loop-row.invariant.together ∙ ap not same in
