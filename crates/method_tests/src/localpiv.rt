@@ -18,7 +18,7 @@ fn walks_to_the_third<S: Splitting>(
     design: &S,
     state: &mut S::State,
 ) -> Result<bool, Fail>
-    requires { S.belongs design.now state.old }
+    requires { (S.method design.now).belongs state.old }
 {
     let path = [
         (Kind::Choose, 3, 0),

@@ -113,11 +113,7 @@ impl Brewer {
 impl Splitting for Brewer {
     type State = BrewerState;
 
-    ghost tree = { λ design. (method_of design).tree };
-
-    ghost belongs = { λ design. (method_of design).belongs };
-
-    ghost lawful = { λ design. (method_of design).lawful };
+    ghost method = { λ design. method_of design };
 
     fn units(&self) -> usize {
         self.offers.sizes.len()

@@ -57,10 +57,10 @@ fn start(alloc: Global, method: Method, request: &Request) -> Result<Started, No
 
 // The units that a done state selects, as a mask.
 fn mask_of<S: Splitting>(design: &S, state: &S::State) -> u64
-    requires few { (S.tree design.now).units ≤ 64 }
-    requires belongs { S.belongs design.now state.now }
-    requires done { (S.tree design.now).done state.now ≡ true }
-    ensures { result ≡ mask (selected_units (S.tree design.now) state.now) }
+    requires few { (S.method design.now).tree.units ≤ 64 }
+    requires belongs { (S.method design.now).belongs state.now }
+    requires done { (S.method design.now).tree.done state.now ≡ true }
+    ensures { result ≡ mask (selected_units (S.method design.now).tree state.now) }
 {
     let mut mask = 0;
     for unit in 0..design.units() {
@@ -78,9 +78,9 @@ fn draw<S: Splitting>(
     state: &mut S::State,
     values: &[u128],
 ) -> Result<u64, CaseFault>
-    requires few { (S.tree design.now).units ≤ 64 }
-    requires belongs { S.belongs design.now state.old }
-    ensures { Reads is_memory result (drawn (S.tree design.now) state.old values.now) }
+    requires few { (S.method design.now).tree.units ≤ 64 }
+    requires belongs { (S.method design.now).belongs state.old }
+    ensures { Reads is_memory result (drawn (S.method design.now).tree state.old values.now) }
 {
     let Ok(mut tape) = Tape::from_values(alloc, values) else {
         return Err(CaseFault::NoMemory);

@@ -118,11 +118,7 @@ impl Elimination {
 impl Splitting for Elimination {
     type State = EliminationState;
 
-    ghost tree = { λ design. (method_of design).tree };
-
-    ghost belongs = { λ design. (method_of design).belongs };
-
-    ghost lawful = { λ design. (method_of design).lawful };
+    ghost method = { λ design. method_of design };
 
     fn units(&self) -> usize {
         self.sizes.len()

@@ -84,11 +84,7 @@ impl Cube {
 impl Splitting for Cube {
     type State = CubeState;
 
-    ghost tree = { λ design. (method_of design).tree };
-
-    ghost belongs = { λ design. (method_of design).belongs };
-
-    ghost lawful = { λ design. (method_of design).lawful };
+    ghost method = { λ design. method_of design };
 
     fn units(&self) -> usize {
         self.units

@@ -131,11 +131,7 @@ impl AnyLocalCube {
 impl Splitting for AnyLocalCube {
     type State = AnyLocalCubeState;
 
-    ghost tree = { λ design. (method_of design).tree };
-
-    ghost belongs = { λ design. (method_of design).belongs };
-
-    ghost lawful = { λ design. (method_of design).lawful };
+    ghost method = { λ design. method_of design };
 
     fn units(&self) -> usize {
         in_each!(&self.design, design => design.units())

@@ -116,11 +116,7 @@ impl<const K: usize> LocalCube<K> {
 impl<const K: usize> Splitting for LocalCube<K> {
     type State = LocalCubeState<K>;
 
-    ghost tree = { λ design. (method_of design).tree };
-
-    ghost belongs = { λ design. (method_of design).belongs };
-
-    ghost lawful = { λ design. (method_of design).lawful };
+    ghost method = { λ design. method_of design };
 
     fn units(&self) -> usize {
         self.units

@@ -182,11 +182,7 @@ impl SelectionState for AnyLocalState {
 impl Splitting for AnyLocalPivotal {
     type State = AnyLocalState;
 
-    ghost tree = { λ design. (method_of design).tree };
-
-    ghost belongs = { λ design. (method_of design).belongs };
-
-    ghost lawful = { λ design. (method_of design).lawful };
+    ghost method = { λ design. method_of design };
 
     fn units(&self) -> usize {
         in_each!(&self.design, design => design.units())

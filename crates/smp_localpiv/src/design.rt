@@ -96,11 +96,7 @@ fn points_at<const K: usize>(alloc: Global, coords: &[[i32; K]]) -> Result<Point
 impl<const K: usize> Splitting for LocalPivotal<K> {
     type State = LocalState<K>;
 
-    ghost tree = { λ design. (method_of design).tree };
-
-    ghost belongs = { λ design. (method_of design).belongs };
-
-    ghost lawful = { λ design. (method_of design).lawful };
+    ghost method = { λ design. method_of design };
 
     fn units(&self) -> usize {
         self.values.len()

@@ -27,10 +27,10 @@ pub fn replay_section<S: Sections>(
     number: usize,
     log: &[u8],
 ) -> Result<(), LogFault>
-    requires state { S.belongs run.now state.old }
+    requires state { (S.method run.now).belongs state.old }
     requires one { (S.sectioning run.now).count ≡ 1 }
-    ensures { ReplaysUntold (S.tree run.now) (S.belongs run.now)
-        (section_form (S.tree run.now) state.old head.now number log.now)
+    ensures { ReplaysUntold (S.method run.now).tree (S.method run.now).belongs
+        (section_form (S.method run.now).tree state.old head.now number log.now)
         state.new result }
 {
     match replay_section_into(run, state, head, number, log, &mut NoTrace) {
@@ -52,10 +52,10 @@ pub fn replay_section_into<S: Sections, T: Trace>(
     log: &[u8],
     trace: &mut T,
 ) -> Result<(), ReplayFault>
-    requires state { S.belongs run.now state.old }
+    requires state { (S.method run.now).belongs state.old }
     requires one { (S.sectioning run.now).count ≡ 1 }
-    ensures { Replays (S.tree run.now) (S.belongs run.now)
-        (section_form (S.tree run.now) state.old head.now number log.now)
+    ensures { Replays (S.method run.now).tree (S.method run.now).belongs
+        (section_form (S.method run.now).tree state.old head.now number log.now)
         state.old state.new (T.lines trace.old) (T.lines trace.new) T.may_refuse result }
 {
     let sections = match after_front(log, &head.sectioned()) {

@@ -24,23 +24,23 @@ pub fn migrate<S: Sections>(
     head: &Head,
     log: &[u8],
 ) -> Result<Bytes, ReplayFault>
-    requires first { S.belongs run.now first.old }
+    requires first { (S.method run.now).belongs first.old }
     requires second { second.old ≡ first.old }
     ensures genuine { OnOk result
-        (IsToldGenuine (S.tree run.now) first.old head.now log.now first.new) }
+        (IsToldGenuine (S.method run.now).tree first.old head.now log.now first.new) }
     ensures text { IfOk result (λ text. text
-        ≡ sectioned_log_text (S.tree run.now) (S.sectioning run.now) first.old head.now
-        (path_told (S.tree run.now) first.old log.now)) }
+        ≡ sectioned_log_text (S.method run.now).tree (S.sectioning run.now) first.old head.now
+        (path_told (S.method run.now).tree first.old log.now)) }
     ensures leaf { OnOk result (second.new ≡ first.new) }
-    ensures done { OnOk result (((S.tree run.now).done first.new ≡ true)
-        × ((S.tree run.now).done second.new ≡ true)) }
-    ensures belongs { S.belongs run.now first.new × S.belongs run.now second.new }
+    ensures done { OnOk result (((S.method run.now).tree.done first.new ≡ true)
+        × ((S.method run.now).tree.done second.new ≡ true)) }
+    ensures belongs { (S.method run.now).belongs first.new × (S.method run.now).belongs second.new }
     ensures differs { (line : ℕ) → result ≡ Err (ReplayFault.Differs line)
-        → DiffersAt (IsGenuine (S.tree run.now) first.old head.now) log.now line }
+        → DiffersAt (IsGenuine (S.method run.now).tree first.old head.now) log.now line }
 
     // The same as a function of the bytes.
     ensures reading { AnswersAs result first.new
-        (log_reading (S.tree run.now) first.old head.now log.now) }
+        (log_reading (S.method run.now).tree first.old head.now log.now) }
 {
     let mut lines = Lines::new(alloc);
     match old_replay_into(run, first, head, log, &mut lines) {

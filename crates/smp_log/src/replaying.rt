@@ -20,9 +20,9 @@ pub fn old_replay<S: Splitting>(
     head: &Head,
     log: &[u8],
 ) -> Result<(), LogFault>
-    requires { S.belongs run.now state.old }
-    ensures { ReplaysUntold (S.tree run.now) (S.belongs run.now)
-        (old_form (S.tree run.now) state.old head.now log.now)
+    requires { (S.method run.now).belongs state.old }
+    ensures { ReplaysUntold (S.method run.now).tree (S.method run.now).belongs
+        (old_form (S.method run.now).tree state.old head.now log.now)
         state.new result }
 {
     match old_replay_into(run, state, head, log, &mut NoTrace) {
@@ -43,9 +43,9 @@ pub fn old_replay_into<S: Splitting, T: Trace>(
     log: &[u8],
     trace: &mut T,
 ) -> Result<(), ReplayFault>
-    requires { S.belongs run.now state.old }
-    ensures { Replays (S.tree run.now) (S.belongs run.now)
-        (old_form (S.tree run.now) state.old head.now log.now)
+    requires { (S.method run.now).belongs state.old }
+    ensures { Replays (S.method run.now).tree (S.method run.now).belongs
+        (old_form (S.method run.now).tree state.old head.now log.now)
         state.old state.new (T.lines trace.old) (T.lines trace.new) T.may_refuse result }
 {
     let mut rest = match after_front(log, head.as_slice()) {

@@ -10,8 +10,8 @@ use smp_tape::Draws;
 /// The log of version 2 of the path of a run, over whichever draws, is genuine, so
 /// [`replay`](crate::replay) accepts what was drawn. It runs nothing: its contract is the theorem.
 pub fn runs_are_genuine<S: Sections, D: Draws>(run: &S, state: &S::State, draws: &D, head: &Head)
-    requires { S.belongs run.now state.now }
-    ensures { IsRunSectioned D.source (S.tree run.now) (S.sectioning run.now) state.now
+    requires { (S.method run.now).belongs state.now }
+    ensures { IsRunSectioned D.source (S.method run.now).tree (S.sectioning run.now) state.now
         draws.now head.now }
 {}
 
@@ -19,11 +19,12 @@ pub fn runs_are_genuine<S: Sections, D: Draws>(run: &S, state: &S::State, draws:
 /// [`replay`](crate::replay) is a function of the bytes, and the right one. Nothing comes of the call: its
 /// contract is the theorem.
 pub fn logs_are_unambiguous<S: Sections>(run: &S, state: &S::State, head: &Head, log: &[u8])
-    requires { S.belongs run.now state.now }
-    ensures path { IsOnePathed (S.tree run.now) (S.sectioning run.now) state.now head.now log.now }
+    requires { (S.method run.now).belongs state.now }
+    ensures path { IsOnePathed (S.method run.now).tree (S.sectioning run.now) state.now head.now
+        log.now }
     ensures reading { IsExactAnswer
-        (IsAnyGenuine (S.tree run.now) (S.sectioning run.now) state.now head.now) log.now
-        (any_reading (S.tree run.now) (S.sectioning run.now) state.now head.now log.now) }
+        (IsAnyGenuine (S.method run.now).tree (S.sectioning run.now) state.now head.now) log.now
+        (any_reading (S.method run.now).tree (S.sectioning run.now) state.now head.now log.now) }
 {
     head.as_slice();
 }
@@ -37,8 +38,8 @@ pub fn section_answers_are_exact<S: Splitting>(
     number: usize,
     log: &[u8],
 )
-    requires { S.belongs run.now state.now }
-    ensures { IsExactSection (S.tree run.now) state.now head.now number log.now }
+    requires { (S.method run.now).belongs state.now }
+    ensures { IsExactSection (S.method run.now).tree state.now head.now number log.now }
 {
     head.as_slice();
 }
@@ -53,10 +54,11 @@ pub fn sections_are_replayed_alone<S: Sections, P: Splitting>(
     head: &Head,
     log: &[u8],
 )
-    requires whole { S.belongs run.now state.now }
-    requires part { P.belongs part.now start.now }
-    ensures { AreReplayedAlone (S.tree run.now) (S.belongs run.now) (S.sectioning run.now) state.now
-        head.now log.now (P.tree part.now) start.now }
+    requires whole { (S.method run.now).belongs state.now }
+    requires part { (P.method part.now).belongs start.now }
+    ensures { AreReplayedAlone (S.method run.now).tree (S.method run.now).belongs
+        (S.sectioning run.now) state.now
+        head.now log.now (P.method part.now).tree start.now }
 {
     head.as_slice();
     run.sections();

@@ -13,9 +13,9 @@ pub(crate) fn replay_sections_into<S: Sections, T: Trace>(
     log: &[u8],
     trace: &mut T,
 ) -> Result<(), ReplayFault>
-    requires { S.belongs run.now state.old }
-    ensures { Replays (S.tree run.now) (S.belongs run.now)
-        (sectioned_form (S.tree run.now) (S.sectioning run.now) state.old head.now log.now)
+    requires { (S.method run.now).belongs state.old }
+    ensures { Replays (S.method run.now).tree (S.method run.now).belongs
+        (sectioned_form (S.method run.now).tree (S.sectioning run.now) state.old head.now log.now)
         state.old state.new (T.lines trace.old) (T.lines trace.new) T.may_refuse result }
 {
     let mut rest = match after_front(log, &head.sectioned()) {

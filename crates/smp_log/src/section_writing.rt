@@ -21,12 +21,13 @@ pub fn log_bytes<S: Sections>(
     head: &Head,
     lines: &Lines,
 ) -> Result<Bytes, NoMemory>
-    requires state { S.belongs run.now state.old }
-    requires path { HasLeaf (S.tree run.now) state.old lines.now }
+    requires state { (S.method run.now).belongs state.old }
+    requires path { HasLeaf (S.method run.now).tree state.old lines.now }
     ensures text { IfOk result (λ text. text
-        ≡ sectioned_log_text (S.tree run.now) (S.sectioning run.now) state.old head.now lines.now) }
-    ensures leaf { OnOk result (IsFullPath (S.tree run.now) state.old lines.now state.new) }
-    ensures belongs { S.belongs run.now state.new }
+        ≡ sectioned_log_text (S.method run.now).tree (S.sectioning run.now) state.old head.now
+        lines.now) }
+    ensures leaf { OnOk result (IsFullPath (S.method run.now).tree state.old lines.now state.new) }
+    ensures belongs { (S.method run.now).belongs state.new }
 {
     let steps = lines.as_slice();
     let mut text = Bytes::new(alloc);

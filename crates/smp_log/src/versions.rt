@@ -19,9 +19,9 @@ pub fn replay<S: Sections>(
     head: &Head,
     log: &[u8],
 ) -> Result<(), LogFault>
-    requires { S.belongs run.now state.old }
-    ensures { ReplaysUntold (S.tree run.now) (S.belongs run.now)
-        (any_form (S.tree run.now) (S.sectioning run.now) state.old head.now log.now)
+    requires { (S.method run.now).belongs state.old }
+    ensures { ReplaysUntold (S.method run.now).tree (S.method run.now).belongs
+        (any_form (S.method run.now).tree (S.sectioning run.now) state.old head.now log.now)
         state.new result }
 {
     match replay_into(run, state, head, log, &mut NoTrace) {
@@ -42,9 +42,9 @@ pub fn replay_into<S: Sections, T: Trace>(
     log: &[u8],
     trace: &mut T,
 ) -> Result<(), ReplayFault>
-    requires { S.belongs run.now state.old }
-    ensures { Replays (S.tree run.now) (S.belongs run.now)
-        (any_form (S.tree run.now) (S.sectioning run.now) state.old head.now log.now)
+    requires { (S.method run.now).belongs state.old }
+    ensures { Replays (S.method run.now).tree (S.method run.now).belongs
+        (any_form (S.method run.now).tree (S.sectioning run.now) state.old head.now log.now)
         state.old state.new (T.lines trace.old) (T.lines trace.new) T.may_refuse result }
 {
     // The head tells its lines.

@@ -183,11 +183,7 @@ impl AnyDesign {
 impl Splitting for AnyDesign {
     type State = AnyState;
 
-    ghost tree = { λ design. (method_of design).tree };
-
-    ghost belongs = { λ design. (method_of design).belongs };
-
-    ghost lawful = { λ design. (method_of design).lawful };
+    ghost method = { λ design. method_of design };
 
     fn units(&self) -> usize {
         by_method!(self, design => design.units())

@@ -73,11 +73,7 @@ impl MinimumSupport {
 impl Splitting for MinimumSupport {
     type State = SupportState;
 
-    ghost tree = { λ design. (method_of design).tree };
-
-    ghost belongs = { λ design. (method_of design).belongs };
-
-    ghost lawful = { λ design. (method_of design).lawful };
+    ghost method = { λ design. method_of design };
 
     fn units(&self) -> usize {
         self.values.len()

@@ -4,7 +4,7 @@ ghost use Rattle.smp_fractions.specs.Fractions.{Same};
 ghost use Rattle.smp_split.specs.Means.{inclusion_probability};
 ghost use Rattle.smp_rows.specs.Rows.{rows_tree, BelongsToRows, SelectsAsRequested, AddsUpTo};
 ghost use Rattle.smp_prob.specs.Inclusions.{AreApart, asked_fraction};
-ghost use Rattle.smp_rows.specs.Laws.Rows.{rows_lawful};
+ghost use Rattle.smp_rows.specs.Laws.Rows.{rows_method};
 
 use smp_prob::{Inclusion, Request};
 use smp_split::{Kind, Splitting, mean_is_value};
@@ -26,20 +26,24 @@ impl<'a, D: Splitting> Rows<'a, D> {
     /// the request fills. Where each leaf of the design selects one of the two whole numbers of units around the sum of
     /// their values, it selects one of those around the sum over all rows. It runs nothing: its contract is the theorem.
     pub fn select_as_asked(&self, state: &D::State)
-        requires belongs { BelongsToRows self.now.request.now (D.tree self.now.design)
-            (D.belongs self.now.design) state.now }
+        requires belongs { BelongsToRows self.now.request.now (D.method self.now.design).tree
+            (D.method self.now.design).belongs state.now }
         requires serves { SelectsAsRequested self.now.request.now
-            (D.tree self.now.design) state.now }
+            (D.method self.now.design).tree state.now }
         ensures probability { (row : ℕ) → row < self.now.rows → Same
-            (inclusion_probability (rows_tree self.now.rows self.now.request.now (D.tree self.now.design)) state.now row)
+            (inclusion_probability (rows_tree self.now.rows self.now.request.now
+            (D.method self.now.design).tree) state.now row)
             (asked_fraction self.now.request.now row) }
-        ensures count { (n : ℕ) → AddsUp (D.tree self.now.design) self.now.request.now.r state.now →
+        ensures count { (n : ℕ) → AddsUp (D.method self.now.design).tree self.now.request.now.r
+            state.now →
             AddsUpTo self.now.request.now self.now.rows n →
-            LeavesSelect (rows_tree self.now.rows self.now.request.now (D.tree self.now.design)) n state.now }
+            LeavesSelect (rows_tree self.now.rows self.now.request.now
+            (D.method self.now.design).tree) n state.now }
         ensures around { AreApart self.now.request.now →
             All (λ unit. unit < self.now.rows) self.now.request.now.free →
-            LeavesSelectAround (D.tree self.now.design) state.now →
-            LeavesSelectAround (rows_tree self.now.rows self.now.request.now (D.tree self.now.design)) state.now }
+            LeavesSelectAround (D.method self.now.design).tree state.now →
+            LeavesSelectAround (rows_tree self.now.rows self.now.request.now
+            (D.method self.now.design).tree) state.now }
     {
         mean_is_value(self, state);
     }
@@ -48,11 +52,7 @@ impl<'a, D: Splitting> Rows<'a, D> {
 impl<'a, D: Splitting> Splitting for Rows<'a, D> {
     type State = D::State;
 
-    ghost tree = { λ r. rows_tree r.rows r.request.now (D.tree r.design) };
-
-    ghost belongs = { λ r. BelongsToRows r.request.now (D.tree r.design) (D.belongs r.design) };
-
-    ghost lawful = { λ r. rows_lawful r.rows r.request.now (D.tree r.design) (D.belongs r.design) (D.lawful r.design) };
+    ghost method = { λ r. rows_method r.rows r.request.now (D.method r.design) };
 
     fn units(&self) -> usize {
         self.rows

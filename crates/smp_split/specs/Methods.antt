@@ -11,17 +11,12 @@ pub record Method (State : Type 0) : Type 1 where
   pub belongs : State → Type 0
   pub lawful : Lawful tree belongs
 
--- What is owed of a draw tree: which states are the method's own, and the law that each split of these is lawful.
-pub record Owes {State : Type 0} (tree : Tree State) : Type 1 where
-  pub belongs : State → Type 0
-  pub lawful : Lawful tree belongs
+-- of the methods of many designs, the trees, the states, and the laws
+abbrev pub trees : {Design : Type 0} → {State : Type 0} → (Design → Method State) → Design → Tree State
+trees method design = (method design).tree
 
--- what a method owes of its tree, and the method that owes this
-abbrev pub owed : {State : Type 0} → (method : Method State) → Owes method.tree
-owed method = record { belongs = method.belongs; lawful = method.lawful }
-
-abbrev pub owing : {State : Type 0} → (tree : Tree State) → Owes tree → Method State
-owing tree owes = record { tree = tree; belongs = owes.belongs; lawful = owes.lawful }
+abbrev pub owns : {Design : Type 0} → {State : Type 0} → (Design → Method State) → Design → State → Type 0
+owns method design = (method design).belongs
 
 -- What holds of a state of a method's own. Over all draws, the mean of the sum of any numbers c over the selected units is the sum of c
 -- times the value; so each unit's probability of selection is its value.

@@ -14,10 +14,10 @@ pub trait Sections: Splitting {
 
     /// The section whose step comes next, counted from 0. In a done state it is the number of sections.
     fn section(&self, state: &Self::State) -> usize
-        requires { Self.belongs self.now state.now }
+        requires { (Self.method self.now).belongs state.now }
         ensures { result ≡ (sectioning self.now).of state.now };
 
     /// A section is below their number exactly in a state that isn't done, and no step leads to an earlier one.
     ghost sectioned: { (design : Self)
-        → IsSectioned (Self.tree design) (Self.belongs design) (sectioning design) };
+        → IsSectioned (Self.method design).tree (Self.method design).belongs (sectioning design) };
 }

@@ -43,29 +43,30 @@ pub fn walk<S: Splitting, D: Draws, T: Trace>(
     draws: &mut D,
     trace: &mut T,
 ) -> Result<(), WalkFault>
-    requires { S.belongs design.now state.old }
+    requires { (S.method design.now).belongs state.old }
 
     // How it ends: at a leaf, at a state whose draw was refused, or at a step that wasn't told.
-    ensures arrived { OnOk result (Arrived D.source (S.tree design.now)
+    ensures arrived { OnOk result (Arrived D.source (S.method design.now).tree
         (position state.old draws.old (T.lines trace.old))
         (position state.new draws.new (T.lines trace.new))) }
     ensures refused { (refusal : DrawFault) → result ≡ Err (WalkFault.Draw refusal)
-        → Refused D.source (S.tree design.now) refusal
+        → Refused D.source (S.method design.now).tree refusal
         (position state.old draws.old (T.lines trace.old))
         (position state.new draws.new (T.lines trace.new)) }
     ensures untold { result ≡ Err WalkFault.NoMemory
-        → Untold D.source (S.tree design.now)
+        → Untold D.source (S.method design.now).tree
         (position state.old draws.old (T.lines trace.old))
         (position state.new draws.new (T.lines trace.new)) }
     ensures may_refuse { result ≡ Err WalkFault.NoMemory → T.may_refuse ≡ true }
-    ensures belongs { S.belongs design.now state.new }
+    ensures belongs { (S.method design.now).belongs state.new }
 
     // What a uniform draw at each step would give on average, from where it began.
     ensures mean { (c : ℕ → Fraction)
-        → Same (mean (S.tree design.now) c state.old) (value_sum (S.tree design.now) c state.old) }
-    ensures probability { (unit : ℕ) → unit < (S.tree design.now).units
-        → Same (inclusion_probability (S.tree design.now) state.old unit)
-        ((S.tree design.now).value state.old unit) }
+        → Same (mean (S.method design.now).tree c state.old)
+        (value_sum (S.method design.now).tree c state.old) }
+    ensures probability { (unit : ℕ) → unit < (S.method design.now).tree.units
+        → Same (inclusion_probability (S.method design.now).tree state.old unit)
+        ((S.method design.now).tree.value state.old unit) }
 {
     mean_is_value(design, state);
     while !design.done(state) {

@@ -4,6 +4,7 @@ use Rattle.std.specs.Prelude.{◌≡◌, ℕ, zero, suc, ◌+◌, ◌<◌, Bool,
 use Rattle.std.specs.Prelude.{List, [], ◌∷◌, length, set, Option, Some, None}
 use Rattle.std.specs.List.{slice_get}
 use Rattle.smp_fractions.specs.Fractions.{Fraction, whole, times}
+use Rattle.smp_split.specs.Methods.{Method, owns, trees}
 use Rattle.smp_split.specs.Parts.{moved}
 use Rattle.smp_split.specs.Trees.{Part, Tree}
 use Rattle.smp_split.specs.declared.kind.Kind.{Kind}
@@ -159,3 +160,7 @@ module _ {Design State : Type 0} (tree_of : Design → Tree State) where
     pub record IsUnderWay (stages : List (Stage Design)) (s : Progress State) : Type 0 where
       pub states : EachBelongs stages s.states
       pub at : s.at ≡ next_stage stages s.states
+
+-- there is a state for each stage, of its design's own method
+abbrev pub AreOwn : {Design : Type 0} → {State : Type 0} → (Design → Method State) → List (Stage Design) → List State → Type 0
+AreOwn method = EachBelongs (trees method) (owns method)

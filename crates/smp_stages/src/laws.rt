@@ -1,6 +1,7 @@
 //! Laws of selections in stages.
 
 ghost use Rattle.std.specs.Prelude.{◌≡◌, ◌+◌, ◌<◌, ℕ, Bool, length, suc};
+ghost use Rattle.smp_split.specs.Methods.{owns, trees};
 ghost use Rattle.smp_split.specs.Sectioning.{IsPartOf, IsSectioned};
 ghost use Rattle.smp_stages.specs.OwnStages.{AreSections, AreTheirOwn, own_progress, sections_by};
 ghost use Rattle.smp_stages.specs.Stages.{IsUnderWay, staged_tree};
@@ -11,8 +12,9 @@ use smp_split::Splitting;
 /// Stages in sections are drawn one section after the other. It runs nothing: its contract is the theorem.
 pub fn stages_go_by_sections<D: Splitting>(stages: &Stages<D>)
     ensures { (before : ℕ → ℕ) (n : ℕ) → AreSections stages.now.stages.items before n
-        → IsSectioned (staged_tree D.tree stages.now.stages.items stages.now.seats.items)
-        (IsUnderWay D.tree D.belongs stages.now.stages.items) (sections_by before n) }
+        → IsSectioned (staged_tree (trees D.method) stages.now.stages.items stages.now.seats.items)
+        (IsUnderWay (trees D.method) (owns D.method) stages.now.stages.items)
+        (sections_by before n) }
 {}
 
 /// Stages of their own that are a section are a part of the whole, and make its steps there. It runs nothing: its contract is the theorem.
@@ -22,8 +24,9 @@ pub fn own_stages_are_a_part<D: Splitting>(stages: &Stages<D>, part: &Stages<D>)
         → before (suc h) ≡ before h + length part.now.stages.items
         → AreTheirOwn stages.now.stages.items stages.now.seats.items (before h)
         part.now.stages.items part.now.seats.items own
-        → IsPartOf (staged_tree D.tree stages.now.stages.items stages.now.seats.items)
-        (IsUnderWay D.tree D.belongs stages.now.stages.items) (sections_by before n) h
-        (staged_tree D.tree part.now.stages.items part.now.seats.items)
-        (own_progress D.tree (before h) part.now.stages.items) own }
+        → IsPartOf (staged_tree (trees D.method) stages.now.stages.items stages.now.seats.items)
+        (IsUnderWay (trees D.method) (owns D.method) stages.now.stages.items) (sections_by before n)
+        h
+        (staged_tree (trees D.method) part.now.stages.items part.now.seats.items)
+        (own_progress (trees D.method) (before h) part.now.stages.items) own }
 {}

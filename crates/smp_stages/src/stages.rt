@@ -3,11 +3,13 @@
 ghost use Rattle.std.proofs.Props.{props};
 ghost use Rattle.std.specs.Prelude.{◌≡◌, ◌<◌, true, length, set, Option, Some};
 ghost use Rattle.std.specs.List.{slice_get};
-ghost use Rattle.smp_stages.specs.Laws.Staged.{staged_lawful};
-ghost use Rattle.smp_stages.specs.Stages.{EachBelongs, IsFirstUnit, IsStaged, IsUnderWay, IsUnitWithin, NoneWaits, is_drawn, next_stage, progress, seat_selected, selected_in, stage_done, stage_kind, stage_parts, staged_tree, unit_selected, units_of, waits};
+ghost use Rattle.smp_stages.specs.Laws.Staged.{staged_method};
+ghost use Rattle.smp_stages.specs.Stages.{AreOwn, IsFirstUnit, IsStaged, IsUnderWay, IsUnitWithin, NoneWaits, is_drawn, next_stage, progress};
+ghost use Rattle.smp_stages.specs.Stages.{seat_selected, selected_in, stage_done, stage_kind, stage_parts, staged_tree, unit_selected, units_of, waits};
 ghost use Rattle.smp_stages.specs.Starts.{StartsInStages};
 ghost use Rattle.smp_stages.specs.declared.places.Place.{Place};
 ghost use Rattle.smp_stages.specs.declared.places.Seat.TheVariants as Seat;
+ghost use Rattle.smp_split.specs.Methods.{owns, trees};
 ghost use Rattle.smp_split.specs.Trees.{weight_sum, picked};
 
 use crate::{Place, Seat, Stage, StagesState};
@@ -23,13 +25,13 @@ pub struct Stages<D: Splitting> {
     pub stages: Vec<Stage<D>>,
     /// The seats of the rows.
     pub seats: Vec<Seat>,
-    ghost staged: { IsStaged D.tree stages.items seats.items } by { Prim.hlevel props },
+    ghost staged: { IsStaged (trees D.method) stages.items seats.items } by { Prim.hlevel props },
 }
 
 impl<D: Splitting> Stages<D> {
     /// These stages in this order, with these seats of the rows. A second stage selects within a unit of a first stage that comes before it.
     pub fn new(stages: Vec<Stage<D>>, seats: Vec<Seat>) -> Stages<D>
-        requires { IsStaged D.tree stages.items seats.items }
+        requires { IsStaged (trees D.method) stages.items seats.items }
         ensures stages { result.stages.items ≡ stages.items }
         ensures seats { result.seats.items ≡ seats.items }
     {
@@ -38,9 +40,10 @@ impl<D: Splitting> Stages<D> {
 
     /// The selection whose stages start from these states, one for each.
     pub fn start(&self, states: Vec<D::State>) -> StagesState<D::State>
-        requires { EachBelongs D.tree D.belongs self.now.stages.items states.items }
-        ensures state { result ≡ progress D.tree self.now.stages.items states.items }
-        ensures starts { StartsInStages D.tree D.belongs self.now.stages.items self.now.seats.items
+        requires { AreOwn D.method self.now.stages.items states.items }
+        ensures state { result ≡ progress (trees D.method) self.now.stages.items states.items }
+        ensures starts { StartsInStages (trees D.method) (owns D.method) self.now.stages.items
+            self.now.seats.items
             states.items result }
     {
         let at = self.next_from(states.as_slice(), 0);
@@ -49,11 +52,15 @@ impl<D: Splitting> Stages<D> {
 
     /// Whether a unit of a stage is selected in it, where the selection is done. A stage that wasn't drawn selects none.
     pub fn is_selected_in(&self, state: &StagesState<D::State>, place: Place) -> bool
-        requires state { IsUnderWay D.tree D.belongs self.now.stages.items state.now }
-        requires done { (staged_tree D.tree self.now.stages.items self.now.seats.items).done state.now
+        requires state { IsUnderWay (trees D.method) (owns D.method) self.now.stages.items
+            state.now }
+        requires done { (staged_tree (trees D.method) self.now.stages.items
+            self.now.seats.items).done state.now
             ≡ true }
-        requires unit { place.unit < units_of D.tree (slice_get self.now.stages.items place.stage) }
-        ensures { result ≡ selected_in D.tree self.now.stages.items state.now.states place }
+        requires unit { place.unit < units_of (trees D.method)
+            (slice_get self.now.stages.items place.stage) }
+        ensures { result ≡ selected_in (trees D.method) self.now.stages.items state.now.states
+            place }
     {
         let states = state.states.as_slice();
         self.is_drawn(states, place.stage) && self.selects(states, place)
@@ -61,10 +68,12 @@ impl<D: Splitting> Stages<D> {
 
     // Whether a unit is selected in its stage, which is done.
     fn selects(&self, states: &[D::State], place: Place) -> bool
-        requires each { EachBelongs D.tree D.belongs self.now.stages.items states.now }
-        requires unit { place.unit < units_of D.tree (slice_get self.now.stages.items place.stage) }
-        requires done { stage_done D.tree self.now.stages.items states.now place.stage ≡ true }
-        ensures { result ≡ unit_selected D.tree self.now.stages.items states.now place }
+        requires each { AreOwn D.method self.now.stages.items states.now }
+        requires unit { place.unit < units_of (trees D.method)
+            (slice_get self.now.stages.items place.stage) }
+        requires done { stage_done (trees D.method) self.now.stages.items states.now place.stage
+            ≡ true }
+        ensures { result ≡ unit_selected (trees D.method) self.now.stages.items states.now place }
     {
         let stage = &self.stages[place.stage];
         let state = &states[place.stage];
@@ -73,10 +82,10 @@ impl<D: Splitting> Stages<D> {
 
     // Whether a stage is drawn, where no stage before it waits.
     fn is_drawn(&self, states: &[D::State], number: usize) -> bool
-        requires each { EachBelongs D.tree D.belongs self.now.stages.items states.now }
+        requires each { AreOwn D.method self.now.stages.items states.now }
         requires stage { number < length self.now.stages.items }
-        requires passed { NoneWaits D.tree self.now.stages.items states.now number }
-        ensures { result ≡ is_drawn D.tree self.now.stages.items states.now number }
+        requires passed { NoneWaits (trees D.method) self.now.stages.items states.now number }
+        ensures { result ≡ is_drawn (trees D.method) self.now.stages.items states.now number }
     {
         let stage = &self.stages[number];
         match stage.within {
@@ -87,10 +96,10 @@ impl<D: Splitting> Stages<D> {
 
     // Whether a stage is to be drawn and isn't done, where no stage before it waits.
     fn waits(&self, states: &[D::State], number: usize) -> bool
-        requires each { EachBelongs D.tree D.belongs self.now.stages.items states.now }
+        requires each { AreOwn D.method self.now.stages.items states.now }
         requires stage { number < length self.now.stages.items }
-        requires passed { NoneWaits D.tree self.now.stages.items states.now number }
-        ensures { result ≡ waits D.tree self.now.stages.items states.now number }
+        requires passed { NoneWaits (trees D.method) self.now.stages.items states.now number }
+        ensures { result ≡ waits (trees D.method) self.now.stages.items states.now number }
     {
         if !self.is_drawn(states, number) {
             return false;
@@ -102,9 +111,9 @@ impl<D: Splitting> Stages<D> {
 
     // The first stage that waits, where none before this one does.
     fn next_from(&self, states: &[D::State], from: usize) -> usize
-        requires each { EachBelongs D.tree D.belongs self.now.stages.items states.now }
-        requires passed { NoneWaits D.tree self.now.stages.items states.now from }
-        ensures { result ≡ next_stage D.tree self.now.stages.items states.now }
+        requires each { AreOwn D.method self.now.stages.items states.now }
+        requires passed { NoneWaits (trees D.method) self.now.stages.items states.now from }
+        ensures { result ≡ next_stage (trees D.method) self.now.stages.items states.now }
     {
         for number in from..self.stages.len() {
             if self.waits(states, number) {
@@ -116,10 +125,10 @@ impl<D: Splitting> Stages<D> {
 
     // The kind of the next step of a stage.
     fn kind_of(&self, states: &[D::State], number: usize) -> Kind
-        requires each { EachBelongs D.tree D.belongs self.now.stages.items states.now }
+        requires each { AreOwn D.method self.now.stages.items states.now }
         requires stage { number < length self.now.stages.items }
-        requires waits { waits D.tree self.now.stages.items states.now number ≡ true }
-        ensures { result ≡ stage_kind D.tree self.now.stages.items states.now number }
+        requires waits { waits (trees D.method) self.now.stages.items states.now number ≡ true }
+        ensures { result ≡ stage_kind (trees D.method) self.now.stages.items states.now number }
     {
         let stage = &self.stages[number];
         let state = &states[number];
@@ -128,10 +137,11 @@ impl<D: Splitting> Stages<D> {
 
     // The bound of the next step of a stage.
     fn bound_of(&self, states: &[D::State], number: usize) -> u128
-        requires each { EachBelongs D.tree D.belongs self.now.stages.items states.now }
+        requires each { AreOwn D.method self.now.stages.items states.now }
         requires stage { number < length self.now.stages.items }
-        requires waits { waits D.tree self.now.stages.items states.now number ≡ true }
-        ensures { result ≡ weight_sum (stage_parts D.tree self.now.stages.items states.now number) }
+        requires waits { waits (trees D.method) self.now.stages.items states.now number ≡ true }
+        ensures { result ≡ weight_sum (stage_parts (trees D.method) self.now.stages.items states.now
+            number) }
     {
         let stage = &self.stages[number];
         let state = &states[number];
@@ -140,14 +150,16 @@ impl<D: Splitting> Stages<D> {
 
     // Makes a step of a stage.
     fn step(&self, states: &mut Vec<D::State>, number: usize, draw: u128)
-        requires each { EachBelongs D.tree D.belongs self.now.stages.items states.old.items }
+        requires each { AreOwn D.method self.now.stages.items states.old.items }
         requires stage { number < length self.now.stages.items }
-        requires waits { waits D.tree self.now.stages.items states.old.items number ≡ true }
+        requires waits { waits (trees D.method) self.now.stages.items states.old.items number
+            ≡ true }
         requires within { draw < weight_sum
-            (stage_parts D.tree self.now.stages.items states.old.items number) }
+            (stage_parts (trees D.method) self.now.stages.items states.old.items number) }
         ensures { (state : D.State) → slice_get states.old.items number ≡ Some state
             → states.new.items ≡ set states.old.items number
-            (picked state (stage_parts D.tree self.now.stages.items states.old.items number) draw) }
+            (picked state (stage_parts (trees D.method) self.now.stages.items states.old.items
+            number) draw) }
     {
         let stage = &self.stages[number];
         let state = &mut states[number];
@@ -156,14 +168,15 @@ impl<D: Splitting> Stages<D> {
 
     // Whether a row that has this seat is selected, where no stage waits.
     fn selects_seat(&self, states: &[D::State], seat: Seat) -> bool
-        requires each { EachBelongs D.tree D.belongs self.now.stages.items states.now }
-        requires ended { NoneWaits D.tree self.now.stages.items states.now
+        requires each { AreOwn D.method self.now.stages.items states.now }
+        requires ended { NoneWaits (trees D.method) self.now.stages.items states.now
             (length self.now.stages.items) }
         requires first { (place : Place) → seat ≡ Seat.First place
-            → IsFirstUnit D.tree self.now.stages.items place }
+            → IsFirstUnit (trees D.method) self.now.stages.items place }
         requires second { (first second : Place) → seat ≡ Seat.Second first second
-            → IsUnitWithin D.tree self.now.stages.items first second }
-        ensures { result ≡ seat_selected (unit_selected D.tree self.now.stages.items states.now)
+            → IsUnitWithin (trees D.method) self.now.stages.items first second }
+        ensures { result ≡ seat_selected
+            (unit_selected (trees D.method) self.now.stages.items states.now)
             (Some seat) }
     {
         match seat {
@@ -179,11 +192,7 @@ impl<D: Splitting> Stages<D> {
 impl<D: Splitting> Splitting for Stages<D> {
     type State = StagesState<D::State>;
 
-    ghost tree = { λ s. staged_tree D.tree s.stages.items s.seats.items };
-
-    ghost belongs = { λ s. IsUnderWay D.tree D.belongs s.stages.items };
-
-    ghost lawful = { λ s. staged_lawful D.tree D.belongs D.lawful s.stages.items s.seats.items s.staged };
+    ghost method = { λ s. staged_method D.method s.stages.items s.seats.items s.staged };
 
     fn units(&self) -> usize {
         self.seats.len()

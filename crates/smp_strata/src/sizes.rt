@@ -61,7 +61,8 @@ pub(crate) fn probs_at(
 ) -> Result<Vec<Frac>, NoMemory>
     requires rows { All (AreRows (length units.now)) clusters.now }
     requires within { All (λ member. member < length clusters.now) members.now }
-    ensures { IfOk result (λ probs. probs.items ≡ map (prob_of units.now clusters.now) members.now) }
+    ensures { IfOk result (λ probs. probs.items
+        ≡ map (prob_of units.now clusters.now) members.now) }
 {
     let mut probs = Vec::with_capacity(alloc, members.len())?;
     for &member in members {

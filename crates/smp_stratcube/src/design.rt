@@ -93,11 +93,7 @@ impl StratCube {
 impl Splitting for StratCube {
     type State = StratCubeState;
 
-    ghost tree = { λ design. (method_of design).tree };
-
-    ghost belongs = { λ design. (method_of design).belongs };
-
-    ghost lawful = { λ design. (method_of design).lawful };
+    ghost method = { λ design. method_of design };
 
     fn units(&self) -> usize {
         self.units.len()

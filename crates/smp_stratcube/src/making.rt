@@ -65,7 +65,8 @@ fn push_members(
     requires stratum { stratum < strata }
     requires rows { 1 ≤ length layer.now.shape → strata + width layer.now ≤ 16 }
     ensures { IfOk result (λ done. members.new.items
-        ≡ members.old.items ++ map (member_of strata stratum layer.now) (range_with_len 0 (length layer.now.shape))) }
+        ≡ members.old.items ++ map (member_of strata stratum layer.now)
+        (range_with_len 0 (length layer.now.shape))) }
 {
     for unit in 0..layer.shape.len() {
         members.push(member_of(strata, stratum, layer, unit))?;

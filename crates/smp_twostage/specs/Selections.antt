@@ -134,12 +134,12 @@ units_before (s ∷ strata) (suc h) = length s.units + units_before strata h
 abbrev pub unit_count : List stratum.Stratum → ℕ
 unit_count strata = units_before strata (length strata)
 
--- units of all strata, of those that each request counts, by their numbers among the units of all: the strata stand one after another,
--- and so many units stand before them
+-- the units that are taken from each stratum's request, the certain ones or the free ones, by their numbers among the units of all strata:
+-- the strata stand one after another, and so many units stand before them
 abbrev pub numbers_from : (Request → List ℕ) → ℕ → List stratum.Stratum → List ℕ
-numbers_from counted before [] = []
-numbers_from counted before (s ∷ strata) =
-    map (λ unit. before + unit) (counted s.request) ++ numbers_from counted (before + length s.units) strata
+numbers_from taken before [] = []
+numbers_from taken before (s ∷ strata) =
+    map (λ unit. before + unit) (taken s.request) ++ numbers_from taken (before + length s.units) strata
 
 -- Where the units of all strata stand. It has no shapes: the probability of a free unit is what the request of its stratum says.
 abbrev pub request_over : List stratum.Stratum → Request

@@ -2,7 +2,7 @@
 
 ghost use Rattle.std.specs.Prelude.{◌≡◌};
 ghost use Rattle.smp_methods.specs.Designs.{left_at, method_of};
-ghost use Rattle.smp_rows.specs.Laws.Rows.{rows_lawful};
+ghost use Rattle.smp_rows.specs.Laws.Rows.{rows_method};
 ghost use Rattle.smp_twostage.specs.Kept.{asked_view};
 ghost use Rattle.smp_twostage.specs.Selections.{belongs_to, tree_of};
 
@@ -85,12 +85,7 @@ impl<'a> StageDesign<'a> {
 impl<'a> Splitting for StageDesign<'a> {
     type State = AnyState;
 
-    ghost tree = { λ s. tree_of s };
-
-    ghost belongs = { λ s. belongs_to s };
-
-    ghost lawful = { λ s. rows_lawful s.units s.request (method_of s.design).tree
-        (method_of s.design).belongs (method_of s.design).lawful };
+    ghost method = { λ s. rows_method s.units s.request (method_of s.design) };
 
     fn units(&self) -> usize {
         self.units

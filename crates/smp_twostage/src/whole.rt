@@ -9,7 +9,7 @@ ghost use Rattle.smp_strata.specs.declared.strata.Stratum.{Stratum};
 ghost use Rattle.smp_design.specs.Words.{draws_together};
 ghost use Rattle.smp_twostage.specs.Covered.{StartsAlone, covered_first, covered_left};
 ghost use Rattle.smp_twostage.specs.Kept.{EachFirst, first_numbers};
-ghost use Rattle.smp_twostage.specs.Laws.Wholes.{covered_lawful, strata_sectioned};
+ghost use Rattle.smp_twostage.specs.Laws.Wholes.{covered_method, strata_sectioned};
 ghost use Rattle.smp_twostage.specs.Plans.{CanBeDrawn};
 ghost use Rattle.smp_twostage.specs.Selections as Selections;
 ghost use Rattle.smp_twostage.specs.Selections.{BelongsToCovered, all_of, belongs_to, covered_seats, covered_stages, covered_start};
@@ -340,11 +340,7 @@ impl<'a> Whole<'a> {
 impl<'a> Splitting for Whole<'a> {
     type State = StagesState<AnyState>;
 
-    ghost tree = { λ c. covered_tree c };
-
-    ghost belongs = { λ c. BelongsToCovered c };
-
-    ghost lawful = { λ c. covered_lawful c };
+    ghost method = { λ c. covered_method c };
 
     fn units(&self) -> usize {
         self.stages.units()

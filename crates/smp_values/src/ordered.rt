@@ -134,11 +134,7 @@ impl<S: PlaceSteps> SelectionState for OrderedState<S> {
 impl<S: PlaceSteps> Splitting for OrderedDesign<S> {
     type State = OrderedState<S>;
 
-    ghost tree = { λ design. (placed_method S.rule S.law design).tree };
-
-    ghost belongs = { λ design. (placed_method S.rule S.law design).belongs };
-
-    ghost lawful = { λ design. (placed_method S.rule S.law design).lawful };
+    ghost method = { λ design. placed_method S.rule S.law design };
 
     fn units(&self) -> usize {
         self.values.len()

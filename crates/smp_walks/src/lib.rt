@@ -23,10 +23,10 @@ pub fn walks<S: Splitting>(
     path: &[(Kind, u128, u128)],
     units: &[usize],
 ) -> Result<bool, NoMemory>
-    requires { S.belongs design.now state.old }
+    requires { (S.method design.now).belongs state.old }
     ensures walks { IfOk result (λ holds. Decides holds
-        (IsWalk (S.tree design.now) state.old path.now units.now)) }
-    ensures belongs { S.belongs design.now state.new }
+        (IsWalk (S.method design.now).tree state.old path.now units.now)) }
+    ensures belongs { (S.method design.now).belongs state.new }
 {
     let mut tape = tape_for(alloc, path)?;
     let mut lines = Lines::new(alloc);

@@ -9,6 +9,7 @@ use Rattle.smp_prob.specs.declared.inclusions.Inclusion.TheVariants.{Certain, Fr
 use Rattle.smp_prob.specs.Inclusions.{inclusion, is_taken, free_or_never}
 use Rattle.smp_fractions.specs.Fractions.{Same, whole}
 use Rattle.smp_split.specs.Lenses.{OuterUnit, fixed, as_unit, seen, Within, Lens, Shows, Closes}
+use Rattle.smp_split.specs.Methods.{Method}
 use Rattle.smp_split.specs.Trees.{Tree, Lawful}
 use Rattle.smp_fractions.proofs.Fractions.{same_refl}
 use Rattle.smp_split.proofs.Lenses.{split_through, end_through}
@@ -76,3 +77,11 @@ module _ {State : Type 0} (rows : ℕ) (request : Request) (tree : Tree State) (
         (λ row. row_view (inclusion request row)) (rows_lens here.paired) rows_close s here.member done
         (lawful.end s here.member done);
   }
+
+-- the method that draws the rows by one that draws the free units
+abbrev pub rows_method : {State : Type 0} → ℕ → Request → Method State → Method State
+rows_method rows request method = record {
+  tree = rows_tree rows request method.tree;
+  belongs = BelongsToRows request method.tree method.belongs;
+  lawful = rows_lawful rows request method.tree method.belongs method.lawful;
+}

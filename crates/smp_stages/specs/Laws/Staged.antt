@@ -7,6 +7,7 @@ use Rattle.std.proofs.lemmas.List.{length-set}
 use Rattle.std.proofs.lemmas.Option.{slice_get_within, same_Some}
 use Rattle.smp_fractions.specs.Fractions.{Fraction, Same, whole, times}
 use Rattle.smp_fractions.proofs.Fractions.{same_refl, same_trans, times_same, one-times, zero-times}
+use Rattle.smp_split.specs.Methods.{Method, owns, trees}
 use Rattle.smp_split.specs.Trees.{Tree, LawfulSplit, Lawful}
 use Rattle.smp_split.proofs.Lenses.{split_through}
 use Rattle.smp_stages.specs.declared.places.Place.{Place}
@@ -169,3 +170,12 @@ module _ {Design State : Type 0} (tree_of : Design → Tree State) (belongs : De
       end = λ s here done row _. row_end s.states here.states (none_waits s here done) (slice_get seats row)
           (staged.first row) (staged.second row);
     }
+
+-- the method that draws these seats by stages, each by its own method
+abbrev pub staged_method : {Design State : Type 0} (method : Design → Method State) (stages : List (Stage Design)) (seats : List Seat)
+    → IsStaged (trees method) stages seats → Method (Progress State)
+staged_method method stages seats staged = record {
+  tree = staged_tree (trees method) stages seats;
+  belongs = IsUnderWay (trees method) (owns method) stages;
+  lawful = staged_lawful (trees method) (owns method) (λ d. (method d).lawful) stages seats staged;
+}

@@ -1,5 +1,6 @@
 -- The splits of a selection are lawful, and it goes through its strata.
 use Rattle.std.proofs.Common.{List, [], ◌∷◌}
+use Rattle.smp_split.specs.Methods.{Method}
 use Rattle.smp_split.specs.Sectioning.{IsSectioned}
 use Rattle.smp_split.specs.Trees.{Part, EachPart, IsPart, Lawful}
 use Rattle.smp_methods.specs.declared.any.AnyState.{AnyState}
@@ -47,6 +48,10 @@ covered_lawful c = record {
       });
   end = λ s here done. (staged_law c here.drawable).end s here.member done;
 }
+
+-- the method that draws what is covered
+abbrev pub covered_method : (c : Coverage) → Method (Progress AnyState)
+covered_method c = record { tree = covered_tree c; belongs = BelongsToCovered c; lawful = covered_lawful c }
 
 pub whole_lawful : (plan : Parts) → Lawful (whole_tree plan) (BelongsToWhole plan)
 whole_lawful plan = covered_lawful (all_of plan)

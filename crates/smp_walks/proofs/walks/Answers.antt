@@ -15,23 +15,23 @@ use Rattle.smp_walks.proofs.walks.Goals as goal
 pub selected_units-requires-clause-done : goal.selected_units-requires-clause-done
 selected_units-requires-clause-done g c =
     let s = g.S.Splitting in
-    let tree = s.tree c.args.design.now in
+    let tree = (s.method c.args.design.now).tree in
     let arrived : Arrived tape_source tree (position c.args.state.now (tape_of_values [] (values_of c.args.path.now)) (Some [])) (position c.walk.new.state c.walk.new.draws (Some c.walk.new.trace)) =
     rw (← c.in_ok-tape.ensures, ← c.new-lines.ensures) c.in-Ok.ensures.arrived in
-    let ran = arrived_leaf tree (s.belongs c.args.design.now) (g.met.S.Splitting.lawful c.args.design.now) c.args.state.now c.args.path.now c.requires c.walk.new.state c.walk.new.trace c.walk.new.draws arrived in
-    (leaf_at tree (s.belongs c.args.design.now) (g.met.S.Splitting.lawful c.args.design.now) c.args.state.now c.args.path.now c.requires c.walk.new.state c.walk.new.trace c.walk.new.draws ran).done
+    let ran = arrived_leaf tree (s.method c.args.design.now).belongs (g.S.Splitting.method c.args.design.now).lawful c.args.state.now c.args.path.now c.requires c.walk.new.state c.walk.new.trace c.walk.new.draws arrived in
+    (leaf_at tree (s.method c.args.design.now).belongs (g.S.Splitting.method c.args.design.now).lawful c.args.state.now c.args.path.now c.requires c.walk.new.state c.walk.new.trace c.walk.new.draws ran).done
 
 pub returns-in-Ok-clause-walks : goal.returns-in-Ok-clause-walks
 returns-in-Ok-clause-walks g c =
     let s = g.S.Splitting in
-    let tree = s.tree c.args.design.now in
+    let tree = (s.method c.args.design.now).tree in
     let arrived : Arrived tape_source tree (position c.args.state.now (tape_of_values [] (values_of c.args.path.now)) (Some [])) (position c.walk.new.state c.walk.new.draws (Some c.walk.new.trace)) =
     rw (← c.in_ok-tape.ensures, ← c.new-lines.ensures) c.in-Ok.ensures.arrived in
-    let ran = arrived_leaf tree (s.belongs c.args.design.now) (g.met.S.Splitting.lawful c.args.design.now) c.args.state.now c.args.path.now c.requires c.walk.new.state c.walk.new.trace c.walk.new.draws arrived in
+    let ran = arrived_leaf tree (s.method c.args.design.now).belongs (g.S.Splitting.method c.args.design.now).lawful c.args.state.now c.args.path.now c.requires c.walk.new.state c.walk.new.trace c.walk.new.draws arrived in
     let told : Decides c.eq-told.result (c.walk.new.trace ≡ c.args.path.now) =
     rw (← c.as_slice.ensures) (slice_eq-Decides entry_decides c.as_slice.result.now c.args.path.now c.eq-told.result c.eq-told.ensures) in
-    let walked = walk_told tree (s.belongs c.args.design.now) (g.met.S.Splitting.lawful c.args.design.now) c.args.state.now c.args.path.now c.requires c.walk.new.state c.walk.new.trace c.walk.new.draws c.args.units.now ran in
-    let is = walk_is tree (s.belongs c.args.design.now) (g.met.S.Splitting.lawful c.args.design.now) c.args.state.now c.args.path.now c.requires c.walk.new.state c.walk.new.trace c.walk.new.draws c.args.units.now ran in
+    let walked = walk_told tree (s.method c.args.design.now).belongs (g.S.Splitting.method c.args.design.now).lawful c.args.state.now c.args.path.now c.requires c.walk.new.state c.walk.new.trace c.walk.new.draws c.args.units.now ran in
+    let is = walk_is tree (s.method c.args.design.now).belongs (g.S.Splitting.method c.args.design.now).lawful c.args.state.now c.args.path.now c.requires c.walk.new.state c.walk.new.trace c.walk.new.draws c.args.units.now ran in
     elim c.if-told.branch [
       | then-told w ↦
           (let chosen : Decides w.eq.result (selected_units tree c.walk.new.state ≡ c.args.units.now) =
@@ -43,7 +43,7 @@ returns-in-Ok-clause-walks g c =
 pub returns-in-Err-Draw-clause-walks : goal.returns-in-Err-Draw-clause-walks
 returns-in-Err-Draw-clause-walks g c =
     let s = g.S.Splitting in
-    let tree = s.tree c.args.design.now in
+    let tree = (s.method c.args.design.now).tree in
     let refused : Refused tape_source tree c.in-Err-Draw.field-0-0 (position c.args.state.now (tape_of_values [] (values_of c.args.path.now)) (Some [])) (position c.walk.new.state c.walk.new.draws (Some c.walk.new.trace)) =
     rw (← c.in_ok-tape.ensures, ← c.new-lines.ensures) (c.in-Err-Draw.ensures.refused c.in-Err-Draw.field-0-0 (ap Err c.in-Err-Draw.field-0-is)) in
-    (λ e. absurd (both_ways false refl e), λ is. absurd (never_stopped tree (s.belongs c.args.design.now) (g.met.S.Splitting.lawful c.args.design.now) c.args.state.now c.args.path.now c.requires c.walk.new.state refused.path c.in-Err-Draw.field-0-0 c.walk.new.draws c.args.units.now refused.ran is))
+    (λ e. absurd (both_ways false refl e), λ is. absurd (never_stopped tree (s.method c.args.design.now).belongs (g.S.Splitting.method c.args.design.now).lawful c.args.state.now c.args.path.now c.requires c.walk.new.state refused.path c.in-Err-Draw.field-0-0 c.walk.new.draws c.args.units.now refused.ran is))

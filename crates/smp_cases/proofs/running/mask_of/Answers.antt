@@ -8,7 +8,7 @@ use Rattle.smp_cases.proofs.running.mask_of.Goals as goal
 
 pub loop-unit-preserved : goal.loop-unit-preserved
 loop-unit-preserved g c =
-    let tree = g.S.Splitting.tree c.args.design.now in
+    let tree = (g.S.Splitting.method c.args.design.now).tree in
     let unit = c.loop-unit.unit in
     let whole = mask (selected_units tree c.args.state.now) in
     let here : unit < tree.units = omega (arith, c.units-unit-end.ensures, c.loop-unit-test.true) in

@@ -7,6 +7,6 @@ returns g c path leaf left ran =
     let run = c.args.run.now in
     record {
       path = path;
-      full = run_full_path (g.S.Splitting.tree run) (g.S.Splitting.belongs run) (g.met.S.Splitting.lawful run) c.args.state.now leaf path c.requires g.D.Draws.source c.args.draws.now left ran;
+      full = run_full_path (g.S.Splitting.method run).tree (g.S.Splitting.method run).belongs (g.S.Splitting.method run).lawful c.args.state.now leaf path c.requires g.D.Draws.source c.args.draws.now left ran;
       text = refl;
     }

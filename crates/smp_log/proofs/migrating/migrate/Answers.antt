@@ -16,7 +16,7 @@ same_lines p q h = cc
 
 pub returns-in-Ok-log_bytes-clause-leaf : goal.returns-in-Ok-log_bytes-clause-leaf
 returns-in-Ok-log_bytes-clause-leaf g c =
-    let tree = g.S.Splitting.tree c.args.run.now in
+    let tree = (g.S.Splitting.method c.args.run.now).tree in
     let told = c.in-Ok.ensures.genuine in
     let lines : c.old_replay_into.new.trace ≡ path_told tree c.args.first.now c.args.log.now = same_lines _ _ (c.in-Ok.ensures.told ∙ ap (λ (none : List Entry). Some (none ++ path_told tree c.args.first.now c.args.log.now)) c.new-lines.ensures) in
     let written : IsFullPath tree c.args.first.now c.old_replay_into.new.trace c.log_bytes.new.state =

@@ -8,5 +8,5 @@ returns g c h at own within is start leaf genuine =
     let part = c.args.part.now in
     let few : (g.S.Sections.sectioning run).count < 2 ^ 64 = subst (λ n. n < 2 ^ 64) c.sections.ensures c.sections.type_inv in
     let long : length c.args.log.now < 2 ^ 64 = omega arith in
-    replayed_alone (g.S.Splitting.tree run) (g.S.Splitting.belongs run) (g.met.S.Splitting.lawful run) (g.S.Sections.sectioning run) (g.met.S.Sections.sectioned run) h within
-    (g.P.Splitting.tree part) at own is (g.P.Splitting.belongs part) (g.met.P.Splitting.lawful part) c.args.state.now c.requires.whole (subst (g.P.Splitting.belongs part) start c.requires.part) c.args.head.now c.as_slice.ensures.lines c.args.log.now leaf genuine few long
+    replayed_alone (g.S.Splitting.method run).tree (g.S.Splitting.method run).belongs (g.S.Splitting.method run).lawful (g.S.Sections.sectioning run) (g.met.S.Sections.sectioned run) h within
+    (g.P.Splitting.method part).tree at own is (g.P.Splitting.method part).belongs (g.P.Splitting.method part).lawful c.args.state.now c.requires.whole (subst (g.P.Splitting.method part).belongs start c.requires.part) c.args.head.now c.as_slice.ensures.lines c.args.log.now leaf genuine few long

@@ -21,12 +21,12 @@ after_front-requires g c = subst IsWhole (sym c.sectioned.ensures.bytes) (whole_
 pub returns-in-Err : goal.returns-in-Err
 returns-in-Err g c =
     let h = c.sectioned.ensures.lines in
-    refused_head c.args.log.now (sectioned_reads (g.met.S.Splitting.lawful c.args.run.now) (g.met.S.Sections.sectioned c.args.run.now) c.requires h c.args.log.now) c.requires c.sectioned.ensures.bytes (sectioned_head_count c.args.head.now h) c.in-Err.ensures.stops (λ at. stops (g.met.S.Splitting.lawful c.args.run.now) (g.met.S.Sections.sectioned c.args.run.now) c.requires c.args.head.now c.args.log.now c.in-Err.line h at)
+    refused_head c.args.log.now (sectioned_reads (g.S.Splitting.method c.args.run.now).lawful (g.met.S.Sections.sectioned c.args.run.now) c.requires h c.args.log.now) c.requires c.sectioned.ensures.bytes (sectioned_head_count c.args.head.now h) c.in-Err.ensures.stops (λ at. stops (g.S.Splitting.method c.args.run.now).lawful (g.met.S.Sections.sectioned c.args.run.now) c.requires c.args.head.now c.args.log.now c.in-Err.line h at)
 
 pub loop-section-init : goal.loop-section-init
 loop-section-init g c =
     let front = c.in-Ok.ensures.front ∙ ap (λ h. h ++ c.in-Ok.rest.now) c.sectioned.ensures.bytes in
-    (first (g.met.S.Splitting.lawful c.args.run.now) (g.met.S.Sections.sectioned c.args.run.now) c.requires _ _ c.in-Ok.rest.now c.sectioned.ensures.lines front, few_told _ _ _ c.args.log.now 3 (omega arith))
+    (first (g.S.Splitting.method c.args.run.now).lawful (g.met.S.Sections.sectioned c.args.run.now) c.requires _ _ c.in-Ok.rest.now c.sectioned.ensures.lines front, few_told _ _ _ c.args.log.now 3 (omega arith))
 
 -- ---- before a section, and behind all of them
 
@@ -34,13 +34,13 @@ pub returns-in_default : goal.returns-in_default
 returns-in_default g c =
     let at = c.loop-section.invariant.0 in
     let less = subst (λ n. c.loop-section.section < n) c.sections-section-end.ensures c.loop-section-test.true in
-    refused_behind c.args.log.now (sectioned_reads (g.met.S.Splitting.lawful c.args.run.now) (g.met.S.Sections.sectioned c.args.run.now) c.requires at.is_head c.args.log.now) at.member at.reached at.behind c.loop-section.invariant.1 (c.loop-section.lines + 1) refl (enter_none (g.met.S.Splitting.lawful c.args.run.now) (g.met.S.Sections.sectioned c.args.run.now) c.requires _ _ at less (sym c.in_default.ensures))
+    refused_behind c.args.log.now (sectioned_reads (g.S.Splitting.method c.args.run.now).lawful (g.met.S.Sections.sectioned c.args.run.now) c.requires at.is_head c.args.log.now) at.member at.reached at.behind c.loop-section.invariant.1 (c.loop-section.lines + 1) refl (enter_none (g.S.Splitting.method c.args.run.now).lawful (g.met.S.Sections.sectioned c.args.run.now) c.requires _ _ at less (sym c.in_default.ensures))
 
 pub loop-state-init : goal.loop-state-init
 loop-state-init g c =
     let at = c.loop-section.invariant.0 in
     let less = subst (λ n. c.loop-section.section < n) c.sections-section-end.ensures c.loop-section-test.true in (
-      enter_some (g.met.S.Splitting.lawful c.args.run.now) (g.met.S.Sections.sectioned c.args.run.now) c.requires _ _ at c.in-Some.after.now less (sym c.in-Some.ensures),
+      enter_some (g.S.Splitting.method c.args.run.now).lawful (g.met.S.Sections.sectioned c.args.run.now) c.requires _ _ at c.in-Some.after.now less (sym c.in-Some.ensures),
       told_passed _ _ _ at.reached at.behind _ _ c.loop-section.invariant.1 _ c.in-Some.after.now (sym c.in-Some.ensures) (stratum_is_no_step (c.loop-section.section + 1) c.loop-section.taken),
     )
 
@@ -48,7 +48,7 @@ pub returns-in_default-after_end : goal.returns-in_default-after_end
 returns-in_default-after_end g c =
     let at = c.loop-section.invariant.0 in
     let high = subst (λ n. n ≤ c.loop-section.section) c.sections-section-end.ensures c.loop-section-test.false in
-    refused_behind c.args.log.now (sectioned_reads (g.met.S.Splitting.lawful c.args.run.now) (g.met.S.Sections.sectioned c.args.run.now) c.requires at.is_head c.args.log.now) at.member at.reached at.behind c.loop-section.invariant.1 (c.loop-section.lines + 1) refl (end_none (g.met.S.Splitting.lawful c.args.run.now) (g.met.S.Sections.sectioned c.args.run.now) c.requires _ _ at high (sym c.in_default-after_end.ensures))
+    refused_behind c.args.log.now (sectioned_reads (g.S.Splitting.method c.args.run.now).lawful (g.met.S.Sections.sectioned c.args.run.now) c.requires at.is_head c.args.log.now) at.member at.reached at.behind c.loop-section.invariant.1 (c.loop-section.lines + 1) refl (end_none (g.S.Splitting.method c.args.run.now).lawful (g.met.S.Sections.sectioned c.args.run.now) c.requires _ _ at high (sym c.in_default-after_end.ensures))
 
 pub returns-then-not-is_empty : goal.returns-then-not-is_empty
 returns-then-not-is_empty g c =
@@ -56,8 +56,8 @@ returns-then-not-is_empty g c =
     let high = subst (λ n. n ≤ c.loop-section.section) c.sections-section-end.ensures c.loop-section-test.false in
     let something : 0 < length c.in-Some-after_end.after.now = search rules in
     let cut = first_is (end_line c.loop-section.steps) c.loop-section.rest.now c.in-Some-after_end.after.now (sym c.in-Some-after_end.ensures) in
-    let none = none_along (g.S.Splitting.tree c.args.run.now) c.loop-section.state (end_line c.loop-section.steps ∷ []) (done_behind (g.met.S.Splitting.lawful c.args.run.now) (g.met.S.Sections.sectioned c.args.run.now) c.requires _ _ at high) in
-    refused_at c.args.log.now (sectioned_reads (g.met.S.Splitting.lawful c.args.run.now) (g.met.S.Sections.sectioned c.args.run.now) c.requires at.is_head c.args.log.now) at.member (c.loop-section.lines + 1) (c.loop-section.lines + 2) (omega arith) (something_behind (g.met.S.Splitting.lawful c.args.run.now) (g.met.S.Sections.sectioned c.args.run.now) c.requires _ _ at c.in-Some-after_end.after.now high (sym c.in-Some-after_end.ensures) something)
+    let none = none_along (g.S.Splitting.method c.args.run.now).tree c.loop-section.state (end_line c.loop-section.steps ∷ []) (done_behind (g.S.Splitting.method c.args.run.now).lawful (g.met.S.Sections.sectioned c.args.run.now) c.requires _ _ at high) in
+    refused_at c.args.log.now (sectioned_reads (g.S.Splitting.method c.args.run.now).lawful (g.met.S.Sections.sectioned c.args.run.now) c.requires at.is_head c.args.log.now) at.member (c.loop-section.lines + 1) (c.loop-section.lines + 2) (omega arith) (something_behind (g.S.Splitting.method c.args.run.now).lawful (g.met.S.Sections.sectioned c.args.run.now) c.requires _ _ at c.in-Some-after_end.after.now high (sym c.in-Some-after_end.ensures) something)
     (told_part _ _ _ at.reached at.behind _ _ c.loop-section.invariant.1) (told_over _ _ _ at.reached at.behind _ _ c.loop-section.invariant.1 (end_line c.loop-section.steps) c.in-Some-after_end.after.now cut none)
 
 pub returns : goal.returns
@@ -65,10 +65,10 @@ returns g c =
     let at = c.loop-section.invariant.0 in
     let high = subst (λ n. n ≤ c.loop-section.section) c.sections-section-end.ensures c.loop-section-test.false in
     let none : length c.in-Some-after_end.after.now ≡ 0 = search rules in
-    let done = done_behind (g.met.S.Splitting.lawful c.args.run.now) (g.met.S.Sections.sectioned c.args.run.now) c.requires _ _ at high in
-    let genuine = replayed (g.met.S.Splitting.lawful c.args.run.now) (g.met.S.Sections.sectioned c.args.run.now) c.requires _ _ at c.in-Some-after_end.after.now high (sym c.in-Some-after_end.ensures) none in
-    taken _ _ _ _ _ _ _ _ _ (record { genuine = genuine; told = sectioned_told _ _ (g.met.S.Splitting.lawful c.args.run.now) _ (g.met.S.Sections.sectioned c.args.run.now) _ c.requires _ _ at.is_head _ genuine }) (told_all _ _ _ at.reached at.behind _ _ c.loop-section.invariant.1 done)
-    (sym ((exact_sectioned _ _ (g.met.S.Splitting.lawful c.args.run.now) _ (g.met.S.Sections.sectioned c.args.run.now) _ c.requires _ at.is_head c.args.log.now).alone (Ok c.loop-section.state) genuine)) done at.member
+    let done = done_behind (g.S.Splitting.method c.args.run.now).lawful (g.met.S.Sections.sectioned c.args.run.now) c.requires _ _ at high in
+    let genuine = replayed (g.S.Splitting.method c.args.run.now).lawful (g.met.S.Sections.sectioned c.args.run.now) c.requires _ _ at c.in-Some-after_end.after.now high (sym c.in-Some-after_end.ensures) none in
+    taken _ _ _ _ _ _ _ _ _ (record { genuine = genuine; told = sectioned_told _ _ (g.S.Splitting.method c.args.run.now).lawful _ (g.met.S.Sections.sectioned c.args.run.now) _ c.requires _ _ at.is_head _ genuine }) (told_all _ _ _ at.reached at.behind _ _ c.loop-section.invariant.1 done)
+    (sym ((exact_sectioned _ _ (g.S.Splitting.method c.args.run.now).lawful _ (g.met.S.Sections.sectioned c.args.run.now) _ c.requires _ at.is_head c.args.log.now).alone (Ok c.loop-section.state) genuine)) done at.member
 
 -- ---- in a section
 
@@ -76,13 +76,13 @@ pub returns-in_default-step_first : goal.returns-in_default-step_first
 returns-in_default-step_first g c =
     let at = c.loop-state.invariant.0 in
     let none = rw (c.kind-kind.ensures, c.bound-bound.ensures) at (sym c.in_default-step_first.ensures) in
-    refused_behind c.args.log.now (sectioned_reads (g.met.S.Splitting.lawful c.args.run.now) (g.met.S.Sections.sectioned c.args.run.now) c.requires at.is_head c.args.log.now) at.member at.reached at.behind c.loop-state.invariant.1 (c.loop-state.lines + 1) refl (step_none (g.met.S.Splitting.lawful c.args.run.now) (g.met.S.Sections.sectioned c.args.run.now) c.requires _ _ at (sym c.section.ensures ∙ c.loop-state-test.true) none)
+    refused_behind c.args.log.now (sectioned_reads (g.S.Splitting.method c.args.run.now).lawful (g.met.S.Sections.sectioned c.args.run.now) c.requires at.is_head c.args.log.now) at.member at.reached at.behind c.loop-state.invariant.1 (c.loop-state.lines + 1) refl (step_none (g.S.Splitting.method c.args.run.now).lawful (g.met.S.Sections.sectioned c.args.run.now) c.requires _ _ at (sym c.section.ensures ∙ c.loop-state-test.true) none)
 
 pub returns-in_err-line : goal.returns-in_err-line
 returns-in_err-line g c =
     let at = c.loop-state.invariant.0 in
     let same : c.from_residual.result ≡ Err NoMemory = search rules in
-    rw same (out_behind c.args.log.now (sectioned_reads (g.met.S.Splitting.lawful c.args.run.now) (g.met.S.Sections.sectioned c.args.run.now) c.requires at.is_head c.args.log.now) at.member at.reached at.behind c.loop-state.invariant.1 c.in_err-line.ensures.err c.in_err-line.ensures.refused)
+    rw same (out_behind c.args.log.now (sectioned_reads (g.S.Splitting.method c.args.run.now).lawful (g.met.S.Sections.sectioned c.args.run.now) c.requires at.is_head c.args.log.now) at.member at.reached at.behind c.loop-state.invariant.1 c.in_err-line.ensures.err c.in_err-line.ensures.refused)
 
 pub advance-requires-clause-within : goal.advance-requires-clause-within
 advance-requires-clause-within g c = subst (λ bound. c.in-Some-step_first.value < bound) c.bound-bound.ensures (first_within c.kind-kind.result c.bound-bound.result _ c.loop-state.rest.now _ (sym c.in-Some-step_first.ensures))
@@ -94,20 +94,20 @@ pub loop-state-preserved : goal.loop-state-preserved
 loop-state-preserved g c =
     let at = c.loop-state.invariant.0 in
     let found = rw (c.kind-kind.ensures, c.bound-bound.ensures) at (sym c.in-Some-step_first.ensures) in
-    let going : (g.S.Splitting.tree c.args.run.now).done c.loop-state.state ≡ false = search rules in
+    let going : (g.S.Splitting.method c.args.run.now).tree.done c.loop-state.state ≡ false = search rules in
     rw (bool_cond (ltb 1 c.bound-bound.result), c.bound-bound.ensures, c.advance.ensures) (
-      step_some (g.met.S.Splitting.lawful c.args.run.now) (g.met.S.Sections.sectioned c.args.run.now) c.requires _ _ at c.in-Some-step_first.value c.in-Some-step_first.after.now (sym c.section.ensures ∙ c.loop-state-test.true) found,
+      step_some (g.S.Splitting.method c.args.run.now).lawful (g.met.S.Sections.sectioned c.args.run.now) c.requires _ _ at c.in-Some-step_first.value c.in-Some-step_first.after.now (sym c.section.ensures ∙ c.loop-state-test.true) found,
       told_step _ _ _ at.reached at.behind _ _ c.loop-state.invariant.1 c.in-Some-step_first.value c.in-Some-step_first.after.now _ going found (rw (c.kind-kind.ensures, c.bound-bound.ensures) at c.in_ok-line.ensures).ok,
     )
 
 pub returns-in_default-after_numbers : goal.returns-in_default-after_numbers
 returns-in_default-after_numbers g c =
     let at = c.loop-state.invariant.0 in
-    refused_behind c.args.log.now (sectioned_reads (g.met.S.Splitting.lawful c.args.run.now) (g.met.S.Sections.sectioned c.args.run.now) c.requires at.is_head c.args.log.now) at.member at.reached at.behind c.loop-state.invariant.1 (c.loop-state.lines + 1) refl (leave_none (g.met.S.Splitting.lawful c.args.run.now) (g.met.S.Sections.sectioned c.args.run.now) c.requires _ _ at (λ e. c.loop-state-test.false (c.section.ensures ∙ e)) (sym c.in_default-after_numbers.ensures))
+    refused_behind c.args.log.now (sectioned_reads (g.S.Splitting.method c.args.run.now).lawful (g.met.S.Sections.sectioned c.args.run.now) c.requires at.is_head c.args.log.now) at.member at.reached at.behind c.loop-state.invariant.1 (c.loop-state.lines + 1) refl (leave_none (g.S.Splitting.method c.args.run.now).lawful (g.met.S.Sections.sectioned c.args.run.now) c.requires _ _ at (λ e. c.loop-state-test.false (c.section.ensures ∙ e)) (sym c.in_default-after_numbers.ensures))
 
 pub loop-section-preserved : goal.loop-section-preserved
 loop-section-preserved g c =
     let at = c.loop-state.invariant.0 in (
-      leave_some (g.met.S.Splitting.lawful c.args.run.now) (g.met.S.Sections.sectioned c.args.run.now) c.requires _ _ at c.in-Some-after_numbers.after.now (λ e. c.loop-state-test.false (c.section.ensures ∙ e)) (sym c.in-Some-after_numbers.ensures),
+      leave_some (g.S.Splitting.method c.args.run.now).lawful (g.met.S.Sections.sectioned c.args.run.now) c.requires _ _ at c.in-Some-after_numbers.after.now (λ e. c.loop-state-test.false (c.section.ensures ∙ e)) (sym c.in-Some-after_numbers.ensures),
       told_passed _ _ _ at.reached at.behind _ _ c.loop-state.invariant.1 _ c.in-Some-after_numbers.after.now (sym c.in-Some-after_numbers.ensures) (done_is_no_step (c.loop-section.section + 1) c.loop-state.own),
     )

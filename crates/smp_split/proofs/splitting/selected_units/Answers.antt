@@ -6,7 +6,7 @@ use Rattle.smp_split.proofs.splitting.selected_units.Goals as goal
 
 pub loop-unit-preserved : goal.loop-unit-preserved
 loop-unit-preserved g c =
-    let tree = g.S.Splitting.tree c.args.design.now in
+    let tree = (g.S.Splitting.method c.args.design.now).tree in
     let test = tree.selected c.args.state.now in
     let here : c.loop-unit.unit < tree.units = omega (arith, c.units-unit-end.ensures, c.loop-unit-test.true) in
     elim c.if-selected.branch [

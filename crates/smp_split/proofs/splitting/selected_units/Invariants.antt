@@ -6,4 +6,4 @@ use Rattle.smp_split.proofs.splitting.selected_units.Given as goal
 -- the units so far, and those that are selected among the others
 abbrev pub invariant-loop-unit : goal.invariant-loop-unit
 invariant-loop-unit g l =
-    l.units.items ++ filter ((g.S.Splitting.tree l.design).selected l.state) (range_with_len l.unit ((g.S.Splitting.tree l.design).units - l.unit)) ≡ selected_units (g.S.Splitting.tree l.design) l.state
+    l.units.items ++ filter ((g.S.Splitting.method l.design).tree.selected l.state) (range_with_len l.unit ((g.S.Splitting.method l.design).tree.units - l.unit)) ≡ selected_units (g.S.Splitting.method l.design).tree l.state

@@ -10,29 +10,29 @@ use Rattle.smp_split.proofs.walking.walk.Goals as goal
 pub loop-state-smaller : goal.loop-state-smaller
 loop-state-smaller g c =
     let design = c.args.design.now in
-    let going : (g.S.Splitting.tree design).done c.loop-state.state ≡ false = search rules in
-    let within : c.in_ok-value.value < weight_sum ((g.S.Splitting.tree design).parts c.loop-state.state) = search rules in
-    picked_falls (g.S.Splitting.tree design) (g.S.Splitting.belongs design) (g.met.S.Splitting.lawful design) c.loop-state.state c.advance.new.state c.in_ok-value.value c.loop-state.invariant.member going within c.advance.ensures
+    let going : (g.S.Splitting.method design).tree.done c.loop-state.state ≡ false = search rules in
+    let within : c.in_ok-value.value < weight_sum ((g.S.Splitting.method design).tree.parts c.loop-state.state) = search rules in
+    picked_falls (g.S.Splitting.method design).tree (g.S.Splitting.method design).belongs (g.S.Splitting.method design).lawful c.loop-state.state c.advance.new.state c.in_ok-value.value c.loop-state.invariant.member going within c.advance.ensures
 
 pub loop-state-preserved : goal.loop-state-preserved
 loop-state-preserved g c =
-    let tree = g.S.Splitting.tree c.args.design.now in
+    let tree = (g.S.Splitting.method c.args.design.now).tree in
     let lines = g.T.Trace.lines in
     let entry : Entry = (c.kind-kind.result, c.bound-bound.result, c.in_ok-value.value) in
     let going : tree.done c.loop-state.state ≡ false = search rules in
-    Walking-step tree (g.S.Splitting.belongs c.args.design.now) (g.met.S.Splitting.lawful c.args.design.now) g.D.Draws.source
+    Walking-step tree (g.S.Splitting.method c.args.design.now).belongs (g.S.Splitting.method c.args.design.now).lawful g.D.Draws.source
     (position c.args.state.now c.args.draws.now (lines c.args.trace.now)) (position c.loop-state.state c.loop-state.draws (lines c.loop-state.trace)) (position c.advance.new.state c.below.new.self (lines c.line.new.self)) entry
     c.loop-state.invariant (record { going = going; kind = c.kind-kind.ensures; bound = c.bound-bound.ensures; value = c.in_ok-value.ensures.below })
     (ap (λ d. d.answer) c.in_ok-value.ensures.drawn) (sym (ap (λ d. d.rest) c.in_ok-value.ensures.drawn)) c.in_ok-line.ensures.ok c.advance.ensures
 
 pub returns-clause-arrived : goal.returns-clause-arrived
 returns-clause-arrived g c =
-    let tree = g.S.Splitting.tree c.args.design.now in
+    let tree = (g.S.Splitting.method c.args.design.now).tree in
     let walked = c.loop-state.invariant in
     let done : tree.done c.loop-state.state ≡ true = search rules in
     record {
       path = walked.path;
-      ran = run_to_leaf g.D.Draws.source tree (g.S.Splitting.belongs c.args.design.now) (g.met.S.Splitting.lawful c.args.design.now) c.args.state.now c.loop-state.state walked.path c.args.draws.now c.loop-state.draws c.requires
+      ran = run_to_leaf g.D.Draws.source tree (g.S.Splitting.method c.args.design.now).belongs (g.S.Splitting.method c.args.design.now).lawful c.args.state.now c.loop-state.state walked.path c.args.draws.now c.loop-state.draws c.requires
           (record { leads = walked.leads; done = done; gives = walked.gives });
       told = walked.told;
     }
@@ -40,7 +40,7 @@ returns-clause-arrived g c =
 pub returns-in_err-value-clause-refused : goal.returns-in_err-value-clause-refused
 returns-in_err-value-clause-refused g c refusal h =
     let source = g.D.Draws.source in
-    let tree = g.S.Splitting.tree c.args.design.now in
+    let tree = (g.S.Splitting.method c.args.design.now).tree in
     let lines = g.T.Trace.lines in
     let walked = c.loop-state.invariant in
     let fault = c.in_err-value.field-0.0 in
@@ -52,7 +52,7 @@ returns-in_err-value-clause-refused g c refusal h =
     subst (λ f. Refused source tree f (position c.args.state.now c.args.draws.now (lines c.args.trace.now)) (position c.loop-state.state c.below.new.self (lines c.loop-state.trace))) same
     (record {
       path = walked.path;
-      ran = run_to_stop source tree (g.S.Splitting.belongs c.args.design.now) (g.met.S.Splitting.lawful c.args.design.now) c.args.state.now c.loop-state.state walked.path fault c.args.draws.now c.below.new.self c.requires
+      ran = run_to_stop source tree (g.S.Splitting.method c.args.design.now).belongs (g.S.Splitting.method c.args.design.now).lawful c.args.state.now c.loop-state.state walked.path fault c.args.draws.now c.below.new.self c.requires
           (record { asked = c.loop-state.draws; leads = walked.leads; going = going; gives = walked.gives; refused = refused });
       told = walked.told;
     })
@@ -60,7 +60,7 @@ returns-in_err-value-clause-refused g c refusal h =
 pub returns-in_err-line-clause-untold : goal.returns-in_err-line-clause-untold
 returns-in_err-line-clause-untold g c h =
     let source = g.D.Draws.source in
-    let tree = g.S.Splitting.tree c.args.design.now in
+    let tree = (g.S.Splitting.method c.args.design.now).tree in
     let lines = g.T.Trace.lines in
     let walked = c.loop-state.invariant in
     let value = c.in_ok-value.value in

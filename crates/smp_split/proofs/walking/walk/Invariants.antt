@@ -7,7 +7,7 @@ invariant-loop-state g l =
     let s = g.S.Splitting in
     let d = g.D.Draws in
     let t = g.T.Trace in
-    Walking d.source (s.tree l.design) (s.belongs l.design) (position l.fn.state l.fn.draws (t.lines l.fn.trace)) (position l.state l.draws (t.lines l.trace))
+    Walking d.source (s.method l.design).tree (s.method l.design).belongs (position l.fn.state l.fn.draws (t.lines l.fn.trace)) (position l.state l.draws (t.lines l.trace))
 
 abbrev pub decreases-loop-state : goal.decreases-loop-state
-decreases-loop-state g l = (g.S.Splitting.tree l.design).rank l.state
+decreases-loop-state g l = (g.S.Splitting.method l.design).tree.rank l.state
