@@ -10,11 +10,11 @@ use Rattle.smp_moves.specs.Owed.{balance_of}
 use Rattle.smp_prob.specs.Inclusions.{inclusion}
 use Rattle.smp_flight.specs.Totals as free
 use Rattle.smp_stratcube.specs.Balances.{addend, expanded, weighed_of}
-use Rattle.smp_stratcube.specs.Cube.{Balancing, started, values_in}
+use Rattle.smp_stratcube.specs.States.{Balancing, started, values_in}
 use Rattle.smp_stratcube.specs.Layers.{AreLayers, IsLayer, Layer, first_of, no_layer, variables, width}
 use Rattle.smp_stratcube.specs.Units.{IsUnits, Units, members_from}
 use Rattle.smp_stratcube.specs.Values.{is_fractional, is_one, value_at}
-use Rattle.smp_stratcube.proofs.Balances.{strat_balanced}
+use Rattle.smp_stratcube.proofs.BySteps.{is_balanced as strat_balanced}
 use Rattle.smp_stratcube.proofs.Layered.{units_are}
 use Rattle.smp_balance.specs.Strata.{StratumUnits, AreStratumUnits, column_count, free_units, free_values}
 use Rattle.smp_balance.specs.Totals.{counted as counts_in, known, known_of}

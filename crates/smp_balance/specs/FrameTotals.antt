@@ -9,7 +9,8 @@ use Rattle.smp_rows.specs.Rows.{row_value}
 use Rattle.smp_moves.specs.Balances as moves
 use Rattle.smp_moves.specs.Balances.{Balance}
 use Rattle.smp_stratcube.specs.Balances.{HasIndependentColumns, IsStuck}
-use Rattle.smp_stratcube.specs.Cube.{Balancing, left_in, rows_in, started, strat_tree, values_in}
+use Rattle.smp_stratcube.specs.States.{Balancing, left_in, rows_in, started, values_in}
+use Rattle.smp_stratcube.specs.Cube.{strat_tree}
 use Rattle.smp_stratcube.specs.Layers.{Layer, layer_of}
 use Rattle.smp_stratcube.specs.Units.{Units, units_of}
 use Rattle.smp_stratcube.specs.Values.{fractional_count, is_fractional, is_one, value_at}

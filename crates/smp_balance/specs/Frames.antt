@@ -13,7 +13,7 @@ use Rattle.smp_frac.specs.declared.signed.Signed.{Signed}
 use Rattle.smp_kernel.specs.Vectors.{Within, entry}
 use Rattle.smp_weights.specs.Chosen.{ChosenArePositive, chosen_units}
 use Rattle.smp_weights.specs.Totals.{estimate_of}
-use Rattle.smp_stratcube.specs.Cube.{Balancing}
+use Rattle.smp_stratcube.specs.States.{Balancing}
 use Rattle.smp_balance.specs.declared.frames.DrawnRows as code
 use Rattle.smp_balance.specs.FrameTotals.{frame_estimated, frame_known}
 use Rattle.smp_balance.specs.Lines.{estimate_text}

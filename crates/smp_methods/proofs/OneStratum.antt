@@ -21,7 +21,8 @@ use Rattle.smp_flight.specs.Requests.{AreValues}
 use Rattle.smp_stratcube.specs.declared.values.Value.{Value}
 use Rattle.smp_stratcube.specs.Balances.{addend, target}
 use Rattle.smp_stratcube.specs.Counts.{HasCounts, selected_in}
-use Rattle.smp_stratcube.specs.Cube.{Balancing, requested_values as requested_values_of, started, strat_tree, values_in}
+use Rattle.smp_stratcube.specs.States.{Balancing, requested_values as requested_values_of, started, values_in}
+use Rattle.smp_stratcube.specs.Cube.{strat_tree}
 use Rattle.smp_stratcube.specs.Layers.{AreLayers, AreNumbers, Layer, layer_of, no_layer, variables, width}
 use Rattle.smp_stratcube.specs.Requests.{AreRequested}
 use Rattle.smp_stratcube.specs.Units.{IsUnits, Units, member_of, members_from, nobody, share, stratum, units_of}

@@ -14,7 +14,7 @@ use Rattle.smp_split.proofs.Methods.{has_means}
 use Rattle.smp_values.specs.Starts.{IsRequested, IsWhole}
 use Rattle.smp_values.proofs.Requests.{adds_to_draws}
 use Rattle.smp_design.specs.declared.method.Method as named
-use Rattle.smp_stratcube.specs.Cube.{started}
+use Rattle.smp_stratcube.specs.States.{started}
 use Rattle.smp_stratcube.specs.Layers.{Layer, layer_of}
 use Rattle.smp_stratcube.specs.Method as stratified_cube
 use Rattle.smp_stratcube.specs.Requests.{AreRequested}

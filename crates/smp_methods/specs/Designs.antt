@@ -19,7 +19,7 @@ use Rattle.smp_flight.specs.Selections.{left_in, starting}
 use Rattle.smp_landing.specs.Method as cube
 use Rattle.smp_localpiv.specs.Coordinates.{points_from}
 use Rattle.smp_localcube.specs.Method as local_cube
-use Rattle.smp_stratcube.specs.Cube as stratified
+use Rattle.smp_stratcube.specs.States as stratified
 use Rattle.smp_stratcube.specs.Layers.{Layer, layer_of}
 use Rattle.smp_stratcube.specs.Method as stratified_cube
 use Rattle.smp_stratcube.specs.Units as strata

@@ -7,7 +7,7 @@ use Rattle.smp_split.specs.Methods.{HasMeans, Starts}
 use Rattle.smp_values.specs.Starts.{IsRequested}
 use Rattle.smp_stratcube.specs.Balances.{IsBalanced}
 use Rattle.smp_stratcube.specs.Counts.{HasCounts}
-use Rattle.smp_stratcube.specs.Cube as stratified
+use Rattle.smp_stratcube.specs.States as stratified
 use Rattle.smp_stratcube.specs.Layers.{Layer}
 use Rattle.smp_stratcube.specs.Requests.{AreRequested}
 use Rattle.smp_stratcube.specs.Units.{units_of}

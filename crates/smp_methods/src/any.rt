@@ -3,7 +3,7 @@
 ghost use Rattle.std.specs.Prelude.{◌≡◌, ◌<◌, false, length, IfOk};
 ghost use Rattle.smp_prob.specs.Requests.{IsRequest};
 ghost use Rattle.smp_split.specs.Trees.{weight_sum};
-ghost use Rattle.smp_stratcube.specs.Cube as stratified;
+ghost use Rattle.smp_stratcube.specs.States as stratified;
 ghost use Rattle.smp_stratcube.specs.Layers.{AreLayers};
 ghost use Rattle.smp_stratcube.specs.Requests.{AreRequested};
 ghost use Rattle.smp_stratcube.specs.Units.{units_of};

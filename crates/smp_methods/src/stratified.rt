@@ -4,7 +4,7 @@ ghost use Rattle.std.specs.Prelude.{◌≡◌, ◌∷◌, [], IfOk, length};
 ghost use Rattle.smp_prob.specs.Requests.{IsRequest};
 ghost use Rattle.smp_values.specs.Starts.{IsRequested};
 ghost use Rattle.smp_flight.specs.Requests.{AreValues};
-ghost use Rattle.smp_stratcube.specs.Cube.{started};
+ghost use Rattle.smp_stratcube.specs.States.{started};
 ghost use Rattle.smp_stratcube.specs.Layers.{layer_of};
 ghost use Rattle.smp_stratcube.specs.Method.{method_of};
 ghost use Rattle.smp_stratcube.specs.Units.{units_of};

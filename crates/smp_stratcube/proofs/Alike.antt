@@ -20,9 +20,9 @@ use Rattle.smp_stratcube.specs.declared.steps.Next.TheVariants as answers
 use Rattle.smp_stratcube.specs.declared.values.Value.{Value}
 use Rattle.smp_stratcube.specs.Units.{Units, column, columns_of, first, share}
 use Rattle.smp_stratcube.specs.Values.{common_multiple, common_of, denominators, fractional_units, is_fractional, over_common, taken_over, touched_units, value}
-use Rattle.smp_stratcube.specs.Steps.{Flight, direction, line_common, moved_values, moves, next, next_along, next_of, product, products, scale_of, scaled, signed}
-use Rattle.smp_stratcube.specs.Moves.{Finds}
-use Rattle.smp_stratcube.specs.Cube.{IsFlying}
+use Rattle.smp_stratcube.specs.States.{Flight, IsFlying}
+use Rattle.smp_stratcube.specs.Kept.Computed.{direction, moved_values, moves, next, next_along, next_of}
+use Rattle.smp_stratcube.specs.Moves.{Finds, line_common, product, products, scale_of, scaled, signed}
 use Rattle.smp_stratcube.specs.Kept.Founds.{AreSeen, IsFound}
 use Rattle.smp_stratcube.specs.Kept.Fronts.{IsFront, front_units}
 use Rattle.smp_stratcube.specs.Kept.Moves.{IsAlong, IsMoveOf, IsStep}

@@ -22,12 +22,14 @@ use Rattle.smp_stratcube.specs.declared.units.Member.{Member}
 use Rattle.smp_stratcube.specs.declared.values.Value.{Value}
 use Rattle.smp_stratcube.specs.Units.{Units, IsUnits, column, member, nobody, share, stratum}
 use Rattle.smp_stratcube.specs.Values.{AreValues, IsValue, common_of, fractional_count, fractional_units, is_fractional, is_settled, nothing, over_common, touched_units, value, value_at}
-use Rattle.smp_stratcube.specs.Steps.{Flight, line_common, moved_values, next, direction}
+use Rattle.smp_stratcube.specs.States.{Balancing, Flight, IsBalancing, IsFlying, flying, landed, left_in, pairing, requested_value, started, values_in}
+use Rattle.smp_stratcube.specs.Moves.{Finds, line_common}
+use Rattle.smp_stratcube.specs.Kept.Computed.{direction, moved_values, next}
 use Rattle.smp_stratcube.specs.Pairs.{first_pair, kind_by, meeting, parts_by, settling, is_either, paired_parts}
-use Rattle.smp_stratcube.specs.Cube.{Balancing, flying, pairing, values_in, left_in, IsBalancing, IsFlying, flight_kind, flight_parts, landed, requested_value, started, strat_kind, strat_parts}
-use Rattle.smp_stratcube.specs.Balances.{IsBalanced, addend, expanded, weighed_of}
+use Rattle.smp_stratcube.specs.Cube.{flight_kind}
+use Rattle.smp_stratcube.specs.Kept.Trees.{IsBalanced, flight_parts, strat_kind, strat_parts, weighed_of}
+use Rattle.smp_stratcube.specs.Balances.{addend, expanded}
 use Rattle.smp_kernel.specs.Searches.{found}
-use Rattle.smp_stratcube.specs.Moves.{Finds}
 use Rattle.smp_stratcube.specs.Laws.Directions.{IsKnown, known, line_ok}
 use Rattle.smp_stratcube.specs.Laws.Moves.{IsEnd, plus_end, minus_end}
 use Rattle.smp_stratcube.specs.Laws.Pairs.{IsMeeting, pair_found}

@@ -14,7 +14,8 @@ use Rattle.smp_moves.proofs.LineEnds.{lowest_is}
 use Rattle.smp_moves.proofs.Weights.{within_from, within_to}
 use Rattle.smp_moves.specs.Moves.{Line}
 use Rattle.smp_stratcube.specs.Units.{Units, column, columns_of, share}
-use Rattle.smp_stratcube.specs.Steps.{direction_on, product, products, scale_of, scaled, signed}
+use Rattle.smp_stratcube.specs.Kept.Computed.{direction_on}
+use Rattle.smp_stratcube.specs.Moves.{product, products, scale_of, scaled, signed}
 use Rattle.smp_stratcube.specs.Kept.Gates.{held}
 use Rattle.smp_stratcube.specs.Kept.Lines.{AreParts, IsPart, direction_fits, no_part, over, part}
 use Rattle.smp_stratcube.specs.Laws.Directions.{entry-scaled, length-products, length-scaled}

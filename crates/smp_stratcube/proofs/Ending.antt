@@ -27,7 +27,8 @@ use Rattle.smp_stratcube.specs.declared.fronts.Front.{Front}
 use Rattle.smp_stratcube.specs.declared.values.Value.{Value}
 use Rattle.smp_stratcube.specs.Units.{Units, IsUnits, first, stratum}
 use Rattle.smp_stratcube.specs.Values.{AreValues, common_multiple, common_of, denominators, is_fractional, over_common, taken_over, touched_units, value}
-use Rattle.smp_stratcube.specs.Steps.{line_common, moves}
+use Rattle.smp_stratcube.specs.Moves.{line_common}
+use Rattle.smp_stratcube.specs.Kept.Computed.{moves}
 use Rattle.smp_stratcube.specs.Kept.Fronts.{IsFront, front_units, units_on}
 use Rattle.smp_stratcube.specs.Kept.Gates.{gated, gathered, held, with_unit}
 use Rattle.smp_stratcube.specs.Kept.Moves.{IsAlong, end_gathered, moved_value}

@@ -5,7 +5,7 @@ use Rattle.smp_stratcube.specs.declared.values.Value.{Value}
 use Rattle.smp_stratcube.specs.Units.{Units, stratum}
 use Rattle.smp_stratcube.specs.Values.{fractional_units, is_fractional}
 use Rattle.smp_stratcube.specs.Pairs.{IsFirstPair, IsPairOf, first_pair}
-use Rattle.smp_stratcube.specs.Cube.{IsPairing}
+use Rattle.smp_stratcube.specs.States.{IsPairing}
 use Rattle.smp_stratcube.specs.Laws.Units.{fractional_in, order_going, order_place}
 use Rattle.smp_stratcube.proofs.Ahead.{order_rises}
 use Rattle.smp_stratcube.proofs.Pairing.{apart}

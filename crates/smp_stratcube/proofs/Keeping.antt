@@ -6,7 +6,7 @@ use Rattle.smp_split.proofs.Parts.{picked-moved, weight_sum-moved}
 use Rattle.smp_split.proofs.Steps.{picked_belongs, picked_is_part}
 use Rattle.smp_prob.specs.Shares.{Shares}
 use Rattle.smp_moves.specs.Owed.{HasKept}
-use Rattle.smp_stratcube.specs.Balances.{weighed_of}
+use Rattle.smp_stratcube.specs.Kept.Trees.{flight_parts, strat_parts, strat_tree, weighed_of}
 use Rattle.smp_stratcube.proofs.Balances.{paired_kept}
 use Rattle.smp_moves.specs.Moves.{Line, Move, independent, move, turned, wide}
 use Rattle.smp_stratcube.specs.declared.fronts.Front.{Front}
@@ -15,9 +15,9 @@ use Rattle.smp_stratcube.specs.declared.state.Phase.TheVariants.{Flying, Pairing
 use Rattle.smp_stratcube.specs.declared.values.Value.{Value}
 use Rattle.smp_stratcube.specs.Units.{Units, stratum}
 use Rattle.smp_stratcube.specs.Values.{fractional_units, is_fractional, is_settled, taken_over, value}
-use Rattle.smp_stratcube.specs.Steps.{Flight, chosen, direction, moved_values, moves, next, next_along}
+use Rattle.smp_stratcube.specs.States.{Balancing, Flight, IsBalancing, IsFlying, IsPairing, dropped, flying, landed, pairing, values_in}
+use Rattle.smp_stratcube.specs.Kept.Computed.{chosen, direction, moved_values, moves, next, next_along}
 use Rattle.smp_stratcube.specs.Pairs.{first_pair, is_either, paired_parts, parts_by}
-use Rattle.smp_stratcube.specs.Cube.{Balancing, IsBalancing, IsFlying, IsPairing, dropped, flight_parts, flying, landed, pairing, strat_parts, strat_tree, values_in}
 use Rattle.smp_stratcube.specs.Laws.Splits.{strat_lawful}
 use Rattle.smp_stratcube.specs.Kept.Fronts.{IsAhead, IsFront, front_units}
 use Rattle.smp_stratcube.specs.Kept.States.{IsInFlight, IsNextOf, balancing_of}

@@ -8,14 +8,16 @@ use Rattle.smp_moves.specs.Moves.{Next, move, independent, wide}
 use Rattle.smp_moves.specs.Balances.{Begins}
 use Rattle.smp_stratcube.specs.Units.{Units, column, columns_of}
 use Rattle.smp_stratcube.specs.Values.{fractional_count, fractional_units}
-use Rattle.smp_stratcube.specs.Steps.{Flight, next}
+use Rattle.smp_stratcube.specs.States.{Balancing, Flight, IsBalancing, flying, pairing, rows_in, values_in}
+use Rattle.smp_stratcube.specs.Kept.Computed.{next}
 use Rattle.smp_stratcube.specs.Pairs.{first_pair, kind_by}
-use Rattle.smp_stratcube.specs.Cube.{Balancing, IsBalancing, flying, pairing, values_in, rows_in, flight_kind, strat_kind}
+use Rattle.smp_stratcube.specs.Cube.{flight_kind}
+use Rattle.smp_stratcube.specs.Kept.Trees.{strat_kind}
 use Rattle.smp_stratcube.specs.Balances.{IsStuck}
 use Rattle.smp_stratcube.specs.Moves.{IsNext}
 use Rattle.smp_stratcube.specs.Laws.Directions.{finds_none}
 use Rattle.smp_stratcube.specs.Laws.Splits.{order_count}
-use Rattle.smp_stratcube.proofs.Nexts.{next_is}
+use Rattle.smp_stratcube.specs.Laws.Nexts.{next_is}
 
 is_independent : (a : Next) → flight_kind a ≡ kind.Drop → a ≡ independent
 is_independent independent k = refl

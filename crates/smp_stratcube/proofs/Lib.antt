@@ -1,8 +1,8 @@
 pub mod Totals
-pub mod Nexts
 pub mod OneStep
 pub mod Landed
 pub mod Balances
+pub mod BySteps
 pub mod StratumSums
 pub mod Alone
 pub mod WholeStrata

@@ -21,11 +21,11 @@ use Rattle.smp_moves.proofs.Weights.{minus_some}
 use Rattle.smp_stratcube.specs.declared.values.Value.{Value}
 use Rattle.smp_stratcube.specs.Units.{Units, columns_of}
 use Rattle.smp_stratcube.specs.Values.{IsValue, fractional_units, nothing, over_common, value}
-use Rattle.smp_stratcube.specs.Steps.{Flight, direction, line_common, moved_values, next_along, scale_of, scaled}
-use Rattle.smp_stratcube.specs.Moves.{Finds, FitsAtEnds, IsDirection, IsFlown, IsMove, IsMovedTo, IsNarrow, IsNext, IsTooWide}
-use Rattle.smp_stratcube.specs.Cube.{IsFlying}
+use Rattle.smp_stratcube.specs.States.{Flight, IsFlying}
+use Rattle.smp_stratcube.specs.Kept.Computed.{direction, moved_values, next_along}
+use Rattle.smp_stratcube.specs.Moves.{Finds, FitsAtEnds, IsDirection, IsFlown, IsMove, IsMovedTo, IsNarrow, IsNext, IsTooWide, line_common, scale_of, scaled}
 use Rattle.smp_stratcube.specs.Laws.Directions.{is_direction}
-use Rattle.smp_stratcube.proofs.Nexts.{forth, is_move, over}
+use Rattle.smp_stratcube.specs.Laws.Nexts.{forth, is_move, over}
 
 -- ---- the values at the end
 

@@ -15,7 +15,7 @@ use Rattle.smp_stratcube.specs.declared.values.Value.{Value}
 use Rattle.smp_stratcube.specs.Units.{Units, IsUnits, share, stratum}
 use Rattle.smp_stratcube.specs.Values.{fractional_units, stratum_common, value}
 use Rattle.smp_stratcube.specs.Pairs.{first_pair}
-use Rattle.smp_stratcube.specs.Cube.{IsPairing}
+use Rattle.smp_stratcube.specs.States.{IsPairing}
 use Rattle.smp_stratcube.specs.Kept.Behind.{IsBehind, IsLeastOf, dens_behind}
 use Rattle.smp_stratcube.specs.Kept.Fronts.{IsFront, front_units, units_on}
 use Rattle.smp_stratcube.specs.Kept.Pairs.{HasStratum, common_in}

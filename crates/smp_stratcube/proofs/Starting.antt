@@ -18,7 +18,7 @@ use Rattle.smp_stratcube.specs.Kept.Layers.{EachIsLayer}
 use Rattle.smp_stratcube.specs.Laws.Taken.{lowest_same}
 use Rattle.smp_stratcube.proofs.Layered.{at_offset, units_are}
 use Rattle.smp_stratcube.specs.Values.{is_fractional, value}
-use Rattle.smp_stratcube.specs.Cube.{requested_value, requested_values, started}
+use Rattle.smp_stratcube.specs.States.{requested_value, requested_values, started}
 use Rattle.smp_stratcube.specs.Method.{method_of}
 use Rattle.smp_stratcube.specs.Kept.Fronts.{IsAhead, units_on}
 use Rattle.smp_moves.proofs.Filtered.{filter_all}

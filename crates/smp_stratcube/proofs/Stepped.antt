@@ -23,14 +23,14 @@ use Rattle.smp_stratcube.specs.declared.fronts.Front.{Front}
 use Rattle.smp_stratcube.specs.declared.values.Value.{Value}
 use Rattle.smp_stratcube.specs.Units.{Units, IsUnits, column, columns_of}
 use Rattle.smp_stratcube.specs.Values.{common_of, fractional_units, over_common, taken_over, value}
-use Rattle.smp_stratcube.specs.Steps.{Flight, direction, fits, line_common, moved_values, moves, next, next_along, next_of, scale_of, scaled}
-use Rattle.smp_stratcube.specs.Moves.{Finds}
+use Rattle.smp_stratcube.specs.States.{Flight, IsFlying}
+use Rattle.smp_stratcube.specs.Kept.Computed.{direction, fits, moved_values, moves, next, next_along, next_of}
+use Rattle.smp_stratcube.specs.Moves.{Finds, line_common, scale_of, scaled}
 use Rattle.smp_stratcube.specs.Kept.Fronts.{IsFront, front_units, units_on}
 use Rattle.smp_stratcube.specs.Kept.Lines.{IsLineOf, direction_fits}
 use Rattle.smp_stratcube.specs.Kept.Moves.{IsAlong, IsMoveOf, end_gathered}
 use Rattle.smp_stratcube.specs.Kept.Gates.{held}
 use Rattle.smp_stratcube.specs.Kept.Steps.{HasDirection}
-use Rattle.smp_stratcube.specs.Cube.{IsFlying}
 use Rattle.smp_stratcube.specs.Laws.Directions.{den_divides, den_some, line_ok, prefix_in, prefix_length, some_scaled}
 use Rattle.smp_moves.proofs.FirstPlaces.{front_small}
 use Rattle.smp_stratcube.proofs.Directed.{held_none, held_some}

@@ -15,9 +15,9 @@ use Rattle.smp_moves.specs.Owed.{weighed_total}
 use Rattle.smp_stratcube.specs.declared.values.Value.{Value}
 use Rattle.smp_stratcube.specs.Units.{Units, stratum}
 use Rattle.smp_stratcube.specs.Values.{AreValues, is_fractional, is_one, value, value_at}
-use Rattle.smp_stratcube.specs.Cube.{Balancing, values_in}
+use Rattle.smp_stratcube.specs.States.{Balancing, values_in}
 use Rattle.smp_stratcube.specs.Counts.{selected_in}
-use Rattle.smp_stratcube.specs.Balances.{weighed_of}
+use Rattle.smp_stratcube.specs.Kept.Trees.{weighed_of}
 use Rattle.smp_stratcube.specs.Laws.Units.{fractional_in}
 
 -- ---- sums

@@ -23,10 +23,10 @@ use Rattle.smp_moves.proofs.Totals.{sum_stays, back_total}
 use Rattle.smp_fractions.proofs.Differences.{neg-diff}
 use Rattle.smp_stratcube.specs.Units.{Units, column, columns_of, share, stratum}
 use Rattle.smp_stratcube.specs.Values.{fractional_units, over_common, value_at}
-use Rattle.smp_stratcube.specs.Steps.{Flight, direction, line_common, moved_values, product, scale_of, signed}
+use Rattle.smp_stratcube.specs.States.{Flight, IsFlying}
+use Rattle.smp_stratcube.specs.Kept.Computed.{direction, moved_values}
+use Rattle.smp_stratcube.specs.Moves.{Finds, IsDirection, line_common, product, scale_of, signed}
 use Rattle.smp_stratcube.specs.Balances.{expanded}
-use Rattle.smp_stratcube.specs.Cube.{IsFlying}
-use Rattle.smp_stratcube.specs.Moves.{Finds, IsDirection}
 use Rattle.smp_stratcube.specs.Laws.Directions.{IsKnown, entry-scaled, is_direction, line_ok, prefix_in, prefix_length, scale_divides}
 use Rattle.smp_stratcube.specs.Laws.Moves.{plus_end, minus_end}
 

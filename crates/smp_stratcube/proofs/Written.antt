@@ -18,7 +18,8 @@ use Rattle.smp_moves.specs.Ends.{end_of, reach}
 use Rattle.smp_moves.specs.Moves.{IsLine, Line, turned}
 use Rattle.smp_moves.specs.Kept.Ends.{HasSmallEntries}
 use Rattle.smp_moves.proofs.Entries.{turned_line}
-use Rattle.smp_stratcube.specs.Steps.{line_common, moved_values, moves}
+use Rattle.smp_stratcube.specs.Moves.{line_common}
+use Rattle.smp_stratcube.specs.Kept.Computed.{moved_values, moves}
 use Rattle.smp_stratcube.specs.Kept.Moves.{AreMoved, IsAlong}
 use Rattle.smp_stratcube.proofs.Ending.{length_moved, moved_is}
 use Rattle.smp_stratcube.proofs.Pairing.{pair_of_front}
@@ -27,7 +28,7 @@ use Rattle.smp_stratcube.specs.declared.values.Value.{Value}
 use Rattle.smp_stratcube.specs.Units.{Units, IsUnits, stratum}
 use Rattle.smp_stratcube.specs.Values.{fractional_count, fractional_units, is_fractional, is_settled, nothing, over_common, stratum_common, taken_over, value}
 use Rattle.smp_stratcube.specs.Pairs.{first_pair, is_either, meeting, paired_parts, parts_by, settling}
-use Rattle.smp_stratcube.specs.Cube.{IsPairing}
+use Rattle.smp_stratcube.specs.States.{IsPairing}
 use Rattle.smp_stratcube.specs.Kept.Fronts.{IsFront, front_units}
 use Rattle.smp_stratcube.specs.Kept.Pairs.{HasStratum, as_value, met_at, settled_value}
 use Rattle.smp_stratcube.specs.Laws.Pairs.{IsMeeting, pair_found}

@@ -9,8 +9,10 @@ use Rattle.smp_moves.specs.Moves.{fraction_of}
 use Rattle.smp_moves.specs.Owed.{Weighed, balance_of}
 use Rattle.smp_stratcube.specs.Units.{Units, column, columns_of, share, stratum}
 use Rattle.smp_stratcube.specs.Values.{fractional_count, fractional_units, value}
-use Rattle.smp_stratcube.specs.Moves.{IsTooWide}
-use Rattle.smp_stratcube.specs.Cube.{Balancing, flying, pairing, left_in, rows_in, strat_tree, values_in}
+use Rattle.smp_stratcube.specs.States.{Balancing, flying, left_in, pairing, rows_in, values_in}
+use Rattle.smp_stratcube.specs.Moves.{IsTooWide, Stepping}
+use Rattle.smp_stratcube.specs.Steps.{stepping}
+use Rattle.smp_stratcube.specs.Cube.{tree_by}
 
 -- What a unit counts for in the total of a row. In the row of a stratum it is 1 for its units and 0 for all others; in the row of a
 -- variable it is its balancing value divided by its probability.
@@ -50,10 +52,11 @@ NextDoesNotFit units (pairing values left) = ⊥
 abbrev pub IsStuck : Units → Balancing → Type 0
 IsStuck units s = NoDirectionLeft units s ⊎ NextDoesNotFit units s
 
--- The total of a row at a state is the sum of what each unit counts for, times its value.
-abbrev pub weighed_of : Units → Weighed Balancing
-weighed_of units = record {
-  tree = strat_tree units;
+-- The total of a row at a state is the sum of what each unit counts for, times its value: in the tree by such steps, and in that of the
+-- cube.
+abbrev pub weighed_by : Stepping → Units → Weighed Balancing
+weighed_by steps units = record {
+  tree = tree_by steps units;
   rows = rows_in;
   left = left_in;
   undecided = λ s. fractional_count (values_in s);
@@ -65,6 +68,9 @@ weighed_of units = record {
   independent = HasIndependentColumns units;
   stuck = IsStuck units;
 }
+
+abbrev pub weighed_of : Units → Weighed Balancing
+weighed_of = weighed_by stepping
 
 -- the cube over all strata of these units is balanced from a state
 abbrev pub IsBalanced : Units → Balancing → Type 0

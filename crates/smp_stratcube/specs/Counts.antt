@@ -3,9 +3,11 @@ use Rattle.std.specs.Prelude.{◌≡◌, ℕ, ◌<◌, nat_eq, ◌&&◌, length}
 use Rattle.std.specs.List.{count_by, range_with_len}
 use Rattle.smp_fractions.specs.Fractions.{Same, whole}
 use Rattle.smp_split.specs.Paths.{AtEachLeaf}
+use Rattle.smp_split.specs.Trees.{Tree}
 use Rattle.smp_stratcube.specs.Units.{Units, stratum}
 use Rattle.smp_stratcube.specs.Values.{is_one}
-use Rattle.smp_stratcube.specs.Cube.{Balancing, strat_tree, values_in}
+use Rattle.smp_stratcube.specs.States.{Balancing, values_in}
+use Rattle.smp_stratcube.specs.Cube.{strat_tree}
 use Rattle.smp_stratcube.specs.Balances.{target}
 
 -- how many units of stratum h are selected
@@ -15,7 +17,11 @@ selected_in units h state =
     (range_with_len 0 (length units.members))
 
 -- where the requested probabilities of a stratum add up to a whole number, each leaf selects that many of its units
-abbrev pub HasCounts : Units → Balancing → Type 0
-HasCounts units state =
+abbrev pub HasCountsIn : Tree Balancing → Units → Balancing → Type 0
+HasCountsIn tree units state =
     (h n : ℕ) → h < length units.firsts → Same (target units h) (whole n)
-    → AtEachLeaf (strat_tree units) state (λ path leaf. selected_in units h leaf ≡ n)
+    → AtEachLeaf tree state (λ path leaf. selected_in units h leaf ≡ n)
+
+-- so it is in the tree of the cube
+abbrev pub HasCounts : Units → Balancing → Type 0
+HasCounts units = HasCountsIn (strat_tree units) units

@@ -9,3 +9,5 @@ pub mod Pairs
 pub mod States
 pub mod Behind
 pub mod Layers
+pub mod Computed
+pub mod Trees

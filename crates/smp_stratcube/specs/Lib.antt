@@ -1,8 +1,9 @@
 pub mod Layers
 pub mod Units
 pub mod Values
-pub mod Steps
+pub mod States
 pub mod Moves
+pub mod Steps
 pub mod Pairs
 pub mod Cube
 pub mod Requests

@@ -1,5 +1,7 @@
 -- A step of the flight by its properties: the direction of a circuit, the move along it, and where a number passes its gate.
-use Rattle.std.specs.Prelude.{◌≡◌, ◌≢◌, ℕ, ◌<◌, ◌≤◌, true, List, ℤ, pos, length, take}
+use Rattle.std.specs.Prelude.{◌≡◌, ◌≢◌, ℕ, ◌*◌, ◌/◌, ◌<◌, ◌≤◌, true, Bool, List, [], ◌∷◌, ◌++◌, ℤ, pos, negsuc, neg_ℤ}
+use Rattle.std.specs.Prelude.{length, map, take}
+use Rattle.std.specs.Int.RustNames.{unsigned_abs}
 use Rattle.std.specs.Int.{IsGcd}
 use Rattle.smp_fractions.specs.Fractions.{Same, whole, integer, plus, times}
 use Rattle.smp_fractions.specs.Limits.{most_denominator, most_entry}
@@ -9,11 +11,49 @@ use Rattle.smp_kernel.specs.Reduced.{IsReduced}
 use Rattle.smp_kernel.specs.Searches.{Search, found, none, too_wide, IsSearch}
 use Rattle.smp_moves.specs.declared.lines.Ratio.{Ratio}
 use Rattle.smp_moves.specs.Moves.{Line, Move, IsGreatest, entry_of, fraction_of, turned}
-use Rattle.smp_moves.specs.Moves.{Next, move, independent, wide}
+use Rattle.smp_moves.specs.Moves.{Next, move, independent, wide, chosen_line, chosen_extent}
+use Rattle.smp_moves.specs.Ends.{lowest}
 use Rattle.smp_stratcube.specs.declared.values.Value.{Value}
-use Rattle.smp_stratcube.specs.Units.{Units, columns_of}
-use Rattle.smp_stratcube.specs.Values.{AreValues, common_of, fractional_units, over_common, value, value_at}
-use Rattle.smp_stratcube.specs.Steps.{Flight, line_common, scale_of, scaled}
+use Rattle.smp_stratcube.specs.Units.{Units, columns_of, first, share}
+use Rattle.smp_stratcube.specs.Values.{AreValues, common_multiple, common_of, denominators, fractional_units, over_common, touched_units}
+use Rattle.smp_stratcube.specs.Values.{value, value_at}
+use Rattle.smp_stratcube.specs.States.{Flight, IsFlying}
+
+-- ---- the numbers of a direction
+
+-- a probability times the size of a factor
+abbrev pub product : Ratio → ℤ → Ratio
+product r w = lowest (r.num * unsigned_abs w) r.den
+
+-- the products at these units, each with its factor
+abbrev pub products : Units → List ℕ → List ℤ → List Ratio
+products units [] w = []
+products units (k ∷ order) [] = []
+products units (k ∷ order) (f ∷ w) = product (share units k) f ∷ products units order w
+
+-- the least common denominator of the products of probability and factor
+abbrev pub scale_of : Units → List ℕ → List ℤ → ℕ
+scale_of units order w = common_multiple (map (λ (r : Ratio). r.den) (products units order w))
+
+-- a number with the sign of a factor
+abbrev pub signed : ℤ → ℕ → ℤ
+signed (pos n) m = pos m
+signed (negsuc n) m = neg_ℤ (pos m)
+
+-- the products as numerators over a common denominator, each with the sign of its factor
+abbrev pub scaled : Units → ℕ → List ℕ → List ℤ → List ℤ
+scaled units den [] w = []
+scaled units den (k ∷ order) [] = []
+scaled units den (k ∷ order) (f ∷ w) =
+    signed f ((product (share units k) f).num * (den / (product (share units k) f).den))
+    ∷ scaled units den order w
+
+-- the common denominator of a state and of the strata of these units
+abbrev pub line_common : Units → List Value → List ℕ → ℕ
+line_common units values prefix =
+    common_multiple (denominators units values (touched_units values) ++ map (first units) prefix)
+
+-- ---- the step
 
 -- what a search through the columns of the fractional units, cut to the rows in force, answers
 abbrev pub Finds : Units → Flight → Search → Type 0
@@ -80,3 +120,13 @@ abbrev pub IsNext : Units → Flight → Next → Type 0
 IsNext units f (move m) = IsFlown units f m
 IsNext units f independent = Finds units f none
 IsNext units f wide = IsTooWide units f
+
+-- The step of a state, and the values at the end of a line: any functions with these properties. They leave no choice at a state of the
+-- flight.
+pub record Stepping : Type 0 where
+  pub next : Units → Flight → Next
+  pub end_at : Units → List Value → Line → List Value
+  pub is_next : (units : Units) (f : Flight) → IsFlying units f → IsNext units f (next units f)
+  pub is_moved :
+      (units : Units) (f : Flight) → IsFlying units f → (m : Move) → next units f ≡ move m → (plus : Bool) →
+      IsMovedTo f.values (chosen_line m plus) (chosen_extent m plus) (end_at units f.values (chosen_line m plus))

@@ -3,9 +3,10 @@ use Rattle.std.specs.Prelude.{◌≡◌, List}
 use Rattle.smp_moves.specs.Moves.{Next}
 use Rattle.smp_split.specs.Trees.{Lawful}
 use Rattle.smp_stratcube.specs.Units.{Units, IsUnits}
-use Rattle.smp_stratcube.specs.Steps.{Flight, next}
+use Rattle.smp_stratcube.specs.States.{Flight, IsBalancing, IsFlying, IsPairing, started}
+use Rattle.smp_stratcube.specs.Steps.{stepping}
 use Rattle.smp_stratcube.specs.Moves.{IsNext}
-use Rattle.smp_stratcube.specs.Cube.{IsBalancing, IsFlying, IsPairing, started, strat_tree}
+use Rattle.smp_stratcube.specs.Cube.{strat_tree}
 use Rattle.smp_stratcube.specs.declared.values.Value.{Value}
 use Rattle.smp_stratcube.specs.Values.{fractional_units}
 use Rattle.smp_stratcube.specs.Pairs.{IsPairOf, first_pair}
@@ -26,7 +27,7 @@ EachCounted = (units : Units) → IsUnits units → HasCounts units (started uni
 
 -- the step of a state has the properties of a step
 abbrev pub EachNext : Type 0
-EachNext = (units : Units) (f : Flight) → IsFlying units f → IsNext units f (next units f)
+EachNext = (units : Units) (f : Flight) → IsFlying units f → IsNext units f (stepping.next units f)
 
 -- and no other has
 abbrev pub OneNext : Type 0

@@ -1,116 +1,17 @@
--- A step of the flight: the move along the circuit that a search finds, nothing where the columns are independent, or wide where a
--- number would pass its gate.
-use Rattle.std.specs.Prelude.{ℕ, ◌*◌, ◌/◌, nat_le, nat_eq, not, ◌&&◌, Bool, if◌then◌else◌, List, [], ◌∷◌}
-use Rattle.std.specs.Prelude.{◌++◌, ℤ, pos, negsuc, neg_ℤ, length, map, take}
-use Rattle.std.specs.Int.RustNames.{unsigned_abs}
-use Rattle.smp_fractions.specs.Limits.{most_denominator}
-use Rattle.smp_kernel.specs.Searches.{Search, found, none, too_wide}
-use Rattle.smp_moves.specs.Kept.Searches.{search}
-use Rattle.smp_kernel.specs.Reduced.{primitive_part}
-use Rattle.smp_moves.specs.declared.lines.Ratio.{Ratio}
-use Rattle.smp_moves.specs.Moves.{Line, Move, entry_of, turned, Next, move, independent, wide, chosen_line}
-use Rattle.smp_moves.specs.Ends.{lowest, end_of, move_along, entries_fit}
-use Rattle.smp_stratcube.specs.declared.values.Value.{Value}
-use Rattle.smp_stratcube.specs.Units.{Units, columns_of, first, share}
-use Rattle.smp_stratcube.specs.Values.{common_multiple, common_of, denominators, fractional_units, over_common, taken_over, touched_units}
+-- One step of the flight, as a function of the state, and the end of a move. They have the properties of `Stepping`, and no other step
+-- has: `strat_law` says both. How they are found is no part of what is said.
+use Rattle.smp_stratcube.specs.Moves.{Stepping}
+use Rattle.smp_stratcube.specs.Laws.Nexts.{each_step}
 
--- a state of the flight: the values, and how many rows are in force, which are the first ones
-pub record Flight : Type 0 where
-  pub values : List Value
-  pub rows : ℕ
+-- the steps, of which there is only one kind
+pub stepping : Stepping
+stepping = each_step
 
--- ---- the direction
+-- what holds of the steps that the code finds holds of these
+pub of_steps : (P : Stepping → Type 0) → P each_step → P stepping
+unfolding stepping
+of_steps P holds = holds
 
--- a probability times the size of a factor
-abbrev pub product : Ratio → ℤ → Ratio
-product r w = lowest (r.num * unsigned_abs w) r.den
-
--- the products at these units, each with its factor
-abbrev pub products : Units → List ℕ → List ℤ → List Ratio
-products units [] w = []
-products units (k ∷ order) [] = []
-products units (k ∷ order) (f ∷ w) = product (share units k) f ∷ products units order w
-
--- the least common denominator of the products of probability and factor
-abbrev pub scale_of : Units → List ℕ → List ℤ → ℕ
-scale_of units order w = common_multiple (map (λ (r : Ratio). r.den) (products units order w))
-
--- a number with the sign of a factor
-abbrev pub signed : ℤ → ℕ → ℤ
-signed (pos n) m = pos m
-signed (negsuc n) m = neg_ℤ (pos m)
-
--- the products as numerators over a common denominator, each with the sign of its factor
-abbrev pub scaled : Units → ℕ → List ℕ → List ℤ → List ℤ
-scaled units den [] w = []
-scaled units den (k ∷ order) [] = []
-scaled units den (k ∷ order) (f ∷ w) =
-    signed f ((product (share units k) f).num * (den / (product (share units k) f).den))
-    ∷ scaled units den order w
-
--- the direction at these units: in proportion to probability times factor, in whole numbers without common divisor
-abbrev pub direction_on : Units → List ℕ → List ℤ → Line
-direction_on units prefix w = record {
-  units = prefix;
-  entries = primitive_part (scaled units (scale_of units prefix w) prefix w);
-}
-
--- the direction of the circuit w of the first of these units
-abbrev pub direction : Units → List ℕ → List ℤ → Line
-direction units order w = direction_on units (take (length w) order) w
-
--- ---- the ends
-
--- the common denominator of a state and of the strata of these units
-abbrev pub line_common : Units → List Value → List ℕ → ℕ
-line_common units values prefix =
-    common_multiple (denominators units values (touched_units values) ++ map (first units) prefix)
-
--- whether the line moves a unit
-abbrev pub moves : Line → ℕ → Bool
-moves line k = not (nat_eq (unsigned_abs (entry_of line k)) 0)
-
--- the values at the end of a line
-abbrev pub moved_values : Units → List Value → Line → List Value
-moved_values units values line =
-    let den = line_common units values line.units in
-    taken_over (moves line) values (end_of 1 (over_common den values) line)
-
--- ---- the step
-
--- whether each number fits its gate: the common denominator of the products, the entries of the direction, the common denominator of
--- the state with the strata of the units, and those of both ends
-abbrev pub fits : Units → List Value → List ℕ → List ℤ → Bool
-fits units values order w =
-    let line = direction units order w in
-    nat_le (scale_of units (take (length w) order) w) most_denominator
-    && (entries_fit line
-    && (nat_le (line_common units values line.units) most_denominator
-    && (nat_le (common_of units (moved_values units values line)) most_denominator
-    && nat_le (common_of units (moved_values units values (turned line))) most_denominator)))
-
--- the move along a line
-abbrev pub next_along : Units → List Value → Line → Move
-next_along units values line =
-    move_along (over_common (line_common units values line.units) values) line
-
--- the step, by what the search answered
-abbrev pub next_of : Units → List Value → List ℕ → Search → Next
-next_of units values order (found w) =
-    if fits units values order w then move (next_along units values (direction units order w))
-    else wide
-next_of units values order none = independent
-next_of units values order too_wide = wide
-
--- the step of a state, whose search goes through the fractional units in their order
-abbrev pub next : Units → Flight → Next
-next units f =
-    let order = fractional_units f.values in
-    next_of units f.values order (search f.rows (columns_of units order))
-
--- the end that is chosen
-abbrev pub chosen : Units → Flight → Move → Bool → Flight
-chosen units f m plus = record {
-  values = moved_values units f.values (chosen_line m plus);
-  rows = f.rows;
-}
+pub from_steps : (P : Stepping → Type 0) → P stepping → P each_step
+unfolding stepping
+from_steps P holds = holds

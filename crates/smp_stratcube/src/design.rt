@@ -4,7 +4,7 @@ ghost use Rattle.std.specs.Prelude.{◌≡◌, ◌≤◌, IfOk, length};
 ghost use Rattle.smp_stratcube.specs.Layers.{AreLayers};
 ghost use Rattle.smp_stratcube.specs.Units.{IsUnits, Units, units_of};
 ghost use Rattle.smp_stratcube.specs.Requests.{AreRequested};
-ghost use Rattle.smp_stratcube.specs.Cube.{left_in, requested_values, started};
+ghost use Rattle.smp_stratcube.specs.States.{left_in, requested_values, started};
 ghost use Rattle.smp_stratcube.specs.Balances.{IsBalanced};
 ghost use Rattle.smp_stratcube.specs.Counts.{HasCounts};
 ghost use Rattle.smp_split.specs.Methods.{HasMeans};

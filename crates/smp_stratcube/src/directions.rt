@@ -6,7 +6,7 @@ ghost use Rattle.std.specs.List.{All};
 ghost use Rattle.smp_fractions.specs.Limits.{most_denominator, most_entry, number_limit};
 ghost use Rattle.smp_kernel.specs.Vectors.{IsZero, Within, entry};
 ghost use Rattle.smp_stratcube.specs.Units.{IsUnits, columns_of};
-ghost use Rattle.smp_stratcube.specs.Steps.{product, scale_of, scaled, signed};
+ghost use Rattle.smp_stratcube.specs.Moves.{product, scale_of, scaled, signed};
 ghost use Rattle.smp_stratcube.specs.Values.{common_multiple};
 ghost use Rattle.smp_stratcube.specs.Kept.Gates.{IsSome, held};
 ghost use Rattle.smp_stratcube.specs.Kept.Lines.{AreInside, AreParts, IsLineOf, IsPart, direction_fits, over, part};

@@ -8,7 +8,7 @@ ghost use Rattle.smp_moves.specs.Answers.{IsPadded, line_of};
 ghost use Rattle.smp_moves.specs.Kept.Ends.{CanMove, HasSmallEntries};
 ghost use Rattle.smp_stratcube.specs.Units.{IsUnits};
 ghost use Rattle.smp_stratcube.specs.Values.{IsValue, AreValues, over_common, value};
-ghost use Rattle.smp_stratcube.specs.Steps.{line_common};
+ghost use Rattle.smp_stratcube.specs.Moves.{line_common};
 ghost use Rattle.smp_stratcube.specs.Kept.Fronts.{IsFront};
 ghost use Rattle.smp_stratcube.specs.Kept.Gates.{held};
 ghost use Rattle.smp_stratcube.specs.Kept.Lines.{AreInside};

@@ -2,7 +2,7 @@
 
 ghost use Rattle.std.specs.Prelude.{◌≡◌, ℕ, ◌<◌, ◌≤◌, IfSome, None, Some, length, slice_index, true};
 ghost use Rattle.smp_stratcube.specs.Units.{IsUnits};
-ghost use Rattle.smp_stratcube.specs.Cube.{IsFlying};
+ghost use Rattle.smp_stratcube.specs.States.{IsFlying};
 ghost use Rattle.smp_stratcube.specs.Kept.Fronts.{IsFront};
 ghost use Rattle.smp_stratcube.specs.Kept.Founds.{AreSeen, IsFound, IsSeen};
 ghost use Rattle.smp_stratcube.specs.Kept.Lines.{AreInside};

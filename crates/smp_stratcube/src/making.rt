@@ -8,7 +8,7 @@ ghost use Rattle.smp_kernel.specs.Vectors.{entry};
 ghost use Rattle.smp_stratcube.specs.Layers.{AreLayers, variables, width};
 ghost use Rattle.smp_stratcube.specs.Units.{IsUnits, column_of, member_of, units_of};
 ghost use Rattle.smp_stratcube.specs.Requests.{AreRequested};
-ghost use Rattle.smp_stratcube.specs.Cube.{started};
+ghost use Rattle.smp_stratcube.specs.States.{started};
 ghost use Rattle.smp_stratcube.specs.Kept.Behind.{AreBehind, HaveCommon};
 ghost use Rattle.smp_stratcube.specs.Kept.Layers.{EachIsLayer};
 

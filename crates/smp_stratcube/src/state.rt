@@ -3,9 +3,9 @@
 ghost use Rattle.std.specs.Prelude.{◌≡◌, ◌*◌, ◌<◌, ◌≤◌, false, length};
 ghost use Rattle.smp_fractions.specs.Limits.{most_rows};
 ghost use Rattle.smp_split.specs.Trees.{picked, weight_sum};
-ghost use Rattle.smp_stratcube.specs.Steps.{Flight};
+ghost use Rattle.smp_stratcube.specs.States.{Balancing, Flight, IsBalancing, IsFlying, landed, values_in};
 ghost use Rattle.smp_stratcube.specs.Values.{fractional_count, is_one, is_settled};
-ghost use Rattle.smp_stratcube.specs.Cube.{Balancing, IsBalancing, IsFlying, landed, strat_kind, strat_parts, values_in};
+ghost use Rattle.smp_stratcube.specs.Kept.Trees.{strat_kind, strat_parts};
 ghost use Rattle.smp_stratcube.specs.Kept.Fronts.{IsFront};
 ghost use Rattle.smp_stratcube.specs.Kept.Moves.{HasGone, IsMoveOf};
 ghost use Rattle.smp_stratcube.specs.Kept.States.{IsInFlight, IsKept, IsNextOf, balancing_of};

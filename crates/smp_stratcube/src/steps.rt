@@ -2,8 +2,7 @@
 
 ghost use Rattle.std.specs.Prelude.{◌≡◌, ◌≤◌, length};
 ghost use Rattle.smp_moves.specs.Answers.{line_of};
-ghost use Rattle.smp_stratcube.specs.Steps.{Flight};
-ghost use Rattle.smp_stratcube.specs.Cube.{IsFlying};
+ghost use Rattle.smp_stratcube.specs.States.{Flight, IsFlying};
 ghost use Rattle.smp_stratcube.specs.Kept.Fronts.{IsFront};
 ghost use Rattle.smp_stratcube.specs.Kept.Moves.{AreMoved, IsMoveOf, IsStep};
 ghost use Rattle.smp_stratcube.specs.Kept.Steps.{HasDirection};

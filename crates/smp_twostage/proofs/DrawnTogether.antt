@@ -24,7 +24,8 @@ use Rattle.smp_stages.specs.Stages.{read}
 use Rattle.smp_stages.specs.Laws.Reads.{some_within}
 use Rattle.smp_strata.specs.Plans.{Parts}
 use Rattle.smp_strata.specs.declared.strata.Stratum.{Stratum}
-use Rattle.smp_stratcube.specs.Cube.{Balancing, strat_tree, started, values_in}
+use Rattle.smp_stratcube.specs.States.{Balancing, started, values_in}
+use Rattle.smp_stratcube.specs.Cube.{strat_tree}
 use Rattle.smp_stratcube.specs.Values.{is_one}
 use Rattle.smp_twostage.specs.Cubes.{IsDrawnTogether, units_together}
 use Rattle.smp_twostage.specs.Plans.{CanBeDrawn}

@@ -37,8 +37,9 @@ use Rattle.smp_strata.specs.Plans.{Parts}
 use Rattle.smp_strata.specs.Seats.{stage_fraction}
 use Rattle.smp_strata.specs.declared.strata.Seat.{Seat}
 use Rattle.smp_strata.specs.declared.strata.Stratum.{Stratum}
-use Rattle.smp_stratcube.specs.Cube as together
-use Rattle.smp_stratcube.specs.Cube.{values_in}
+use Rattle.smp_stratcube.specs.Cube.{strat_tree}
+use Rattle.smp_stratcube.specs.States as together
+use Rattle.smp_stratcube.specs.States.{values_in}
 use Rattle.smp_stratcube.specs.declared.values.Value.{Value}
 use Rattle.smp_stratcube.specs.Balances.{addend, target}
 use Rattle.smp_stratcube.specs.Counts.{selected_in}
@@ -131,7 +132,7 @@ module _ (plan : Parts) (drawable : CanBeDrawn plan) (asked : AreRequested (laye
     -- where what is asked of the stratum is whole, the probabilities of its free units add up to it
     module _ (are : IsUnits (units_together plan)) where
       abbrev run_tree : Tree together.Balancing
-      run_tree = record (together.strat_tree (units_together plan)) {
+      run_tree = record (strat_tree (units_together plan)) {
         units = length s.request.free;
         value = λ t j. value_at (values_in t) (free_before plan.strata h + j);
       }

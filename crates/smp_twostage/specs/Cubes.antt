@@ -7,7 +7,8 @@ use Rattle.smp_localpiv.specs.Coordinates.{points_from}
 use Rattle.smp_landing.specs.Cube.{cube_of}
 use Rattle.smp_localcube.specs.Local.{local_of}
 use Rattle.smp_localcube.specs.Method.{LocalUnits, started}
-use Rattle.smp_stratcube.specs.Cube as together
+use Rattle.smp_stratcube.specs.Cube.{strat_tree}
+use Rattle.smp_stratcube.specs.States as together
 use Rattle.smp_stratcube.specs.Units as strata
 use Rattle.smp_balance.specs.Strata.{StratumUnits, free_units, free_values}
 use Rattle.smp_design.specs.declared.method.Method.TheVariants as method
@@ -63,5 +64,5 @@ units_together plan = strata.units_of (layers_of plan)
 pub record IsDrawnTogether (plan : Parts) (part : List Entry) (ends : List AnyState) : Type 0 where
   pub leaf : together.Balancing
   pub leaf_is : slice_get ends 0 ≡ Some (states.StratifiedCube leaf)
-  pub leads : Leads (together.strat_tree (units_together plan)) (together.started (units_together plan)) part leaf
-  pub ended : (together.strat_tree (units_together plan)).done leaf ≡ true
+  pub leads : Leads (strat_tree (units_together plan)) (together.started (units_together plan)) part leaf
+  pub ended : (strat_tree (units_together plan)).done leaf ≡ true

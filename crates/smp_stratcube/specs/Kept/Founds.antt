@@ -5,7 +5,7 @@ use Rattle.smp_stratcube.specs.declared.found.Seen.{Seen}
 use Rattle.smp_stratcube.specs.declared.fronts.Front.{Front}
 use Rattle.smp_stratcube.specs.declared.values.Value.{Value}
 use Rattle.smp_stratcube.specs.Units.{Units, column, first, share}
-use Rattle.smp_stratcube.specs.Cube.{IsFlying}
+use Rattle.smp_stratcube.specs.States.{IsFlying}
 use Rattle.smp_stratcube.specs.Kept.Moves.{IsStep}
 
 -- where there is no unit

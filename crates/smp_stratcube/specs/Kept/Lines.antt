@@ -9,7 +9,8 @@ use Rattle.smp_moves.specs.Kept.Ends.{HasSmallEntries}
 use Rattle.smp_moves.specs.declared.lines.Line.{Line as LineOfPlaces}
 use Rattle.smp_stratcube.specs.declared.fronts.Front.{Front}
 use Rattle.smp_stratcube.specs.Units.{Units, share}
-use Rattle.smp_stratcube.specs.Steps.{direction_on, product, scale_of}
+use Rattle.smp_stratcube.specs.Kept.Computed.{direction_on}
+use Rattle.smp_stratcube.specs.Moves.{product, scale_of}
 
 -- the units of a front are among so many
 pub record AreInside (count : ℕ) (front : Front) : Type 0 where

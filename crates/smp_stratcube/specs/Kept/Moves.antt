@@ -19,7 +19,9 @@ use Rattle.smp_stratcube.specs.declared.steps.Next.{Next as Answer}
 use Rattle.smp_stratcube.specs.declared.steps.Next.TheVariants as answers
 use Rattle.smp_stratcube.specs.Units.{Units}
 use Rattle.smp_stratcube.specs.Values.{AreValues, over_common, value}
-use Rattle.smp_stratcube.specs.Steps.{Flight, chosen, line_common, next, next_along}
+use Rattle.smp_stratcube.specs.States.{Flight}
+use Rattle.smp_stratcube.specs.Kept.Computed.{chosen, next, next_along}
+use Rattle.smp_stratcube.specs.Moves.{line_common}
 use Rattle.smp_stratcube.specs.Kept.Fronts.{front_units}
 use Rattle.smp_stratcube.specs.Kept.Gates.{gathered}
 

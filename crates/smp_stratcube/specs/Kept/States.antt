@@ -8,7 +8,7 @@ use Rattle.smp_stratcube.specs.declared.state.Phase.TheVariants.{Flying, Pairing
 use Rattle.smp_stratcube.specs.declared.steps.Next.{Next as Answer}
 use Rattle.smp_stratcube.specs.declared.values.Value.{Value}
 use Rattle.smp_stratcube.specs.Units.{Units}
-use Rattle.smp_stratcube.specs.Cube.{Balancing, IsFlying, flying, pairing}
+use Rattle.smp_stratcube.specs.States.{Balancing, IsFlying, flying, pairing}
 use Rattle.smp_stratcube.specs.Kept.Fronts.{IsFront}
 use Rattle.smp_stratcube.specs.Kept.Founds.{IsFound}
 use Rattle.smp_stratcube.specs.Kept.Moves.{IsStep}

@@ -4,7 +4,7 @@ use Rattle.smp_kernel.specs.Searches.{found}
 use Rattle.smp_moves.specs.declared.lines.Line.{Line as LineOfPlaces}
 use Rattle.smp_stratcube.specs.Units.{Units}
 use Rattle.smp_stratcube.specs.Values.{fractional_units}
-use Rattle.smp_stratcube.specs.Steps.{Flight}
+use Rattle.smp_stratcube.specs.States.{Flight}
 use Rattle.smp_stratcube.specs.Moves.{Finds}
 use Rattle.smp_stratcube.specs.Kept.Lines.{IsLineOf}
 

@@ -27,10 +27,9 @@ use Rattle.smp_moves.proofs.Weights.{within_from}
 use Rattle.smp_stratcube.specs.declared.values.Value.{Value}
 use Rattle.smp_stratcube.specs.Units.{Units, IsUnits, columns_of, column, share}
 use Rattle.smp_stratcube.specs.Values.{common_of, fractional_units, over_common, value}
-use Rattle.smp_stratcube.specs.Steps.{Flight, direction, fits, line_common, moved_values, next, next_along, next_of, product, products}
-use Rattle.smp_stratcube.specs.Steps.{scale_of, scaled, signed}
-use Rattle.smp_stratcube.specs.Moves.{Finds, IsDirection}
-use Rattle.smp_stratcube.specs.Cube.{IsFlying}
+use Rattle.smp_stratcube.specs.States.{Flight, IsFlying}
+use Rattle.smp_stratcube.specs.Kept.Computed.{direction, fits, moved_values, next, next_along, next_of}
+use Rattle.smp_stratcube.specs.Moves.{Finds, IsDirection, line_common, product, products, scale_of, scaled, signed}
 use Rattle.smp_stratcube.specs.Laws.Multiples.{AllSome, AllDivide, multiple_some, multiple_each}
 use Rattle.smp_stratcube.specs.Laws.Taken.{over_fractional}
 use Rattle.smp_stratcube.specs.Laws.Units.{fractional_in, fresh_divides, front_apart, front_going, line_divides, line_some}

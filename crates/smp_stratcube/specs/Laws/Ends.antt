@@ -22,7 +22,7 @@ use Rattle.smp_moves.proofs.LineEnds.{moved, reached, settled_unit, first_unit}
 use Rattle.smp_moves.proofs.Moved.{count_falls, end_within, keeps_fractional}
 use Rattle.smp_stratcube.specs.declared.values.Value.{Value}
 use Rattle.smp_stratcube.specs.Values.{AreValues, fractional_count, is_fractional, over_common, taken_over, value, value_at}
-use Rattle.smp_stratcube.specs.Steps.{moves}
+use Rattle.smp_stratcube.specs.Kept.Computed.{moves}
 use Rattle.smp_stratcube.specs.Laws.Taken.{over_values, over_value, over_fractional, taken_kept, taken_values, taken_value}
 use Rattle.smp_stratcube.specs.Laws.Taken.{taken_fractional, length_taken}
 use Rattle.smp_stratcube.specs.Laws.Units.{fractional_in}

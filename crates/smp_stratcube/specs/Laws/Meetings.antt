@@ -26,7 +26,8 @@ use Rattle.smp_stratcube.specs.Units.{Units, stratum}
 use Rattle.smp_stratcube.specs.Values.{fractional_count, is_fractional, over_common, stratum_common}
 use Rattle.smp_stratcube.specs.Values.{taken_over, value, value_at}
 use Rattle.smp_stratcube.specs.Pairs.{is_either, meeting}
-use Rattle.smp_stratcube.specs.Cube.{Balancing, pairing, IsBalancing, IsPairing, strat_tree}
+use Rattle.smp_stratcube.specs.States.{Balancing, IsBalancing, IsPairing, pairing}
+use Rattle.smp_stratcube.specs.Kept.Trees.{strat_tree}
 use Rattle.smp_stratcube.specs.Laws.Taken.{length_over, length_taken, over_fractional, over_value, over_values}
 use Rattle.smp_stratcube.specs.Laws.Taken.{taken_fractional, taken_kept, taken_value}
 use Rattle.smp_stratcube.specs.Laws.Units.{fractional_in, stratum_divides, stratum_some}

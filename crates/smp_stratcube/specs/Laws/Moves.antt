@@ -16,8 +16,10 @@ use Rattle.smp_stratcube.specs.declared.values.Value.{Value}
 use Rattle.smp_stratcube.specs.Units.{Units, share}
 use Rattle.smp_stratcube.specs.Values.{AreValues, common_of, fractional_count, fractional_units, is_fractional, over_common, value}
 use Rattle.smp_stratcube.specs.Values.{value_at}
-use Rattle.smp_stratcube.specs.Steps.{Flight, direction, line_common, moved_values, moves, next, next_along}
-use Rattle.smp_stratcube.specs.Cube.{flying, IsBalancing, IsFlying, flight_parts, strat_tree}
+use Rattle.smp_stratcube.specs.States.{Flight, IsBalancing, IsFlying, flying}
+use Rattle.smp_stratcube.specs.Kept.Computed.{direction, moved_values, moves, next, next_along}
+use Rattle.smp_stratcube.specs.Moves.{line_common}
+use Rattle.smp_stratcube.specs.Kept.Trees.{flight_parts, strat_tree}
 use Rattle.smp_stratcube.specs.Laws.Taken.{taken_kept, taken_moved}
 use Rattle.smp_stratcube.specs.Laws.Ends.{after_along, after_falls, after_fractional, after_values, is_over, moving, still}
 use Rattle.smp_stratcube.specs.Laws.Directions.{IsKnown, known, HasRoom, room_of, line_ok, den_some, den_divides}

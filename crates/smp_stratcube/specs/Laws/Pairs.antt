@@ -13,7 +13,7 @@ use Rattle.smp_stratcube.specs.Units.{Units, share, stratum}
 use Rattle.smp_stratcube.specs.Values.{AreValues, fractional_units, is_fractional, open_in, stratum_common}
 use Rattle.smp_stratcube.specs.Values.{taken_over, value}
 use Rattle.smp_stratcube.specs.Pairs.{first_pair}
-use Rattle.smp_stratcube.specs.Cube.{IsPairing}
+use Rattle.smp_stratcube.specs.States.{IsPairing}
 use Rattle.smp_stratcube.specs.Laws.Multiples.{map_divide, multiple_most, some_map}
 use Rattle.smp_stratcube.specs.Laws.Taken.{taken_divides}
 use Rattle.smp_stratcube.specs.Laws.Taken.{taken_kept, taken_moved, taken_values}

@@ -20,10 +20,10 @@ use Rattle.smp_stratcube.specs.declared.values.Value.{Value}
 use Rattle.smp_stratcube.specs.Units.{Units, column, columns_of, first, stratum}
 use Rattle.smp_stratcube.specs.Values.{AreValues, common_of, fractional_count, fractional_units, is_fractional, is_settled, open_in}
 use Rattle.smp_stratcube.specs.Values.{stratum_common, value, value_at}
-use Rattle.smp_stratcube.specs.Steps.{Flight, next}
+use Rattle.smp_stratcube.specs.States.{Balancing, Flight, IsBalancing, IsFlying, IsPairing, dropped, flying, landed, pairing, values_in}
+use Rattle.smp_stratcube.specs.Kept.Computed.{next}
 use Rattle.smp_stratcube.specs.Pairs.{first_pair, parts_by}
-use Rattle.smp_stratcube.specs.Cube.{Balancing, flying, pairing, values_in, IsBalancing, IsFlying, IsPairing, dropped, flight_parts, landed}
-use Rattle.smp_stratcube.specs.Cube.{strat_tree}
+use Rattle.smp_stratcube.specs.Kept.Trees.{flight_parts, strat_tree}
 use Rattle.smp_stratcube.specs.Laws.Multiples.{map_divide, multiple_most, some_map}
 use Rattle.smp_stratcube.specs.Laws.Units.{common_divides, common_some, filter_from, filter_is, fractional_in, fresh_divides, order_apart}
 use Rattle.smp_stratcube.specs.Laws.Units.{order_going, order_place}

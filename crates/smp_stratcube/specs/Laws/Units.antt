@@ -16,8 +16,8 @@ use Rattle.smp_stratcube.specs.declared.values.Value.{Value}
 use Rattle.smp_stratcube.specs.Units.{Units, IsUnits, first, stratum}
 use Rattle.smp_stratcube.specs.Values.{AreValues, common_of, denominators, fractional_units, is_fractional, nothing}
 use Rattle.smp_stratcube.specs.Values.{open_in, stratum_common, touched_units, value}
-use Rattle.smp_stratcube.specs.Steps.{Flight, line_common}
-use Rattle.smp_stratcube.specs.Cube.{IsFlying}
+use Rattle.smp_stratcube.specs.States.{Flight, IsFlying}
+use Rattle.smp_stratcube.specs.Moves.{line_common}
 use Rattle.smp_stratcube.specs.Laws.Multiples.{AllSome, AllDivide, multiple_some, multiple_each, some_append, divide_append, some_map}
 use Rattle.smp_stratcube.specs.Laws.Multiples.{divide_map}
 

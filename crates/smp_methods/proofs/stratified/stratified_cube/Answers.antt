@@ -1,6 +1,7 @@
 use Rattle.std.proofs.Common.{◌≡◌, List, [], ◌∷◌, ◌++◌, sym, ap, subst, ◌∙◌}
 use Rattle.smp_values.specs.Starts.{IsRequested}
-use Rattle.smp_stratcube.specs.Cube.{started, strat_tree}
+use Rattle.smp_stratcube.specs.States.{started}
+use Rattle.smp_stratcube.specs.Cube.{strat_tree}
 use Rattle.smp_stratcube.specs.Layers.{AreLayers, Layer, layer_of}
 use Rattle.smp_stratcube.specs.Requests.{AreRequested}
 use Rattle.smp_stratcube.specs.Units.{Units, units_of}

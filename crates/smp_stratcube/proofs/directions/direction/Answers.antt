@@ -3,7 +3,7 @@ use Rattle.std.proofs.lemmas.Bool.{cases_lt}
 use Rattle.std.proofs.lemmas.List.{get_or_past}
 use Rattle.smp_kernel.specs.Vectors.{entry, IsZero}
 use Rattle.smp_moves.proofs.FirstPlaces.{past_reduced, zero_front}
-use Rattle.smp_stratcube.specs.Steps.{scale_of, scaled}
+use Rattle.smp_stratcube.specs.Moves.{scale_of, scaled}
 use Rattle.smp_stratcube.proofs.Directed.{direction_is, direction_long, direction_within, row_is, row_wide}
 use Rattle.smp_stratcube.proofs.directions.direction.Goals as goal
 use Rattle.smp_stratcube.proofs.directions.direction.Goals.{After-products}

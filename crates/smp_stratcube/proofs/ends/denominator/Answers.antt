@@ -2,7 +2,7 @@ use Rattle.std.proofs.Common.{◌≡◌, ◌+◌, ◌≤◌, map, arith, get_or,
 use Rattle.smp_moves.proofs.Places.{rest_all, rest_at, rest_none, rest_of}
 use Rattle.smp_stratcube.specs.Units.{first, stratum}
 use Rattle.smp_stratcube.specs.Kept.Gates.{gated, held}
-use Rattle.smp_stratcube.specs.Steps.{line_common}
+use Rattle.smp_stratcube.specs.Moves.{line_common}
 use Rattle.smp_stratcube.proofs.Ahead.{front_inside}
 use Rattle.smp_stratcube.proofs.Ending.{line_held}
 use Rattle.smp_stratcube.proofs.Gated.{gate_all}

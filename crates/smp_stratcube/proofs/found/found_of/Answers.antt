@@ -1,6 +1,6 @@
 use Rattle.std.proofs.Common.{arith, sym, subst}
 use Rattle.smp_stratcube.specs.Units.{Units}
-use Rattle.smp_stratcube.specs.Cube.{IsFlying}
+use Rattle.smp_stratcube.specs.States.{IsFlying}
 use Rattle.smp_stratcube.specs.Kept.Founds.{AreSeen}
 use Rattle.smp_stratcube.specs.Kept.Moves.{IsStep}
 use Rattle.smp_stratcube.proofs.Ahead.{front_inside}

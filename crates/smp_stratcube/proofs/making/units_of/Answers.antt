@@ -3,7 +3,7 @@ use Rattle.smp_stratcube.specs.declared.units.Member.{Member}
 use Rattle.smp_stratcube.specs.Layers.{AreLayers, Layer, first_of, variables}
 use Rattle.smp_stratcube.specs.Units.{IsUnits, Units, members_from, units_of}
 use Rattle.smp_stratcube.specs.Requests.{AreRequested}
-use Rattle.smp_stratcube.specs.Cube.{started}
+use Rattle.smp_stratcube.specs.States.{started}
 use Rattle.smp_stratcube.specs.Kept.Behind.{AreBehind, HaveCommon}
 use Rattle.smp_stratcube.specs.Kept.Layers.{EachIsLayer}
 use Rattle.smp_stratcube.proofs.Behinds.{have_common}

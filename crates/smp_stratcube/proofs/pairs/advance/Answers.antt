@@ -1,7 +1,7 @@
 use Rattle.std.proofs.Common.{arith, ◌≡◌, ◌≤◌, ◌<◌, List, Some, None, length, get_or, set, sym, ap, ap₂, ◌∙◌, subst}
 use Rattle.smp_split.specs.Trees.{weight_sum}
 use Rattle.smp_stratcube.specs.declared.values.Value.{Value}
-use Rattle.smp_stratcube.specs.Cube.{IsPairing}
+use Rattle.smp_stratcube.specs.States.{IsPairing}
 use Rattle.smp_stratcube.specs.Pairs.{first_pair, paired_parts}
 use Rattle.smp_stratcube.specs.Values.{fractional_units, value}
 use Rattle.smp_stratcube.specs.Kept.Fronts.{IsFront}

@@ -1,8 +1,7 @@
-use Rattle.std.proofs.Common.{arith, ◌≡◌, ◌+◌, ◌≤◌, ◌^◌, ℕ, true, false, List, get_or, sym, ap, ◌∙◌, subst}
+use Rattle.std.proofs.Common.{arith, ◌≡◌, ◌+◌, ◌≤◌, ◌^◌, ℕ, List, get_or, sym, ap, ◌∙◌, subst}
 use Rattle.smp_prob.specs.Given.{least_multiple}
 use Rattle.smp_moves.proofs.Places.{rest_all, rest_none, rest_of}
 use Rattle.smp_stratcube.specs.declared.values.Value.{Value}
-use Rattle.smp_stratcube.specs.Units.{stratum}
 use Rattle.smp_stratcube.specs.Values.{value}
 use Rattle.smp_stratcube.specs.Laws.Multiples.{from, least}
 use Rattle.smp_stratcube.proofs.Ahead.{front_inside}

@@ -2,15 +2,14 @@ use Rattle.std.proofs.Common.{ℕ, List, length, arith, refl, sym, ap, ap₂, �
 use Rattle.std.proofs.lemmas.List.{length-map}
 use Rattle.smp_stratcube.specs.declared.values.Value.{Value}
 use Rattle.smp_stratcube.specs.Units.{IsUnits}
-use Rattle.smp_stratcube.specs.Cube.{flying, requested_value, started}
+use Rattle.smp_stratcube.specs.States.{flying, requested_value, started}
 use Rattle.smp_stratcube.specs.Balances.{IsBalanced}
 use Rattle.smp_stratcube.specs.Counts.{HasCounts}
 use Rattle.smp_split.specs.Methods.{HasMeans}
 use Rattle.smp_stratcube.specs.Method.{method_of}
 use Rattle.smp_stratcube.specs.Kept.Fronts.{IsFront}
-use Rattle.smp_stratcube.proofs.Balances.{strat_balanced}
+use Rattle.smp_stratcube.proofs.BySteps.{counts_so, is_balanced}
 use Rattle.smp_stratcube.proofs.Starting.{start_ahead, strat_means}
-use Rattle.smp_stratcube.proofs.WholeStrata.{has_counts}
 use Rattle.smp_stratcube.proofs.design.StratCube.start.Goals as goal
 
 pub front_of-front-requires : goal.front_of-front-requires
@@ -33,8 +32,8 @@ returns-clause-means c =
 
 pub returns-clause-counts : goal.returns-clause-counts
 returns-clause-counts c =
-    subst (HasCounts c.args.self.now) (sym (returns-clause-state c)) (has_counts c.args.self.now (subst IsUnits c.self.view_is c.self.invariant))
+    subst (HasCounts c.args.self.now) (sym (returns-clause-state c)) (counts_so c.args.self.now (subst IsUnits c.self.view_is c.self.invariant))
 
 pub returns-clause-balanced : goal.returns-clause-balanced
 returns-clause-balanced c =
-    subst (IsBalanced c.args.self.now) (sym (returns-clause-state c)) (strat_balanced c.args.self.now (subst IsUnits c.self.view_is c.self.invariant))
+    subst (IsBalanced c.args.self.now) (sym (returns-clause-state c)) (is_balanced c.args.self.now (subst IsUnits c.self.view_is c.self.invariant))

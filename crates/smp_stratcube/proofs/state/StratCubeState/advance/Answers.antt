@@ -1,5 +1,5 @@
 use Rattle.std.proofs.Common.{sym, ◌∙◌, subst}
-use Rattle.smp_stratcube.specs.Cube.{IsBalancing}
+use Rattle.smp_stratcube.specs.States.{IsBalancing}
 use Rattle.smp_stratcube.proofs.Keeping.{picks_belong}
 use Rattle.smp_stratcube.proofs.state.StratCubeState.advance.Goals as goal
 

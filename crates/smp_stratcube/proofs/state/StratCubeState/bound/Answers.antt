@@ -4,9 +4,10 @@ use Rattle.smp_moves.specs.Answers.{line_of}
 use Rattle.smp_moves.specs.Moves.{Next}
 use Rattle.smp_stratcube.specs.declared.values.Value.{Value}
 use Rattle.smp_stratcube.specs.Values.{is_settled}
-use Rattle.smp_stratcube.specs.Steps.{next, next_along}
+use Rattle.smp_stratcube.specs.Kept.Computed.{next_along}
 use Rattle.smp_stratcube.specs.Pairs.{paired_parts}
-use Rattle.smp_stratcube.specs.Cube.{IsFlying, IsPairing, flight_parts}
+use Rattle.smp_stratcube.specs.States.{IsFlying, IsPairing}
+use Rattle.smp_stratcube.specs.Kept.Trees.{flight_parts}
 use Rattle.smp_stratcube.specs.Kept.Fronts.{IsFront}
 use Rattle.smp_stratcube.specs.Laws.Moves.{move_split}
 use Rattle.smp_stratcube.proofs.Keeping.{pair_sum}

@@ -4,9 +4,10 @@ use Rattle.smp_moves.specs.Answers.{line_of}
 use Rattle.smp_moves.specs.Moves.{Next}
 use Rattle.smp_stratcube.specs.declared.values.Value.{Value}
 use Rattle.smp_stratcube.specs.Values.{is_settled}
-use Rattle.smp_stratcube.specs.Steps.{chosen, next, next_along}
+use Rattle.smp_stratcube.specs.Kept.Computed.{chosen, next_along}
 use Rattle.smp_stratcube.specs.Pairs.{paired_parts}
-use Rattle.smp_stratcube.specs.Cube.{IsFlying, IsPairing, flight_parts, flying, landed, pairing, strat_parts}
+use Rattle.smp_stratcube.specs.States.{IsFlying, IsPairing, flying, landed, pairing}
+use Rattle.smp_stratcube.specs.Kept.Trees.{flight_parts, strat_parts}
 use Rattle.smp_stratcube.specs.Kept.Fronts.{IsAhead, IsFront}
 use Rattle.smp_stratcube.specs.Laws.Splits.{some_row}
 use Rattle.smp_stratcube.proofs.Keeping.{move_ahead, move_count, pair_ahead, pair_behind, pair_sum, picks_drop, picks_move, picks_pair, picks_wide}

@@ -1,6 +1,6 @@
 use Rattle.std.proofs.Common.{List, IfSome, sym, subst}
 use Rattle.smp_stratcube.specs.declared.values.Value.{Value}
-use Rattle.smp_stratcube.specs.Cube.{IsFlying}
+use Rattle.smp_stratcube.specs.States.{IsFlying}
 use Rattle.smp_stratcube.specs.Kept.Founds.{IsFound}
 use Rattle.smp_stratcube.specs.Kept.Fronts.{IsFront}
 use Rattle.smp_stratcube.specs.Kept.Moves.{IsStep}

@@ -1,10 +1,11 @@
 -- The step of a state has the properties of a step.
-use Rattle.std.proofs.Common.{◌≡◌, ℕ, ◌<◌, ◌&&◌, nat_le, Bool, true, false, ℤ, List, take, length, get_or, refl, sym, ap, ◌∙◌, subst, inl, inr}
+use Rattle.std.proofs.Common.{◌≡◌, ℕ, ◌<◌, ◌&&◌, nat_le, Bool, true, false, ℤ, List, take, length, get_or, refl, sym, ap}
+use Rattle.std.proofs.Common.{◌∙◌, subst, inl, inr}
 use Rattle.std.proofs.lemmas.Bool.{and_from, and_parts, cases_Bool, le-leb, leb-true, true≢false}
 use Rattle.smp_fractions.specs.Limits.{most_denominator, most_entry}
 use Rattle.smp_kernel.specs.Searches.{Search, found, none, too_wide}
 use Rattle.smp_moves.specs.Kept.Searches.{search, search_is}
-use Rattle.smp_moves.specs.Moves.{Line, IsLine, turned}
+use Rattle.smp_moves.specs.Moves.{Line, IsLine, Move, chosen_extent, chosen_line, turned}
 use Rattle.smp_moves.specs.Kept.Ends.{IsOver}
 use Prim.Native.Nat.{◌∣◌}
 use Rattle.smp_moves.specs.Ends.{end_of, entries_fit, extent}
@@ -14,12 +15,13 @@ use Rattle.smp_moves.proofs.Weights.{ends_weighed, lowest_weights, within_from, 
 use Rattle.smp_stratcube.specs.declared.values.Value.{Value}
 use Rattle.smp_stratcube.specs.Units.{Units, columns_of}
 use Rattle.smp_stratcube.specs.Values.{common_of, fractional_units, over_common, taken_over, value}
-use Rattle.smp_stratcube.specs.Steps.{Flight, direction, fits, line_common, moved_values, moves, next, next_along, next_of, scale_of}
-use Rattle.smp_stratcube.specs.Moves.{Finds, FitsAtEnds, IsFlown, IsMove, IsMovedTo, IsNarrow, IsNext, IsTooWide}
-use Rattle.smp_stratcube.specs.Cube.{IsFlying}
+use Rattle.smp_stratcube.specs.States.{Flight, IsFlying}
+use Rattle.smp_stratcube.specs.Kept.Computed.{direction, fits, moved_values, moves, next, next_along, next_of}
+use Rattle.smp_stratcube.specs.Moves.{Finds, FitsAtEnds, IsFlown, IsMove, IsMovedTo, IsNarrow, IsNext, IsTooWide, Stepping, line_common}
+use Rattle.smp_stratcube.specs.Moves.{scale_of}
 use Rattle.smp_stratcube.specs.Laws.Taken.{taken_kept, taken_moved}
 use Rattle.smp_stratcube.specs.Laws.Ends.{after_along, after_values, is_over, moving, still}
-use Rattle.smp_stratcube.specs.Laws.Directions.{den_divides, den_some, is_direction, line_ok}
+use Rattle.smp_stratcube.specs.Laws.Directions.{IsKnown, den_divides, den_some, is_direction, known as known_move, line_ok}
 
 -- ---- where the direction fits
 
@@ -52,7 +54,8 @@ module _ (units : Units) (f : Flight) (ok : IsFlying units f) (w : List ℤ) (fi
   narrow_to n =
       and_from (nat_le (scale_of units (take (length w) order) w) most_denominator) (entries_fit line && nat_le den most_denominator)
       (le-leb (scale_of units (take (length w) order) w) most_denominator n.scale)
-      (and_from (entries_fit line) (nat_le den most_denominator) (within_to most_entry line.entries n.entries) (le-leb den most_denominator n.denominator))
+      (and_from (entries_fit line) (nat_le den most_denominator) (within_to most_entry line.entries n.entries)
+      (le-leb den most_denominator n.denominator))
 
   module _ (narrow : IsNarrow units f w line) where
     pub forth : IsLine (over_common den f.values) line
@@ -62,21 +65,25 @@ module _ (units : Units) (f : Flight) (ok : IsFlying units f) (w : List ℤ) (fi
     back = turned_line (over_common den f.values) line forth
 
     pub over : IsOver 1 (over_common den f.values)
-    over = is_over (length units.members) f.values ok.values den (den_some units f ok w finds) narrow.denominator line forth (den_divides units f ok w finds)
+    over = is_over (length units.members) f.values ok.values den (den_some units f ok w finds) narrow.denominator
+        line forth (den_divides units f ok w finds)
 
     moved_to : (l : Line) → IsLine (over_common den f.values) l → l.units ≡ take (length w) order →
         IsMovedTo f.values l (extent (over_common den f.values) l) (taken_over (moves l) f.values (end_of 1 (over_common den f.values) l))
     moved_to l l_ok same =
-        let divides = subst (λ (us : List ℕ). (j : ℕ) → j < length us → (value f.values (get_or us j 0)).at.den ∣ den) (sym same) (den_divides units f ok w finds) in
+        let divides = subst (λ (us : List ℕ). (j : ℕ) → j < length us
+        → (value f.values (get_or us j 0)).at.den ∣ den) (sym same) (den_divides units f ok w finds) in
         let last = end_of 1 (over_common den f.values) l in
         record {
-          are = after_values (length f.values) f.values (record { count = refl; each = ok.values.each }) den (den_some units f ok w finds) narrow.denominator l l_ok divides;
+          are = after_values (length f.values) f.values (record { count = refl; each = ok.values.each }) den
+              (den_some units f ok w finds) narrow.denominator l l_ok divides;
           at = after_along (length units.members) f.values ok.values den (den_some units f ok w finds) narrow.denominator l l_ok divides;
           moved = λ k inside ne. ap (λ (v : Value). v.touched) (taken_moved (moves l) f.values last k inside (moving l k ne));
           kept = λ k none. taken_kept (moves l) f.values last k (still l k none);
         }
 
-    pub is_move : IsMove units f w (next_along units f.values line) (moved_values units f.values line) (moved_values units f.values (turned line))
+    pub is_move : IsMove units f w (next_along units f.values line) (moved_values units f.values line)
+        (moved_values units f.values (turned line))
     is_move = record {
       direction = is_direction units f ok w finds;
       up = greatest 1 (over_common den f.values) over line forth;
@@ -126,13 +133,21 @@ module _ (units : Units) (f : Flight) (ok : IsFlying units f) (w : List ℤ) (fi
         fits = ends_from parts.1;
       }
 
+  pub ends_moved : fits units f.values order w ≡ true → (plus : Bool) →
+      IsMovedTo f.values (chosen_line (next_along units f.values line) plus) (chosen_extent (next_along units f.values line) plus)
+      (moved_values units f.values (chosen_line (next_along units f.values line) plus))
+  ends_moved h true = (is_move (narrow_from (and_parts fits_along fits_there (sym fits_is ∙ h)).0)).plus_moved
+  ends_moved h false = (is_move (narrow_from (and_parts fits_along fits_there (sym fits_is ∙ h)).0)).minus_moved
+
   unfit : fits units f.values order w ≡ false → IsTooWide units f
   unfit h =
       elim (cases_Bool fits_along) [
-        | inr n ↦ IsTooWide.direction_wide w line finds (is_direction units f ok w finds) (λ narrow. true≢false (sym (narrow_to narrow) ∙ n))
+        | inr n ↦ IsTooWide.direction_wide w line finds (is_direction units f ok w finds)
+            (λ narrow. true≢false (sym (narrow_to narrow) ∙ n))
         | inl t ↦
             (let narrow = narrow_from t in
-            IsTooWide.move_wide w (next_along units f.values line) (moved_values units f.values line) (moved_values units f.values (turned line)) finds (is_move narrow)
+            IsTooWide.move_wide w (next_along units f.values line) (moved_values units f.values line)
+            (moved_values units f.values (turned line)) finds (is_move narrow)
             (λ e. true≢false (sym (and_from fits_along fits_there t (ends_to e)) ∙ sym fits_is ∙ h)))
       ]
 
@@ -143,11 +158,30 @@ module _ (units : Units) (f : Flight) (ok : IsFlying units f) (w : List ℤ) (fi
         | inr n ↦ rw n (unfit n)
       ]
 
-next_by : (units : Units) (f : Flight) → IsFlying units f → (a : Search) → Finds units f a → IsNext units f (next_of units f.values (fractional_units f.values) a)
+next_by : (units : Units) (f : Flight) → IsFlying units f → (a : Search) → Finds units f a
+    → IsNext units f (next_of units f.values (fractional_units f.values) a)
 next_by units f ok none finds = finds
 next_by units f ok too_wide finds = IsTooWide.search_wide finds
 next_by units f ok (found w) finds = next_found units f ok w finds
 
 pub next_is : (units : Units) (f : Flight) → IsFlying units f → IsNext units f (next units f)
 next_is units f ok =
-    next_by units f ok (search f.rows (columns_of units (fractional_units f.values))) (search_is f.rows (columns_of units (fractional_units f.values)))
+    next_by units f ok (search f.rows (columns_of units (fractional_units f.values)))
+    (search_is f.rows (columns_of units (fractional_units f.values)))
+
+-- ---- so there are steps
+
+-- the values at an end of a move
+pub moved_so : (units : Units) (f : Flight) → IsFlying units f → (m : Move) → IsKnown units f m → (plus : Bool) →
+    IsMovedTo f.values (chosen_line m plus) (chosen_extent m plus) (moved_values units f.values (chosen_line m plus))
+moved_so units f ok m k plus =
+    subst (λ (x : Move). IsMovedTo f.values (chosen_line x plus) (chosen_extent x plus) (moved_values units f.values (chosen_line x plus)))
+    (sym k.same) (ends_moved units f ok k.circuit k.finds k.fits plus)
+
+abbrev pub each_step : Stepping
+each_step = record {
+  next = next;
+  end_at = moved_values;
+  is_next = next_is;
+  is_moved = λ units f ok m e plus. moved_so units f ok m (known_move units f m e) plus;
+}

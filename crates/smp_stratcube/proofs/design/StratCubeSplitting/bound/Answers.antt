@@ -1,0 +1,12 @@
+use Rattle.std.proofs.Common.{◌≡◌, subst}
+use Rattle.smp_split.specs.Trees.{weight_sum}
+use Rattle.smp_stratcube.specs.Units.{Units}
+use Rattle.smp_stratcube.specs.Moves.{Stepping}
+use Rattle.smp_stratcube.specs.Steps.{of_steps, stepping}
+use Rattle.smp_stratcube.specs.Cube.{parts_by}
+use Rattle.smp_stratcube.proofs.design.StratCubeSplitting.bound.Goals as goal
+
+pub returns : goal.returns
+returns c =
+    subst (λ (units : Units). c.bound.result ≡ weight_sum (parts_by stepping units c.args.state.now)) c.self.view_is
+    (of_steps (λ (steps : Stepping). c.bound.result ≡ weight_sum (parts_by steps c.self.inside.units c.args.state.now)) c.bound.ensures)

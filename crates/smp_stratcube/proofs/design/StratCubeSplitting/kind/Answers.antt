@@ -1,0 +1,11 @@
+use Rattle.std.proofs.Common.{◌≡◌, subst}
+use Rattle.smp_stratcube.specs.Units.{Units}
+use Rattle.smp_stratcube.specs.Moves.{Stepping}
+use Rattle.smp_stratcube.specs.Steps.{of_steps, stepping}
+use Rattle.smp_stratcube.specs.Cube.{kind_by}
+use Rattle.smp_stratcube.proofs.design.StratCubeSplitting.kind.Goals as goal
+
+pub returns : goal.returns
+returns c =
+    subst (λ (units : Units). c.kind.result ≡ kind_by stepping units c.args.state.now) c.self.view_is
+    (of_steps (λ (steps : Stepping). c.kind.result ≡ kind_by steps c.self.inside.units c.args.state.now) c.kind.ensures)

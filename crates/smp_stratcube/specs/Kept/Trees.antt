@@ -1,0 +1,34 @@
+-- The draw tree by the steps that the code finds, and what is said of it.
+use Rattle.std.specs.Prelude.{ℕ, List}
+use Rattle.smp_split.specs.Trees.{Part, Tree}
+use Rattle.smp_split.specs.declared.kind.Kind.{Kind}
+use Rattle.smp_moves.specs.Moves.{Next}
+use Rattle.smp_moves.specs.Balances as moves
+use Rattle.smp_moves.specs.Owed.{Weighed, balance_of}
+use Rattle.smp_stratcube.specs.Units.{Units}
+use Rattle.smp_stratcube.specs.States.{Balancing, Flight}
+use Rattle.smp_stratcube.specs.Cube.{flight_by, kind_by, parts_by, tree_by}
+use Rattle.smp_stratcube.specs.Balances.{weighed_by}
+use Rattle.smp_stratcube.specs.Counts.{HasCountsIn}
+use Rattle.smp_stratcube.specs.Laws.Nexts.{each_step}
+
+abbrev pub flight_parts : Units → Flight → ℕ → Next → List (Part Balancing)
+flight_parts = flight_by each_step
+
+abbrev pub strat_kind : Units → Balancing → Kind
+strat_kind = kind_by each_step
+
+abbrev pub strat_parts : Units → Balancing → List (Part Balancing)
+strat_parts = parts_by each_step
+
+abbrev pub strat_tree : Units → Tree Balancing
+strat_tree = tree_by each_step
+
+abbrev pub weighed_of : Units → Weighed Balancing
+weighed_of = weighed_by each_step
+
+abbrev pub IsBalanced : Units → Balancing → Type 0
+IsBalanced units = moves.IsBalanced (balance_of (weighed_of units))
+
+abbrev pub HasCounts : Units → Balancing → Type 0
+HasCounts units = HasCountsIn (strat_tree units) units
