@@ -1,6 +1,6 @@
 -- A step of the flight by its properties: the direction of a circuit, the move along it, and where a number passes its gate.
-use Rattle.std.specs.Prelude.{◌≡◌, ◌≢◌, ℕ, ◌*◌, ◌/◌, ◌<◌, ◌≤◌, true, Bool, List, [], ◌∷◌, ◌++◌, ℤ, pos, negsuc, neg_ℤ}
-use Rattle.std.specs.Prelude.{length, map, take}
+use Rattle.std.specs.Prelude.{◌≡◌, ◌≢◌, ℕ, ◌*◌, ◌/◌, ◌<◌, ◌≤◌, true, Bool}
+use Rattle.std.specs.Prelude.{List, [], ◌∷◌, ◌++◌, ℤ, pos, negsuc, neg_ℤ, length, map, take}
 use Rattle.std.specs.Int.RustNames.{unsigned_abs}
 use Rattle.std.specs.Int.{IsGcd}
 use Rattle.smp_fractions.specs.Fractions.{Same, whole, integer, plus, times}
