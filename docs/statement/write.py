@@ -39,7 +39,8 @@ APART = {
     "read": ["smp_plan", "smp_strata", "smp_design", "smp_frame", "smp_prob.specs.Requested", "smp_prob.specs.Given", "smp_prob.specs.Shapes",
              "IsReadPlan", "IsReadFrame", "tape_of"],
     "plan": ["smp_rows", "smp_methods", "smp_stages", "smp_split.specs.Embeds", "smp_twostage.specs.Selections"],
-    "flight": ["smp_kernel", "smp_moves.specs.Moves", "smp_moves.specs.Ends", "smp_flight.specs.States", "smp_flight.specs.Steps", "smp_flight.specs.Moves"],
+    "flight": ["smp_kernel", "smp_moves.specs.Moves", "smp_moves.specs.Ends", "smp_moves.specs.Cubes", "smp_flight.specs.States", "smp_flight.specs.Steps",
+               "smp_flight.specs.Moves"],
     "balance": ["smp_moves.specs.Balances", "smp_moves.specs.Owed", "smp_balance.specs.Strata", "smp_balance.specs.Totals", "smp_balance.specs.FrameTotals",
                 "smp_twostage.specs.Cubes"],
     "written": ["smp_weights", "smp_log.specs.Heads", "smp_log.specs.Logs", "smp_log.specs.SectionLogs", "smp_app.specs.Texts",
@@ -397,7 +398,8 @@ together, in one stage. It is the same by every method, of which each stage has 
 
 ABOUT_FLIGHT = """A step of the flight of the cube method (Deville and Tillé 2004), and of the local cube, which differ in the units that a search goes through: the
 direction that a search finds among columns of whole numbers, how far it can be followed both ways with which weights, and when a number is too wide for it.
-It is said by properties, of which one step alone has all. The draw trees that go by it are on [cube.md](cube.md) and on [local_cube.md](local_cube.md), and
+It is said by properties, of which one step alone has all. The states and the draw tree of a cube, in whatever its values are kept, stand here too;
+the trees that go by such steps are on [cube.md](cube.md), [local_cube.md](local_cube.md) and [stratified_cube.md](stratified_cube.md), and
 [formats.md](../formats.md) has it in words. The stratified cube searches and moves so too, and what of a step is its own is on
 [stratified_cube.md](stratified_cube.md). Definitions that stand on the page of each method or on [read.md](read.md) aren't here again."""
 

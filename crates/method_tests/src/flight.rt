@@ -54,7 +54,7 @@ fn is_at_its_end(state: &FlightState) -> bool {
 
 /// Whether the window has the units 0 and 2, whose numerators are kept over 4, where that of unit 3 is kept over 2.
 fn is_kept_apart(state: &FlightState) -> bool
-    requires four { length state.now.flight.shares.numer ≡ 4 }
+    requires four { length state.now.flight.values.numer ≡ 4 }
 {
     let cells = state.cells();
     [cells.get(0), cells.get(1), cells.get(2), cells.get(3)] == [3, 0, 3, 1]

@@ -25,7 +25,8 @@ use Rattle.smp_prob.specs.Inclusions.{asked_fraction, fraction_at, inclusion, is
 use Rattle.smp_weights.specs.Chosen.{chosen_units, weight}
 use Rattle.smp_weights.specs.Values.{weighted_total}
 use Rattle.smp_weights.proofs.Values.{estimate_value}
-use Rattle.smp_stratcube.specs.States.{Balancing, values_in}
+use Rattle.smp_moves.specs.Cubes.{values_in}
+use Rattle.smp_stratcube.specs.States.{Balancing}
 use Rattle.smp_stratcube.specs.Values.{is_one}
 use Rattle.smp_balance.specs.Strata.{StratumUnits, value_in}
 use Rattle.smp_balance.specs.Totals.{can_be_selected, counted, known, known_value}

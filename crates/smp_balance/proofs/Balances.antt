@@ -10,6 +10,7 @@ use Rattle.smp_kernel.specs.Vectors.{Within}
 use Rattle.smp_prob.specs.Inclusions.{inclusion}
 use Rattle.smp_split.specs.Trees.{Tree}
 use Rattle.smp_values.specs.Values.{is_fractional, is_one, value_at}
+use Rattle.smp_moves.specs.Cubes.{values_in}
 use Rattle.smp_flight.specs.States as flights
 use Rattle.smp_flight.specs.States.{Units, column}
 use Rattle.smp_flight.specs.Requests.{AreValues}
@@ -17,7 +18,7 @@ use Rattle.smp_flight.specs.Totals as free
 use Rattle.smp_flight.specs.Totals.{expanded, addend, row_total, target}
 use Rattle.smp_flight.proofs.Making.{rows_are, units_are}
 use Rattle.smp_flight.proofs.Nexts.{started_flight}
-use Rattle.smp_flight.specs.Selections.{Balancing, IsBalancing, IsSelection, Selection, starting, values_in}
+use Rattle.smp_flight.specs.Selections.{Balancing, IsBalancing, IsSelection, Selection, starting}
 use Rattle.smp_moves.specs.Owed.{balance_of as weighed_balance, weighed_bound, weighed_estimate, weighed_total}
 use Rattle.smp_flight.specs.Landings.{weighed_of}
 use Rattle.smp_flight.specs.Landings as landings

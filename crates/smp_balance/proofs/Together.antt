@@ -8,9 +8,10 @@ use Rattle.smp_fractions.specs.Bounds.{absolute}
 use Rattle.smp_fractions.proofs.Fractions.{plus-zero, plus_same, same_refl, same_sym, same_trans, sum-zero, times_same, zero-times}
 use Rattle.smp_moves.specs.Owed.{balance_of}
 use Rattle.smp_prob.specs.Inclusions.{inclusion}
+use Rattle.smp_moves.specs.Cubes.{values_in}
 use Rattle.smp_flight.specs.Totals as free
 use Rattle.smp_stratcube.specs.Balances.{addend, expanded, weighed_of}
-use Rattle.smp_stratcube.specs.States.{Balancing, started, values_in}
+use Rattle.smp_stratcube.specs.States.{Balancing, started}
 use Rattle.smp_stratcube.specs.Layers.{AreLayers, IsLayer, Layer, first_of, no_layer, variables, width}
 use Rattle.smp_stratcube.specs.Units.{IsUnits, Units, members_from}
 use Rattle.smp_stratcube.specs.Values.{is_fractional, is_one, value_at}

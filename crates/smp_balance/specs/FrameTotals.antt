@@ -8,9 +8,11 @@ use Rattle.smp_prob.specs.Inclusions.{inclusion, is_taken}
 use Rattle.smp_rows.specs.Rows.{row_value}
 use Rattle.smp_moves.specs.Balances as moves
 use Rattle.smp_moves.specs.Balances.{Balance}
-use Rattle.smp_stratcube.specs.Balances.{HasIndependentColumns, IsStuck}
-use Rattle.smp_stratcube.specs.States.{Balancing, left_in, rows_in, started, values_in}
-use Rattle.smp_stratcube.specs.Cube.{strat_tree}
+use Rattle.smp_moves.specs.Cubes.{HasIndependentColumns, left_in, rows_in, values_in}
+use Rattle.smp_stratcube.specs.Balances.{IsStuck}
+use Rattle.smp_stratcube.specs.States.{Balancing, started}
+use Rattle.smp_stratcube.specs.Cube.{cube_by, strat_tree}
+use Rattle.smp_stratcube.specs.Steps.{stepping}
 use Rattle.smp_stratcube.specs.Layers.{Layer, layer_of}
 use Rattle.smp_stratcube.specs.Units.{Units, units_of}
 use Rattle.smp_stratcube.specs.Values.{fractional_count, is_fractional, is_one, value_at}
@@ -105,7 +107,7 @@ frame_balance frame = record {
   known = frame_known frame;
   estimate = frame_estimated frame;
   bound = frame_bound frame;
-  independent = HasIndependentColumns (frame_units frame);
+  independent = HasIndependentColumns (cube_by stepping (frame_units frame));
   stuck = IsStuck (frame_units frame);
 }
 

@@ -9,8 +9,9 @@ use Rattle.smp_values.specs.Values.{fractional_count, is_fractional, is_one, val
 use Rattle.smp_rows.specs.Rows.{row_value}
 use Rattle.smp_moves.specs.Balances as moves
 use Rattle.smp_moves.specs.Balances.{Balance}
-use Rattle.smp_flight.specs.Selections.{Balancing, Selection, left_in, rows_in, starting, values_in}
-use Rattle.smp_flight.specs.Landings.{HasIndependentColumns, IsStuck}
+use Rattle.smp_moves.specs.Cubes.{HasIndependentColumns, left_in, rows_in, values_in}
+use Rattle.smp_flight.specs.Selections.{Balancing, Selection, shares_cube, starting}
+use Rattle.smp_flight.specs.Landings.{IsStuck}
 use Rattle.smp_landing.specs.Cube.{cube_of}
 use Rattle.smp_localcube.specs.Local.{local_of}
 use Rattle.smp_localcube.specs.Method.{started}
@@ -86,7 +87,7 @@ balance_of s c = record {
   known = known s;
   estimate = λ t. estimate s (c.seen t);
   bound = λ t. error_bound s (c.seen t);
-  independent = λ t. HasIndependentColumns (free_units s) (c.seen t);
+  independent = λ t. HasIndependentColumns (shares_cube (free_units s)) (c.seen t);
   stuck = λ t. IsStuck (free_units s) (c.order t) (c.seen t);
 }
 

@@ -9,20 +9,20 @@ use Rattle.smp_flight.proofs.Firsts.{contains_in, in_contains}
 use Rattle.smp_flight.proofs.Windowed.{length-numerators_over, read_in, read_out}
 
 module _ (v : Windowed) (rows : ℕ) (numbers : List ℕ) (s : Tracked) (kept : numbers ≡ v.numer) (is : tracked_of v rows ≡ s) where
-  pub cells_size : length numbers ≡ length s.flight.shares.numer
+  pub cells_size : length numbers ≡ length s.flight.values.numer
   cells_size =
-      ap length kept ∙ sym (length-numerators_over v.numer v.times v.window) ∙ ap (λ (t : Tracked). length t.flight.shares.numer) is
+      ap length kept ∙ sym (length-numerators_over v.numer v.times v.window) ∙ ap (λ (t : Tracked). length t.flight.values.numer) is
 
   -- the numerators of the window are kept as they are
-  pub cells_window : (k : ℕ) → Contains s.window k → get_or numbers k 0 ≡ get_or s.flight.shares.numer k 0
+  pub cells_window : (k : ℕ) → Contains s.window k → get_or numbers k 0 ≡ get_or s.flight.values.numer k 0
   cells_window k =
-      subst (λ (t : Tracked). Contains t.window k → get_or numbers k 0 ≡ get_or t.flight.shares.numer k 0) is
+      subst (λ (t : Tracked). Contains t.window k → get_or numbers k 0 ≡ get_or t.flight.values.numer k 0) is
       (λ h. read_in v.numer v.times v.window k (get_or numbers k 0) (contains_in v.window k h) (ap (λ xs. get_or xs k 0) kept))
 
   -- and all others over the requested denominator
-  pub cells_others : (k : ℕ) → ¬ (Contains s.window k) → get_or numbers k 0 * s.flight.shares.den ≡ get_or s.flight.shares.numer k 0 * s.flight.requested_den
+  pub cells_others : (k : ℕ) → ¬ (Contains s.window k) → get_or numbers k 0 * s.flight.values.den ≡ get_or s.flight.values.numer k 0 * s.flight.fixed
   cells_others k =
-      subst (λ (t : Tracked). ¬ (Contains t.window k) → get_or numbers k 0 * t.flight.shares.den ≡ get_or t.flight.shares.numer k 0 * t.flight.requested_den) is
+      subst (λ (t : Tracked). ¬ (Contains t.window k) → get_or numbers k 0 * t.flight.values.den ≡ get_or t.flight.values.numer k 0 * t.flight.fixed) is
       (λ h.
       ap (λ d. get_or numbers k 0 * d) (mul_comm v.requested_den v.times) ∙ sym (mul_assoc (get_or numbers k 0) v.times v.requested_den)
       ∙ ap (λ a. a * v.requested_den)

@@ -22,17 +22,17 @@ use Rattle.smp_flight.specs.Laws.Nexts.{IsKnown, known_by, next_by_is}
 
 -- the state before the first step
 pub started_flight : (units : Units) → IsUnits units → IsFlight units (started units)
-started_flight units are = record { are = are; values = are.requested; requested_den_is = refl; multiple = dvd_refl units.requested.den; rows_in = omega arith }
+started_flight units are = record { are = are; values = are.requested; fixed_is = refl; multiple = dvd_refl units.requested.den; rows_in = omega arith }
 
 -- ---- where there is none, the search found none
 
 module _ (units : Units) (s : Flight) (order : List ℕ) where
-  none_from : (answer : Search) → next_of units s.shares order answer ≡ independent → answer ≡ none
+  none_from : (answer : Search) → next_of units s.values order answer ≡ independent → answer ≡ none
   none_from none e = refl
   none_from too_wide e = absurd (let h : wide ≡ independent = e in cc)
   none_from (found w) e =
-      elim (cases_Bool (fits units.requested.den s.shares (direction units order w))) [
-        | inl t ↦ absurd (let h : move (move_along s.shares (direction units order w)) ≡ independent = rw t at e in cc)
+      elim (cases_Bool (fits units.requested.den s.values (direction units order w))) [
+        | inl t ↦ absurd (let h : move (move_along s.values (direction units order w)) ≡ independent = rw t at e in cc)
         | inr n ↦ absurd (let h : wide ≡ independent = rw n at e in cc)
       ]
 
@@ -58,24 +58,24 @@ module _ (units : Units) (s : Flight) (order : List ℕ) where
   circuit_few : (w : List ℤ) → Finds units s order (found w) → length w ≤ s.rows + 1
   circuit_few w f = omega (arith, circuit_length s.rows (cut s.rows (columns_of units order)) w f, few_enter s.rows (cut s.rows (columns_of units order)) (cut_short s.rows (columns_of units order)) f.number f.enter)
 
-  same_next : (answer : Search) → Finds units s order answer → next_of units s.shares (take (s.rows + 1) order) answer ≡ next_of units s.shares order answer
+  same_next : (answer : Search) → Finds units s order answer → next_of units s.values (take (s.rows + 1) order) answer ≡ next_of units s.values order answer
   same_next none f = refl
   same_next too_wide f = refl
   same_next (found w) f =
       let same : take (length w) (take (s.rows + 1) order) ≡ take (length w) order = take-take (length w) (s.rows + 1) order (circuit_few w f) in
-      ap (λ (ks : List ℕ). next_along units.requested.den s.shares (record { units = ks; entries = primitive_part (sized units ks w) })) same
+      ap (λ (ks : List ℕ). next_along units.requested.den s.values (record { units = ks; entries = primitive_part (sized units ks w) })) same
 
   pub next_by_front : next_by units (take (s.rows + 1) order) s ≡ next_by units order s
   next_by_front =
-      ap (next_of units s.shares (take (s.rows + 1) order)) same_search ∙ same_next (search s.rows (columns_of units order)) (search_is s.rows (columns_of units order))
+      ap (next_of units s.values (take (s.rows + 1) order)) same_search ∙ same_next (search s.rows (columns_of units order)) (search_is s.rows (columns_of units order))
 
 -- ---- of the step itself
 
 module _ (units : Units) (s : Flight) (order : List ℕ) where
-  pub next_is : IsFlight units s → IsOrder s.shares order → IsNext units s order (next_on units order s)
+  pub next_is : IsFlight units s → IsOrder s.values order → IsNext units s order (next_on units order s)
   next_is is_flight ok = subst (IsNext units s order) (sym (next_on_is units order s)) (next_by_is units s order is_flight ok)
 
-  pub known : IsFlight units s → IsOrder s.shares order → (m : Move) → next_on units order s ≡ move m → IsKnown units s order m
+  pub known : IsFlight units s → IsOrder s.values order → (m : Move) → next_on units order s ≡ move m → IsKnown units s order m
   known is_flight ok m e = known_by units s order is_flight ok m (sym (next_on_is units order s) ∙ e)
 
   pub independent_columns : next_on units order s ≡ independent → AreIndependent s.rows (cut s.rows (columns_of units order))

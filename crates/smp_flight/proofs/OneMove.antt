@@ -151,19 +151,19 @@ module _ (units : Units) (s : Flight) (order : List ℕ) where
   move_none : (m : Move) → IsFlown units s order m → Finds units s order none → ⊥
   move_none m a f = (let e : found a.circuit ≡ none = one_search (found a.circuit) none a.finds f in absurd (cc))
 
-module _ (units : Units) (s : Flight) (order : List ℕ) (is_flight : IsFlight units s) (ok : IsOrder s.shares order) where
+module _ (units : Units) (s : Flight) (order : List ℕ) (is_flight : IsFlight units s) (ok : IsOrder s.values order) where
   move_move : (m n : Move) → IsFlown units s order m → IsFlown units s order n → m ≡ n
   move_move m n a b =
       let e : b.circuit ≡ a.circuit = same_circuit units s order b.circuit a.circuit b.finds a.finds in
-      let is = subst (λ (w : List ℤ). IsMove units s.shares order w n b.plus_end b.minus_end) e b.is in
-      (one_move units s.shares (flight_over units s is_flight) order ok a.circuit m a.plus_end a.minus_end a.is n b.plus_end b.minus_end is).0
+      let is = subst (λ (w : List ℤ). IsMove units s.values order w n b.plus_end b.minus_end) e b.is in
+      (one_move units s.values (flight_over units s is_flight) order ok a.circuit m a.plus_end a.minus_end a.is n b.plus_end b.minus_end is).0
 
   move_wide : (m : Move) → IsFlown units s order m → IsWide units s order → ⊥
   move_wide m a (IsWide.search_wide f) = (let e : found a.circuit ≡ too_wide = one_search units s order (found a.circuit) too_wide a.finds f in absurd (cc))
   move_wide m a (IsWide.move_wide v n p q f is no_fit) =
       let e : v ≡ a.circuit = same_circuit units s order v a.circuit f a.finds in
-      let other = subst (λ (w : List ℤ). IsMove units s.shares order w n p q) e is in
-      let same = one_move units s.shares (flight_over units s is_flight) order ok a.circuit m a.plus_end a.minus_end a.is n p q other in
+      let other = subst (λ (w : List ℤ). IsMove units s.values order w n p q) e is in
+      let same = one_move units s.values (flight_over units s is_flight) order ok a.circuit m a.plus_end a.minus_end a.is n p q other in
       no_fit (subst (λ (y : Move). Fits y p q) same.0 (subst (λ (y : Shares). Fits m y q) same.1 (subst (λ (y : Shares). Fits m a.plus_end y) same.2 a.fits)))
 
   pub one_next : (a b : Next) → IsNext units s order a → IsNext units s order b → a ≡ b

@@ -15,13 +15,14 @@ use Rattle.smp_moves.specs.Moves.{independent, Next, move, wide}
 use Rattle.smp_moves.specs.Balances.{Begins}
 use Rattle.smp_moves.specs.Owed.{HasKept, HasStayed, IsStart, Owes, weighed_total}
 use Rattle.smp_moves.proofs.Owed.{is_balanced}
+use Rattle.smp_moves.specs.Cubes.{flying, pairing, values_in, rows_in, left_in, flight_kind, flight_parts, landed, HasIndependentColumns}
 use Rattle.smp_flight.specs.States as flights
 use Rattle.smp_flight.specs.States.{Units, Flight, IsFlight, column, size}
 use Rattle.smp_flight.specs.Steps.{next_on}
 use Rattle.smp_flight.specs.Moves.{IsNext}
 use Rattle.smp_flight.specs.Totals.{expanded, addend, row_total}
-use Rattle.smp_flight.specs.Selections.{Balancing, flying, pairing, values_in, rows_in, left_in, GoesOn, IsBalancing, IsSelection, IsWholeOrder, Selection, chooses, flies, flight_kind, flight_parts, kind_by, landed, parts_by, starting}
-use Rattle.smp_flight.specs.Landings.{HasIndependentColumns, IsBalanced, IsStuck, weighed_of}
+use Rattle.smp_flight.specs.Selections.{Balancing, GoesOn, IsBalancing, IsSelection, IsWholeOrder, Selection, chooses, flies, kind_by, parts_by, starting, shares_cube}
+use Rattle.smp_flight.specs.Landings.{IsBalanced, IsStuck, weighed_of}
 use Rattle.smp_flight.proofs.ByOrder.{both_totals, few_fractional, values_ok}
 use Rattle.smp_flight.proofs.Nexts.{independent_columns, next_is}
 use Rattle.smp_flight.proofs.Seen.{Flies, each_seen, each_so, each_unmoved, total_is}
@@ -56,10 +57,10 @@ is_wide wide e = refl
 
 -- ---- how many are left
 
-landed_first : (f : Flight) (left : ℕ) → left ≡ 0 → landed f left ≡ fractional_count f.shares
+landed_first : (f : Flight) (left : ℕ) → left ≡ 0 → landed (fractional_count f.values) left ≡ fractional_count f.values
 landed_first f left none = rw none refl
 
-landed_later : (f : Flight) (left n : ℕ) → 1 ≤ n → left ≡ n → landed f left ≡ n
+landed_later : (f : Flight) (left n : ℕ) → 1 ≤ n → left ≡ n → landed (fractional_count f.values) left ≡ n
 landed_later f left n some e = (let ne : left ≢ 0 = omega arith in rw (ne_eqb left 0 ne) e)
 
 each_part : {State : Type 0} (P : Part State → Type 0) → ((p : Part State) → P p) → (parts : List (Part State)) → EachPart P parts
@@ -83,8 +84,8 @@ module _ (units : Units) (order : List ℕ) where
   is_flying (flying f left) k = tt
   is_flying (pairing s left) k = absurd (no_flight (fractional_units s) k)
 
-  stays_by : (f : Flight) (left : ℕ) → IsFlight units f → IsWholeOrder f.shares order → (a : Next) → next_on units order f ≡ a → (Begins (flight_kind a) → ⊥) →
-      EachPart (λ p. StaysSo units (flying f left) p.state) (flight_parts units f left a)
+  stays_by : (f : Flight) (left : ℕ) → IsFlight units f → IsWholeOrder f.values order → (a : Next) → next_on units order f ≡ a → (Begins (flight_kind a) → ⊥) →
+      EachPart (λ p. StaysSo units (flying f left) p.state) (flight_parts (shares_cube units) f left a)
   stays_by f left ok w independent is not = absurd (not (inl refl))
   stays_by f left ok w wide is not = absurd (not (inr refl))
   stays_by f left ok w (move m) is not = (
@@ -97,9 +98,9 @@ module _ (units : Units) (order : List ℕ) where
   stays (flying f left) ok w air not = stays_by f left ok w (next_on units order f) refl not
   stays (pairing s left) ok w air not = absurd air
 
-  drop_independent : (s : Balancing) → IsWholeOrder (values_in s) order → kind_by units order s ≡ kind.Drop → HasIndependentColumns units s
+  drop_independent : (s : Balancing) → IsWholeOrder (values_in s) order → kind_by units order s ≡ kind.Drop → HasIndependentColumns (shares_cube units) s
   drop_independent (flying f left) w k =
-      independent_in_frame_order units f.rows f.shares order w (independent_columns units f order (is_independent (next_on units order f) k))
+      independent_in_frame_order units f.rows f.values order w (independent_columns units f order (is_independent (next_on units order f) k))
   drop_independent (pairing s left) w k = absurd (no_landing (fractional_units s) (inl k))
 
   drop_few : (s : Balancing) → IsBalancing units s → IsWholeOrder (values_in s) order → kind_by units order s ≡ kind.Drop → fractional_count (values_in s) ≤ rows_in s
@@ -112,7 +113,7 @@ module _ (units : Units) (order : List ℕ) where
       inr (subst (IsNext units f order) (is_wide (next_on units order f) wides) (next_is units f order ok w.is_order))
   lands_there (pairing s left) ok w begins = absurd (no_landing (fractional_units s) begins)
 
-  first_by : (f : Flight) (left : ℕ) → left ≡ 0 → (a : Next) → Begins (flight_kind a) → EachPart (λ p. left_in p.state ≡ fractional_count f.shares) (flight_parts units f left a)
+  first_by : (f : Flight) (left : ℕ) → left ≡ 0 → (a : Next) → Begins (flight_kind a) → EachPart (λ p. left_in p.state ≡ fractional_count f.values) (flight_parts (shares_cube units) f left a)
   first_by f left none (move m) begins = absurd (elim begins [ inl e ↦ (cc) | inr e ↦ (cc) ])
   first_by f left none independent begins = (landed_first f left none, tt)
   first_by f left none wide begins = (landed_first f left none, tt)
@@ -122,7 +123,7 @@ module _ (units : Units) (order : List ℕ) where
   first_left (flying f left) air none begins = first_by f left none (next_on units order f) begins
   first_left (pairing s left) air none begins = absurd air
 
-  kept_by : (f : Flight) (left n : ℕ) → 1 ≤ n → left ≡ n → (a : Next) → EachPart (λ p. left_in p.state ≡ n) (flight_parts units f left a)
+  kept_by : (f : Flight) (left n : ℕ) → 1 ≤ n → left ≡ n → (a : Next) → EachPart (λ p. left_in p.state ≡ n) (flight_parts (shares_cube units) f left a)
   kept_by f left n some e (move m) = (e, (e, tt))
   kept_by f left n some e independent = (landed_later f left n some e, tt)
   kept_by f left n some e wide = (landed_later f left n some e, tt)
@@ -197,7 +198,7 @@ module _ {State : Type 0} (c : Selection State) (belongs : State → Type 0) (is
     all_stuck : Begins (c.tree.kind s) → IsStuck c.units (c.order s) (c.seen s)
     all_stuck begins = lands_there c.units (c.order s) (c.seen s) (is.member s ok) (landing_flies begins).whole_order (landing_kind begins)
 
-    all_drops : c.tree.kind s ≡ kind.Drop → HasIndependentColumns c.units (c.seen s)
+    all_drops : c.tree.kind s ≡ kind.Drop → HasIndependentColumns (shares_cube c.units) (c.seen s)
     all_drops k = (let f = drop_flies k in drop_independent c.units (c.order s) (c.seen s) f.whole_order (sym f.kind ∙ k))
 
     all_few : c.tree.kind s ≡ kind.Drop → fractional_count (values_in (c.seen s)) ≤ rows_in (c.seen s)

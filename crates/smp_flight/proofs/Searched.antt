@@ -30,9 +30,9 @@ pub record IsCircuitOf (units : Units) (s : Flight) (us : List ℕ) (number : �
   pub fewer : n ≤ number
   pub small : (j : ℕ) → unsigned_abs (entry w j) ≤ 2 ^ 44
   pub some : IsZero (sized units (take n us) (take n w)) → ⊥
-  pub line : IsLine s.shares (direction units (take number us) (take n w))
+  pub line : IsLine s.values (direction units (take number us) (take n w))
 
-module _ (units : Units) (s : Flight) (is_flight : IsFlight units s) (us : List ℕ) (number : ℕ) (lu : number ≤ length us) (ok : IsOrder s.shares (take number us)) (w : List ℤ) (n : ℕ) (lw : n ≤ length w) (e : found (take n w) ≡ search s.rows (columns_of units (take number us))) (past : (i : ℕ) → n ≤ i → entry w i ≡ pos 0) where
+module _ (units : Units) (s : Flight) (is_flight : IsFlight units s) (us : List ℕ) (number : ℕ) (lu : number ≤ length us) (ok : IsOrder s.values (take number us)) (w : List ℤ) (n : ℕ) (lw : n ≤ length w) (e : found (take n w) ≡ search s.rows (columns_of units (take number us))) (past : (i : ℕ) → n ≤ i → entry w i ≡ pos 0) where
   pub finds : Finds units s (take number us) (found (take n w))
   finds = subst (Finds units s (take number us)) (sym e) (search_is s.rows (columns_of units (take number us)))
 
@@ -51,41 +51,41 @@ module _ (units : Units) (s : Flight) (is_flight : IsFlight units s) (us : List 
   found_some : IsZero (sized units (take n us) (take n w)) → ⊥
   found_some z = some_sized units s is_flight (take number us) ok (take n w) finds (subst (λ ks. IsZero (sized units ks (take n w))) (sym found_units) z)
 
-  found_line : IsLine s.shares (direction units (take number us) (take n w))
-  found_line = direction_line units s.shares (take number us) ok (take n w) (direction units (take number us) (take n w)) (is_direction units s is_flight (take number us) ok (take n w) finds)
+  found_line : IsLine s.values (direction units (take number us) (take n w))
+  found_line = direction_line units s.values (take number us) ok (take n w) (direction units (take number us) (take n w)) (is_direction units s is_flight (take number us) ok (take n w) finds)
 
   pub found_circuit : IsCircuitOf units s us number w n
   found_circuit = record { fewer = found_fewer; small = found_small; some = found_some; line = found_line }
 
-  pub found_next : next_along units.requested.den s.shares (direction units (take number us) (take n w)) ≡ next_by units (take number us) s
-  found_next = ap (next_of units s.shares (take number us)) e
+  pub found_next : next_along units.requested.den s.values (direction units (take number us) (take n w)) ≡ next_by units (take number us) s
+  found_next = ap (next_of units s.values (take number us)) e
 
   -- where its direction doesn't fit
   pub found_wide : entries_fit (direction units (take number us) (take n w)) ≡ false → wide ≡ next_by units (take number us) s
-  found_wide h = (let f : wide ≡ next_along units.requested.den s.shares (direction units (take number us) (take n w)) = rw h refl in f) ∙ found_next
+  found_wide h = (let f : wide ≡ next_along units.requested.den s.values (direction units (take number us) (take n w)) = rw h refl in f) ∙ found_next
 
 -- what an answer of a search through some fractional units allows
 module _ (units : Units) (s : Tracked) (order : List ℕ) (a : AreSearched s order) where
   pub allowed : (result : Answer) → answer_of result ≡ next_on units order s.flight → IsPaddedIn result → Allows (IsMoveOf units s) units s result
   allowed (answers.Move m) e padded = record { order = order; is_order = a.is_order; is = sym e; padded = padded; few = omega (arith, a.enough); window = a.window }
-  allowed answers.Independent e padded = independent_in_frame units s.flight.shares s.flight.rows order a.is_order a.enough (independent_columns units s.flight order (sym e))
+  allowed answers.Independent e padded = independent_in_frame units s.flight.values s.flight.rows order a.is_order a.enough (independent_columns units s.flight order (sym e))
   allowed answers.Wide e padded = tt
 
 -- and of one through the first fractional units
 module _ (s : Tracked) (first : AreFirst s.flight s.window) where
   abbrev front : List ℕ
-  front = take (s.flight.rows + 1) (fractional_units s.flight.shares)
+  front = take (s.flight.rows + 1) (fractional_units s.flight.values)
 
-  pub front_searched : AreSearched s (take (s.flight.rows + 1) (fractional_units s.flight.shares))
+  pub front_searched : AreSearched s (take (s.flight.rows + 1) (fractional_units s.flight.values))
   front_searched = record {
-    is_order = order_front s.flight.shares (fractional_units s.flight.shares) (frame_order s.flight.shares) (s.flight.rows + 1);
-    enough = omega (arith, length-take (s.flight.rows + 1) (fractional_units s.flight.shares), fractional_units_length s.flight.shares);
+    is_order = order_front s.flight.values (fractional_units s.flight.values) (frame_order s.flight.values) (s.flight.rows + 1);
+    enough = omega (arith, length-take (s.flight.rows + 1) (fractional_units s.flight.values), fractional_units_length s.flight.values);
     window = first;
   }
 
   pub allowed_first : (units : Units) → IsFlight units s.flight → (result : Answer) → answer_of result ≡ next units s.flight → Allows (IsMoveOf units s) units s result → Allows (IsFirstMove units s) units s result
   allowed_first units is_flight (answers.Move m) e made =
-      let is : next_on units front s.flight ≡ move (move_of m) = next_on_front units s.flight (fractional_units s.flight.shares) ∙ sym e in
+      let is : next_on units front s.flight ≡ move (move_of m) = next_on_front units s.flight (fractional_units s.flight.values) ∙ sym e in
       let k = known units s.flight front is_flight front_searched.is_order (move_of m) is in
       record { is_move = made; first = from_each front (move_of m).direction.units (moves_within units s.flight front (move_of m) k) }
   allowed_first units is_flight answers.Independent e made = made

@@ -9,11 +9,12 @@ use Rattle.smp_split.specs.Trees.{EachPart}
 use Rattle.smp_split.proofs.Parts.{each_moved}
 use Rattle.smp_values.specs.Steps.{parts_on, pivotal_parts}
 use Rattle.smp_values.specs.Values.{fractional, fractional_units, is_fractional, value_at}
+use Rattle.smp_moves.specs.Cubes.{flying, pairing, values_in, flight_parts}
 use Rattle.smp_flight.specs.States.{Units, Flight, IsFlight}
 use Rattle.smp_moves.specs.Moves.{Move, fraction_of, independent, IsOrder, Next, move, wide, chosen_line, chosen_extent}
 use Rattle.smp_flight.specs.Steps.{next_on, chosen}
 use Rattle.smp_moves.proofs.Entries.{frame_order, off_line, order_going, place_or}
-use Rattle.smp_flight.specs.Selections.{Balancing, flying, pairing, values_in, IsBalancing, IsWholeOrder, flight_parts, parts_by}
+use Rattle.smp_flight.specs.Selections.{Balancing, IsBalancing, IsWholeOrder, parts_by, shares_cube}
 use Rattle.smp_flight.proofs.ByOrder.{ends_at}
 
 -- the unit k has the value v for good
@@ -50,28 +51,28 @@ module _ (s : Shares) (k : ℕ) (v : Fraction) (settled : IsSettledAt k v s) whe
 -- ---- each step
 
 module _ (units : Units) (order : List ℕ) (k : ℕ) (v : Fraction) where
-  module _ (f : Flight) (left : ℕ) (ok : IsFlight units f) (ordered : IsOrder f.shares order) (settled : IsSettledAt k v f.shares) where
+  module _ (f : Flight) (left : ℕ) (ok : IsFlight units f) (ordered : IsOrder f.values order) (settled : IsSettledAt k v f.values) where
     module _ (m : Move) (is : next_on units order f ≡ move m) (plus_way : Bool) where
-      end_same : Same (value_at (chosen units f m plus_way).shares k) (value_at f.shares k)
+      end_same : Same (value_at (chosen units f m plus_way).values k) (value_at f.values k)
       end_same =
           let end = ends_at units f left order ok ordered m is plus_way in
           let t = fraction_of (chosen_extent m plus_way) in
           same_trans (end.moved.values k)
           (elim (place_or (chosen_line m plus_way).units k) [
-            | inl h ↦ absurd (true≢false (sym (subst (λ (x : ℕ). is_fractional f.shares x ≡ true) h.2 (order_going f.shares (chosen_line m plus_way).units end.line_ok.order h.0 h.1)) ∙ settled.still))
-            | inr out ↦ rw (off_line f.shares (chosen_line m plus_way) end.line_ok k out) (same_trans (plus_same (same_refl (value_at f.shares k)) (times-zero t)) (plus-zero (value_at f.shares k)))
+            | inl h ↦ absurd (true≢false (sym (subst (λ (x : ℕ). is_fractional f.values x ≡ true) h.2 (order_going f.values (chosen_line m plus_way).units end.line_ok.order h.0 h.1)) ∙ settled.still))
+            | inr out ↦ rw (off_line f.values (chosen_line m plus_way) end.line_ok k out) (same_trans (plus_same (same_refl (value_at f.values k)) (times-zero t)) (plus-zero (value_at f.values k)))
           ])
 
-      end_settled : IsSettledAt k v (chosen units f m plus_way).shares
+      end_settled : IsSettledAt k v (chosen units f m plus_way).values
       end_settled = record {
-        still = elim (cases_Bool (is_fractional (chosen units f m plus_way).shares k)) [
+        still = elim (cases_Bool (is_fractional (chosen units f m plus_way).values k)) [
           | inr e ↦ e
           | inl e ↦ absurd (true≢false (sym ((ends_at units f left order ok ordered m is plus_way).fewer k e) ∙ settled.still))
         ];
         same = same_trans end_same settled.same;
       }
 
-    flight_settled : (a : Next) → next_on units order f ≡ a → EachPart (λ p. IsSettledAt k v (values_in p.state)) (flight_parts units f left a)
+    flight_settled : (a : Next) → next_on units order f ≡ a → EachPart (λ p. IsSettledAt k v (values_in p.state)) (flight_parts (shares_cube units) f left a)
     flight_settled (move m) is = (end_settled m is true, (end_settled m is false, tt))
     flight_settled independent is = (settled, tt)
     flight_settled wide is = (settled, tt)

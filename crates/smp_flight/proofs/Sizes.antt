@@ -41,11 +41,11 @@ module _ (first : ℕ) (s : Shares) (is_over : IsOver first s) (line : Line) (ok
         some_common = rw common (common_some first s is_over line ok);
       }
 
-pub flown_both_ways : (units : Units) (s : Flight) (order : List ℕ) → IsFlight units s → IsOrder s.shares order → (m : Move) → IsFlown units s order m → GoesBothWays m
+pub flown_both_ways : (units : Units) (s : Flight) (order : List ℕ) → IsFlight units s → IsOrder s.values order → (m : Move) → IsFlown units s order m → GoesBothWays m
 flown_both_ways units s order is_flight ok m f =
     let k = known units s order is_flight ok m (one_next units s order is_flight ok (next_on units order s) (move m) (next_is units s order is_flight ok) f) in
-    goes_both_ways units s.shares (flight_over units s is_flight) order ok f.circuit m f.plus_end f.minus_end f.is
-    (subst (λ (n : Move). n.plus_weight + n.minus_weight < 2 ^ 126) (sym k.same) (weights_small units.requested.den s.shares (flight_over units s is_flight) m.direction k.line k.fits.entries))
+    goes_both_ways units s.values (flight_over units s is_flight) order ok f.circuit m f.plus_end f.minus_end f.is
+    (subst (λ (n : Move). n.plus_weight + n.minus_weight < 2 ^ 126) (sym k.same) (weights_small units.requested.den s.values (flight_over units s is_flight) m.direction k.line k.fits.entries))
 
 pub flown_ends : EachEnds
 flown_ends units s order is_flight ok m f plus =

@@ -13,11 +13,12 @@ use Rattle.smp_values.specs.Values.{AddTo, fractional_at, fractional_count, is_s
 use Rattle.smp_values.proofs.Pivotal.{steps_count}
 use Rattle.smp_values.proofs.Sums.{lone_never}
 use Rattle.smp_values.proofs.Units.{fractional_at_is}
+use Rattle.smp_moves.specs.Cubes.{flying, pairing, values_in, rows_in, flight_parts}
 use Rattle.smp_flight.specs.States.{Units, Flight, IsFlight}
 use Rattle.smp_moves.specs.Moves.{Next, move, independent, wide}
 use Rattle.smp_flight.specs.Steps.{next_on}
 use Rattle.smp_flight.specs.Totals.{row_total}
-use Rattle.smp_flight.specs.Selections.{Balancing, flying, pairing, values_in, rows_in, IsBalancing, IsSelection, IsWholeOrder, Selection, flight_parts, parts_by}
+use Rattle.smp_flight.specs.Selections.{Balancing, IsBalancing, IsSelection, IsWholeOrder, Selection, parts_by, shares_cube}
 use Rattle.smp_flight.proofs.ByOrder.{both_totals, few_fractional, values_ok}
 use Rattle.smp_flight.proofs.Seen.{each_seen, total_is}
 
@@ -41,7 +42,7 @@ IsWholeState units n (flying f left) = IsWholeFlight units n f left
 IsWholeState units n (pairing s left) = AddTo n s
 
 module _ (units : Units) (n : ℕ) (order : List ℕ) where
-  module _ (f : Flight) (left : ℕ) (ok : IsFlight units f) (w : IsWholeOrder f.shares order) (going : is_settled f.shares ≡ false) (keeps : IsWholeFlight units n f left) where
+  module _ (f : Flight) (left : ℕ) (ok : IsFlight units f) (w : IsWholeOrder f.values order) (going : is_settled f.values ≡ false) (keeps : IsWholeFlight units n f left) where
     -- the last row is dropped from no whole sum
     two_rows : next_on units order f ≡ independent → 2 ≤ f.rows
     two_rows is =
@@ -49,11 +50,11 @@ module _ (units : Units) (n : ℕ) (order : List ℕ) where
           | inr ne ↦ omega (arith, keeps.row, ne)
           | inl one ↦
               absurd (let few = few_fractional units f left order ok w is in
-              let some : fractional_count f.shares ≢ 0 = eqb-false (fractional_count f.shares) 0 going in
-              lone_never (length units.sizes) (2 ^ 80) n f.shares ok.values (fractional_at f.shares 0) (fractional_at_is f.shares 0 (omega (arith, some))) (omega (arith, few, one)) (adds_to units n (flying f left) ok keeps.adds))
+              let some : fractional_count f.values ≢ 0 = eqb-false (fractional_count f.values) 0 going in
+              lone_never (length units.sizes) (2 ^ 80) n f.values ok.values (fractional_at f.values 0) (fractional_at_is f.values 0 (omega (arith, some))) (omega (arith, few, one)) (adds_to units n (flying f left) ok keeps.adds))
         ]
 
-    parts_keep : (a : Next) → next_on units order f ≡ a → EachPart (λ p. IsWholeState units n p.state) (flight_parts units f left a)
+    parts_keep : (a : Next) → next_on units order f ≡ a → EachPart (λ p. IsWholeState units n p.state) (flight_parts (shares_cube units) f left a)
     parts_keep (move m) is =
         let t = both_totals units f left order ok w.is_order m is 0 keeps.row in
         (record { adds = same_trans t.0 keeps.adds; row = keeps.row }, (record { adds = same_trans t.1.0 keeps.adds; row = keeps.row }, tt))

@@ -46,7 +46,7 @@ pub record IsFlown (units : Units) (s : Flight) (order : List ℕ) (m : Move) : 
   pub finds : Finds units s order (found circuit)
   pub plus_end : Shares
   pub minus_end : Shares
-  pub is : IsMove units s.shares order circuit m plus_end minus_end
+  pub is : IsMove units s.values order circuit m plus_end minus_end
   pub fits : Fits m plus_end minus_end
 
 -- the search is too wide, or the move of the circuit that it found doesn't fit
@@ -54,7 +54,7 @@ pub data IsWide (units : Units) (s : Flight) (order : List ℕ) : Type 0 where
   search_wide : Finds units s order too_wide → IsWide units s order
   move_wide :
       (w : List ℤ) (m : Move) (plus_end minus_end : Shares) → Finds units s order (found w) →
-      IsMove units s.shares order w m plus_end minus_end → (Fits m plus_end minus_end → ⊥) → IsWide units s order
+      IsMove units s.values order w m plus_end minus_end → (Fits m plus_end minus_end → ⊥) → IsWide units s order
 
 -- what holds of the next step of a state whose search goes through the columns of these units
 abbrev pub IsNext : Units → Flight → List ℕ → Next → Type 0
@@ -68,10 +68,10 @@ pub record Stepping : Type 0 where
   pub next_on : Units → List ℕ → Flight → Next
   pub end_at : ℕ → Shares → Line → Shares
   pub is_next :
-      (units : Units) (s : Flight) (order : List ℕ) → IsFlight units s → IsOrder s.shares order →
+      (units : Units) (s : Flight) (order : List ℕ) → IsFlight units s → IsOrder s.values order →
       IsNext units s order (next_on units order s)
   pub is_moved :
-      (units : Units) (s : Flight) (order : List ℕ) → IsFlight units s → IsOrder s.shares order →
+      (units : Units) (s : Flight) (order : List ℕ) → IsFlight units s → IsOrder s.values order →
       (m : Move) → next_on units order s ≡ move m → (plus : Bool) →
-      IsMoved units.requested.den s.shares (chosen_line m plus) (chosen_extent m plus)
-      (end_at units.requested.den s.shares (chosen_line m plus))
+      IsMoved units.requested.den s.values (chosen_line m plus) (chosen_extent m plus)
+      (end_at units.requested.den s.values (chosen_line m plus))

@@ -3,7 +3,8 @@
 use Rattle.std.specs.Prelude.{◌≡◌, ℕ, Bool, List}
 use Rattle.smp_prob.specs.Shares.{Shares}
 use Rattle.smp_values.specs.Values.{fractional_units}
-use Rattle.smp_moves.specs.Moves.{Line, Move, Next, chosen_line}
+use Rattle.smp_moves.specs.Moves.{Line, Move, Next}
+use Rattle.smp_moves.specs.Cubes.{chosen_by}
 use Rattle.smp_moves.specs.Ends.{end_of}
 use Rattle.smp_flight.specs.States.{Units, Flight}
 use Rattle.smp_flight.specs.Moves.{Stepping}
@@ -20,15 +21,11 @@ next_on = stepping.next_on
 
 -- the step of a state, whose search goes through the fractional units in the order of the frame
 abbrev pub next : Units → Flight → Next
-next units s = next_on units (fractional_units s.shares) s
+next units s = next_on units (fractional_units s.values) s
 
 -- the state at the end that is chosen
 abbrev pub chosen : Units → Flight → Move → Bool → Flight
-chosen units s m plus = record {
-  requested_den = s.requested_den;
-  shares = stepping.end_at units.requested.den s.shares (chosen_line m plus);
-  rows = s.rows;
-}
+chosen units = chosen_by (stepping.end_at units.requested.den)
 
 -- ---- how they are found
 

@@ -2,10 +2,11 @@
 
 ghost use Rattle.std.specs.Prelude.{◌≡◌, ◌≤◌, length};
 ghost use Rattle.smp_fractions.specs.Limits.{most_rows};
+ghost use Rattle.smp_values.specs.Values.{fractional_count};
+ghost use Rattle.smp_moves.specs.Cubes.{landed};
 ghost use Rattle.smp_flight.specs.States.{AreFirst, IsFlight};
 ghost use Rattle.smp_flight.specs.Steps.{chosen};
 ghost use Rattle.smp_flight.specs.Answers.{IsMoveOf, IsNextWindow, move_of};
-ghost use Rattle.smp_flight.specs.Selections.{landed};
 
 use crate::shapes::Shape;
 use crate::states::FlightState;
@@ -16,8 +17,8 @@ use std::sync::ledger::{Blank, Ledger};
 
 /// Sets the values to those of a flight, where they are as many.
 pub fn fill(flight: &FlightState, values: &mut Values)
-    requires { length values.old.numer ≡ length flight.now.flight.shares.numer }
-    ensures { values.new ≡ flight.now.flight.shares }
+    requires { length values.old.numer ≡ length flight.now.flight.values.numer }
+    ensures { values.new ≡ flight.now.flight.values }
 {
     for unit in 0..values.len() {
         values.set(unit, flight.numer(unit));
@@ -27,8 +28,8 @@ pub fn fill(flight: &FlightState, values: &mut Values)
 
 /// How many units were fractional where the landing began: here, unless `left` says that it began before.
 pub fn landed(flight: &FlightState, left: u32) -> u32
-    requires { length flight.now.flight.shares.numer ≤ most_rows }
-    ensures { result ≡ landed flight.now.flight left }
+    requires { length flight.now.flight.values.numer ≤ most_rows }
+    ensures { result ≡ landed (fractional_count flight.now.flight.values) left }
 {
     if left == 0 {
         flight.fractional() as u32
@@ -46,8 +47,8 @@ pub fn fly<L: Ledger>(shape: &Shape, flight: &mut FlightState, mv: &Move, plus: 
     requires some { 1 ≤ blank.parts }
     ensures is { flight.new.flight ≡ chosen shape.now flight.old.flight (move_of mv.now) plus }
     ensures flight { IsFlight shape.now flight.new.flight }
-    ensures units { length flight.new.flight.shares.numer
-        ≡ length flight.old.flight.shares.numer }
+    ensures units { length flight.new.flight.values.numer
+        ≡ length flight.old.flight.values.numer }
     ensures first { AreFirst flight.old.flight flight.old.window
         → AreFirst flight.old.flight (move_of mv.now).direction.units
         → AreFirst flight.new.flight flight.new.window }

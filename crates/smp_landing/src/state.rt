@@ -3,10 +3,11 @@
 ghost use Rattle.std.specs.Prelude.{◌≡◌, ◌<◌, ◌≤◌, false, length};
 ghost use Rattle.smp_split.specs.Trees.{picked, weight_sum};
 ghost use Rattle.smp_values.specs.Values.{is_one, is_settled};
+ghost use Rattle.smp_moves.specs.Cubes.{values_in};
 ghost use Rattle.smp_flight.specs.States.{AreFirst, IsFlight};
 ghost use Rattle.smp_flight.specs.Steps.{chosen};
 ghost use Rattle.smp_flight.specs.Answers.{IsFirstMove, move_of};
-ghost use Rattle.smp_flight.specs.Selections.{Balancing, IsBalancing, values_in};
+ghost use Rattle.smp_flight.specs.Selections.{Balancing, IsBalancing};
 ghost use Rattle.smp_landing.specs.Cube.{cube_kind, cube_parts};
 ghost use Rattle.smp_landing.specs.Kept.States.{IsKept, balancing_of};
 
@@ -60,8 +61,8 @@ fn fly_and_look<L: Ledger>(
     requires parts { blank.parts ≡ L.parts }
     requires some { 1 ≤ blank.parts }
     ensures is { flight.new.flight ≡ chosen shape.now flight.old.flight (move_of mv.now) plus }
-    ensures units { length flight.new.flight.shares.numer
-        ≡ length flight.old.flight.shares.numer }
+    ensures units { length flight.new.flight.values.numer
+        ≡ length flight.old.flight.values.numer }
     ensures first { AreFirst flight.new.flight flight.new.window }
 {
     fly::<L>(shape, flight, mv, plus, blank);

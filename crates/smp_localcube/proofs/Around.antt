@@ -25,36 +25,36 @@ use Rattle.smp_localcube.specs.Kept.States.{IsLookedFor, step_around, touched_in
 use Rattle.smp_localcube.specs.Laws.Orders.{filter_again, in_filter, whole as whole_order}
 use Rattle.smp_localcube.specs.Laws.Splits.{HasHead}
 
-module _ (f : Tracked) (ok : IsOrder f.flight.shares f.window) where
+module _ (f : Tracked) (ok : IsOrder f.flight.values f.window) where
   -- the touched units are the window in rising order
-  pub touched_rising : filter (is_one_of f.window) (range_with_len 0 (length f.flight.shares.numer)) ≡ touched_in f
-  touched_rising = sym (filter_twice (is_fractional f.flight.shares) (is_one_of f.window) (λ k h. in_order_going f.flight.shares f.window ok k h) (range_with_len 0 (length f.flight.shares.numer)))
+  pub touched_rising : filter (is_one_of f.window) (range_with_len 0 (length f.flight.values.numer)) ≡ touched_in f
+  touched_rising = sym (filter_twice (is_fractional f.flight.values) (is_one_of f.window) (λ k h. in_order_going f.flight.values f.window ok k h) (range_with_len 0 (length f.flight.values.numer)))
 
-  pub window_within : (k : ℕ) → is_one_of f.window k ≡ true → k < length f.flight.shares.numer
-  window_within k h = fractional_within f.flight.shares k (in_order_going f.flight.shares f.window ok k h)
+  pub window_within : (k : ℕ) → is_one_of f.window k ≡ true → k < length f.flight.values.numer
+  window_within k h = fractional_within f.flight.values k (in_order_going f.flight.values f.window ok k h)
 
   pub window_touched : (k : ℕ) → is_in f.window k ≡ true → is_in (touched_in f) k ≡ true
-  window_touched k h = in_filter (is_one_of f.window) (fractional_units f.flight.shares) k (fractional_in f.flight.shares k (in_order_going f.flight.shares f.window ok k h)) h
+  window_touched k h = in_filter (is_one_of f.window) (fractional_units f.flight.values) k (fractional_in f.flight.values k (in_order_going f.flight.values f.window ok k h)) h
 
 -- the touched units are those among them
-pub touched_again : (f : Tracked) → touched_in f ≡ filter (is_one_of (touched_in f)) (fractional_units f.flight.shares)
-touched_again f = filter_again (is_one_of f.window) (fractional_units f.flight.shares)
+pub touched_again : (f : Tracked) → touched_in f ≡ filter (is_one_of (touched_in f)) (fractional_units f.flight.values)
+touched_again f = filter_again (is_one_of f.window) (fractional_units f.flight.values)
 
-pub carried_now : (f : Tracked) (chosen : Option ℕ) → IsChosen f.flight.shares chosen → IsCarried f.flight.shares (touched_in f) chosen
+pub carried_now : (f : Tracked) (chosen : Option ℕ) → IsChosen f.flight.values chosen → IsCarried f.flight.values (touched_in f) chosen
 carried_now f chosen is = record { touched_are = touched_again f; chosen_is = is }
 
 -- the step that was looked for is the next one around its head
 pub kept_is : (units : Units) (f : Tracked) (coords : List (List ℤ)) (chosen : Option ℕ) (found : Found) (looked : IsLookedFor f coords chosen found)
     → next_on units (units_in found) f.flight ≡ step_around units coords f looked.head
 kept_is units f coords chosen found looked =
-    ap (λ (us : List ℕ). next_on units us f.flight) looked.units ∙ next_on_front units f.flight (order_around coords f.flight.shares (touched_in f) looked.head)
+    ap (λ (us : List ℕ). next_on units us f.flight) looked.units ∙ next_on_front units f.flight (order_around coords f.flight.values (touched_in f) looked.head)
 
-module _ (f : Tracked) (window_ok : IsOrder f.flight.shares f.window) (coords : List (List ℤ)) (head : ℕ) (has : HasHead f.flight.shares (touched_in f) head) (few : length (touched_in f) ≤ f.flight.rows + 1) where
+module _ (f : Tracked) (window_ok : IsOrder f.flight.values f.window) (coords : List (List ℤ)) (head : ℕ) (has : HasHead f.flight.values (touched_in f) head) (few : length (touched_in f) ≤ f.flight.rows + 1) where
   abbrev pub around : List ℕ
-  around = order_around coords f.flight.shares (touched_in f) head
+  around = order_around coords f.flight.values (touched_in f) head
 
-  pub is_whole : IsWholeOrder f.flight.shares (order_around coords f.flight.shares (touched_in f) head)
-  is_whole = whole_order coords f.flight.shares (touched_in f) head (touched_again f) has.open_at has.is_head
+  pub is_whole : IsWholeOrder f.flight.values (order_around coords f.flight.values (touched_in f) head)
+  is_whole = whole_order coords f.flight.values (touched_in f) head (touched_again f) has.open_at has.is_head
 
   -- each touched unit is among the first
   touched_first : (touched others : List ℕ) (most k : ℕ) → length touched ≤ most → is_in touched k ≡ true → is_in (take most (front_of touched head ++ others)) k ≡ true
@@ -67,10 +67,10 @@ module _ (f : Tracked) (window_ok : IsOrder f.flight.shares f.window) (coords : 
   pub searched : (order : List ℕ) → order ≡ take (f.flight.rows + 1) around → AreSearched f order
   searched order is =
       subst (AreSearched f) (sym is) (record {
-        is_order = order_front f.flight.shares around is_whole.is_order (f.flight.rows + 1);
-        enough = omega (arith, length-take (f.flight.rows + 1) around, whole_length f.flight.shares around is_whole);
+        is_order = order_front f.flight.values around is_whole.is_order (f.flight.rows + 1);
+        enough = omega (arith, length-take (f.flight.rows + 1) around, whole_length f.flight.values around is_whole);
         window = from_each (take (f.flight.rows + 1) around) f.window
-            (λ k h. touched_first (touched_in f) (neighbours (untouched coords f.flight.shares (touched_in f)) head) (f.flight.rows + 1) k few (window_touched f window_ok k h));
+            (λ k h. touched_first (touched_in f) (neighbours (untouched coords f.flight.values (touched_in f)) head) (f.flight.rows + 1) k few (window_touched f window_ok k h));
       })
 
   pub next_searched : (units : Units) (order : List ℕ) → order ≡ take (f.flight.rows + 1) around → next_on units order f.flight ≡ next_on units around f.flight

@@ -45,81 +45,81 @@ head_found f (Some k) a e = record { head = k; is = refl; gives = sym (same_next
     same_next a b e = ap (λ o. from o a) e
 
 module _ (f : Tracked) (room : Shares) (points : LivingPoints) (weights : List ℕ) (ready : IsReady f room points weights) where
-  living_is : (k : ℕ) → is_living points k ≡ is_untouched f.flight.shares (touched_in f) k
+  living_is : (k : ℕ) → is_living points k ≡ is_untouched f.flight.values (touched_in f) k
   living_is k =
-      ap (λ p. is_living p k) (same_points points f.flight.shares (touched_in f) ready.living)
-      ∙ untouched_at points.coords f.flight.shares (touched_in f) k
+      ap (λ p. is_living p k) (same_points points f.flight.values (touched_in f) ready.living)
+      ∙ untouched_at points.coords f.flight.values (touched_in f) k
 
-  pub may_touch : MayTouch f.flight.shares f.window points
+  pub may_touch : MayTouch f.flight.values f.window points
   may_touch = record {
-    count = ap length ready.living ∙ length-map-range_with_len (is_untouched f.flight.shares (touched_in f)) 0 (length f.flight.shares.numer);
-    no_window = λ k h. living_is k ∙ elim (cases_Bool (is_fractional f.flight.shares k)) [
+    count = ap length ready.living ∙ length-map-range_with_len (is_untouched f.flight.values (touched_in f)) 0 (length f.flight.values.numer);
+    no_window = λ k h. living_is k ∙ elim (cases_Bool (is_fractional f.flight.values k)) [
       | inr e ↦ rw e refl
       | inl e ↦
-          (let there : is_one_of (touched_in f) k ≡ true = in_filter (is_one_of f.window) (fractional_units f.flight.shares) k (fractional_in f.flight.shares k e) h in
+          (let there : is_one_of (touched_in f) k ≡ true = in_filter (is_one_of f.window) (fractional_units f.flight.values) k (fractional_in f.flight.values k e) h in
           rw (e, there) refl)
     ];
-    others = λ k e out. living_is k ∙ and_from (is_fractional f.flight.shares k) (not (is_one_of (touched_in f) k)) e (elim (cases_Bool (is_one_of (touched_in f) k)) [
+    others = λ k e out. living_is k ∙ and_from (is_fractional f.flight.values k) (not (is_one_of (touched_in f) k)) e (elim (cases_Bool (is_one_of (touched_in f) k)) [
       | inr none ↦ rw none refl
-      | inl there ↦ absurd (both_ways (is_one_of f.window k) out (filter_in (is_one_of f.window) (fractional_units f.flight.shares) k there).1)
+      | inl there ↦ absurd (both_ways (is_one_of f.window k) out (filter_in (is_one_of f.window) (fractional_units f.flight.values) k there).1)
     ]);
   }
 
 -- ---- the touched units after a move
 
-module _ (before after : Tracked) (line : Line) (next : IsNextWindow before line after) (fewer : (k : ℕ) → is_fractional after.flight.shares k ≡ true → is_fractional before.flight.shares k ≡ true) where
+module _ (before after : Tracked) (line : Line) (next : IsNextWindow before line after) (fewer : (k : ℕ) → is_fractional after.flight.values k ≡ true → is_fractional before.flight.values k ≡ true) where
   -- a fractional unit is in the new window where it was touched or is changed
-  touched_from : (k : ℕ) → is_fractional after.flight.shares k ≡ true → is_one_of after.window k ≡ true → (is_one_of (touched_in before) k || is_changed line k) ≡ true
+  touched_from : (k : ℕ) → is_fractional after.flight.values k ≡ true → is_one_of after.window k ≡ true → (is_one_of (touched_in before) k || is_changed line k) ≡ true
   touched_from k e h =
       elim ((next.is k).0 (in_contains after.window k h)).1 [
         | inl was ↦ or_left (is_one_of (touched_in before) k) (is_changed line k)
-            (in_filter (is_one_of before.window) (fractional_units before.flight.shares) k (fractional_in before.flight.shares k (fewer k e)) (contains_in before.window k was))
+            (in_filter (is_one_of before.window) (fractional_units before.flight.values) k (fractional_in before.flight.values k (fewer k e)) (contains_in before.window k was))
         | inr some ↦ or_right (is_one_of (touched_in before) k) (is_changed line k)
             (rw (ne_eqb (unsigned_abs (entry_of line k)) 0 (λ h. some (zero_size (entry_of line k) h))) refl)
       ]
 
-  touched_to : (k : ℕ) → is_fractional after.flight.shares k ≡ true → (is_one_of (touched_in before) k || is_changed line k) ≡ true → is_one_of after.window k ≡ true
+  touched_to : (k : ℕ) → is_fractional after.flight.values k ≡ true → (is_one_of (touched_in before) k || is_changed line k) ≡ true → is_one_of after.window k ≡ true
   touched_to k e h =
       contains_in after.window k ((next.is k).1 (
         e,
         elim (cases_Bool (is_one_of (touched_in before) k)) [
-          | inl was ↦ inl (in_contains before.window k (filter_in (is_one_of before.window) (fractional_units before.flight.shares) k was).1)
+          | inl was ↦ inl (in_contains before.window k (filter_in (is_one_of before.window) (fractional_units before.flight.values) k was).1)
           | inr out ↦ inr (λ zero. both_ways (is_changed line k) (ap (λ (x : ℤ). not (nat_eq (unsigned_abs x) 0)) zero) (rw out at h))
         ],
       ))
 
-  pub touched_moved : touched_in after ≡ filter (λ k. is_one_of (touched_in before) k || is_changed line k) (fractional_units after.flight.shares)
+  pub touched_moved : touched_in after ≡ filter (λ k. is_one_of (touched_in before) k || is_changed line k) (fractional_units after.flight.values)
   touched_moved =
-      filter_same (is_one_of after.window) (λ k. is_one_of (touched_in before) k || is_changed line k) (fractional_units after.flight.shares)
+      filter_same (is_one_of after.window) (λ k. is_one_of (touched_in before) k || is_changed line k) (fractional_units after.flight.values)
       (λ k h.
-      let e = in_order_going after.flight.shares (fractional_units after.flight.shares) (frame_order after.flight.shares) k h in
+      let e = in_order_going after.flight.values (fractional_units after.flight.values) (frame_order after.flight.values) k h in
       same_truth (is_one_of after.window k) (is_one_of (touched_in before) k || is_changed line k) (touched_from k e) (touched_to k e))
 
   -- ---- the living points after it
 
-  module _ (still : (k : ℕ) → entry_of line k ≡ pos 0 → is_fractional after.flight.shares k ≡ is_fractional before.flight.shares k) (room : Shares) (points now : LivingPoints) (weights : List ℕ) (ready : IsReady before room points weights) (t : AreTouched points line now) where
-    in_touched : (k : ℕ) → is_fractional after.flight.shares k ≡ true → (is_one_of (touched_in before) k || is_changed line k) ≡ true → is_one_of (touched_in after) k ≡ true
-    in_touched k e h = in_filter (is_one_of after.window) (fractional_units after.flight.shares) k (fractional_in after.flight.shares k e) (touched_to k e h)
+  module _ (still : (k : ℕ) → entry_of line k ≡ pos 0 → is_fractional after.flight.values k ≡ is_fractional before.flight.values k) (room : Shares) (points now : LivingPoints) (weights : List ℕ) (ready : IsReady before room points weights) (t : AreTouched points line now) where
+    in_touched : (k : ℕ) → is_fractional after.flight.values k ≡ true → (is_one_of (touched_in before) k || is_changed line k) ≡ true → is_one_of (touched_in after) k ≡ true
+    in_touched k e h = in_filter (is_one_of after.window) (fractional_units after.flight.values) k (fractional_in after.flight.values k e) (touched_to k e h)
 
-    from_touched : (k : ℕ) → is_fractional after.flight.shares k ≡ true → is_changed line k ≡ false → is_one_of (touched_in after) k ≡ true → is_one_of (touched_in before) k ≡ true
+    from_touched : (k : ℕ) → is_fractional after.flight.values k ≡ true → is_changed line k ≡ false → is_one_of (touched_in after) k ≡ true → is_one_of (touched_in before) k ≡ true
     from_touched k e unchanged h =
-        or_false (is_one_of (touched_in before) k) (subst (λ (c : Bool). (is_one_of (touched_in before) k || c) ≡ true) unchanged (touched_from k e (filter_in (is_one_of after.window) (fractional_units after.flight.shares) k h).1))
+        or_false (is_one_of (touched_in before) k) (subst (λ (c : Bool). (is_one_of (touched_in before) k || c) ≡ true) unchanged (touched_from k e (filter_in (is_one_of after.window) (fractional_units after.flight.values) k h).1))
       where
         or_false : (b : Bool) → (b || false) ≡ true → b ≡ true
         or_false true e = refl
         or_false false e = e
 
-    changed_one : (k : ℕ) → is_changed line k ≡ true → is_untouched after.flight.shares (touched_in after) k ≡ false
+    changed_one : (k : ℕ) → is_changed line k ≡ true → is_untouched after.flight.values (touched_in after) k ≡ false
     changed_one k changed =
-        elim (cases_Bool (is_fractional after.flight.shares k)) [
+        elim (cases_Bool (is_fractional after.flight.values k)) [
           | inr e ↦ rw e refl
           | inl e ↦ rw (e, in_touched k e (or_right (is_one_of (touched_in before) k) (is_changed line k) changed)) refl
         ]
 
-    same_one : (k : ℕ) → is_changed line k ≡ false → is_untouched after.flight.shares (touched_in after) k ≡ is_untouched before.flight.shares (touched_in before) k
+    same_one : (k : ℕ) → is_changed line k ≡ false → is_untouched after.flight.values (touched_in after) k ≡ is_untouched before.flight.values (touched_in before) k
     same_one k unchanged =
         let zero : entry_of line k ≡ pos 0 = zero_size (entry_of line k) (eqb-true (unsigned_abs (entry_of line k)) 0 (not_false (nat_eq (unsigned_abs (entry_of line k)) 0) unchanged)) in
-        elim (cases_Bool (is_fractional after.flight.shares k)) [
+        elim (cases_Bool (is_fractional after.flight.values k)) [
           | inr e ↦ rw (e, sym (still k zero) ∙ e) refl
           | inl e ↦
               (let both : is_one_of (touched_in after) k ≡ is_one_of (touched_in before) k =
@@ -132,7 +132,7 @@ module _ (before after : Tracked) (line : Line) (next : IsNextWindow before line
         not_false true e = refl
         not_false false e = sym e
 
-    living_after : (k : ℕ) → is_living now k ≡ is_untouched after.flight.shares (touched_in after) k
+    living_after : (k : ℕ) → is_living now k ≡ is_untouched after.flight.values (touched_in after) k
     living_after k =
         t.living k
         ∙ elim (cases_Bool (is_changed line k)) [
@@ -148,43 +148,43 @@ module _ (before after : Tracked) (line : Line) (next : IsNextWindow before line
         and_true true = refl
         and_true false = refl
 
-    pub ready_after : length after.flight.shares.numer ≡ length before.flight.shares.numer → (new : List ℕ) → new ≡ weights_of now.living → IsReady after room now new
+    pub ready_after : length after.flight.values.numer ≡ length before.flight.values.numer → (new : List ℕ) → new ≡ weights_of now.living → IsReady after room now new
     ready_after same new weighed = record {
       fits = ready.fits ∙ sym same;
       few = omega (arith, ready.few, same);
       placed = ap length t.coords ∙ ready.placed ∙ sym same;
       living =
-          ext_get_or false now.living (untouched now.coords after.flight.shares (touched_in after)).living
-          (omega (arith, t.count, ap length ready.living, length-map-range_with_len (is_untouched before.flight.shares (touched_in before)) 0 (length before.flight.shares.numer), length-map-range_with_len (is_untouched after.flight.shares (touched_in after)) 0 (length after.flight.shares.numer), same))
-          (λ k _. living_after k ∙ sym (untouched_at now.coords after.flight.shares (touched_in after) k));
+          ext_get_or false now.living (untouched now.coords after.flight.values (touched_in after)).living
+          (omega (arith, t.count, ap length ready.living, length-map-range_with_len (is_untouched before.flight.values (touched_in before)) 0 (length before.flight.values.numer), length-map-range_with_len (is_untouched after.flight.values (touched_in after)) 0 (length after.flight.values.numer), same))
+          (λ k _. living_after k ∙ sym (untouched_at now.coords after.flight.values (touched_in after) k));
       weighed = weighed;
     }
 
 -- ---- a move
 
-module _ (units : Units) (f : Flight) (left : ℕ) (order : List ℕ) (ok : IsFlight units f) (ordered : IsOrder f.shares order) (m : Move) (is : next_on units order f ≡ move m) (plus : Bool) where
+module _ (units : Units) (f : Flight) (left : ℕ) (order : List ℕ) (ok : IsFlight units f) (ordered : IsOrder f.values order) (m : Move) (is : next_on units order f ≡ move m) (plus : Bool) where
   line_still : (plus : Bool) (k : ℕ) → entry_of m.direction k ≡ pos 0 → entry_of (chosen_line m plus) k ≡ pos 0
   line_still true k zero = zero
   line_still false k zero = entry_of_turned m.direction k ∙ ap neg_ℤ zero
 
-  pub move_still : (k : ℕ) → entry_of m.direction k ≡ pos 0 → is_fractional (chosen units f m plus).shares k ≡ is_fractional f.shares k
+  pub move_still : (k : ℕ) → entry_of m.direction k ≡ pos 0 → is_fractional (chosen units f m plus).values k ≡ is_fractional f.values k
   move_still k zero =
-      subst (λ (t : Shares). is_fractional t k ≡ is_fractional f.shares k) (sym (end_at_is units.requested.den f.shares (chosen_line m plus)))
-      (same_still units.requested.den f.shares (flight_over units f ok) (chosen_line m plus) (ends_at units f left order ok ordered m is plus).line_ok k (line_still plus k zero))
+      subst (λ (t : Shares). is_fractional t k ≡ is_fractional f.values k) (sym (end_at_is units.requested.den f.values (chosen_line m plus)))
+      (same_still units.requested.den f.values (flight_over units f ok) (chosen_line m plus) (ends_at units f left order ok ordered m is plus).line_ok k (line_still plus k zero))
 
-  pub move_fewer : (k : ℕ) → is_fractional (chosen units f m plus).shares k ≡ true → is_fractional f.shares k ≡ true
+  pub move_fewer : (k : ℕ) → is_fractional (chosen units f m plus).values k ≡ true → is_fractional f.values k ≡ true
   move_fewer k h = (ends_at units f left order ok ordered m is plus).fewer k h
 
 -- what a flight carries on after a move
-module _ (units : Units) (before after : Tracked) (left : ℕ) (order : List ℕ) (ok : IsFlight units before.flight) (ordered : IsOrder before.flight.shares order) (m : Move) (is : next_on units order before.flight ≡ move m) (plus : Bool) (there : after.flight ≡ chosen units before.flight m plus) (next : IsNextWindow before m.direction after) where
-  flown_fewer : (k : ℕ) → is_fractional after.flight.shares k ≡ true → is_fractional before.flight.shares k ≡ true
-  flown_fewer k h = move_fewer units before.flight left order ok ordered m is plus k (subst (λ (t : Flight). is_fractional t.shares k ≡ true) there h)
+module _ (units : Units) (before after : Tracked) (left : ℕ) (order : List ℕ) (ok : IsFlight units before.flight) (ordered : IsOrder before.flight.values order) (m : Move) (is : next_on units order before.flight ≡ move m) (plus : Bool) (there : after.flight ≡ chosen units before.flight m plus) (next : IsNextWindow before m.direction after) where
+  flown_fewer : (k : ℕ) → is_fractional after.flight.values k ≡ true → is_fractional before.flight.values k ≡ true
+  flown_fewer k h = move_fewer units before.flight left order ok ordered m is plus k (subst (λ (t : Flight). is_fractional t.values k ≡ true) there h)
 
-  flown_still : (k : ℕ) → entry_of m.direction k ≡ pos 0 → is_fractional after.flight.shares k ≡ is_fractional before.flight.shares k
-  flown_still k zero = ap (λ (t : Flight). is_fractional t.shares k) there ∙ move_still units before.flight left order ok ordered m is plus k zero
+  flown_still : (k : ℕ) → entry_of m.direction k ≡ pos 0 → is_fractional after.flight.values k ≡ is_fractional before.flight.values k
+  flown_still k zero = ap (λ (t : Flight). is_fractional t.values k) there ∙ move_still units before.flight left order ok ordered m is plus k zero
 
-  pub flown_touched : touched_in after ≡ filter (λ k. is_one_of (touched_in before) k || is_changed m.direction k) (fractional_units after.flight.shares)
+  pub flown_touched : touched_in after ≡ filter (λ k. is_one_of (touched_in before) k || is_changed m.direction k) (fractional_units after.flight.values)
   flown_touched = touched_moved before after m.direction next flown_fewer
 
-  pub flown_ready : (room : Shares) (points now : LivingPoints) (weights new : List ℕ) → IsReady before room points weights → AreTouched points m.direction now → length after.flight.shares.numer ≡ length before.flight.shares.numer → new ≡ weights_of now.living → IsReady after room now new
+  pub flown_ready : (room : Shares) (points now : LivingPoints) (weights new : List ℕ) → IsReady before room points weights → AreTouched points m.direction now → length after.flight.values.numer ≡ length before.flight.values.numer → new ≡ weights_of now.living → IsReady after room now new
   flown_ready room points now weights new ready touched same weighed = ready_after before after m.direction next flown_fewer flown_still room points now weights ready touched same new weighed

@@ -14,7 +14,7 @@ use Rattle.smp_split.specs.Trees.{Part, weight_sum}
 use Rattle.smp_split.proofs.Counts.{count_by-indices, sum_by-map}
 use Rattle.smp_split.proofs.Parts.{weight_sum-equal}
 use Rattle.smp_values.specs.Values.{fractional, fractional_at, fractional_count, is_fractional}
-use Rattle.smp_flight.specs.Selections.{flying}
+use Rattle.smp_moves.specs.Cubes.{flying}
 use Rattle.smp_flight.specs.States.{Tracked, Units}
 use Rattle.smp_moves.specs.Moves.{Next}
 use Rattle.smp_moves.proofs.Entries.{entry_at_none, order_going}
@@ -85,18 +85,18 @@ module _ (units : Units) (f : Tracked) (left : ℕ) (room : Shares) (points : Li
   abbrev state : Local
   state = record { coords = points.coords; at = flying f.flight left; touched = touched_in f; chosen = chosen }
 
-  pub choice_total : sum weights ≡ fractional_count f.flight.shares
+  pub choice_total : sum weights ≡ fractional_count f.flight.values
   choice_total =
-      ap (λ (ws : List ℕ). sum ws) (ready.weighed ∙ ap (λ alive. weights_of alive) (ready.living ∙ ap (λ (t : List ℕ). (untouched points.coords f.flight.shares t).living) (none_touched (touched_in f) chosen none)))
-      ∙ untouched_total points.coords f.flight.shares
+      ap (λ (ws : List ℕ). sum ws) (ready.weighed ∙ ap (λ alive. weights_of alive) (ready.living ∙ ap (λ (t : List ℕ). (untouched points.coords f.flight.values t).living) (none_touched (touched_in f) chosen none)))
+      ∙ untouched_total points.coords f.flight.values
 
-  pub choice_parts : parts_around units state f.flight left (head_of (touched_in f) chosen) ≡ choice state f.flight.shares
+  pub choice_parts : parts_around units state f.flight left (head_of (touched_in f) chosen) ≡ choice state f.flight.values
   choice_parts = ap (parts_around units state f.flight left) none
 
   pub choice_bound : sum weights ≡ weight_sum (parts_around units state f.flight left (head_of (touched_in f) chosen))
   choice_bound =
       choice_total ∙ sym (ap (λ (ps : List (Part Local)). weight_sum ps) choice_parts
-      ∙ weight_sum-equal (λ place. choosing state (fractional_at f.flight.shares place)) (fractional_count f.flight.shares))
+      ∙ weight_sum-equal (λ place. choosing state (fractional_at f.flight.values place)) (fractional_count f.flight.values))
 
 -- ---- one place of a line
 

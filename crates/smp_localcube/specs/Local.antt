@@ -1,7 +1,7 @@
 -- The local cube, a method of this project's own: a selection by flight and landing (Deville and Tillé 2004) in which the neighbours
 -- of one unit fly together. Each unit lies at a point. The units that a move has changed and left fractional are carried on by the
 -- next one. Where there are none, each fractional unit may be chosen, with equal weights, and its nearest neighbours fly with it.
-use Rattle.std.specs.Prelude.{◌≡◌, ℕ, ◌+◌, ◌*◌, true, false, Bool, not, nat_eq, ◌&&◌, ◌||◌, if◌then◌else◌}
+use Rattle.std.specs.Prelude.{◌≡◌, ℕ, ◌+◌, ◌*◌, true, Bool, not, nat_eq, ◌&&◌, ◌||◌, if◌then◌else◌}
 use Rattle.std.specs.Prelude.{List, [], ◌∷◌, ◌++◌, ℤ, length, map, Option, Some, None, is_some}
 use Rattle.std.specs.Int.RustNames.{unsigned_abs}
 use Rattle.std.specs.List.{filter, list_any, range_with_len}
@@ -13,8 +13,9 @@ use Rattle.smp_split.specs.declared.kind.Kind.{Kind}
 use Rattle.smp_split.specs.declared.kind.Kind.TheVariants as kind
 use Rattle.smp_values.specs.Steps.{pivotal_kind, pivotal_parts}
 use Rattle.smp_values.specs.Values.{fractional_at, fractional_count, fractional_units, is_fractional, is_one, is_settled, value_at}
-use Rattle.smp_moves.specs.Moves.{Move, entry_of}
-use Rattle.smp_flight.specs.Selections.{Balancing, flying, pairing, IsBalancing, Selection, flight_kind, flight_parts, rank_in, values_in}
+use Rattle.smp_moves.specs.Moves.{entry_of}
+use Rattle.smp_moves.specs.Cubes.{flying, pairing, flight_kind, flight_parts, rank_in, values_in}
+use Rattle.smp_flight.specs.Selections.{Balancing, IsBalancing, Selection, shares_cube}
 use Rattle.smp_flight.specs.States.{Flight, Units}
 use Rattle.smp_moves.specs.Moves.{Next, move, independent, wide}
 use Rattle.smp_flight.specs.Steps.{next_on}
@@ -97,13 +98,13 @@ choice s values = equal_parts (fractional_count values) (λ place. choosing s (f
 
 -- the next step of a flight with this head
 abbrev pub next_around : Units → Local → Flight → ℕ → Next
-next_around units s f head = next_on units (order_around s.coords f.shares s.touched head) f
+next_around units s f head = next_on units (order_around s.coords f.values s.touched head) f
 
 -- the parts of a state in flight, by its head
 abbrev pub parts_around : Units → Local → Flight → ℕ → Option ℕ → List (Part Local)
-parts_around units s f left None = choice s f.shares
+parts_around units s f left None = choice s f.values
 parts_around units s f left (Some head) =
-    moved (after s (next_around units s f head)) (flight_parts units f left (next_around units s f head))
+    moved (after s (next_around units s f head)) (flight_parts (shares_cube units) f left (next_around units s f head))
 
 abbrev pub kind_around : Units → Local → Flight → Option ℕ → Kind
 kind_around units s f None = kind.Choose
@@ -122,7 +123,7 @@ kind_from units s (pairing t left) = pivotal_kind t
 
 -- twice the rank in flight and landing, and one more where no unit is chosen: a choice lasts until the next move
 abbrev pub rank_of : Local → ℕ
-rank_of s = 2 * rank_in s.at + (if is_some s.chosen then 0 else 1)
+rank_of s = 2 * rank_in fractional_count s.at + (if is_some s.chosen then 0 else 1)
 
 -- The draw tree of the local cube. It is done where no unit is fractional, and selects the units of value 1.
 abbrev pub local_tree : Units → Tree Local
@@ -143,7 +144,7 @@ order_with s values (Some head) = order_around s.coords values s.touched head
 
 -- the same, by the state: that of pivotal steps goes through the fractional units in frame order
 abbrev pub order_from : Local → Balancing → List ℕ
-order_from s (flying f left) = order_with s f.shares (head_of s.touched s.chosen)
+order_from s (flying f left) = order_with s f.values (head_of s.touched s.chosen)
 order_from s (pairing t left) = fractional_units t
 
 -- the local cube as a selection
@@ -164,7 +165,7 @@ pub record IsCarried (s : Shares) (touched : List ℕ) (chosen : Option ℕ) : T
 
 -- the same of a state in flight; of one in pivotal steps nothing
 abbrev pub AreCarried : Balancing → List ℕ → Option ℕ → Type 0
-AreCarried (flying f left) touched chosen = IsCarried f.shares touched chosen
+AreCarried (flying f left) touched chosen = IsCarried f.values touched chosen
 AreCarried (pairing t left) touched chosen = Unit {0}
 
 -- a state of a selection of these units

@@ -2,8 +2,8 @@
 
 ghost use Rattle.std.specs.Prelude.{◌≡◌, IfOk};
 ghost use Rattle.smp_split.specs.Methods.{Starts};
+ghost use Rattle.smp_moves.specs.Cubes.{left_in};
 ghost use Rattle.smp_flight.specs.Landings.{IsBalanced};
-ghost use Rattle.smp_flight.specs.Selections.{left_in};
 ghost use Rattle.smp_localcube.specs.Local.{local_of};
 ghost use Rattle.smp_localcube.specs.Method.{method_of, started};
 

@@ -4,8 +4,8 @@ ghost use Rattle.std.specs.Prelude.{◌≡◌, ◌+◌, ◌<◌, ◌≤◌, true
 ghost use Rattle.smp_split.specs.Trees.{picked, weight_sum};
 ghost use Rattle.smp_values.specs.Values.{is_fractional, is_one, is_settled};
 ghost use Rattle.smp_moves.specs.Answers.{IsPadded, line_of};
+ghost use Rattle.smp_moves.specs.Cubes.{left_in, values_in};
 ghost use Rattle.smp_flight.specs.Answers.{Allows, IsMoveOf, answer_of};
-ghost use Rattle.smp_flight.specs.Selections.{left_in, values_in};
 ghost use Rattle.smp_moves.specs.Moves.{IsLine, IsOrder};
 ghost use Rattle.smp_flight.specs.States.{IsFlight};
 ghost use Rattle.smp_localcube.specs.Local.{IsCarried, IsLocal, Local, head_of, kind_from, order_around, parts_from, untouched};
@@ -67,10 +67,10 @@ fn next_step<const K: usize>(
     found: &Option<Found>,
 ) -> Option<Next>
     requires flight { IsFlight shape.now flight.now.flight }
-    requires carried { IsCarried flight.now.flight.shares (touched_in flight.now) chosen }
-    requires placed { length points.now.coords ≡ length flight.now.flight.shares.numer }
+    requires carried { IsCarried flight.now.flight.values (touched_in flight.now) chosen }
+    requires placed { length points.now.coords ≡ length flight.now.flight.values.numer }
     requires living { points.now.living
-        ≡ (untouched points.now.coords flight.now.flight.shares (touched_in flight.now)).living }
+        ≡ (untouched points.now.coords flight.now.flight.values (touched_in flight.now)).living }
     requires looked { IfSome found.now (IsLookedFor flight.now points.now.coords chosen) }
     ensures is { option_map answer_of result
         ≡ option_map (step_around shape.now points.now.coords flight.now)
@@ -101,11 +101,11 @@ fn step_from<const K: usize>(
     requires flight { IsFlight shape.now flight.now.flight }
     requires touched { order_units touched.now ≡ touched_in flight.now }
     requires few { touched.now.number ≤ flight.now.flight.rows + 1 }
-    requires order { IsOrder flight.now.flight.shares flight.now.window }
-    requires head { HasHead flight.now.flight.shares (touched_in flight.now) head }
-    requires placed { length points.now.coords ≡ length flight.now.flight.shares.numer }
+    requires order { IsOrder flight.now.flight.values flight.now.window }
+    requires head { HasHead flight.now.flight.values (touched_in flight.now) head }
+    requires placed { length points.now.coords ≡ length flight.now.flight.values.numer }
     requires living { points.now.living
-        ≡ (untouched points.now.coords flight.now.flight.shares (touched_in flight.now)).living }
+        ≡ (untouched points.now.coords flight.now.flight.values (touched_in flight.now)).living }
     ensures is { answer_of result
         ≡ step_around shape.now points.now.coords flight.now head }
     ensures allows { Allows (IsMoveOf shape.now flight.now) shape.now flight.now result }
@@ -124,14 +124,14 @@ fn searched<const K: usize>(
     requires rows { flight.now.flight.rows ≤ 16 }
     requires touched { order_units touched.now ≡ touched_in flight.now }
     requires few { touched.now.number ≤ flight.now.flight.rows + 1 }
-    requires head { is_fractional flight.now.flight.shares head ≡ true }
-    requires placed { length points.now.coords ≡ length flight.now.flight.shares.numer }
+    requires head { is_fractional flight.now.flight.values head ≡ true }
+    requires placed { length points.now.coords ≡ length flight.now.flight.values.numer }
     requires living { points.now.living
-        ≡ (untouched points.now.coords flight.now.flight.shares (touched_in flight.now)).living }
+        ≡ (untouched points.now.coords flight.now.flight.values (touched_in flight.now)).living }
     ensures are { order_units result ≡ take (flight.now.flight.rows + 1)
         (order_around
         points.now.coords
-        flight.now.flight.shares
+        flight.now.flight.values
         (touched_in flight.now)
         head) }
     ensures number { result.number ≤ 17 }
@@ -148,10 +148,10 @@ fn look<const K: usize>(
     chosen: Option<usize>,
 ) -> Option<Found>
     requires flight { IsFlight shape.now flight.now.flight }
-    requires carried { IsCarried flight.now.flight.shares (touched_in flight.now) chosen }
-    requires placed { length points.now.coords ≡ length flight.now.flight.shares.numer }
+    requires carried { IsCarried flight.now.flight.values (touched_in flight.now) chosen }
+    requires placed { length points.now.coords ≡ length flight.now.flight.values.numer }
     requires living { points.now.living
-        ≡ (untouched points.now.coords flight.now.flight.shares (touched_in flight.now)).living }
+        ≡ (untouched points.now.coords flight.now.flight.values (touched_in flight.now)).living }
     ensures { IfSome result (IsLookedFor flight.now points.now.coords chosen) }
 {
     let touched = rising(flight.window(), flight.units());
@@ -178,9 +178,9 @@ fn touch<const K: usize>(
     flight: &FlightState,
     line: &Line,
 )
-    requires line { IsLine flight.now.flight.shares (line_of line.now) }
+    requires line { IsLine flight.now.flight.values (line_of line.now) }
     requires padded { IsPadded line.now }
-    requires may { MayTouch flight.now.flight.shares flight.now.window points.old }
+    requires may { MayTouch flight.now.flight.values flight.now.window points.old }
     requires weighed { weights.old ≡ weights_of points.old.living }
     ensures touched { AreTouched points.old (line_of line.now) points.new }
     ensures weighed { weights.new ≡ weights_of points.new.living }

@@ -17,11 +17,12 @@ use Rattle.smp_split.specs.Methods.{HasCount}
 use Rattle.smp_values.specs.Starts.{IsRequested}
 use Rattle.smp_values.proofs.Requests.{requested_values}
 use Rattle.smp_moves.specs.Moves.{fraction_of}
+use Rattle.smp_moves.specs.Cubes.{values_in}
 use Rattle.smp_flight.specs.Requests.{AreValues}
 use Rattle.smp_stratcube.specs.declared.values.Value.{Value}
 use Rattle.smp_stratcube.specs.Balances.{addend, target}
 use Rattle.smp_stratcube.specs.Counts.{HasCounts, selected_in}
-use Rattle.smp_stratcube.specs.States.{Balancing, requested_values as requested_values_of, started, values_in}
+use Rattle.smp_stratcube.specs.States.{Balancing, requested_values as requested_values_of, started}
 use Rattle.smp_stratcube.specs.Cube.{strat_tree}
 use Rattle.smp_stratcube.specs.Layers.{AreLayers, AreNumbers, Layer, layer_of, no_layer, variables, width}
 use Rattle.smp_stratcube.specs.Requests.{AreRequested}

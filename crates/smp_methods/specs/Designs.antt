@@ -14,8 +14,9 @@ use Rattle.smp_minsup.specs.Method as support
 use Rattle.smp_brewer.specs.Method as brewer
 use Rattle.smp_localpiv.specs.Method as local
 use Rattle.smp_elim.specs.Method as elimination
+use Rattle.smp_moves.specs.Cubes.{left_in}
 use Rattle.smp_flight.specs.Requests.{units_of}
-use Rattle.smp_flight.specs.Selections.{left_in, starting}
+use Rattle.smp_flight.specs.Selections.{starting}
 use Rattle.smp_landing.specs.Method as cube
 use Rattle.smp_localpiv.specs.Coordinates.{points_from}
 use Rattle.smp_localcube.specs.Method as local_cube
@@ -134,5 +135,5 @@ method_of design = method_among (variant_of design)
 abbrev pub left_at : AnyDesign → AnyState → ℕ
 left_at (designs.Cube units) (states.Cube state) = left_in state
 left_at (designs.LocalCube design) (states.LocalCube state) = left_in state.at
-left_at (designs.StratifiedCube units) (states.StratifiedCube state) = stratified.left_in state
+left_at (designs.StratifiedCube units) (states.StratifiedCube state) = left_in state
 left_at design state = 0

@@ -1,7 +1,7 @@
 -- A method that owes what a balanced selection owes is balanced.
-use Rattle.std.proofs.Common.{◌≡◌, ◌≢◌, ℕ, ◌<◌, ◌≤◌, Bool, true, false, cond, List, [], ◌∷◌, arith, refl, sym, ap, ◌∙◌, subst, inl, inr, ◌⊎◌}
+use Rattle.std.proofs.Common.{◌≡◌, ◌≢◌, ℕ, ◌<◌, true, false, cond, List, [], ◌∷◌, arith, refl, sym, ap, ◌∙◌, subst, inl, inr, ◌⊎◌}
 use Rattle.std.proofs.lemmas.Bool.{cases_Bool}
-use Rattle.smp_fractions.specs.Fractions.{Fraction, Same, whole, over, times}
+use Rattle.smp_fractions.specs.Fractions.{Fraction, Same, whole, times}
 use Rattle.smp_fractions.proofs.Fractions.{same_refl, same_sym, same_trans, times_same}
 use Rattle.smp_fractions.specs.Bounds.{absolute, DifferByAtMost}
 use Rattle.smp_fractions.proofs.Bounds.{term_above, differ_same, differ_by_same, differ_sum}

@@ -1,5 +1,5 @@
 -- How far a line can be followed, the values at its end, and the weights of both ends, as functions of the values.
-use Rattle.std.specs.Prelude.{ℕ, suc, ◌+◌, ◌-◌, ◌*◌, ◌/◌, nat_le, nat_lt, Bool, cond, if◌then◌else◌, List}
+use Rattle.std.specs.Prelude.{ℕ, suc, ◌+◌, ◌-◌, ◌*◌, ◌/◌, nat_le, nat_lt, Bool, if◌then◌else◌, List}
 use Rattle.std.specs.Prelude.{[], ◌∷◌, ℤ, pos, negsuc, fold, length, map, slice_index}
 use Rattle.std.specs.List.{range_with_len, list_all}
 use Rattle.std.specs.Int.RustNames.{unsigned_abs}

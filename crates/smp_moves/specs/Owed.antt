@@ -1,5 +1,5 @@
 -- What a method owes of one step for its selections to be balanced on every path.
-use Rattle.std.specs.Prelude.{◌≡◌, ℕ, ◌<◌, ◌≤◌, Bool, true, false, cond}
+use Rattle.std.specs.Prelude.{◌≡◌, ℕ, ◌<◌, ◌≤◌, Bool, false, cond}
 use Rattle.smp_fractions.specs.Fractions.{Fraction, Same, whole, over, sum_below}
 use Rattle.smp_fractions.specs.Bounds.{absolute}
 use Rattle.smp_split.specs.Trees.{Tree, EachPart, Lawful}

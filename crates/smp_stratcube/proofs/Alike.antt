@@ -21,7 +21,7 @@ use Rattle.smp_stratcube.specs.declared.values.Value.{Value}
 use Rattle.smp_stratcube.specs.Units.{Units, column, columns_of, first, share}
 use Rattle.smp_stratcube.specs.Values.{common_multiple, common_of, denominators, fractional_units, is_fractional, over_common, taken_over, touched_units, value}
 use Rattle.smp_stratcube.specs.States.{Flight, IsFlying}
-use Rattle.smp_stratcube.specs.Kept.Computed.{direction, moved_values, moves, next, next_along, next_of}
+use Rattle.smp_stratcube.specs.Kept.Computed.{direction, moved_values, moves, next, next_along, next_of, flight_of}
 use Rattle.smp_stratcube.specs.Moves.{Finds, line_common, product, products, scale_of, scaled, signed}
 use Rattle.smp_stratcube.specs.Kept.Founds.{AreSeen, IsFound}
 use Rattle.smp_stratcube.specs.Kept.Fronts.{IsFront, front_units}
@@ -210,10 +210,10 @@ module _ (u v : Units) (f : Flight) (fu : IsFlying u f) (fv : IsFlying v f) (fro
   step_same answers.Wide made = sym next_same ∙ made
 
 -- the kept step is that of a design whose units are those that were seen
-pub kept_step : (units : Units) (values : List Value) (rows : ℕ) (front : Front) (kept : Found) → IsFlying units (record { values = values; rows = rows }) → IsFront values front → front.number ≤ length front.units →
-    IsFound values rows front kept → AreSeen units front kept.seen → IsStep units (record { values = values; rows = rows }) kept.next
+pub kept_step : (units : Units) (values : List Value) (rows : ℕ) (front : Front) (kept : Found) → IsFlying units (flight_of values rows) → IsFront values front → front.number ≤ length front.units →
+    IsFound values rows front kept → AreSeen units front kept.seen → IsStep units (flight_of values rows) kept.next
 kept_step units values rows front kept flying is long is_found seen =
-    step_same kept.of.value units (record { values = values; rows = rows }) is_found.flying flying front is long alike kept.next is_found.is
+    step_same kept.of.value units (flight_of values rows) is_found.flying flying front is long alike kept.next is_found.is
   where
     alike : AreAlike kept.of.value units (front_units front)
     alike j l =

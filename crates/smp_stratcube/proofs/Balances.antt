@@ -18,15 +18,15 @@ use Rattle.smp_moves.specs.Owed.{HasKept, HasStayed, IsStart, Owes}
 use Rattle.smp_moves.proofs.Evens.{entry_of_turned, times_assoc}
 use Rattle.smp_moves.proofs.Entries.{off_line, place_or}
 use Rattle.smp_moves.proofs.Owed.{is_balanced}
+use Rattle.smp_moves.specs.Cubes.{flying, landed, left_in, pairing, values_in, flight_kind}
 use Rattle.smp_stratcube.specs.declared.units.Member.{Member}
 use Rattle.smp_stratcube.specs.declared.values.Value.{Value}
 use Rattle.smp_stratcube.specs.Units.{Units, IsUnits, column, member, nobody, share, stratum}
 use Rattle.smp_stratcube.specs.Values.{AreValues, IsValue, common_of, fractional_count, fractional_units, is_fractional, is_settled, nothing, over_common, touched_units, value, value_at}
-use Rattle.smp_stratcube.specs.States.{Balancing, Flight, IsBalancing, IsFlying, flying, landed, left_in, pairing, requested_value, started, values_in}
+use Rattle.smp_stratcube.specs.States.{Balancing, Flight, IsBalancing, IsFlying, requested_value, started}
 use Rattle.smp_stratcube.specs.Moves.{Finds, line_common}
-use Rattle.smp_stratcube.specs.Kept.Computed.{direction, moved_values, next}
+use Rattle.smp_stratcube.specs.Kept.Computed.{direction, moved_values, next, flight_of}
 use Rattle.smp_stratcube.specs.Pairs.{first_pair, kind_by, meeting, parts_by, settling, is_either, paired_parts}
-use Rattle.smp_stratcube.specs.Cube.{flight_kind}
 use Rattle.smp_stratcube.specs.Kept.Trees.{IsBalanced, flight_parts, strat_kind, strat_parts, weighed_of}
 use Rattle.smp_stratcube.specs.Balances.{addend, expanded}
 use Rattle.smp_kernel.specs.Searches.{found}
@@ -110,13 +110,13 @@ no_flight None e = cc
 
 -- ---- what is left
 
-landed_first : (values : List Value) (left : ℕ) → left ≡ 0 → landed values left ≡ fractional_count values
+landed_first : (values : List Value) (left : ℕ) → left ≡ 0 → landed (fractional_count values) left ≡ fractional_count values
 landed_first values left none = rw none refl
 
-landed_later : (values : List Value) (left n : ℕ) → 1 ≤ n → left ≡ n → landed values left ≡ n
+landed_later : (values : List Value) (left n : ℕ) → 1 ≤ n → left ≡ n → landed (fractional_count values) left ≡ n
 landed_later values left n some e = (let ne : left ≢ 0 = omega arith in rw (ne_eqb left 0 ne) e)
 
-each_left : (units : Units) (left n : ℕ) → left ≡ n → (parts : List (Part (List Value))) → EachPart (λ p. left_in p.state ≡ n) (moved (λ v. pairing v left) parts)
+each_left : (units : Units) (left n : ℕ) → left ≡ n → (parts : List (Part (List Value))) → EachPart (λ (p : Part Balancing). left_in p.state ≡ n) (moved (λ v. pairing v left) parts)
 each_left units left n e [] = tt
 each_left units left n e (p ∷ parts) = (e, each_left units left n e parts)
 
@@ -241,7 +241,7 @@ module _ (units : Units) where
     first_narrow : common_of units first ≤ 2 ^ 80
     first_narrow = (let e : touched_units first ≡ [] = none_touched (fractional_units first) in rw e (omega arith))
 
-    pub started_flying : IsFlying units (record { values = map requested_value units.members; rows = units.rows })
+    pub started_flying : IsFlying units (flight_of (map requested_value units.members) units.rows)
     started_flying = record {
       are = are;
       values = first_ok;

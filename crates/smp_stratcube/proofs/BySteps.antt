@@ -1,11 +1,11 @@
 -- What holds by the steps that the code finds holds of the cube.
 use Rattle.smp_moves.specs.Balances as moves
 use Rattle.smp_moves.specs.Owed.{balance_of}
+use Rattle.smp_stratcube.specs.Cube.{tree_by}
 use Rattle.smp_stratcube.specs.Units.{IsUnits, Units}
 use Rattle.smp_stratcube.specs.States.{started}
 use Rattle.smp_stratcube.specs.Moves.{Stepping}
 use Rattle.smp_stratcube.specs.Steps.{of_steps}
-use Rattle.smp_stratcube.specs.Cube.{tree_by}
 use Rattle.smp_stratcube.specs.Balances.{IsBalanced, weighed_by}
 use Rattle.smp_stratcube.specs.Counts.{HasCounts, HasCountsIn}
 use Rattle.smp_stratcube.proofs.Balances.{strat_balanced}

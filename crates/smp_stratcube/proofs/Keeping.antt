@@ -6,6 +6,7 @@ use Rattle.smp_split.proofs.Parts.{picked-moved, weight_sum-moved}
 use Rattle.smp_split.proofs.Steps.{picked_belongs, picked_is_part}
 use Rattle.smp_prob.specs.Shares.{Shares}
 use Rattle.smp_moves.specs.Owed.{HasKept}
+use Rattle.smp_moves.specs.Cubes.{dropped, flying, landed, pairing, values_in}
 use Rattle.smp_stratcube.specs.Kept.Trees.{flight_parts, strat_parts, strat_tree, weighed_of}
 use Rattle.smp_stratcube.proofs.Balances.{paired_kept}
 use Rattle.smp_moves.specs.Moves.{Line, Move, independent, move, turned, wide}
@@ -14,9 +15,9 @@ use Rattle.smp_stratcube.specs.declared.state.Phase.{Phase}
 use Rattle.smp_stratcube.specs.declared.state.Phase.TheVariants.{Flying, Pairing}
 use Rattle.smp_stratcube.specs.declared.values.Value.{Value}
 use Rattle.smp_stratcube.specs.Units.{Units, stratum}
-use Rattle.smp_stratcube.specs.Values.{fractional_units, is_fractional, is_settled, taken_over, value}
-use Rattle.smp_stratcube.specs.States.{Balancing, Flight, IsBalancing, IsFlying, IsPairing, dropped, flying, landed, pairing, values_in}
-use Rattle.smp_stratcube.specs.Kept.Computed.{chosen, direction, moved_values, moves, next, next_along}
+use Rattle.smp_stratcube.specs.Values.{fractional_count, fractional_units, is_fractional, is_settled, taken_over, value}
+use Rattle.smp_stratcube.specs.States.{Balancing, Flight, IsBalancing, IsFlying, IsPairing}
+use Rattle.smp_stratcube.specs.Kept.Computed.{chosen, direction, moved_values, moves, next, next_along, flight_of}
 use Rattle.smp_stratcube.specs.Pairs.{first_pair, is_either, paired_parts, parts_by}
 use Rattle.smp_stratcube.specs.Laws.Splits.{strat_lawful}
 use Rattle.smp_stratcube.specs.Kept.Fronts.{IsAhead, IsFront, front_units}
@@ -40,11 +41,11 @@ values_of Pairing values rows left = refl
 
 -- ---- a state in flight
 
-pub in_flight : (units : Units) (p : Phase) (values : List Value) (rows left : ℕ) → IsInFlight units (balancing_of p values rows left) → IsFlying units (record { values = values; rows = rows })
+pub in_flight : (units : Units) (p : Phase) (values : List Value) (rows left : ℕ) → IsInFlight units (balancing_of p values rows left) → IsFlying units (flight_of values rows)
 in_flight units Flying values rows left h = h
 in_flight units Pairing values rows left h = absurd h
 
-pub next_of : (units : Units) (p : Phase) (values : List Value) (rows left : ℕ) (answer : Answer) → IsInFlight units (balancing_of p values rows left) → IsStep units (record { values = values; rows = rows }) answer →
+pub next_of : (units : Units) (p : Phase) (values : List Value) (rows left : ℕ) (answer : Answer) → IsInFlight units (balancing_of p values rows left) → IsStep units (flight_of values rows) answer →
     IsNextOf units (balancing_of p values rows left) answer
 next_of units Flying values rows left answer h step = step
 next_of units Pairing values rows left answer h step = absurd h
@@ -60,12 +61,12 @@ picks_move units f left m draw e l =
       | inr n ↦ (let rest : nat_lt (draw - m.plus_weight) m.minus_weight ≡ true = lt-ltb (draw - m.plus_weight) m.minus_weight (omega (arith, l, ltb-false draw m.plus_weight n)) in rw (n, rest) refl)
     ]
 
-pub picks_drop : (units : Units) (f : Flight) (left draw : ℕ) → next units f ≡ independent → draw < 1 → picked (flying f left) (strat_parts units (flying f left)) draw ≡ flying (dropped f) (landed f.values left)
+pub picks_drop : (units : Units) (f : Flight) (left draw : ℕ) → next units f ≡ independent → draw < 1 → picked (flying f left) (strat_parts units (flying f left)) draw ≡ flying (dropped f) (landed (fractional_count f.values) left)
 picks_drop units f left draw e l =
     let none : draw ≡ 0 = omega arith in
     ap (λ a. picked (flying f left) (flight_parts units f left a) draw) e ∙ (rw none refl)
 
-pub picks_wide : (units : Units) (f : Flight) (left draw : ℕ) → next units f ≡ wide → draw < 1 → picked (flying f left) (strat_parts units (flying f left)) draw ≡ pairing f.values (landed f.values left)
+pub picks_wide : (units : Units) (f : Flight) (left draw : ℕ) → next units f ≡ wide → draw < 1 → picked (flying f left) (strat_parts units (flying f left)) draw ≡ pairing f.values (landed (fractional_count f.values) left)
 picks_wide units f left draw e l =
     let none : draw ≡ 0 = omega arith in
     ap (λ a. picked (flying f left) (flight_parts units f left a) draw) e ∙ (rw none refl)

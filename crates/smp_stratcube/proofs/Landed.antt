@@ -6,12 +6,12 @@ use Rattle.smp_kernel.proofs.SearchLaw.{none_is_few, together}
 use Rattle.smp_split.specs.declared.kind.Kind.TheVariants as kind
 use Rattle.smp_moves.specs.Moves.{Next, move, independent, wide}
 use Rattle.smp_moves.specs.Balances.{Begins}
+use Rattle.smp_moves.specs.Cubes.{flying, pairing, rows_in, values_in, flight_kind}
 use Rattle.smp_stratcube.specs.Units.{Units, column, columns_of}
 use Rattle.smp_stratcube.specs.Values.{fractional_count, fractional_units}
-use Rattle.smp_stratcube.specs.States.{Balancing, Flight, IsBalancing, flying, pairing, rows_in, values_in}
+use Rattle.smp_stratcube.specs.States.{Balancing, Flight, IsBalancing}
 use Rattle.smp_stratcube.specs.Kept.Computed.{next}
 use Rattle.smp_stratcube.specs.Pairs.{first_pair, kind_by}
-use Rattle.smp_stratcube.specs.Cube.{flight_kind}
 use Rattle.smp_stratcube.specs.Kept.Trees.{strat_kind}
 use Rattle.smp_stratcube.specs.Balances.{IsStuck}
 use Rattle.smp_stratcube.specs.Moves.{IsNext}

@@ -12,10 +12,11 @@ use Rattle.smp_split.proofs.Means.{only_sum}
 use Rattle.smp_split.proofs.NumberSums.{sums, sum_by-range}
 use Rattle.smp_values.proofs.Fractional.{fractional_is, not_fractional, over_settled}
 use Rattle.smp_moves.specs.Owed.{weighed_total}
+use Rattle.smp_moves.specs.Cubes.{values_in}
 use Rattle.smp_stratcube.specs.declared.values.Value.{Value}
 use Rattle.smp_stratcube.specs.Units.{Units, stratum}
 use Rattle.smp_stratcube.specs.Values.{AreValues, is_fractional, is_one, value, value_at}
-use Rattle.smp_stratcube.specs.States.{Balancing, values_in}
+use Rattle.smp_stratcube.specs.States.{Balancing}
 use Rattle.smp_stratcube.specs.Counts.{selected_in}
 use Rattle.smp_stratcube.specs.Kept.Trees.{weighed_of}
 use Rattle.smp_stratcube.specs.Laws.Units.{fractional_in}

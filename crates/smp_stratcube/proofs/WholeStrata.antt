@@ -9,13 +9,13 @@ use Rattle.smp_split.proofs.Paths.{at_each_leaf_kept}
 use Rattle.smp_moves.specs.Balances.{Begins}
 use Rattle.smp_moves.specs.Moves.{Move, Next, fraction_of, independent, move, wide}
 use Rattle.smp_moves.specs.Owed.{HasKept, HasStayed}
+use Rattle.smp_moves.specs.Cubes.{dropped, flying, pairing, values_in, flight_kind}
 use Rattle.smp_stratcube.specs.declared.values.Value.{Value}
 use Rattle.smp_stratcube.specs.Units.{IsUnits, Units, stratum}
 use Rattle.smp_stratcube.specs.Values.{fractional_units, is_fractional, value, value_at}
-use Rattle.smp_stratcube.specs.States.{Balancing, Flight, IsBalancing, IsFlying, IsPairing, dropped, flying, pairing, started, values_in}
+use Rattle.smp_stratcube.specs.States.{Balancing, Flight, IsBalancing, IsFlying, IsPairing, started}
 use Rattle.smp_stratcube.specs.Kept.Computed.{chosen, next}
 use Rattle.smp_stratcube.specs.Pairs.{first_pair, is_either, meeting, parts_by, settling}
-use Rattle.smp_stratcube.specs.Cube.{flight_kind}
 use Rattle.smp_stratcube.specs.Kept.Trees.{HasCounts, flight_parts, strat_parts, strat_tree, weighed_of}
 use Rattle.smp_stratcube.specs.Laws.Meetings.{meeting_sums}
 use Rattle.smp_stratcube.specs.Laws.Pairs.{IsMeeting, pair_found}

@@ -1,18 +1,19 @@
 -- What the cube over all strata keeps: the sum of the values of each stratum, and the total of each variable over all strata (Deville and
 -- Tillé 2004, with the balancing equations of Chauvet 2009).
-use Rattle.std.specs.Prelude.{◌⊎◌, ℕ, cond, nat_eq, nat_lt, length}
+use Rattle.std.specs.Prelude.{ℕ, cond, nat_eq, nat_lt, length}
 use Rattle.smp_fractions.specs.Fractions.{Fraction, whole, integer, times, inverse, sum_below}
-use Rattle.smp_kernel.specs.Elimination.{cut, AreIndependent}
 use Rattle.smp_kernel.specs.Vectors.{entry}
 use Rattle.smp_moves.specs.Balances as moves
+use Rattle.smp_moves.specs.Cubes as cubes
+use Rattle.smp_moves.specs.Cubes.{HasIndependentColumns, left_in, rows_in, values_in}
 use Rattle.smp_moves.specs.Moves.{fraction_of}
 use Rattle.smp_moves.specs.Owed.{Weighed, balance_of}
-use Rattle.smp_stratcube.specs.Units.{Units, column, columns_of, share, stratum}
-use Rattle.smp_stratcube.specs.Values.{fractional_count, fractional_units, value}
-use Rattle.smp_stratcube.specs.States.{Balancing, flying, left_in, pairing, rows_in, values_in}
+use Rattle.smp_stratcube.specs.Units.{Units, column, share, stratum}
+use Rattle.smp_stratcube.specs.Values.{fractional_count, value}
+use Rattle.smp_stratcube.specs.States.{Balancing}
 use Rattle.smp_stratcube.specs.Moves.{IsTooWide, Stepping}
 use Rattle.smp_stratcube.specs.Steps.{stepping}
-use Rattle.smp_stratcube.specs.Cube.{tree_by}
+use Rattle.smp_stratcube.specs.Cube.{cube_by, tree_by}
 
 -- What a unit counts for in the total of a row. In the row of a stratum it is 1 for its units and 0 for all others; in the row of a
 -- variable it is its balancing value divided by its probability.
@@ -32,25 +33,9 @@ addend units row k =
 abbrev pub target : Units → ℕ → Fraction
 target units row = sum_below (length units.members) (addend units row)
 
--- the columns of the fractional units are independent in the rows in force
-abbrev pub HasIndependentColumns : Units → Balancing → Type 0
-HasIndependentColumns units s =
-    AreIndependent (rows_in s)
-    (cut (rows_in s) (columns_of units (fractional_units (values_in s))))
-
--- no direction is left in the flight: no move keeps the totals of the rows in force
-abbrev pub NoDirectionLeft : Units → Balancing → Type 0
-NoDirectionLeft units (flying f left) = HasIndependentColumns units (flying f left)
-NoDirectionLeft units (pairing values left) = ⊥
-
--- the next step doesn't fit: a number of the search, or of the move that it found, passes its gate
-abbrev pub NextDoesNotFit : Units → Balancing → Type 0
-NextDoesNotFit units (flying f left) = IsTooWide units f
-NextDoesNotFit units (pairing values left) = ⊥
-
--- no direction is left, or the next step doesn't fit
+-- no direction is left, or the next step doesn't fit: a number of the search, or of the move that it found, passes its gate
 abbrev pub IsStuck : Units → Balancing → Type 0
-IsStuck units s = NoDirectionLeft units s ⊎ NextDoesNotFit units s
+IsStuck units = cubes.IsStuck (cube_by stepping units) (IsTooWide units)
 
 -- The total of a row at a state is the sum of what each unit counts for, times its value: in the tree by such steps, and in that of the
 -- cube.
@@ -65,7 +50,7 @@ weighed_by steps units = record {
   denom = λ s k. (value (values_in s) k).at.den;
   expanded = expanded units;
   known = target units;
-  independent = HasIndependentColumns units;
+  independent = HasIndependentColumns (cube_by steps units);
   stuck = IsStuck units;
 }
 

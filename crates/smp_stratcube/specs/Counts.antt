@@ -4,9 +4,10 @@ use Rattle.std.specs.List.{count_by, range_with_len}
 use Rattle.smp_fractions.specs.Fractions.{Same, whole}
 use Rattle.smp_split.specs.Paths.{AtEachLeaf}
 use Rattle.smp_split.specs.Trees.{Tree}
+use Rattle.smp_moves.specs.Cubes.{values_in}
 use Rattle.smp_stratcube.specs.Units.{Units, stratum}
 use Rattle.smp_stratcube.specs.Values.{is_one}
-use Rattle.smp_stratcube.specs.States.{Balancing, values_in}
+use Rattle.smp_stratcube.specs.States.{Balancing}
 use Rattle.smp_stratcube.specs.Cube.{strat_tree}
 use Rattle.smp_stratcube.specs.Balances.{target}
 

@@ -2,9 +2,10 @@
 use Rattle.std.specs.Prelude.{ℕ, zero, suc, ◌+◌, ◌*◌, ◌<◌, List, ◌∷◌, [], length, slice_index}
 use Rattle.std.specs.Prelude.{slice_index_or}
 use Rattle.smp_fractions.specs.Fractions.{Same, over}
+use Rattle.smp_moves.specs.Cubes.{values_in}
 use Rattle.smp_stratcube.specs.Layers.{Layer, no_layer}
 use Rattle.smp_stratcube.specs.Values.{value_at}
-use Rattle.smp_stratcube.specs.States.{Balancing, values_in}
+use Rattle.smp_stratcube.specs.States.{Balancing}
 
 -- how many units the first h strata have
 abbrev pub offset : List Layer → ℕ → ℕ

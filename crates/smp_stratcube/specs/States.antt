@@ -1,36 +1,20 @@
 -- The states of a selection by the cube over all strata, and which of them are the selection's.
-use Rattle.std.specs.Prelude.{◌≡◌, ℕ, ◌-◌, ◌<◌, ◌≤◌, false, nat_eq, if◌then◌else◌, List, length, map}
+use Rattle.std.specs.Prelude.{◌≡◌, ℕ, ◌<◌, ◌≤◌, false, List, length, map, ⊤}
 use Rattle.smp_fractions.specs.Limits.{most_denominator}
+use Rattle.smp_moves.specs.Cubes as cubes
+use Rattle.smp_moves.specs.Cubes.{flying, pairing}
 use Rattle.smp_stratcube.specs.declared.units.Member.{Member}
 use Rattle.smp_stratcube.specs.declared.values.Value.{Value}
 use Rattle.smp_stratcube.specs.Units.{Units, IsUnits, share}
-use Rattle.smp_stratcube.specs.Values.{AreValues, common_of, fractional_count, stratum_common, value}
+use Rattle.smp_stratcube.specs.Values.{AreValues, common_of, stratum_common, value}
 
--- a state of the flight: the values, and how many rows are in force, which are the first ones
-pub record Flight : Type 0 where
-  pub values : List Value
-  pub rows : ℕ
+-- a state of the flight: but for the values and the rows in force nothing stands with it
+abbrev pub Flight : Type 0
+Flight = cubes.Flight (List Value) ⊤
 
--- A state: one of the flight, or values on which pivotal steps go on. With it stands how many units were fractional where the
--- landing began, and 0 as long as it hasn't begun.
-pub data Balancing : Type 0 where
-  flying : Flight → ℕ → Balancing
-  pairing : List Value → ℕ → Balancing
-
--- the values in a state
-abbrev pub values_in : Balancing → List Value
-values_in (flying f left) = f.values
-values_in (pairing values left) = values
-
--- how many rows are in force: none in pivotal steps
-abbrev pub rows_in : Balancing → ℕ
-rows_in (flying f left) = f.rows
-rows_in (pairing values left) = 0
-
--- how many units were fractional where the landing began, 0 before
-abbrev pub left_in : Balancing → ℕ
-left_in (flying f left) = left
-left_in (pairing values left) = left
+-- a state of flight and landing
+abbrev pub Balancing : Type 0
+Balancing = cubes.Balancing (List Value) ⊤
 
 -- the requested probability of a unit as its value, those of all units, and the state before the first step: these, with all rows in force
 abbrev pub requested_value : Member → Value
@@ -40,15 +24,7 @@ abbrev pub requested_values : Units → List Value
 requested_values units = map requested_value units.members
 
 abbrev pub started : Units → Balancing
-started units = flying (record { values = requested_values units; rows = units.rows }) 0
-
--- how many units were fractional where the landing began, where it begins at these values unless it began before
-abbrev pub landed : List Value → ℕ → ℕ
-landed values left = if nat_eq left 0 then fractional_count values else left
-
--- the last row in force is dropped
-abbrev pub dropped : Flight → Flight
-dropped f = record { values = f.values; rows = f.rows - 1 }
+started units = flying (record { values = requested_values units; rows = units.rows; fixed = tt }) 0
 
 -- ---- the states of a selection
 

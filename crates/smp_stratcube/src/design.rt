@@ -1,10 +1,11 @@
 //! The cube over all strata as a design.
 
 ghost use Rattle.std.specs.Prelude.{◌≡◌, ◌≤◌, IfOk, length};
+ghost use Rattle.smp_moves.specs.Cubes.{left_in};
 ghost use Rattle.smp_stratcube.specs.Layers.{AreLayers};
 ghost use Rattle.smp_stratcube.specs.Units.{IsUnits, Units, units_of};
 ghost use Rattle.smp_stratcube.specs.Requests.{AreRequested};
-ghost use Rattle.smp_stratcube.specs.States.{left_in, requested_values, started};
+ghost use Rattle.smp_stratcube.specs.States.{requested_values, started};
 ghost use Rattle.smp_stratcube.specs.Balances.{IsBalanced};
 ghost use Rattle.smp_stratcube.specs.Counts.{HasCounts};
 ghost use Rattle.smp_split.specs.Methods.{HasMeans};

@@ -6,6 +6,7 @@ ghost use Rattle.smp_stratcube.specs.States.{IsFlying};
 ghost use Rattle.smp_stratcube.specs.Kept.Fronts.{IsFront};
 ghost use Rattle.smp_stratcube.specs.Kept.Founds.{AreSeen, IsFound, IsSeen};
 ghost use Rattle.smp_stratcube.specs.Kept.Lines.{AreInside};
+ghost use Rattle.smp_stratcube.specs.Kept.Computed.{flight_of};
 ghost use Rattle.smp_stratcube.specs.Kept.Moves.{IsStep};
 
 use crate::fronts::Front;
@@ -87,7 +88,7 @@ fn seen_of(units: &Units, front: &Front) -> [Seen; 17]
 
 /// The step of these values with so many rows in force, to be kept.
 pub(crate) fn found_of(units: &Units, values: &[Value], rows: usize, front: &Front) -> Found
-    requires flying { IsFlying units.now (record { values = values.now; rows = rows }) }
+    requires flying { IsFlying units.now (flight_of values.now rows) }
     requires front { IsFront values.now front.now }
     ensures { IsFound values.now rows front.now result }
 {
@@ -137,10 +138,10 @@ pub(crate) fn next_step(
     front: &Front,
     found: &Option<Found>,
 ) -> Next
-    requires flying { IsFlying units.now (record { values = values.now; rows = rows }) }
+    requires flying { IsFlying units.now (flight_of values.now rows) }
     requires front { IsFront values.now front.now }
     requires found { IfSome found.now (IsFound values.now rows front.now) }
-    ensures { IsStep units.now (record { values = values.now; rows = rows }) result }
+    ensures { IsStep units.now (flight_of values.now rows) result }
 {
     if let Some(found) = found {
         if found.is_of(units, front) {

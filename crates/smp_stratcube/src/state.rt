@@ -3,11 +3,13 @@
 ghost use Rattle.std.specs.Prelude.{◌≡◌, ◌*◌, ◌<◌, ◌≤◌, false, length};
 ghost use Rattle.smp_fractions.specs.Limits.{most_rows};
 ghost use Rattle.smp_split.specs.Trees.{picked, weight_sum};
-ghost use Rattle.smp_stratcube.specs.States.{Balancing, Flight, IsBalancing, IsFlying, landed, values_in};
+ghost use Rattle.smp_moves.specs.Cubes.{landed, values_in};
+ghost use Rattle.smp_stratcube.specs.States.{Balancing, Flight, IsBalancing, IsFlying};
 ghost use Rattle.smp_stratcube.specs.Values.{fractional_count, is_one, is_settled};
 ghost use Rattle.smp_stratcube.specs.Kept.Trees.{strat_kind, strat_parts};
 ghost use Rattle.smp_stratcube.specs.Kept.Fronts.{IsFront};
 ghost use Rattle.smp_stratcube.specs.Kept.Moves.{HasGone, IsMoveOf};
+ghost use Rattle.smp_stratcube.specs.Kept.Computed.{flight_of};
 ghost use Rattle.smp_stratcube.specs.Kept.States.{IsInFlight, IsKept, IsNextOf, balancing_of};
 
 use crate::ends::go;
@@ -61,7 +63,7 @@ fn fractional(values: &[Value], front: &Front) -> usize
 fn landed(values: &[Value], front: &Front, left: u32) -> u32
     requires few { length values.now ≤ 15 * most_rows }
     requires front { IsFront values.now front.now }
-    ensures { result ≡ landed values.now left }
+    ensures { result ≡ landed (fractional_count values.now) left }
 {
     if left == 0 {
         fractional(values, front) as u32
@@ -72,9 +74,9 @@ fn landed(values: &[Value], front: &Front, left: u32) -> u32
 
 /// Goes to an end of a move.
 fn fly(units: &Units, values: &mut Vec<Value>, rows: usize, mv: &Move, plus: bool)
-    requires flying { IsFlying units.now (record { values = values.old.items; rows = rows }) }
-    requires mv { IsMoveOf units.now (record { values = values.old.items; rows = rows }) mv.now }
-    ensures { HasGone units.now (record { values = values.old.items; rows = rows })
+    requires flying { IsFlying units.now (flight_of values.old.items rows) }
+    requires mv { IsMoveOf units.now (flight_of values.old.items rows) mv.now }
+    ensures { HasGone units.now (flight_of values.old.items rows)
         mv.now plus values.new.items }
 {
     if plus {

@@ -5,6 +5,7 @@ ghost use Rattle.smp_moves.specs.Answers.{line_of};
 ghost use Rattle.smp_stratcube.specs.States.{Flight, IsFlying};
 ghost use Rattle.smp_stratcube.specs.Kept.Fronts.{IsFront};
 ghost use Rattle.smp_stratcube.specs.Kept.Moves.{AreMoved, IsMoveOf, IsStep};
+ghost use Rattle.smp_stratcube.specs.Kept.Computed.{flight_of};
 ghost use Rattle.smp_stratcube.specs.Kept.Steps.{HasDirection};
 
 use crate::directions::{columns_of, direction};
@@ -39,10 +40,10 @@ pub(crate) enum Next {
 
 /// The step along a direction.
 fn step_along(units: &Units, values: &[Value], rows: usize, front: &Front, line: Line) -> Next
-    requires flying { IsFlying units.now (record { values = values.now; rows = rows }) }
+    requires flying { IsFlying units.now (flight_of values.now rows) }
     requires front { IsFront values.now front.now }
-    requires line { HasDirection units.now (record { values = values.now; rows = rows }) line }
-    ensures { IsStep units.now (record { values = values.now; rows = rows }) result }
+    requires line { HasDirection units.now (flight_of values.now rows) line }
+    ensures { IsStep units.now (flight_of values.now rows) result }
 {
     match denominator(units, values, front, &line) {
         None => Next::Wide,
@@ -71,9 +72,9 @@ fn step_along(units: &Units, values: &[Value], rows: usize, front: &Front, line:
 
 /// The step of these values with so many rows in force, of which these are the first fractional units.
 pub(crate) fn step(units: &Units, values: &[Value], rows: usize, front: &Front) -> Next
-    requires flying { IsFlying units.now (record { values = values.now; rows = rows }) }
+    requires flying { IsFlying units.now (flight_of values.now rows) }
     requires front { IsFront values.now front.now }
-    ensures { IsStep units.now (record { values = values.now; rows = rows }) result }
+    ensures { IsStep units.now (flight_of values.now rows) result }
 {
     let columns = columns_of(units, front);
     match search(&columns[..front.number], rows) {

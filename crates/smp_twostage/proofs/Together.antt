@@ -21,6 +21,7 @@ use Rattle.smp_values.proofs.Requests.{adds_to_draws, requested_values}
 use Rattle.smp_moves.specs.Moves.{fraction_of}
 use Rattle.smp_rows.specs.Rows.{row_value}
 use Rattle.smp_rows.specs.Laws.Rows.{free_within}
+use Rattle.smp_moves.specs.Cubes.{values_in}
 use Rattle.smp_methods.specs.declared.any.AnyState.{AnyState}
 use Rattle.smp_design.specs.Words.{draws_together}
 use Rattle.smp_methods.specs.Designs.{design_of_strata, first_state, method_of}
@@ -39,7 +40,6 @@ use Rattle.smp_strata.specs.declared.strata.Seat.{Seat}
 use Rattle.smp_strata.specs.declared.strata.Stratum.{Stratum}
 use Rattle.smp_stratcube.specs.Cube.{strat_tree}
 use Rattle.smp_stratcube.specs.States as together
-use Rattle.smp_stratcube.specs.States.{values_in}
 use Rattle.smp_stratcube.specs.declared.values.Value.{Value}
 use Rattle.smp_stratcube.specs.Balances.{addend, target}
 use Rattle.smp_stratcube.specs.Counts.{selected_in}

@@ -33,4 +33,4 @@ next_of units s order too_wide = wide
 
 -- the step of a state whose search goes through the columns of these units
 abbrev pub next_by : Units → List ℕ → Flight → Next
-next_by units order s = next_of units s.shares order (search s.rows (columns_of units order))
+next_by units order s = next_of units s.values order (search s.rows (columns_of units order))

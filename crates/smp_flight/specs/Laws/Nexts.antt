@@ -31,7 +31,7 @@ module _ (units : Units) (s : Flight) (order : List ℕ) (w : List ℤ) (f : Fin
   pub circuit_within : length w ≤ length order
   circuit_within = omega (arith, cut_circuit_short s.rows (columns_of units order) w f, length-map order (column units))
 
-module _ (units : Units) (s : Flight) (is_flight : IsFlight units s) (order : List ℕ) (ok : IsOrder s.shares order)
+module _ (units : Units) (s : Flight) (is_flight : IsFlight units s) (order : List ℕ) (ok : IsOrder s.values order)
     (w : List ℤ) (f : Finds units s order (found w)) where
   line_length : length (take (length w) order) ≡ length w
   line_length = length-take-le (length w) order (circuit_within units s order w f)
@@ -41,7 +41,7 @@ module _ (units : Units) (s : Flight) (is_flight : IsFlight units s) (order : Li
       let l : f.number < length w = omega (arith, circuit_length s.rows (cut s.rows (columns_of units order)) w f) in
       let k : ℕ = get_or (take (length w) order) f.number 0 in
       let inside : get_or (take (length w) order) f.number 0 < length units.sizes =
-      (let h = order_within s.shares (take (length w) order) (order_front s.shares order ok (length w)) f.number
+      (let h = order_within s.values (take (length w) order) (order_front s.values order ok (length w)) f.number
       (omega (arith, l, line_length)) in omega (arith, h, is_flight.values.count)) in
       let e : pos (size units (get_or (take (length w) order) f.number 0)) *ℤ entry w f.number ≡ pos 0 =
       sym (entry-sized units (take (length w) order) w f.number (omega (arith, line_length, l)) l)
@@ -127,7 +127,7 @@ module _ (first : ℕ) (s : Shares) (line : Line) where
 
 -- ---- the state
 
-pub flight_over : (units : Units) (s : Flight) → IsFlight units s → IsOver units.requested.den s.shares
+pub flight_over : (units : Units) (s : Flight) → IsFlight units s → IsOver units.requested.den s.values
 flight_over units s is_flight = record {
   some = is_flight.are.requested.positive;
   multiple = is_flight.multiple;
@@ -136,7 +136,7 @@ flight_over units s is_flight = record {
 
 -- ---- the step
 
-module _ (units : Units) (s : Flight) (order : List ℕ) (is_flight : IsFlight units s) (ok : IsOrder s.shares order) where
+module _ (units : Units) (s : Flight) (order : List ℕ) (is_flight : IsFlight units s) (ok : IsOrder s.values order) where
   module _ (w : List ℤ) (f : Finds units s order (found w)) where
     abbrev line : Line
     line = direction units order w
@@ -144,30 +144,30 @@ module _ (units : Units) (s : Flight) (order : List ℕ) (is_flight : IsFlight u
     line_dir : IsDirection units order w line
     line_dir = is_direction units s is_flight order ok w f
 
-    line_ok : IsLine s.shares line
-    line_ok = direction_line units s.shares order ok w line line_dir
+    line_ok : IsLine s.values line
+    line_ok = direction_line units s.values order ok w line line_dir
 
-    line_move : IsMove units s.shares order w (move_along s.shares line) (end_of units.requested.den s.shares line)
-        (end_of units.requested.den s.shares (turned line))
-    line_move = is_move units s.shares (flight_over units s is_flight) order w line line_ok line_dir
+    line_move : IsMove units s.values order w (move_along s.values line) (end_of units.requested.den s.values line)
+        (end_of units.requested.den s.values (turned line))
+    line_move = is_move units s.values (flight_over units s is_flight) order w line line_ok line_dir
 
-  next_from : (answer : Search) → Finds units s order answer → IsNext units s order (next_of units s.shares order answer)
+  next_from : (answer : Search) → Finds units s order answer → IsNext units s order (next_of units s.values order answer)
   next_from none f = f
   next_from too_wide f = IsWide.search_wide f
   next_from (found w) f =
-      elim (cases_Bool (fits units.requested.den s.shares (direction units order w))) [
+      elim (cases_Bool (fits units.requested.den s.values (direction units order w))) [
         | inl t ↦ rw t (record {
           circuit = w;
           finds = f;
-          plus_end = end_of units.requested.den s.shares (direction units order w);
-          minus_end = end_of units.requested.den s.shares (turned (direction units order w));
+          plus_end = end_of units.requested.den s.values (direction units order w);
+          minus_end = end_of units.requested.den s.values (turned (direction units order w));
           is = line_move w f;
-          fits = is_fit units.requested.den s.shares (direction units order w) t;
+          fits = is_fit units.requested.den s.values (direction units order w) t;
         })
-        | inr n ↦ rw n (IsWide.move_wide w (move_along s.shares (direction units order w))
-            (end_of units.requested.den s.shares (direction units order w))
-            (end_of units.requested.den s.shares (turned (direction units order w))) f (line_move w f)
-            (no_fit units.requested.den s.shares (direction units order w) n))
+        | inr n ↦ rw n (IsWide.move_wide w (move_along s.values (direction units order w))
+            (end_of units.requested.den s.values (direction units order w))
+            (end_of units.requested.den s.values (turned (direction units order w))) f (line_move w f)
+            (no_fit units.requested.den s.values (direction units order w) n))
       ]
 
   pub next_by_is : IsNext units s order (next_by units order s)
@@ -178,22 +178,22 @@ module _ (units : Units) (s : Flight) (order : List ℕ) (is_flight : IsFlight u
 pub record IsKnown (units : Units) (s : Flight) (order : List ℕ) (m : Move) : Type 0 where
   pub circuit : List ℤ
   pub finds : Finds units s order (found circuit)
-  pub line : IsLine s.shares m.direction
-  pub same : m ≡ move_along s.shares m.direction
-  pub is : IsMove units s.shares order circuit m (end_of units.requested.den s.shares m.direction)
-      (end_of units.requested.den s.shares (turned m.direction))
-  pub fits : Fits m (end_of units.requested.den s.shares m.direction) (end_of units.requested.den s.shares (turned m.direction))
+  pub line : IsLine s.values m.direction
+  pub same : m ≡ move_along s.values m.direction
+  pub is : IsMove units s.values order circuit m (end_of units.requested.den s.values m.direction)
+      (end_of units.requested.den s.values (turned m.direction))
+  pub fits : Fits m (end_of units.requested.den s.values m.direction) (end_of units.requested.den s.values (turned m.direction))
 
-module _ (units : Units) (s : Flight) (order : List ℕ) (is_flight : IsFlight units s) (ok : IsOrder s.shares order) where
+module _ (units : Units) (s : Flight) (order : List ℕ) (is_flight : IsFlight units s) (ok : IsOrder s.values order) where
   known_from : (answer : Search) → Finds units s order answer → (m : Move)
-      → next_of units s.shares order answer ≡ move m → IsKnown units s order m
+      → next_of units s.values order answer ≡ move m → IsKnown units s order m
   known_from none f m e = absurd (let h : independent ≡ move m = e in cc)
   known_from too_wide f m e = absurd (let h : wide ≡ move m = e in cc)
   known_from (found w) f m e =
-      elim (cases_Bool (fits units.requested.den s.shares (direction units order w))) [
+      elim (cases_Bool (fits units.requested.den s.values (direction units order w))) [
         | inl t ↦
-            (let here : move (move_along s.shares (direction units order w)) ≡ move m = rw t at e in
-            let same : move_along s.shares (direction units order w) ≡ m = cc in
+            (let here : move (move_along s.values (direction units order w)) ≡ move m = rw t at e in
+            let same : move_along s.values (direction units order w) ≡ m = cc in
             subst (IsKnown units s order) same
             (record {
               circuit = w;
@@ -201,7 +201,7 @@ module _ (units : Units) (s : Flight) (order : List ℕ) (is_flight : IsFlight u
               line = line_ok units s order is_flight ok w f;
               same = refl;
               is = line_move units s order is_flight ok w f;
-              fits = is_fit units.requested.den s.shares (direction units order w) t;
+              fits = is_fit units.requested.den s.values (direction units order w) t;
             }))
         | inr n ↦ absurd (let h : wide ≡ move m = rw n at e in cc)
       ]
@@ -211,8 +211,8 @@ module _ (units : Units) (s : Flight) (order : List ℕ) (is_flight : IsFlight u
 
 -- the values at both its ends
 pub known_end : (units : Units) (s : Flight) (order : List ℕ) (m : Move) → IsKnown units s order m → (plus : Bool) →
-    IsMoved units.requested.den s.shares (chosen_line m plus) (chosen_extent m plus)
-    (end_of units.requested.den s.shares (chosen_line m plus))
+    IsMoved units.requested.den s.values (chosen_line m plus) (chosen_extent m plus)
+    (end_of units.requested.den s.values (chosen_line m plus))
 known_end units s order m k true = k.is.plus_moved
 known_end units s order m k false = k.is.minus_moved
 

@@ -2,8 +2,9 @@
 use Rattle.std.specs.Prelude.{◌≡◌, ℕ, ◌≤◌, length}
 use Rattle.smp_fractions.specs.Limits.{most_rows}
 use Rattle.smp_prob.specs.Shares.{Shares}
+use Rattle.smp_moves.specs.Cubes.{flying, pairing}
 use Rattle.smp_flight.specs.States.{AreFirst, Flight, Tracked}
-use Rattle.smp_flight.specs.Selections.{Balancing, flying, pairing}
+use Rattle.smp_flight.specs.Selections.{Balancing}
 use Rattle.smp_landing.specs.declared.state.Phase.{Phase}
 use Rattle.smp_landing.specs.declared.state.Phase.TheVariants.{Flying, Pairing}
 
@@ -15,8 +16,8 @@ balancing_of Pairing f s left = pairing s left
 -- As long as it flies, there is room for the values of the pivotal steps, the units can be counted, and the window is among the first
 -- fractional units.
 pub record IsReady (f : Tracked) (room : Shares) : Type 0 where
-  pub fits : length room.numer ≡ length f.flight.shares.numer
-  pub few : length f.flight.shares.numer ≤ most_rows
+  pub fits : length room.numer ≡ length f.flight.values.numer
+  pub few : length f.flight.values.numer ≤ most_rows
   pub first : AreFirst f.flight f.window
 
 abbrev pub IsKept : Phase → Tracked → Shares → Type 0

@@ -1,26 +1,41 @@
 -- The splits of the cube are lawful, and its steps are those of flight and landing.
-use Rattle.std.proofs.Common.{refl}
-use Rattle.smp_split.specs.Trees.{Lawful}
+use Rattle.std.proofs.Common.{◌≡◌, false, refl}
+use Rattle.smp_split.specs.Trees.{Lawful, LawfulParts}
 use Rattle.smp_split.proofs.Parts.{moved-same}
+use Rattle.smp_values.specs.Values.{is_settled}
+use Rattle.smp_moves.specs.Cubes.{flying, pairing, values_in}
 use Rattle.smp_flight.specs.States.{Units}
-use Rattle.smp_flight.specs.Selections.{IsBalancing, IsSelection, flies, values_in}
+use Rattle.smp_flight.specs.Steps.{next}
+use Rattle.smp_flight.specs.Selections.{Balancing, GoesOn, IsBalancing, IsSelection, flies}
 use Rattle.smp_flight.proofs.ByOrder.{end_lawful, parts_lawful}
 use Rattle.smp_flight.proofs.WholeOrders.{frame_whole}
 use Rattle.smp_landing.specs.Cube.{cube_of, cube_parts, cube_tree, frame_order}
 
-pub cube_lawful : (units : Units) → Lawful (cube_tree units) (IsBalancing units)
-cube_lawful units = record {
-  split = λ s ok going. parts_lawful units frame_order s (frame_order s) ok (frame_whole (values_in s)) going;
-  end = λ s ok done. end_lawful units frame_order s ok done;
-}
+module _ (units : Units) where
+  cube_split : (s : Balancing) → IsBalancing units s → is_settled (values_in s) ≡ false
+      → LawfulParts (cube_tree units) (IsBalancing units) s (cube_parts units s)
+  cube_split (flying f left) ok going =
+      parts_lawful units (next units) (flying f left) (frame_order (flying f left)) ok (frame_whole f.values) going
+  cube_split (pairing s left) ok going =
+      parts_lawful units (next units) (pairing s left) (frame_order (pairing s left)) ok (frame_whole s) going
 
-pub is_cube : (units : Units) → IsSelection (cube_of units) (IsBalancing units)
-is_cube units = record {
-  lawful = cube_lawful units;
-  units = refl;
-  done = λ s. refl;
-  value = λ s. refl;
-  selected = λ s. refl;
-  member = λ s ok. ok;
-  step = λ s ok. flies (frame_whole (values_in s)) refl (moved-same (cube_parts units s));
-}
+  pub cube_lawful : Lawful (cube_tree units) (IsBalancing units)
+  cube_lawful = record {
+    split = cube_split;
+    end = λ s ok done. end_lawful units (next units) s ok done;
+  }
+
+  cube_goes_on : (s : Balancing) → IsBalancing units s → GoesOn (cube_of units) s
+  cube_goes_on (flying f left) ok = flies (frame_whole f.values) refl (moved-same (cube_parts units (flying f left)))
+  cube_goes_on (pairing s left) ok = flies (frame_whole s) refl (moved-same (cube_parts units (pairing s left)))
+
+  pub is_cube : IsSelection (cube_of units) (IsBalancing units)
+  is_cube = record {
+    lawful = cube_lawful;
+    units = refl;
+    done = λ s. refl;
+    value = λ s. refl;
+    selected = λ s. refl;
+    member = λ s ok. ok;
+    step = cube_goes_on;
+  }

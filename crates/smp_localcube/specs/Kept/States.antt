@@ -7,7 +7,8 @@ use Rattle.smp_near.specs.Nearest.{LivingPoints, is_living}
 use Rattle.smp_fractions.specs.Limits.{most_rows}
 use Rattle.smp_prob.specs.Shares.{Shares}
 use Rattle.smp_values.specs.Values.{AllFractional, fractional_units, is_fractional}
-use Rattle.smp_flight.specs.Selections.{Balancing, flying, pairing}
+use Rattle.smp_moves.specs.Cubes.{flying, pairing}
+use Rattle.smp_flight.specs.Selections.{Balancing}
 use Rattle.smp_moves.specs.Moves.{Line, entry_of}
 use Rattle.smp_moves.specs.declared.lines.Line.{Line as LineOfPlaces}
 use Rattle.smp_flight.specs.States.{Flight, Tracked, Units}
@@ -33,12 +34,12 @@ order_units order = take order.number order.units
 
 -- the touched units, in the order of the frame
 abbrev pub touched_in : Tracked → List ℕ
-touched_in f = filter (is_one_of f.window) (fractional_units f.flight.shares)
+touched_in f = filter (is_one_of f.window) (fractional_units f.flight.values)
 
 -- the step of a flight with this head
 abbrev pub step_around : Units → List (List ℤ) → Tracked → ℕ → Next
 step_around units coords f head =
-    next_on units (order_around coords f.flight.shares (touched_in f) head) f.flight
+    next_on units (order_around coords f.flight.values (touched_in f) head) f.flight
 
 -- whether a line changes a unit
 abbrev pub is_changed : Line → ℕ → Bool
@@ -81,10 +82,10 @@ weights_of living = map (λ alive. if alive then 1 else 0) living
 -- As long as it flies, there is room for the values of the pivotal steps, the units can be counted, each has a point, the points of
 -- those that no move has changed are living, and these have the weight 1.
 pub record IsReady (f : Tracked) (room : Shares) (points : LivingPoints) (weights : List ℕ) : Type 0 where
-  pub fits : length room.numer ≡ length f.flight.shares.numer
-  pub few : length f.flight.shares.numer ≤ most_rows
-  pub placed : length points.coords ≡ length f.flight.shares.numer
-  pub living : points.living ≡ (untouched points.coords f.flight.shares (touched_in f)).living
+  pub fits : length room.numer ≡ length f.flight.values.numer
+  pub few : length f.flight.values.numer ≤ most_rows
+  pub placed : length points.coords ≡ length f.flight.values.numer
+  pub living : points.living ≡ (untouched points.coords f.flight.values (touched_in f)).living
   pub weighed : weights ≡ weights_of points.living
 
 -- the step of a flight that was found by the search of its state
@@ -92,7 +93,7 @@ pub record IsLookedFor (f : Tracked) (coords : List (List ℤ)) (chosen : Option
   pub head : ℕ
   pub is_head : head_of (touched_in f) chosen ≡ Some head
   pub found_on : IsFoundOn f found
-  pub units : units_in found ≡ take (f.flight.rows + 1) (order_around coords f.flight.shares (touched_in f) head)
+  pub units : units_in found ≡ take (f.flight.rows + 1) (order_around coords f.flight.values (touched_in f) head)
 
 -- and the step that was looked for is the next one
 pub record IsFlownOn (f : Tracked) (room : Shares) (points : LivingPoints) (weights : List ℕ)

@@ -1,5 +1,5 @@
 -- What a search goes through: all fractional units, each of them once.
-use Rattle.std.proofs.Common.{◌≡◌, ◌≢◌, ℕ, ◌<◌, ◌≤◌, Bool, true, false, not, nat_eq, ℤ, List, [], ◌∷◌}
+use Rattle.std.proofs.Common.{◌≡◌, ◌≢◌, ℕ, Bool, true, false, not, nat_eq, ℤ, List, [], ◌∷◌}
 use Rattle.std.proofs.Common.{◌++◌, ◌⊎◌, map, length, get_or, arith, refl, sym, ap, ◌∙◌, subst, inl, inr, suc, suc-le-suc}
 use Rattle.std.specs.List.{All, AllPairs, filter, range_with_len}
 use Rattle.std.proofs.lemmas.Bool.{and_from, and_parts, both_ways, cases_Bool, cases_eq, cases_lt, eq-eqb, eqb-false, ne_eqb, not-true}

@@ -1,6 +1,6 @@
 -- The splits of the local cube are lawful, and its steps are those of flight and landing beside its choices.
-use Rattle.std.proofs.Common.{◌≡◌, ◌≢◌, ℕ, ◌+◌, ◌*◌, ◌<◌, ◌≤◌, true, false, ℤ, nat_eq, not, ◌||◌}
-use Rattle.std.proofs.Common.{List, [], ◌∷◌, Option, Some, None, length, refl, sym, subst, ap, ◌∙◌, arith}
+use Rattle.std.proofs.Common.{◌≡◌, ◌≢◌, ℕ, ◌<◌, ◌≤◌, true, false, ℤ, nat_eq, not, ◌||◌}
+use Rattle.std.proofs.Common.{List, [], ◌∷◌, Option, Some, None, length, refl, sym, subst, ap, arith}
 use Rattle.std.specs.Prelude.{unwrap_or}
 use Rattle.std.specs.Int.RustNames.{unsigned_abs}
 use Rattle.std.proofs.lemmas.Bool.{eq-eqb, eqb-false, or_left}
@@ -20,15 +20,15 @@ use Rattle.smp_values.specs.Values.{value_at}
 use Rattle.smp_values.proofs.Pivotal.{steps_lawful}
 use Rattle.smp_values.proofs.Units.{fractional_at_is}
 use Rattle.smp_moves.specs.Moves.{Move, entry_of}
-use Rattle.smp_flight.specs.Selections.{Balancing, GoesOn, IsBalancing, IsSelection, IsWholeOrder, chooses, dropped, flies, flight_kind}
-use Rattle.smp_flight.specs.Selections.{flight_parts, flying, landed, pairing, rank_in, tree_by, values_in}
+use Rattle.smp_moves.specs.Cubes.{dropped, flight_kind, flight_parts, flying, landed, pairing, rank_in, tree_by, values_in}
+use Rattle.smp_flight.specs.Selections.{Balancing, GoesOn, IsBalancing, IsSelection, IsWholeOrder, chooses, flies, shares_cube}
 use Rattle.smp_flight.specs.Kept.Windows.{is_in}
 use Rattle.smp_flight.specs.States.{Flight, Units}
 use Rattle.smp_moves.specs.Moves.{Next, move, independent, wide}
 use Rattle.smp_flight.specs.Steps.{next_on}
-use Rattle.smp_flight.proofs.ByOrder.{end_lawful, move_split, some_row, values_ok}
+use Rattle.smp_flight.proofs.ByOrder.{end_lawful, move_split, some_row}
 use Rattle.smp_flight.proofs.WholeOrders.{frame_whole}
-use Rattle.smp_localcube.specs.Local.{AreCarried, IsCarried, IsChosen, IsLocal, Local, after, choice, choosing, head_of, is_one_of}
+use Rattle.smp_localcube.specs.Local.{AreCarried, IsCarried, IsLocal, Local, after, choice, choosing, head_of, is_one_of}
 use Rattle.smp_localcube.specs.Local.{kind_around, local_of, local_tree, order_around, order_with, next_around, parts_around, parts_from}
 use Rattle.smp_localcube.specs.Local.{rank_of, settling, touched_after}
 use Rattle.smp_localcube.specs.Laws.Orders.{IsHead, filter_again, carried_going, whole as whole_order}
@@ -65,11 +65,11 @@ has_head s (u ∷ touched) chosen head carried is =
     }
 
 -- the search of a state goes through all fractional units
-pub order_whole : (s : Local) (f : Flight) (head : ℕ) → IsCarried f.shares s.touched s.chosen
-    → head_of s.touched s.chosen ≡ Some head → IsWholeOrder f.shares (order_around s.coords f.shares s.touched head)
+pub order_whole : (s : Local) (f : Flight) (head : ℕ) → IsCarried f.values s.touched s.chosen
+    → head_of s.touched s.chosen ≡ Some head → IsWholeOrder f.values (order_around s.coords f.values s.touched head)
 order_whole s f head carried is =
-    let has = has_head f.shares s.touched s.chosen head carried is in
-    whole_order s.coords f.shares s.touched head carried.touched_are has.open_at has.is_head
+    let has = has_head f.values s.touched s.chosen head carried is in
+    whole_order s.coords f.values s.touched head carried.touched_are has.open_at has.is_head
 
 -- ---- lists of parts
 
@@ -87,7 +87,7 @@ there_again s next (p ∷ ps) = ap (λ rest. p ∷ rest) (there_again s next ps)
 pub carried_after : (s : Local) (m : Move) (t : Balancing) → AreCarried t (touched_after s.touched (move m) (values_in t)) None
 carried_after s m (flying f left) = record {
   touched_are = filter_again (λ k. is_one_of s.touched k || not
-      (nat_eq (unsigned_abs (entry_of m.direction k)) 0)) (fractional_units f.shares);
+      (nat_eq (unsigned_abs (entry_of m.direction k)) 0)) (fractional_units f.values);
   chosen_is = tt;
 }
 carried_after s m (pairing t left) = tt
@@ -99,66 +99,66 @@ module _ (units : Units) (coords : List (List ℤ)) (f : Flight) (left : ℕ) (t
   abbrev IsSplit : List (Part Local) → Type 0
   IsSplit parts = LawfulParts (local_tree units) (IsLocal units) here parts
 
-  module _ (ok : IsLocal units here) (going : is_settled f.shares ≡ false) where
-    move_through : (order : List ℕ) → IsWholeOrder f.shares order → (m : Move) → next_on units order f ≡ move m
-        → IsSplit (moved (after here (move m)) (flight_parts units f left (move m)))
+  module _ (ok : IsLocal units here) (going : is_settled f.values ≡ false) where
+    move_through : (order : List ℕ) → IsWholeOrder f.values order → (m : Move) → next_on units order f ≡ move m
+        → IsSplit (moved (after here (move m)) (flight_parts (shares_cube units) f left (move m)))
     move_through order w m is =
-        parts_through (tree_by units (λ _. [])) (IsBalancing units) (local_tree units) (IsLocal units)
+        parts_through (tree_by (shares_cube units) (λ _. independent)) (IsBalancing units) (local_tree units) (IsLocal units)
         (after here (move m)) as_unit (flying f left) here
         (record {
           within = λ k h. h;
-          part = λ p q. (let falls : rank_in p.state < rank_in (flying f left) = q.falls in
+          part = λ p q. (let falls : rank_in fractional_count p.state < rank_in fractional_count (flying f left) = q.falls in
               record {
                 heavy = q.heavy;
                 falls = omega (arith, falls);
                 member = record { state = q.member; carried = carried_after here m p.state };
               });
-          value = λ k h. same_refl (value_at f.shares k);
+          value = λ k h. same_refl (value_at f.values k);
           values = λ t b k h. same_refl (value_at (values_in t) k);
-        }) (flight_parts units f left (move m)) (move_split units f left order ok.state w.is_order m is (λ _. []))
+        }) (flight_parts (shares_cube units) f left (move m)) (move_split units f left order ok.state w.is_order m is (λ _. independent))
 
     -- one part with the same values
-    lone_through : (t : Local) → values_in t.at ≡ f.shares → rank_of t < rank_of here → IsLocal units t
+    lone_through : (t : Local) → values_in t.at ≡ f.values → rank_of t < rank_of here → IsLocal units t
         → IsSplit (record { weight = 1; state = t } ∷ [])
     lone_through t same falls member = record {
       some = omega arith;
       narrow = omega arith;
       each = (record { heavy = omega arith; falls = falls; member = member }, tt);
-      even = λ k _. rw same (plus-zero (times (whole 1) (value_at f.shares k)));
+      even = λ k _. rw same (plus-zero (times (whole 1) (value_at f.values k)));
     }
 
-    step_through : (order : List ℕ) → IsWholeOrder f.shares order → (a : Next) → next_on units order f ≡ a
-        → IsSplit (moved (after here a) (flight_parts units f left a))
+    step_through : (order : List ℕ) → IsWholeOrder f.values order → (a : Next) → next_on units order f ≡ a
+        → IsSplit (moved (after here a) (flight_parts (shares_cube units) f left a))
     step_through order w (move m) is = move_through order w m is
     step_through order w independent is =
         let some = some_row units f left order ok.state w is going in
-        lone_through (after here independent (flying (dropped f) (landed f left))) refl (omega (arith, some))
+        lone_through (after here independent (flying (dropped f) (landed (fractional_count f.values) left))) refl (omega (arith, some))
         (record {
           state = record {
             are = ok.state.are;
             values = ok.state.values;
-            requested_den_is = ok.state.requested_den_is;
+            fixed_is = ok.state.fixed_is;
             multiple = ok.state.multiple;
             rows_in = omega (arith, ok.state.rows_in);
           };
           carried = ok.carried;
         })
     step_through order w wide is =
-        lone_through (after here wide (pairing f.shares (landed f left))) refl (omega arith)
+        lone_through (after here wide (pairing f.values (landed (fractional_count f.values) left))) refl (omega arith)
         (record { state = ok.state.values; carried = tt })
 
     -- a choice, after which the values are what they were
-    choice_through : chosen ≡ None → IsSplit (choice here f.shares)
+    choice_through : chosen ≡ None → IsSplit (choice here f.values)
     choice_through none =
-        let some : fractional_count f.shares ≢ 0 = eqb-false (fractional_count f.shares) 0 going in
-        let to : ℕ → Local = λ place. choosing here (fractional_at f.shares place) in
-        let total : weight_sum (equal_parts (fractional_count f.shares) to) ≡ fractional_count f.shares =
-        weight_sum-equal to (fractional_count f.shares) in
-        let most : fractional_count f.shares ≤ length f.shares.numer = count_by-le-length (fractional f.shares.den) f.shares.numer in
+        let some : fractional_count f.values ≢ 0 = eqb-false (fractional_count f.values) 0 going in
+        let to : ℕ → Local = λ place. choosing here (fractional_at f.values place) in
+        let total : weight_sum (equal_parts (fractional_count f.values) to) ≡ fractional_count f.values =
+        weight_sum-equal to (fractional_count f.values) in
+        let most : fractional_count f.values ≤ length f.values.numer = count_by-le-length (fractional f.values.den) f.values.numer in
         record {
           some = omega (arith, some);
           narrow = omega (arith, ok.state.values.count, ok.state.are.few);
-          each = each_equal to (IsPart (local_tree units) (IsLocal units) here) (fractional_count f.shares)
+          each = each_equal to (IsPart (local_tree units) (IsLocal units) here) (fractional_count f.values)
               (λ place h. record {
                 heavy = omega arith;
                 falls = rw none (omega arith);
@@ -166,20 +166,20 @@ module _ (units : Units) (coords : List (List ℤ)) (f : Flight) (left : ℕ) (t
                   state = ok.state;
                   carried = record {
                     touched_are = ok.carried.touched_are;
-                    chosen_is = fractional_at_is f.shares place h;
+                    chosen_is = fractional_at_is f.values place h;
                   };
                 };
               });
           even = λ k h.
-              weighted-same (λ t. value_at (values_in t.at) k) (value_at f.shares k) (choice here f.shares)
-              (each_equal to (λ p. value_at (values_in p.state.at) k ≡ value_at f.shares k)
-              (fractional_count f.shares) (λ place _. refl));
+              weighted-same (λ t. value_at (values_in t.at) k) (value_at f.values k) (choice here f.values)
+              (each_equal to (λ p. value_at (values_in p.state.at) k ≡ value_at f.values k)
+              (fractional_count f.values) (λ place _. refl));
         }
 
     flight_through : (head : Option ℕ) → head_of touched chosen ≡ head → IsSplit (parts_around units here f left head)
     flight_through None is = choice_through (no_head touched chosen is)
     flight_through (Some head) is =
-        step_through (order_around coords f.shares touched head) (order_whole here f head ok.carried is)
+        step_through (order_around coords f.values touched head) (order_whole here f head ok.carried is)
         (next_around units here f head) refl
 
 -- ---- pivotal steps
@@ -216,13 +216,13 @@ split_from units coords (pairing t left) touched chosen ok going = pairing_throu
 pub local_lawful : (units : Units) → Lawful (local_tree units) (IsLocal units)
 local_lawful units = record {
   split = λ s ok going. split_from units s.coords s.at s.touched s.chosen ok going;
-  end = λ s ok done. end_lawful units (λ _. []) s.at ok.state done;
+  end = λ s ok done. end_lawful units (λ _. independent) s.at ok.state done;
 }
 
 -- ---- its steps
 
 module _ (units : Units) (coords : List (List ℤ)) (f : Flight) (left : ℕ) (touched : List ℕ) (chosen : Option ℕ)
-    (carried : IsCarried f.shares touched chosen) where
+    (carried : IsCarried f.values touched chosen) where
   abbrev state : Local
   state = record { coords = coords; at = flying f left; touched = touched; chosen = chosen }
 
@@ -230,16 +230,16 @@ module _ (units : Units) (coords : List (List ℤ)) (f : Flight) (left : ℕ) (t
   flight_goes None is =
       chooses (ap (kind_around units state f) is)
       (subst (λ (h : Option ℕ). EachPart (λ p. p.state.at ≡ flying f left) (parts_around units state f left h)) (sym is)
-      (each_equal (λ place. choosing state (fractional_at f.shares place)) (λ p. p.state.at ≡ flying f left)
-      (fractional_count f.shares) (λ place _. refl)))
+      (each_equal (λ place. choosing state (fractional_at f.values place)) (λ p. p.state.at ≡ flying f left)
+      (fractional_count f.values) (λ place _. refl)))
   flight_goes (Some head) is =
-      flies (subst (λ (h : Option ℕ). IsWholeOrder f.shares (order_with state f.shares h)) (sym is)
+      flies (subst (λ (h : Option ℕ). IsWholeOrder f.values (order_with state f.values h)) (sym is)
       (order_whole state f head carried is))
       (subst (λ (h : Option ℕ). kind_around units state f h
-      ≡ flight_kind (next_on units (order_with state f.shares h) f)) (sym is) refl)
+      ≡ flight_kind (next_on units (order_with state f.values h) f)) (sym is) refl)
       (subst (λ (h : Option ℕ). moved (λ t. t.at) (parts_around units state f left h)
-      ≡ flight_parts units f left (next_on units (order_with state f.shares h) f)) (sym is)
-      (there_again state (next_around units state f head) (flight_parts units f left (next_around units state f head))))
+      ≡ flight_parts (shares_cube units) f left (next_on units (order_with state f.values h) f)) (sym is)
+      (there_again state (next_around units state f head) (flight_parts (shares_cube units) f left (next_around units state f head))))
 
 goes_from : (units : Units) (coords : List (List ℤ)) (at : Balancing) (touched : List ℕ) (chosen : Option ℕ)
     → AreCarried at touched chosen → GoesOn (local_of units)

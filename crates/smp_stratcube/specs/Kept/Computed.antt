@@ -6,7 +6,8 @@ use Rattle.smp_fractions.specs.Limits.{most_denominator}
 use Rattle.smp_kernel.specs.Searches.{Search, found, none, too_wide}
 use Rattle.smp_moves.specs.Kept.Searches.{search}
 use Rattle.smp_kernel.specs.Reduced.{primitive_part}
-use Rattle.smp_moves.specs.Moves.{Line, Move, entry_of, turned, Next, move, independent, wide, chosen_line}
+use Rattle.smp_moves.specs.Moves.{Line, Move, entry_of, turned, Next, move, independent, wide}
+use Rattle.smp_moves.specs.Cubes.{chosen_by}
 use Rattle.smp_moves.specs.Ends.{end_of, move_along, entries_fit}
 use Rattle.smp_stratcube.specs.declared.values.Value.{Value}
 use Rattle.smp_stratcube.specs.Units.{Units, columns_of}
@@ -38,6 +39,10 @@ moved_values units values line =
     taken_over (moves line) values (end_of 1 (over_common den values) line)
 
 -- ---- the step
+
+-- the state of the flight with these values and so many rows in force
+abbrev pub flight_of : List Value → ℕ → Flight
+flight_of values rows = record { values = values; rows = rows; fixed = tt }
 
 -- whether each number fits its gate: the common denominator of the products, the entries of the direction, the common denominator of
 -- the state with the strata of the units, and those of both ends
@@ -71,7 +76,4 @@ next units f =
 
 -- the end that is chosen
 abbrev pub chosen : Units → Flight → Move → Bool → Flight
-chosen units f m plus = record {
-  values = moved_values units f.values (chosen_line m plus);
-  rows = f.rows;
-}
+chosen units = chosen_by (moved_values units)

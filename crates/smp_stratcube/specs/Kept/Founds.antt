@@ -6,6 +6,7 @@ use Rattle.smp_stratcube.specs.declared.fronts.Front.{Front}
 use Rattle.smp_stratcube.specs.declared.values.Value.{Value}
 use Rattle.smp_stratcube.specs.Units.{Units, column, first, share}
 use Rattle.smp_stratcube.specs.States.{IsFlying}
+use Rattle.smp_stratcube.specs.Kept.Computed.{flight_of}
 use Rattle.smp_stratcube.specs.Kept.Moves.{IsStep}
 
 -- where there is no unit
@@ -24,6 +25,6 @@ AreSeen units front seen =
 
 -- the step of these values, of units of which what it goes by is kept
 pub record IsFound (values : List Value) (rows : ℕ) (front : Front) (found : Found) : Type 0 where
-  pub flying : IsFlying found.of.value (record { values = values; rows = rows })
+  pub flying : IsFlying found.of.value (flight_of values rows)
   pub seen : AreSeen found.of.value front found.seen
-  pub is : IsStep found.of.value (record { values = values; rows = rows }) found.next
+  pub is : IsStep found.of.value (flight_of values rows) found.next

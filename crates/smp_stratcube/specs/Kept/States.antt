@@ -1,6 +1,7 @@
 -- What the code keeps of a state.
 use Rattle.std.specs.Prelude.{ℕ, ◌*◌, ◌≤◌, List, length, Option, IfSome}
 use Rattle.smp_fractions.specs.Limits.{most_rows}
+use Rattle.smp_moves.specs.Cubes.{flying, pairing}
 use Rattle.smp_stratcube.specs.declared.found.Found.{Found}
 use Rattle.smp_stratcube.specs.declared.fronts.Front.{Front}
 use Rattle.smp_stratcube.specs.declared.state.Phase.{Phase}
@@ -8,13 +9,14 @@ use Rattle.smp_stratcube.specs.declared.state.Phase.TheVariants.{Flying, Pairing
 use Rattle.smp_stratcube.specs.declared.steps.Next.{Next as Answer}
 use Rattle.smp_stratcube.specs.declared.values.Value.{Value}
 use Rattle.smp_stratcube.specs.Units.{Units}
-use Rattle.smp_stratcube.specs.States.{Balancing, IsFlying, flying, pairing}
+use Rattle.smp_stratcube.specs.States.{Balancing, IsFlying}
 use Rattle.smp_stratcube.specs.Kept.Fronts.{IsFront}
 use Rattle.smp_stratcube.specs.Kept.Founds.{IsFound}
+use Rattle.smp_stratcube.specs.Kept.Computed.{flight_of}
 use Rattle.smp_stratcube.specs.Kept.Moves.{IsStep}
 
 abbrev pub balancing_of : Phase → List Value → ℕ → ℕ → Balancing
-balancing_of Flying values rows left = flying (record { values = values; rows = rows }) left
+balancing_of Flying values rows left = flying (flight_of values rows) left
 balancing_of Pairing values rows left = pairing values left
 
 -- a state in flight

@@ -12,12 +12,13 @@ use Rattle.smp_moves.proofs.Entries.{turned_line}
 use Rattle.smp_moves.proofs.Evens.{even_ends, entry_of_turned}
 use Rattle.smp_moves.proofs.Sizes.{weights_small}
 use Rattle.smp_moves.proofs.Weights.{ends_weighed, plus_some, minus_some}
+use Rattle.smp_moves.specs.Cubes.{flying}
 use Rattle.smp_stratcube.specs.declared.values.Value.{Value}
 use Rattle.smp_stratcube.specs.Units.{Units, share}
 use Rattle.smp_stratcube.specs.Values.{AreValues, common_of, fractional_count, fractional_units, is_fractional, over_common, value}
 use Rattle.smp_stratcube.specs.Values.{value_at}
-use Rattle.smp_stratcube.specs.States.{Flight, IsBalancing, IsFlying, flying}
-use Rattle.smp_stratcube.specs.Kept.Computed.{direction, moved_values, moves, next, next_along}
+use Rattle.smp_stratcube.specs.States.{Flight, IsBalancing, IsFlying}
+use Rattle.smp_stratcube.specs.Kept.Computed.{direction, moved_values, moves, next, next_along, flight_of}
 use Rattle.smp_stratcube.specs.Moves.{line_common}
 use Rattle.smp_stratcube.specs.Kept.Trees.{flight_parts, strat_tree}
 use Rattle.smp_stratcube.specs.Laws.Taken.{taken_kept, taken_moved}
@@ -30,7 +31,7 @@ pub record IsEnd (units : Units) (f : Flight) (line : Line) (t : Fraction) : Typ
       (plus (value_at f.values k) (times t (integer (entry_of line k))))
   pub fewer : (k : ℕ) → is_fractional (moved_values units f.values line) k ≡ true → is_fractional f.values k ≡ true
   pub falls : fractional_count (moved_values units f.values line) < fractional_count f.values
-  pub flight : IsFlying units (record { values = moved_values units f.values line; rows = f.rows })
+  pub flight : IsFlying units (flight_of (moved_values units f.values line) f.rows)
 
 module _ (units : Units) (f : Flight) (ok : IsFlying units f) (line : Line)
     (some : 1 ≤ line_common units f.values line.units) (narrow : line_common units f.values line.units ≤ 2 ^ 80)

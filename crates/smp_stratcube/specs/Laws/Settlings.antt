@@ -18,12 +18,13 @@ use Rattle.smp_values.specs.Values.{IsValues, with_one, fractional}
 use Rattle.smp_values.proofs.Fractional.{fractional_den}
 use Rattle.smp_values.proofs.LawfulSteps.{lone_lawful}
 use Rattle.smp_moves.specs.Moves.{fraction_of}
+use Rattle.smp_moves.specs.Cubes.{pairing}
 use Rattle.smp_stratcube.specs.declared.values.Value.{Value}
 use Rattle.smp_stratcube.specs.Units.{Units, stratum}
 use Rattle.smp_stratcube.specs.Values.{fractional_count, is_fractional, over_common, stratum_common}
 use Rattle.smp_stratcube.specs.Values.{taken_over, value, value_at}
 use Rattle.smp_stratcube.specs.Pairs.{settling}
-use Rattle.smp_stratcube.specs.States.{IsBalancing, IsPairing, pairing}
+use Rattle.smp_stratcube.specs.States.{IsBalancing, IsPairing}
 use Rattle.smp_stratcube.specs.Kept.Trees.{strat_tree}
 use Rattle.smp_stratcube.specs.Laws.Taken.{length_over, length_taken, over_fractional, over_value, over_values}
 use Rattle.smp_stratcube.specs.Laws.Taken.{taken_fractional, taken_kept, taken_value}

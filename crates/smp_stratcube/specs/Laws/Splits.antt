@@ -16,11 +16,12 @@ use Rattle.smp_split.specs.Trees.{LawfulParts, LawfulSplit, LawfulEnd, Lawful}
 use Rattle.smp_split.specs.Parts.{moved}
 use Rattle.smp_values.proofs.Fractional.{not_fractional, over_settled}
 use Rattle.smp_moves.specs.Moves.{Next, move, independent, wide}
+use Rattle.smp_moves.specs.Cubes.{dropped, flying, landed, pairing, values_in}
 use Rattle.smp_stratcube.specs.declared.values.Value.{Value}
 use Rattle.smp_stratcube.specs.Units.{Units, column, columns_of, first, stratum}
 use Rattle.smp_stratcube.specs.Values.{AreValues, common_of, fractional_count, fractional_units, is_fractional, is_settled, open_in}
 use Rattle.smp_stratcube.specs.Values.{stratum_common, value, value_at}
-use Rattle.smp_stratcube.specs.States.{Balancing, Flight, IsBalancing, IsFlying, IsPairing, dropped, flying, landed, pairing, values_in}
+use Rattle.smp_stratcube.specs.States.{Balancing, Flight, IsBalancing, IsFlying, IsPairing}
 use Rattle.smp_stratcube.specs.Kept.Computed.{next}
 use Rattle.smp_stratcube.specs.Pairs.{first_pair, parts_by}
 use Rattle.smp_stratcube.specs.Kept.Trees.{flight_parts, strat_tree}
@@ -153,8 +154,10 @@ module _ (units : Units) (f : Flight) (ok : IsFlying units f) where
   split_by left going (move m) is = move_split units f ok left m is
   split_by left going independent is =
       let some = some_row is going in
-      lone_split units (flying f left) (flying (dropped f) (landed f.values left)) refl (omega (arith, some)) dropped_flight
-  split_by left going wide is = lone_split units (flying f left) (pairing f.values (landed f.values left)) refl (omega arith) wide_pairing
+      lone_split units (flying f left) (flying (dropped f) (landed (fractional_count f.values) left)) refl
+          (omega (arith, some)) dropped_flight
+  split_by left going wide is = lone_split units (flying f left)
+      (pairing f.values (landed (fractional_count f.values) left)) refl (omega arith) wide_pairing
 
 -- ---- the pivotal steps
 

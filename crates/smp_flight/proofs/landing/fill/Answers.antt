@@ -7,5 +7,5 @@ same_list xs ys count each = ext_get_or 0 xs ys count each
 
 pub returns : goal.returns
 returns c =
-    let numer_are = same_list c.loop-unit.values.numer c.args.flight.now.flight.shares.numer c.loop-unit.invariant.0 (λ k h. c.loop-unit.invariant.1 k (omega arith)) in
+    let numer_are = same_list c.loop-unit.values.numer c.args.flight.now.flight.values.numer c.loop-unit.invariant.0 (λ k h. c.loop-unit.invariant.1 k (omega arith)) in
     rw (c.set_denominator.ensures, numer_are, c.denom.ensures) refl

@@ -7,7 +7,7 @@ use Rattle.smp_flight.proofs.steps.find.Goals as goal
 
 pub find_on-requires-clause-units : goal.find_on-requires-clause-units
 find_on-requires-clause-units c =
-    let s = c.args.state.now.flight.shares in
+    let s = c.args.state.now.flight.values in
     let units = c.next_front-front.result.units in
     let first : take c.min.result units ≡ take (c.args.state.now.flight.rows + 1) (fractional_units s) =
     ap (λ k. take k units) (c.min.ensures ∙ ap (λ (f : Tracked). min c.next_front-front.result.number (f.flight.rows + 1)) c.state.view_is) ∙ c.next_front-front.ensures.first in
@@ -15,7 +15,7 @@ find_on-requires-clause-units c =
 
 pub returns-clause-found : goal.returns-clause-found
 returns-clause-found c =
-    let s = c.args.state.now.flight.shares in
+    let s = c.args.state.now.flight.values in
     let units = c.next_front-front.result.units in
     let first : take c.min.result units ≡ take (c.args.state.now.flight.rows + 1) (fractional_units s) =
     ap (λ k. take k units) (c.min.ensures ∙ ap (λ (f : Tracked). min c.next_front-front.result.number (f.flight.rows + 1)) c.state.view_is) ∙ c.next_front-front.ensures.first in

@@ -7,7 +7,7 @@ use Rattle.smp_flight.proofs.steps.find_on.Goals as goal
 
 pub columns_on-requires-clause-units : goal.columns_on-requires-clause-units
 columns_on-requires-clause-units c j l =
-    let inside = units_within c.args.state.now.flight.shares c.args.number c.args.units.now c.requires.units.is_order j l (omega (arith, l, c.requires.short)) in
+    let inside = units_within c.args.state.now.flight.values c.args.number c.args.units.now c.requires.units.is_order j l (omega (arith, l, c.requires.short)) in
     omega (arith, inside, c.requires.flight.values.count)
 
 pub returns-clause-found : goal.returns-clause-found
@@ -17,7 +17,7 @@ returns-clause-found c =
     record {
       flight = subst (λ (u : Units). IsFlight u s) (sym c.of.ensures) c.requires.flight;
       short = c.requires.short;
-      within = λ j l. units_within s.shares c.args.number c.args.units.now c.requires.units.is_order j l (omega (arith, l, c.requires.short));
+      within = λ j l. units_within s.values c.args.number c.args.units.now c.requires.units.is_order j l (omega (arith, l, c.requires.short));
       searched = c.requires.units;
       columns =
           ap (λ (u : Units). columns_of u (take c.args.number c.args.units.now)) c.of.ensures ∙ sym c.columns_on.ensures.are

@@ -40,7 +40,7 @@ step_from-requires g c =
             omega (arith, c.rising-touched.ensures.number, c.window.ensures.few, ap length c.window.ensures.is),
             (
               c.window.ensures.order,
-              (has_head c.args.flight.now.flight.shares (touched_in c.args.flight.now) c.args.chosen c.in-Some-head.head c.requires.carried e, (c.requires.placed, c.requires.living)),
+              (has_head c.args.flight.now.flight.values (touched_in c.args.flight.now) c.args.chosen c.in-Some-head.head c.requires.carried e, (c.requires.placed, c.requires.living)),
             ),
           ),
         ),

@@ -1,8 +1,8 @@
 use Rattle.smp_split.specs.Trees.{Lawful}
+use Rattle.smp_stratcube.specs.Cube.{tree_by}
 use Rattle.smp_stratcube.specs.States.{IsBalancing}
 use Rattle.smp_stratcube.specs.Moves.{Stepping}
 use Rattle.smp_stratcube.specs.Steps.{of_steps, stepping}
-use Rattle.smp_stratcube.specs.Cube.{tree_by}
 use Rattle.smp_stratcube.proofs.BySteps.{counts_so, is_balanced}
 use Rattle.smp_stratcube.proofs.FirstPairs.{each_pair}
 use Rattle.smp_stratcube.proofs.OneStep.{one_next}

@@ -9,10 +9,10 @@ use Rattle.smp_landing.proofs.state.CubeState.advance.Goals as goal
 pub drop_row-requires-clause-some : goal.drop_row-requires-clause-some
 drop_row-requires-clause-some c =
     let ok : IsFlight c.args.shape.now c.self.inside.flight.flight = rw (← c.self.view_is, c.in-Flying.is) at c.requires.state in
-    let going : is_settled c.self.inside.flight.flight.shares ≡ false = rw (← c.self.view_is, c.in-Flying.is) at c.requires.going in
+    let going : is_settled c.self.inside.flight.flight.values ≡ false = rw (← c.self.view_is, c.in-Flying.is) at c.requires.going in
     let e = rw c.in-Independent.is at c.step.ensures.is in
     some_row c.args.shape.now c.self.inside.flight.flight c.self.inside.left
-    (fractional_units c.self.inside.flight.flight.shares) ok (frame_whole c.self.inside.flight.flight.shares) (sym e) going
+    (fractional_units c.self.inside.flight.flight.values) ok (frame_whole c.self.inside.flight.flight.values) (sym e) going
 
 pub invariant_of-self-in-Move : goal.invariant_of-self-in-Move
 invariant_of-self-in-Move c =

@@ -1,7 +1,7 @@
 use Rattle.std.proofs.Common.{◌≡◌, ◌<◌, ℕ, nat_lt, false, List, [], Some, None, IfSome, lit<, arith, sym, ap, ◌∙◌, subst}
 use Rattle.smp_values.specs.Values.{fractional_at, fractional_count, is_settled}
+use Rattle.smp_moves.specs.Cubes.{flying}
 use Rattle.smp_flight.specs.Answers.{move_of}
-use Rattle.smp_flight.specs.Selections.{flying}
 use Rattle.smp_moves.specs.Moves.{independent, move}
 use Rattle.smp_flight.proofs.ByOrder.{some_row}
 use Rattle.smp_flight.proofs.Nexts.{known}
@@ -40,9 +40,9 @@ look-found-requires g c =
     let ready = (rw c.in-Flying.is at c.self.invariant).ready in
     let none : head_of (touched_in c.self.inside.flight) c.self.inside.chosen ≡ None =
     none_head (step_around c.args.shape.now c.self.inside.points.coords c.self.inside.flight) (head_of (touched_in c.self.inside.flight) c.self.inside.chosen) c.in-None.ensures.is in
-    let bare : c.self.inside.weights ≡ weights_of (untouched c.self.inside.points.coords c.self.inside.flight.flight.shares []).living =
-    ready.weighed ∙ ap (λ alive. weights_of alive) (ready.living ∙ ap (λ (t : List ℕ). (untouched c.self.inside.points.coords c.self.inside.flight.flight.shares t).living) (none_touched (touched_in c.self.inside.flight) c.self.inside.chosen none)) in
-    let going = found_open c.self.inside.points.coords c.self.inside.flight.flight.shares c.args.draw c.find-unit.result (rw bare at c.find-unit.ensures.place) (rw bare at c.find-unit.ensures.from) (rw bare at c.find-unit.ensures.passes) in
+    let bare : c.self.inside.weights ≡ weights_of (untouched c.self.inside.points.coords c.self.inside.flight.flight.values []).living =
+    ready.weighed ∙ ap (λ alive. weights_of alive) (ready.living ∙ ap (λ (t : List ℕ). (untouched c.self.inside.points.coords c.self.inside.flight.flight.values t).living) (none_touched (touched_in c.self.inside.flight) c.self.inside.chosen none)) in
+    let going = found_open c.self.inside.points.coords c.self.inside.flight.flight.values c.args.draw c.find-unit.result (rw bare at c.find-unit.ensures.place) (rw bare at c.find-unit.ensures.from) (rw bare at c.find-unit.ensures.passes) in
     (lit< tt, (here.state, (carried_now c.self.inside.flight (Some c.find-unit.result) going, (ready.placed, ready.living))))
 
 pub invariant_of-self : goal.invariant_of-self
@@ -53,11 +53,11 @@ invariant_of-self g c =
 pub drop_row-requires-clause-some : goal.drop_row-requires-clause-some
 drop_row-requires-clause-some g c =
     let here = rw (← c.self.view_is, c.in-Flying.is) at c.requires.state in
-    let going : is_settled c.self.inside.flight.flight.shares ≡ false = rw (← c.self.view_is, c.in-Flying.is) at c.requires.going in
+    let going : is_settled c.self.inside.flight.flight.values ≡ false = rw (← c.self.view_is, c.in-Flying.is) at c.requires.going in
     let e = rw (c.in-Some.is, c.in-Independent.is) at c.next_step-next.ensures.is in
     let found = head_found (step_around c.args.shape.now c.self.inside.points.coords c.self.inside.flight) (head_of (touched_in c.self.inside.flight) c.self.inside.chosen) independent e in
     let s : Local = record { coords = c.self.inside.points.coords; at = flying c.self.inside.flight.flight c.self.inside.left; touched = touched_in c.self.inside.flight; chosen = c.self.inside.chosen } in
-    some_row c.args.shape.now c.self.inside.flight.flight c.self.inside.left (order_around c.self.inside.points.coords c.self.inside.flight.flight.shares (touched_in c.self.inside.flight) found.head) here.state
+    some_row c.args.shape.now c.self.inside.flight.flight c.self.inside.left (order_around c.self.inside.points.coords c.self.inside.flight.flight.values (touched_in c.self.inside.flight) found.head) here.state
     (order_whole s c.self.inside.flight.flight found.head here.carried found.is) found.gives going
 
 pub look-found-requires-in-Independent : goal.look-found-requires-in-Independent
@@ -119,9 +119,9 @@ returns-in-None g c =
     let f = c.self.inside.flight in
     let none : head_of (touched_in c.self.inside.flight) c.self.inside.chosen ≡ None =
     none_head (step_around c.args.shape.now c.self.inside.points.coords c.self.inside.flight) (head_of (touched_in c.self.inside.flight) c.self.inside.chosen) c.in-None.ensures.is in
-    let bare : c.self.inside.weights ≡ weights_of (untouched c.self.inside.points.coords c.self.inside.flight.flight.shares []).living =
-    ready.weighed ∙ ap (λ alive. weights_of alive) (ready.living ∙ ap (λ (t : List ℕ). (untouched c.self.inside.points.coords c.self.inside.flight.flight.shares t).living) (none_touched (touched_in c.self.inside.flight) c.self.inside.chosen none)) in
-    let found = found_is c.self.inside.points.coords c.self.inside.flight.flight.shares c.args.draw c.find-unit.result (rw bare at c.find-unit.ensures.place) (rw bare at c.find-unit.ensures.from) (rw bare at c.find-unit.ensures.passes) in
+    let bare : c.self.inside.weights ≡ weights_of (untouched c.self.inside.points.coords c.self.inside.flight.flight.values []).living =
+    ready.weighed ∙ ap (λ alive. weights_of alive) (ready.living ∙ ap (λ (t : List ℕ). (untouched c.self.inside.points.coords c.self.inside.flight.flight.values t).living) (none_touched (touched_in c.self.inside.flight) c.self.inside.chosen none)) in
+    let found = found_is c.self.inside.points.coords c.self.inside.flight.flight.values c.args.draw c.find-unit.result (rw bare at c.find-unit.ensures.place) (rw bare at c.find-unit.ensures.from) (rw bare at c.find-unit.ensures.passes) in
     let within = subst (λ (s : Local). c.args.draw < weight_sum (parts_from c.args.shape.now s s.at)) (sym c.self.view_is) c.requires.within in
     let below = rw c.in-Flying.is at within in
     let ready_args = choice_bound c.args.shape.now c.self.inside.flight c.self.inside.left c.self.inside.room c.self.inside.points c.self.inside.weights c.self.inside.chosen ready none in
@@ -130,6 +130,6 @@ returns-in-None g c =
     let view = rw c.in-Flying.is at c.self.view_is in
     rw c.in-Flying.is
     (ap (choosing st) found
-    ∙ sym (picked-equal (λ place. choosing st (fractional_at c.self.inside.flight.flight.shares place)) st (fractional_count c.self.inside.flight.flight.shares) c.args.draw (omega (arith, below, ready_args, total)))
+    ∙ sym (picked-equal (λ place. choosing st (fractional_at c.self.inside.flight.flight.values place)) st (fractional_count c.self.inside.flight.flight.values) c.args.draw (omega (arith, below, ready_args, total)))
     ∙ ap (λ (ps : List (Part Local)). picked st ps c.args.draw) (sym (choice_parts c.args.shape.now c.self.inside.flight c.self.inside.left c.self.inside.room c.self.inside.points c.self.inside.weights c.self.inside.chosen ready none))
     ∙ ap (λ (s : Local). picked s (parts_from c.args.shape.now s s.at) c.args.draw) view)

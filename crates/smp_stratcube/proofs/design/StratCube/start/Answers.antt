@@ -1,12 +1,14 @@
 use Rattle.std.proofs.Common.{ℕ, List, length, arith, refl, sym, ap, ap₂, ◌∙◌, subst}
 use Rattle.std.proofs.lemmas.List.{length-map}
+use Rattle.smp_moves.specs.Cubes.{flying}
 use Rattle.smp_stratcube.specs.declared.values.Value.{Value}
 use Rattle.smp_stratcube.specs.Units.{IsUnits}
-use Rattle.smp_stratcube.specs.States.{flying, requested_value, started}
+use Rattle.smp_stratcube.specs.States.{requested_value, started}
 use Rattle.smp_stratcube.specs.Balances.{IsBalanced}
 use Rattle.smp_stratcube.specs.Counts.{HasCounts}
 use Rattle.smp_split.specs.Methods.{HasMeans}
 use Rattle.smp_stratcube.specs.Method.{method_of}
+use Rattle.smp_stratcube.specs.Kept.Computed.{flight_of}
 use Rattle.smp_stratcube.specs.Kept.Fronts.{IsFront}
 use Rattle.smp_stratcube.proofs.BySteps.{counts_so, is_balanced}
 use Rattle.smp_stratcube.proofs.Starting.{start_ahead, strat_means}
@@ -24,7 +26,7 @@ invariant_of-result c = record {
 
 pub returns-clause-state : goal.returns-clause-state
 returns-clause-state c =
-    ap₂ (λ (vs : List Value) (n : ℕ). flying (record { values = vs; rows = n }) 0) c.in_ok-values.ensures c.rows.ensures ∙ ap started c.self.view_is
+    ap₂ (λ (vs : List Value) (n : ℕ). flying (flight_of vs n) 0) c.in_ok-values.ensures c.rows.ensures ∙ ap started c.self.view_is
 
 pub returns-clause-means : goal.returns-clause-means
 returns-clause-means c =

@@ -3,7 +3,7 @@ use Rattle.smp_split.specs.Trees.{weight_sum}
 use Rattle.smp_stratcube.specs.Units.{Units}
 use Rattle.smp_stratcube.specs.Moves.{Stepping}
 use Rattle.smp_stratcube.specs.Steps.{of_steps, stepping}
-use Rattle.smp_stratcube.specs.Cube.{parts_by}
+use Rattle.smp_stratcube.specs.Kept.Trees.{parts_by}
 use Rattle.smp_stratcube.proofs.design.StratCubeSplitting.bound.Goals as goal
 
 pub returns : goal.returns

@@ -1,7 +1,7 @@
 use Rattle.std.proofs.Common.{nat_eq, List, sym, ap, ◌∙◌, subst}
+use Rattle.smp_moves.specs.Cubes.{values_in}
 use Rattle.smp_stratcube.specs.declared.values.Value.{Value}
 use Rattle.smp_stratcube.specs.Values.{fractional_count, is_settled}
-use Rattle.smp_stratcube.specs.States.{values_in}
 use Rattle.smp_stratcube.specs.Kept.Fronts.{IsFront}
 use Rattle.smp_stratcube.proofs.Keeping.{values_of}
 use Rattle.smp_stratcube.proofs.state.StratCubeState.is_done.Goals as goal

@@ -1,8 +1,8 @@
 use Rattle.std.proofs.Common.{List, sym, ap, ◌∙◌, subst}
+use Rattle.smp_moves.specs.Cubes.{flight_kind}
 use Rattle.smp_stratcube.specs.declared.values.Value.{Value}
 use Rattle.smp_stratcube.specs.Pairs.{paired_kind}
 use Rattle.smp_stratcube.specs.States.{IsPairing}
-use Rattle.smp_stratcube.specs.Cube.{flight_kind}
 use Rattle.smp_stratcube.specs.Kept.Fronts.{IsFront}
 use Rattle.smp_stratcube.proofs.state.StratCubeState.kind.Goals as goal
 

@@ -2,13 +2,14 @@ use Rattle.std.proofs.Common.{List, refl, sym, subst}
 use Rattle.smp_stratcube.specs.declared.values.Value.{Value}
 use Rattle.smp_stratcube.specs.States.{IsFlying}
 use Rattle.smp_stratcube.specs.Kept.Fronts.{IsFront}
+use Rattle.smp_stratcube.specs.Kept.Computed.{flight_of}
 use Rattle.smp_stratcube.specs.Kept.Founds.{IsFound}
 use Rattle.smp_stratcube.proofs.state.StratCubeState.look.Goals as goal
 
 pub found_of-found-requires-clause-flying : goal.found_of-found-requires-clause-flying
 found_of-found-requires-clause-flying c =
-    let ok : IsFlying c.args.units.now (record { values = c.self.inside.values.items; rows = c.self.inside.rows }) = rw (← c.self.view_is, c.in-Flying.is) at c.requires in
-    subst (λ (vs : List Value). IsFlying c.args.units.now (record { values = vs; rows = c.self.inside.rows })) (sym c.as_slice.ensures.value) ok
+    let ok : IsFlying c.args.units.now (flight_of c.self.inside.values.items c.self.inside.rows) = rw (← c.self.view_is, c.in-Flying.is) at c.requires in
+    subst (λ (vs : List Value). IsFlying c.args.units.now (flight_of vs c.self.inside.rows)) (sym c.as_slice.ensures.value) ok
 
 pub found_of-found-requires-clause-front : goal.found_of-found-requires-clause-front
 found_of-found-requires-clause-front c = subst (λ (vs : List Value). IsFront vs c.self.inside.front) (sym c.as_slice.ensures.value) c.self.invariant.first
