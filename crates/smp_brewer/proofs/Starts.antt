@@ -14,7 +14,8 @@ use Rattle.smp_brewer.specs.Sizes.{marks_taken}
 use Rattle.smp_brewer.specs.declared.offers.Offers.{Offers}
 use Rattle.smp_brewer.specs.Brewer.{offering, brewing_tree, IsOffers}
 use Rattle.smp_brewer.specs.Laws.Answers.{some_left}
-use Rattle.smp_brewer.specs.Method.{draws_of, method_of}
+use Rattle.smp_brewer.specs.Method.{method_of}
+use Rattle.smp_prob.specs.Shares.{draws_of}
 use Rattle.smp_brewer.proofs.Drawn.{offering_adds_up, offering_adds}
 use Rattle.smp_brewer.proofs.Counts.{leaf_count}
 

@@ -25,7 +25,8 @@ use Rattle.smp_split.proofs.Sums.{adds_up, numerators_add}
 use Rattle.smp_split.proofs.Units.{each_unit}
 use Rattle.smp_values.specs.Starts.{IsRequested}
 use Rattle.smp_elim.specs.Elimination.{Remaining, all_left, is_left, left_count, fewer, fraction_at, may_go, weight_of, without, value_of, eliminate_parts, elimination_tree, AreSizes, IsRemaining}
-use Rattle.smp_elim.specs.Method.{BoundsAreBelow, HasFractions, draws_of, method_of, started, tree_of}
+use Rattle.smp_elim.specs.Method.{BoundsAreBelow, HasFractions, method_of, started}
+use Rattle.smp_prob.specs.Shares.{draws_of}
 use Rattle.smp_elim.specs.Laws.Splits.{elimination_lawful}
 use Rattle.smp_elim.specs.Laws.Sums.{sum_by-most, sum_by-plus, sum_by-times}
 use Rattle.smp_elim.specs.Laws.Values.{fraction_certain, fraction_open}
@@ -80,8 +81,8 @@ module _ (sizes : List ℕ) (positive : (k : ℕ) → k < length sizes → 1 ≤
 pub record HasBegun (design state : Remaining) : Type 0 where
   pub starts : Starts (method_of design) state
   pub values : HasFractions design state
-  pub count : LeavesSelect (tree_of design) design.wanted state
-  pub bounds : BoundsAreBelow (2 ^ 67) (tree_of design) state
+  pub count : LeavesSelect (method_of design).tree design.wanted state
+  pub bounds : BoundsAreBelow (2 ^ 67) (method_of design).tree state
 
 module _ (sizes : List ℕ) (wanted : ℕ) (are : AreSizes (length sizes) sizes wanted) (within : wanted ≤ length sizes) where
   abbrev start : Remaining

@@ -6,8 +6,9 @@ ghost use Rattle.smp_split.specs.Counts.{LeavesSelect};
 ghost use Rattle.smp_split.specs.Methods.{Starts};
 ghost use Rattle.smp_values.specs.Starts.{IsRequested};
 ghost use Rattle.smp_elim.specs.Elimination.{Remaining, all_left};
-ghost use Rattle.smp_elim.specs.Method.{BoundsAreBelow, HasFractions, draws_of, method_of};
-ghost use Rattle.smp_elim.specs.Method.{started, started_to, tree_of};
+ghost use Rattle.smp_elim.specs.Method.{BoundsAreBelow, HasFractions, method_of};
+ghost use Rattle.smp_prob.specs.Shares.{draws_of};
+ghost use Rattle.smp_elim.specs.Method.{started, started_to};
 ghost use Rattle.smp_elim.specs.Kept.States.{IsStart};
 
 use crate::cuts::{Cut, falling_order};
@@ -79,8 +80,8 @@ impl Elimination {
         ensures state { IfOk result (λ state. state ≡ self.now) }
         ensures starts { IfOk result (Starts (method_of self.now)) }
         ensures values { IfOk result (HasFractions self.now) }
-        ensures count { IfOk result (LeavesSelect (tree_of self.now) self.now.wanted) }
-        ensures bounds { IfOk result (BoundsAreBelow (2 ^ 67) (tree_of self.now)) }
+        ensures count { IfOk result (LeavesSelect (method_of self.now).tree self.now.wanted) }
+        ensures bounds { IfOk result (BoundsAreBelow (2 ^ 67) (method_of self.now).tree) }
     {
         let units = self.sizes.len();
         let sizes = Vec::from_slice(alloc, self.sizes.as_slice())?;

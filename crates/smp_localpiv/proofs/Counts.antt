@@ -17,7 +17,7 @@ use Rattle.smp_values.proofs.LawfulSteps.{pair_near}
 use Rattle.smp_values.proofs.Fractional.{fractional_is}
 use Rattle.smp_values.proofs.Near.{IsNear, lone_near, near_count, near_same}
 use Rattle.smp_values.proofs.Units.{fractional_at_is, fractional_within}
-use Rattle.smp_localpiv.specs.Local.{Local, IsChosen, IsLocal, choosing, local_tree, neighbour, parts_from, unchosen}
+use Rattle.smp_localpiv.specs.Local.{Local, IsChosen, IsLocal, choosing, local_tree, neighbour, parts_from, located_values}
 use Rattle.smp_localpiv.specs.Laws.Neighbours.{met}
 use Rattle.smp_localpiv.specs.Laws.Splits.{local_lawful}
 
@@ -32,12 +32,12 @@ module _ (units total den : ℕ) where
             (let first : ℕ = fractional_at s.state 0 in
             let open_at = fractional_at_is s.state 0 (omega arith) in
             rw e
-            (each_moved (unchosen s) (λ p. IsNear total den p.state) (λ p. IsNear total den p.state.state) (λ p is. is) (lone_parts s.state first)
+            (each_moved (located_values s.coords) (λ p. IsNear total den p.state) (λ p. IsNear total den p.state.state) (λ p is. is) (lone_parts s.state first)
             (lone_near total den s.state near going (ltb-false 1 (fractional_count s.state) e) first (fractional_within s.state first open_at) open_at (fractional_is s.state.den (get_or s.state.numer first 0) open_at))))
       ]
   near_at s ok (Some unit) meets going near =
       let at = met s unit meets in
-      each_moved (unchosen s) (λ p. IsNear total den p.state) (λ p. IsNear total den p.state.state) (λ p is. is) (pair_parts s.state unit (neighbour s unit))
+      each_moved (located_values s.coords) (λ p. IsNear total den p.state) (λ p. IsNear total den p.state.state) (λ p is. is) (pair_parts s.state unit (neighbour s unit))
       (pair_near units s.state ok.values unit (neighbour s unit) at.apart at.unit_in at.other_in at.unit_open at.other_open total den near.den_is (near.going going))
 
   local_near : KeepsCount (local_tree units) (IsLocal units) (λ count. IsAround count (over total den)) (λ s. IsNear total den s.state)

@@ -34,17 +34,13 @@ neighbour s unit = unwrap_or (nearest (points_of s) unit) unit
 
 -- ---- the steps
 
--- the same units with these values, and none chosen
-abbrev pub unchosen : Local → Shares → Local
-unchosen s values = located_values s.coords values
-
 -- the same units with this one chosen
 abbrev pub choosing : Local → ℕ → Local
 choosing s unit = record { coords = s.coords; state = s.state; chosen = Some unit }
 
 -- the chosen unit meets its neighbour in a pivotal step
 abbrev pub meeting : Local → ℕ → List (Part Local)
-meeting s unit = moved (unchosen s) (pair_parts s.state unit (neighbour s unit))
+meeting s unit = moved (located_values s.coords) (pair_parts s.state unit (neighbour s unit))
 
 -- each fractional unit is chosen with the weight 1, in the order of the frame
 abbrev pub choice : Local → List (Part Local)
@@ -53,7 +49,7 @@ choice s =
 
 -- the only fractional unit is settled by itself
 abbrev pub settling : Local → List (Part Local)
-settling s = moved (unchosen s) (lone_parts s.state (fractional_at s.state 0))
+settling s = moved (located_values s.coords) (lone_parts s.state (fractional_at s.state 0))
 
 -- the parts of a state in which this unit is chosen, or none
 abbrev pub parts_from : Local → Option ℕ → List (Part Local)

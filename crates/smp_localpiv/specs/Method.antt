@@ -3,7 +3,6 @@ use Rattle.std.specs.Prelude.{ℕ, ℤ, List, length}
 use Rattle.smp_prob.specs.declared.requests.Request.{Request}
 use Rattle.smp_prob.specs.Shares.{shares_of}
 use Rattle.smp_split.specs.Methods.{Method}
-use Rattle.smp_split.specs.Trees.{Tree}
 use Rattle.smp_localpiv.specs.declared.dimensions.Dimensions.{Dimensions}
 use Rattle.smp_localpiv.specs.Coordinates.{coordinate_count, points_from}
 use Rattle.smp_localpiv.specs.Local.{Local, IsLocal, local_tree, located_values}
@@ -18,17 +17,10 @@ abbrev pub started_from : Request → Dimensions → ℕ → List (List ℤ) →
 started_from request dimensions place values =
     started request (points_from (coordinate_count dimensions) place values)
 
--- the same, where they are as many as there are columns of values
-abbrev pub started_on : Request → ℕ → List (List ℤ) → Local
-started_on request columns values = started request (points_from columns 0 values)
-
--- the draw tree over as many units as the design has, and the method
-abbrev pub tree_of : Local → Tree Local
-tree_of design = local_tree (length design.state.numer)
-
+-- the method over as many units as the design has
 abbrev pub method_of : Local → Method Local
 method_of design = record {
-  tree = tree_of design;
+  tree = local_tree (length design.state.numer);
   belongs = IsLocal (length design.state.numer);
   lawful = local_lawful (length design.state.numer);
 }

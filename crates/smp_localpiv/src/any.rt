@@ -7,7 +7,7 @@ ghost use Rattle.smp_split.specs.Methods.{Starts};
 ghost use Rattle.smp_values.specs.Starts.{IsRequested};
 ghost use Rattle.smp_localpiv.specs.Coordinates.{points_from};
 ghost use Rattle.smp_localpiv.specs.Local.{IsLocal, local_tree};
-ghost use Rattle.smp_localpiv.specs.Method.{method_of, started, started_from, started_on};
+ghost use Rattle.smp_localpiv.specs.Method.{method_of, started, started_from};
 
 use crate::design::LocalPivotal;
 use crate::dimensions::{Dimensions, points};
@@ -109,7 +109,7 @@ impl AnyLocalPivotal {
         requires columns { (1 ≤ columns) × (columns ≤ 4) }
         requires paired { length values.now ≡ length request.now.free }
         ensures design { IfOk result (λ design.
-            design ≡ started_on request.now columns values.now) }
+            design ≡ started request.now (points_from columns 0 values.now)) }
         ensures requested { IfOk result (λ design.
             IsRequested (method_of design).tree request.now design) }
     {

@@ -10,7 +10,8 @@ use Rattle.smp_log.specs.Heads.{IsHead}
 use Rattle.smp_log.specs.Logs.{steps_text, end_text}
 use Rattle.smp_log.specs.Reading.{Script, step_line}
 use Rattle.smp_split.specs.Sectioning.{Sectioning, IsSectioned}
-use Rattle.smp_log.specs.SectionLogs.{placed, steps_in, steps_before, tape_place, stratum_text, done_text, lone_text, section_text, sectioned_head, sections_text, IsSectionedGenuine, IsSectionedText}
+use Rattle.smp_log.specs.SectionLogs.{placed, tape_place, stratum_text, done_text, lone_text, section_text, sectioned_head, sections_text, IsSectionedGenuine, IsSectionedText}
+use Rattle.smp_log.proofs.StepsIn.{steps_before, steps_in}
 use Rattle.smp_log.specs.SectionReading.{stratum_line, done_line, SectionPlace, closed, before, section_script}
 use Rattle.smp_log.proofs.Texts.{cons-Lacks, Lacks-append, AreLines-append, lines_text-append}
 use Rattle.smp_log.proofs.Numbers.{decimal_lacks}

@@ -1,3 +1,4 @@
+pub mod StepsIn
 pub mod Options
 pub mod Texts
 pub mod Scripts

@@ -7,7 +7,8 @@ use Rattle.smp_split.specs.Paths.{Entry, Leads}
 use Rattle.smp_split.specs.Sectioning.{Sectioning, IsSectioned}
 use Rattle.smp_split.proofs.Steps.{picked_belongs}
 use Rattle.smp_log.specs.Logs.{end_text}
-use Rattle.smp_log.specs.SectionLogs.{HasLeaf, lone_text, one_section_text, placed, section_text, sectioned_head, sectioned_log_text, steps_before, steps_in, tape_place}
+use Rattle.smp_log.specs.SectionLogs.{HasLeaf, lone_text, one_section_text, placed, section_text, sectioned_head, sectioned_log_text, tape_place}
+use Rattle.smp_log.proofs.StepsIn.{steps_before, steps_in}
 
 module _ {State : Type 0} (tree : Tree State) (belongs : State → Type 0) (lawful : Lawful tree belongs) (sections : Sectioning State) (sectioned : IsSectioned tree belongs sections) (one : sections.count ≡ 1) where
   steps_here : (path : List Entry) (s leaf : State) → belongs s → Leads tree s path leaf → (steps_in 0 (placed tree sections s path) ≡ path) × (steps_before 0 (placed tree sections s path) ≡ [])

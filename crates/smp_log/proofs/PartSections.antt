@@ -17,7 +17,8 @@ use Rattle.smp_log.specs.Heads.{IsHead}
 use Rattle.smp_log.specs.Logs.{end_text}
 use Rattle.smp_log.specs.Genuine.{IsFullPath}
 use Rattle.smp_log.specs.Reading.{behind, written, step_line}
-use Rattle.smp_log.specs.SectionLogs.{placed, steps_in, steps_before, tape_place, section_text, sections_text, IsSectionedGenuine}
+use Rattle.smp_log.specs.SectionLogs.{placed, tape_place, section_text, sections_text, IsSectionedGenuine}
+use Rattle.smp_log.proofs.StepsIn.{steps_before, steps_in}
 use Rattle.smp_log.specs.SectionReading.{stratum_line, done_line}
 use Rattle.smp_log.specs.LoneSections.{opening_words, opens, NoneOpens, HasSection, IsReplayedAlone, IsOpened}
 use Rattle.smp_log.proofs.Texts.{cut_behind, behind-append, AreLines-append, lines_text-append}

@@ -10,7 +10,8 @@ use Rattle.smp_log.specs.Lines.{whole_lines, lines_text}
 use Rattle.smp_log.specs.Heads.{IsHead}
 use Rattle.smp_log.specs.Genuine.{IsFullPath}
 use Rattle.smp_log.specs.Reading.{step_line}
-use Rattle.smp_log.specs.SectionLogs.{placed, steps_in, steps_before, tape_place, sections_text}
+use Rattle.smp_log.specs.SectionLogs.{placed, tape_place, sections_text}
+use Rattle.smp_log.proofs.StepsIn.{steps_before, steps_in}
 use Rattle.smp_log.proofs.Described.{whole_text}
 use Rattle.smp_log.proofs.OpeningLines.{lines_long}
 use Rattle.smp_log.proofs.SectionLines.{section_lines, open_lines, tape_place-step}

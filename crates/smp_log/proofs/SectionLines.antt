@@ -9,7 +9,8 @@ use Rattle.smp_split.proofs.Steps.{picked_is_part, picked_belongs}
 use Rattle.smp_split.proofs.Paths.{below}
 use Rattle.smp_log.specs.Reading.{Script, step_line, end_line, step_value}
 use Rattle.smp_split.specs.Sectioning.{Sectioning, IsSectioned}
-use Rattle.smp_log.specs.SectionLogs.{placed, steps_in, steps_before, tape_place}
+use Rattle.smp_log.specs.SectionLogs.{placed, tape_place}
+use Rattle.smp_log.proofs.StepsIn.{steps_before, steps_in}
 use Rattle.smp_log.specs.SectionReading.{stratum_line, done_line, SectionPlace, heading, opening, inside, closed, before, section_script, taken_at}
 use Rattle.smp_log.proofs.StepLines.{step_value-is, step_value-line}
 use Rattle.smp_log.proofs.HeadLines.{AreHeads, HasHead, behind_head, has_head}

@@ -1,5 +1,5 @@
 -- The log of version 2, which has a part for each section of a design.
-use Rattle.std.specs.Prelude.{◌≡◌, ◌⊎◌, ℕ, ◌+◌, ◌==◌, nat_lt, if◌then◌else◌, List, [], ◌∷◌, ◌++◌}
+use Rattle.std.specs.Prelude.{◌≡◌, ◌⊎◌, ℕ, ◌+◌, ◌==◌, nat_lt, if◌then◌else◌, Bool, List, [], ◌∷◌, ◌++◌}
 use Rattle.std.specs.Prelude.{length, drop, codes}
 use Rattle.std.specs.List.{flat_map, range_with_len}
 use Rattle.std.specs.Fmt.{decimal}
@@ -19,16 +19,11 @@ placed tree sections s [] = []
 placed tree sections s (entry ∷ path) =
     (sections.of s, entry) ∷ placed tree sections (picked s (tree.parts s) entry.2) path
 
--- the steps of section h
-abbrev pub steps_in : ℕ → List (ℕ × Entry) → List Entry
-steps_in h [] = []
-steps_in h (step ∷ steps) = if step.0 == h then step.1 ∷ steps_in h steps else steps_in h steps
-
--- the steps of the sections before section h
-abbrev pub steps_before : ℕ → List (ℕ × Entry) → List Entry
-steps_before h [] = []
-steps_before h (step ∷ steps) =
-    if nat_lt step.0 h then step.1 ∷ steps_before h steps else steps_before h steps
+-- the steps of the sections that pass a test
+abbrev pub steps_where : (ℕ → Bool) → List (ℕ × Entry) → List Entry
+steps_where test [] = []
+steps_where test (step ∷ steps) =
+    if test step.0 then step.1 ∷ steps_where test steps else steps_where test steps
 
 -- the place on the tape behind some steps: how many of them have a bound of 2 or more
 abbrev pub tape_place : List Entry → ℕ
@@ -52,7 +47,7 @@ lone_text number place path =
 -- section h of a path, counted from 0 here and from 1 in its lines
 abbrev pub section_text : List (ℕ × Entry) → ℕ → List ℕ
 section_text steps h =
-    lone_text (h + 1) (tape_place (steps_before h steps)) (steps_in h steps)
+    lone_text (h + 1) (tape_place (steps_where (λ g. nat_lt g h) steps)) (steps_where (λ g. g == h) steps)
 
 -- the head of version 2: its first line has the number 2 in the place of 1
 abbrev pub sectioned_head : List ℕ → List ℕ

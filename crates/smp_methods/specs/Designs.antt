@@ -47,7 +47,7 @@ design_by method.MinimumSupport order near columns request values =
     designs.MinimumSupport (support.started request)
 design_by method.Brewer order near columns request values = designs.Brewer (brewer.started request)
 design_by method.LocalPivotal order near columns request values =
-    designs.LocalPivotal (local.started_on request columns values)
+    designs.LocalPivotal (local.started request (points_from columns 0 values))
 design_by method.Cube order near columns request values =
     designs.Cube (units_of request (balancing_values near columns values))
 design_by method.Elimination order near columns request values =

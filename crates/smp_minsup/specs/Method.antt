@@ -3,7 +3,6 @@ use Rattle.std.specs.Prelude.{length}
 use Rattle.smp_prob.specs.declared.requests.Request.{Request}
 use Rattle.smp_prob.specs.Shares.{Shares, shares_of}
 use Rattle.smp_split.specs.Methods.{Method}
-use Rattle.smp_split.specs.Trees.{Tree}
 use Rattle.smp_minsup.specs.Support.{IsSupport, support_tree}
 use Rattle.smp_minsup.specs.Laws.Splits.{support_lawful}
 
@@ -11,13 +10,10 @@ use Rattle.smp_minsup.specs.Laws.Splits.{support_lawful}
 abbrev pub started : Request → Shares
 started request = shares_of request
 
--- the draw tree over as many units as the design has, and the method
-abbrev pub tree_of : Shares → Tree Shares
-tree_of design = support_tree (length design.numer)
-
+-- the method over as many units as the design has
 abbrev pub method_of : Shares → Method Shares
 method_of design = record {
-  tree = tree_of design;
+  tree = support_tree (length design.numer);
   belongs = IsSupport (length design.numer);
   lawful = support_lawful (length design.numer);
 }

@@ -2,17 +2,12 @@
 use Rattle.smp_prob.specs.Shares.{Shares}
 use Rattle.smp_split.specs.Methods.{Method}
 use Rattle.smp_split.specs.Orders.{Ordered}
-use Rattle.smp_split.specs.Trees.{Tree}
-use Rattle.smp_values.specs.InOrder.{design_tree, placed_method}
+use Rattle.smp_values.specs.InOrder.{placed_method}
 use Rattle.smp_pivotal.specs.Pivotal.{pivotal_rule}
 use Rattle.smp_pivotal.specs.Laws.Splits.{pivotal_law}
 -- the state before the first step, with the requested values
 pub use Rattle.smp_values.specs.InOrder.{started}
 
--- the draw tree over as many units as the design has, and the method
-abbrev pub tree_of : Ordered Shares → Tree (Ordered Shares)
-tree_of design = design_tree pivotal_rule design
-
 -- the method: pivotal steps on the values of the design, in its order
 abbrev pub method_of : Ordered Shares → Method (Ordered Shares)
-method_of design = placed_method pivotal_rule pivotal_law design
+method_of design = placed_method pivotal_rule pivotal_law.lawful design

@@ -23,3 +23,7 @@ numerators request = map (λ shape. shape * (request.r / common_divisor request)
 -- the requested probabilities of the free units, as such values
 abbrev pub shares_of : Request → Shares
 shares_of request = record { numer = numerators request; den = common_denominator request }
+
+-- how many free units are drawn: none where none is free
+abbrev pub draws_of : Request → ℕ
+draws_of request = if length request.free == 0 then 0 else request.r

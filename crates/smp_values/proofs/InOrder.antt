@@ -11,8 +11,8 @@ use Rattle.smp_values.specs.Values.{IsValues}
 use Rattle.smp_values.proofs.Requests.{starts_in_order}
 
 module _ (rule : StepRule) (law : LawfulRule rule) (order : Order) (s : Shares) (few : length s.numer < 2 ^ 64) (ok : IsValues (length s.numer) rule.most s) where
-  pub placed_around : LeavesSelectAround (placed_method rule law (ordered_values order s)).tree (ordered_values order s)
+  pub placed_around : LeavesSelectAround (placed_method rule law.lawful (ordered_values order s)).tree (ordered_values order s)
   placed_around = law.around (length s.numer) (ordered_values order s) (starts_in_order order rule.most s few ok)
 
-  pub placed_starts : Starts (placed_method rule law (ordered_values order s)) (ordered_values order s)
-  placed_starts = starts_around (placed_method rule law (ordered_values order s)) (ordered_values order s) (starts_in_order order rule.most s few ok) placed_around
+  pub placed_starts : Starts (placed_method rule law.lawful (ordered_values order s)) (ordered_values order s)
+  placed_starts = starts_around (placed_method rule law.lawful (ordered_values order s)) (ordered_values order s) (starts_in_order order rule.most s few ok) placed_around

@@ -32,11 +32,15 @@ placed_tree rule units = ordered_tree (places_tree rule units) exchanged_values
 abbrev pub IsPlacedBy : StepRule → ℕ → Ordered Shares → Type 0
 IsPlacedBy rule units s = IsInOrder units (IsValues units rule.most) s
 
+-- each split of such steps is lawful
+abbrev pub AreLawful : StepRule → Type 0
+AreLawful rule = (units : ℕ) → Lawful (placed_tree rule units) (IsPlacedBy rule units)
+
 -- What such steps owe: they take every request, each split is lawful, and each leaf selects one of the whole numbers of units around
 -- the sum of the values.
 pub record LawfulRule (rule : StepRule) : Type 0 where
   pub wide : most_denominator ≤ rule.most
-  pub lawful : (units : ℕ) → Lawful (placed_tree rule units) (IsPlacedBy rule units)
+  pub lawful : AreLawful rule
   pub around : (units : ℕ) (s : Ordered Shares) → IsPlacedBy rule units s
       → LeavesSelectAround (placed_tree rule units) s
 
@@ -44,13 +48,10 @@ pub record LawfulRule (rule : StepRule) : Type 0 where
 abbrev pub started : Request → Order → Ordered Shares
 started request order = ordered_values order (shares_of request)
 
--- the draw tree over as many units as the design has, and the method
-abbrev pub design_tree : StepRule → Ordered Shares → Tree (Ordered Shares)
-design_tree rule design = placed_tree rule (length design.state.numer)
-
-abbrev pub placed_method : (rule : StepRule) → LawfulRule rule → Ordered Shares → Method (Ordered Shares)
-placed_method rule law design = record {
-  tree = design_tree rule design;
+-- the method over as many units as the design has
+abbrev pub placed_method : (rule : StepRule) → AreLawful rule → Ordered Shares → Method (Ordered Shares)
+placed_method rule lawful design = record {
+  tree = placed_tree rule (length design.state.numer);
   belongs = IsPlacedBy rule (length design.state.numer);
-  lawful = law.lawful (length design.state.numer);
+  lawful = lawful (length design.state.numer);
 }

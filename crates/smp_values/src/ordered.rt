@@ -55,7 +55,7 @@ impl<S: PlaceSteps> OrderedDesign<S> {
         requires { IsRequest request.now }
         ensures design { IfOk result (λ design. design ≡ started request.now order) }
         ensures requested { IfOk result (λ design.
-            IsRequested (placed_method S.rule S.law design).tree request.now design) }
+            IsRequested (placed_method S.rule S.law.lawful design).tree request.now design) }
     {
         Ok(OrderedDesign {
             order,
@@ -69,9 +69,9 @@ impl<S: PlaceSteps> OrderedDesign<S> {
     /// around it.
     pub fn start(&self, alloc: Global) -> Result<OrderedState<S>, NoMemory>
         ensures state { IfOk result (λ state. state ≡ self.now) }
-        ensures starts { IfOk result (Starts (placed_method S.rule S.law self.now)) }
+        ensures starts { IfOk result (Starts (placed_method S.rule S.law.lawful self.now)) }
         ensures around { IfOk result
-            (LeavesSelectAround (placed_method S.rule S.law self.now).tree) }
+            (LeavesSelectAround (placed_method S.rule S.law.lawful self.now).tree) }
     {
         let state = first_state(alloc, self.order, &self.values)?;
         Ok(state)
@@ -134,7 +134,7 @@ impl<S: PlaceSteps> SelectionState for OrderedState<S> {
 impl<S: PlaceSteps> Splitting for OrderedDesign<S> {
     type State = OrderedState<S>;
 
-    ghost method = { λ design. placed_method S.rule S.law design };
+    ghost method = { λ design. placed_method S.rule S.law.lawful design };
 
     fn units(&self) -> usize {
         self.values.len()

@@ -17,7 +17,7 @@ use Rattle.smp_values.proofs.Designs.{each_settled}
 use Rattle.smp_values.proofs.Fractional.{over_settled}
 use Rattle.smp_values.proofs.LawfulSteps.{lone_lawful, pair_lawful}
 use Rattle.smp_values.proofs.Units.{fractional_at_is, fractional_within}
-use Rattle.smp_localpiv.specs.Local.{Local, IsLocal, IsChosen, choice, choosing, unchosen, local_tree, neighbour, parts_from}
+use Rattle.smp_localpiv.specs.Local.{Local, IsLocal, IsChosen, choice, choosing, located_values, local_tree, neighbour, parts_from}
 use Rattle.smp_localpiv.specs.Laws.Neighbours.{met}
 
 module _ (units : ℕ) (s : Local) (ok : IsLocal units s) where
@@ -27,9 +27,9 @@ module _ (units : ℕ) (s : Local) (ok : IsLocal units s) where
 
   -- the parts of a step on the values, after which no unit is chosen
   stepped : (parts : List (Part Shares)) → LawfulParts (steps_tree units) (IsValues units most_denominator) s.state parts
-      → IsSplit (moved (unchosen s) parts)
+      → IsSplit (moved (located_values s.coords) parts)
   stepped =
-      parts_through (steps_tree units) (IsValues units most_denominator) (local_tree units) (IsLocal units) (unchosen s) as_unit s.state s
+      parts_through (steps_tree units) (IsValues units most_denominator) (local_tree units) (IsLocal units) (located_values s.coords) as_unit s.state s
       (record {
         within = λ k h. h;
         part = λ p is. (let fewer : fractional_count p.state < fractional_count s.state = is.falls in

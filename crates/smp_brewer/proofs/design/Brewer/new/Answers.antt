@@ -1,5 +1,5 @@
 use Rattle.std.proofs.Common.{◌≡◌, ◌∙◌, refl, sym}
-use Rattle.smp_brewer.specs.Method.{draws_of}
+use Rattle.smp_prob.specs.Shares.{draws_of}
 use Rattle.smp_brewer.proofs.Starts.{starts_requested}
 use Rattle.smp_brewer.proofs.design.Brewer.new.Goals.{then-is_empty, else-is_empty}
 use Rattle.smp_brewer.proofs.design.Brewer.new.Goals as goal
