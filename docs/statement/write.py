@@ -41,10 +41,10 @@ APART = {
     "plan": ["smp_rows", "smp_methods", "smp_stages", "smp_split.specs.Embeds", "smp_twostage.specs.Selections"],
     "flight": ["smp_kernel", "smp_moves.specs.Moves", "smp_moves.specs.Ends", "smp_moves.specs.Cubes", "smp_flight.specs.States", "smp_flight.specs.Steps",
                "smp_flight.specs.Moves"],
-    "balance": ["smp_moves.specs.Balances", "smp_moves.specs.Owed", "smp_balance.specs.Strata", "smp_balance.specs.Totals", "smp_balance.specs.FrameTotals",
+    "balance": ["smp_moves.specs.Balances", "smp_moves.specs.Owed", "smp_balance.specs.Strata", "smp_balance.specs.Totals",
                 "smp_twostage.specs.Cubes"],
     "written": ["smp_weights", "smp_log.specs.Heads", "smp_log.specs.Logs", "smp_log.specs.SectionLogs", "smp_app.specs.Texts",
-                "smp_balance.specs.Lines", "smp_balance.specs.Frames", "smp_balance.specs.Reports", "smp_twostage.specs.Lines"],
+                "smp_balance.specs.Lines", "smp_balance.specs.Reports", "smp_twostage.specs.Lines"],
 }
 
 # The sections on a method's page: the title, what it is about, and the fields of the records from which its definitions are reached.
@@ -77,8 +77,7 @@ FLIGHT = [
 ]
 BALANCE = [
     ("What a selection keeps that flies and then lands", "", ("smp_moves.specs.Balances",)),
-    ("The totals of a stratum, over all of its units", "", ["smp_balance.specs.Strata", "smp_balance.specs.Totals"]),
-    ("The totals of all strata that are drawn together", "", ["smp_balance.specs.FrameTotals"]),
+    ("The totals of the strata of one selection, over all of their units", "", ["smp_balance.specs.Strata", "smp_balance.specs.Totals"]),
     ("In the draw tree of a plan", "", ["smp_twostage"]),
 ]
 JOINT = [

@@ -1,14 +1,21 @@
 -- What the cube draws of the strata of a plan, and what the report tells of it.
-use Rattle.std.proofs.Common.{◌≡◌, ℕ, Bool, true, false, List, [], ◌∷◌, length, take, Some, None, refl, sym, ap, subst, ◌∙◌}
-use Rattle.std.specs.List.{filter, range_with_len, slice_get}
+use Rattle.std.proofs.Common.{◌≡◌, ℕ, Bool, true, false, List, [], ◌∷◌, length, map, take, Option, Some, None, refl, sym, ap, subst, ◌∙◌}
+use Rattle.std.specs.Prelude.{option_map, unwrap_or}
+use Rattle.std.specs.List.{range_with_len, slice_get}
+use Rattle.std.proofs.Math.Path.{fun_ext}
 use Rattle.std.proofs.lemmas.List.{length-map}
+use Rattle.std.proofs.lemmas.List.FromFn.{fill_by_all}
+use Rattle.std.proofs.lemmas.Simd.{map-map}
 use Rattle.smp_split.specs.Paths.{Entry}
-use Rattle.smp_balance.specs.Strata.{AreStratumUnits}
-use Rattle.smp_balance.specs.Totals.{is_selected}
-use Rattle.smp_balance.specs.Reports.{TellsColumn}
+use Rattle.smp_moves.specs.Cubes.{values_in}
+use Rattle.smp_values.specs.Values.{is_one}
+use Rattle.smp_prob.specs.Inclusions.{asked_fraction, inclusion, is_taken}
+use Rattle.smp_frac.specs.LowestTerms.{lowest_terms}
+use Rattle.smp_balance.specs.Strata.{AreStratumUnits, values_of}
+use Rattle.smp_balance.specs.Reports.{TellsColumn, TellsOf}
 use Rattle.smp_balance.proofs.Balances.{each_is_balanced}
 use Rattle.smp_balance.proofs.Reports.{each_line_tells}
-use Rattle.smp_balance.specs.FrameTotals.{IsBalancedFrame}
+use Rattle.smp_balance.specs.Totals.{IsBalancedFrame}
 use Rattle.smp_design.specs.Words.{balances, draws_together}
 use Rattle.smp_methods.specs.declared.any.AnyState.{AnyState}
 use Rattle.smp_stages.specs.Paths.{GoesByStages}
@@ -16,10 +23,12 @@ use Rattle.smp_stages.specs.Stages.{Progress}
 use Rattle.smp_strata.specs.Plans.{Parts}
 use Rattle.smp_strata.specs.declared.strata.Stratum.{Stratum}
 use Rattle.smp_twostage.specs.Cubes.{IsDrawnByCube, IsDrawnTogether, balancing, frame_of, leaf_of}
-use Rattle.smp_twostage.specs.Selections.{all_of, balance_count, covered_stages, covered_states, first_number, tree_of as stage_tree}
-use Rattle.smp_twostage.specs.Lines.{drawn_stratum}
+use Rattle.smp_twostage.specs.Selections.{all_of, balance_count, covered_stages, covered_states, first_number, tree_of as stage_tree, units_at}
+use Rattle.smp_strata.specs.Seats.{first_fraction, unit_fraction}
+use Rattle.smp_strata.specs.declared.strata.Seat.{Seat}
+use Rattle.smp_twostage.specs.Lines.{seat_values, told, told_seats}
 use Rattle.smp_twostage.specs.Plans.{CanBeDrawn}
-use Rattle.smp_twostage.specs.Starts.{StartsWhole, first_selected}
+use Rattle.smp_twostage.specs.Starts.{StartsWhole, covered_first}
 use Rattle.smp_twostage.proofs.Cubes.{cube_selected}
 use Rattle.smp_twostage.proofs.StartsBy.{first_so}
 use Rattle.smp_twostage.proofs.Told.{is_stratum as cube_stratum}
@@ -32,9 +41,8 @@ use Rattle.smp_app.proofs.Together.{tells_together}
 
 -- ---- the strata of a plan
 
-filter_same : (p q : ℕ → Bool) (xs : List ℕ) → ((k : ℕ) → p k ≡ q k) → filter p xs ≡ filter q xs
-filter_same p q [] same = refl
-filter_same p q (x ∷ xs) same = rw (same x, filter_same p q xs same) refl
+map_same : {A : Type 0} (f g : ℕ → A) (xs : List ℕ) → ((k : ℕ) → f k ≡ g k) → map f xs ≡ map g xs
+map_same f g xs same = ap (λ h. map h xs) (fun_ext same)
 
 module _ (plan : FramePlan) (planned : IsPlanned plan) (balance : balances plan.design.method ≡ true) (apart : draws_together plan.design.method ≡ false) (h : ℕ) (s : Stratum) (is : slice_get (parts (plan_view plan)).strata h ≡ Some s) where
   abbrev all : Parts
@@ -53,14 +61,42 @@ module _ (plan : FramePlan) (planned : IsPlanned plan) (balance : balances plan.
     abbrev here : Drawn
     here = record { plan = plan_view plan; only = None; leaf = to; path = path }
 
-    units_are : (drawn_stratum (covered here) to.states h s).units ≡ filter (is_selected (balancing all s) (leaf_of drawn)) (range_with_len 0 (length (balancing all s).values))
-    units_are =
-        filter_same (first_selected all to.states h) (is_selected (balancing all s) (leaf_of drawn)) (range_with_len 0 (length s.units))
-        (λ k. (ap (λ (b : Bool). first_so b all to.states h k) apart ∙ cube_selected all to.states h s is part drawn k))
-        ∙ ap (λ n. filter (is_selected (balancing all s) (leaf_of drawn)) (range_with_len 0 n)) (sym (length-map s.units (λ u. take (balance_count all s) u.values)))
+    abbrev units : List ℕ
+    units = range_with_len 0 (length s.units)
 
-    pub tells : (column : ℕ) → TellsColumn (drawn_stratum (covered here) to.states h s) (leaf_of drawn) column
-    tells = each_line_tells (drawn_stratum (covered here) to.states h s) (leaf_of drawn) is_stratum units_are
+    abbrev seat : ℕ → Seat
+    seat k = record { stratum = h; unit = k; place = 0 }
+
+    seats : told_seats (covered here) h ≡ map seat units
+    seats =
+        let alone : told_seats (covered here) h ≡ map seat (range_with_len 0 (length (units_at (slice_get all.strata h)))) = rw apart refl in
+        alone ∙ ap (λ (o : Option Stratum). map seat (range_with_len 0 (length (units_at o)))) is
+
+    over_units : {A : Type 0} (says : Seat → A) → map says (told_seats (covered here) h) ≡ map (λ k. says (seat k)) units
+    over_units says = ap (map says) seats ∙ map-map says seat units
+
+    long : length (balancing all s).values ≡ length s.units
+    long = length-map s.units (λ u. take (balance_count all s) u.values)
+
+    tells_of : TellsOf (balancing all s) (is_one (values_in (leaf_of drawn))) (told (covered here) to.states h)
+    tells_of = record {
+      values =
+          over_units (seat_values all)
+          ∙ ap (λ (o : Option Stratum). map (λ k. unwrap_or (option_map (λ (t : Stratum). values_of (balancing all t) k) o) []) units) is
+          ∙ sym (fill_by_all (values_of (balancing all s)) (balancing all s).values (length s.units) [] long (λ k l. refl));
+      asked =
+          over_units (λ p. lowest_terms (first_fraction all.strata p.stratum p.unit))
+          ∙ ap (λ (o : Option Stratum). map (λ k. lowest_terms (unit_fraction o k)) units) is
+          ∙ ap (λ n. map (λ k. lowest_terms (asked_fraction s.request k)) (range_with_len 0 n)) (sym long);
+      chosen =
+          over_units (λ p. covered_first (covered here) to.states p.stratum p.unit)
+          ∙ map_same (λ k. covered_first (covered here) to.states h k) (λ k. is_taken (is_one (values_in (leaf_of drawn))) (inclusion s.request k)) units
+          (λ k. ap (λ (b : Bool). first_so b all to.states h k) apart ∙ cube_selected all to.states h s is part drawn k)
+          ∙ ap (λ n. map (λ k. is_taken (is_one (values_in (leaf_of drawn))) (inclusion s.request k)) (range_with_len 0 n)) (sym long);
+    }
+
+    pub tells : (column : ℕ) → TellsColumn (told (covered here) to.states h) (balancing all s ∷ []) (is_one (values_in (leaf_of drawn))) column
+    tells = each_line_tells (balancing all s) is_stratum (is_one (values_in (leaf_of drawn))) (told (covered here) to.states h) tells_of
 
 -- ---- the balance of what is drawn
 
@@ -90,13 +126,13 @@ module _ (plan : FramePlan) (planned : IsPlanned plan) (path : List Entry) (to :
             record {
               drawn_so = drawn_so;
               balanced = each_is_balanced (balancing (parts (plan_view plan)) s) (is_stratum plan planned balance apart h s is);
-              told = tells plan planned balance apart h s is path (has.goes.part (first_number (parts (plan_view plan)) h)) to drawn_so;
+              tells = tells plan planned balance apart h s is path (has.goes.part (first_number (parts (plan_view plan)) h)) to drawn_so;
             });
         together = λ all.
             (let drawn_so = has.together all in
             record {
               drawn_so = drawn_so;
               balanced = has.balanced all;
-              told = tells_together (plan_view plan) (subst CanBeDrawn planned.parts_are planned.drawable) all (has.goes.part 0) to.states drawn_so;
+              tells = tells_together (plan_view plan) (subst CanBeDrawn planned.parts_are planned.drawable) all (has.goes.part 0) to.states drawn_so;
             });
       }

@@ -124,27 +124,27 @@ module _ (plan : Plan) (member : BelongsToWhole (parts plan) (start_of plan)) wh
       let c = came tape_source values_taken values_left (tape_of_values [] values) drawn _ refl h in
       runs_full (tree_of plan) (BelongsToWhole (parts plan)) (whole_lawful (parts plan)) (start_of plan) drawn.leaf drawn.path (tape_of_values [] values) c.end member c.ran (no_values c.end.left c.none)
 
-  seed_given : (seed : List ℕ) (drawn : Drawn) → drawn_by_seed plan seed ≡ Ok drawn → drawn.plan ≡ plan → IsDrawnBySeed seed drawn
-  seed_given seed drawn h same =
+  seed_given : (seed : List ℕ) (drawn : Drawn) → drawn_by_seed plan seed ≡ Ok drawn → IsDrawnBySeed seed drawn
+  seed_given seed drawn h =
       let c = came (sieve_source key_stream) no_words no_words (words_of_seed seed) drawn _ refl h in
       let is : IsLeaf (sieve_source key_stream) (tree_of plan) (start_of plan) (words_of_seed seed) drawn.leaf drawn.path c.end =
       subst (IsOutcome (sieve_source key_stream) (tree_of plan) (start_of plan) (words_of_seed seed)) c.ran
       (run_is (sieve_source key_stream) (tree_of plan) (BelongsToWhole (parts plan)) (whole_lawful (parts plan)) (start_of plan) (words_of_seed seed) member) in
       record {
         left = c.end;
-        given = subst (λ (p : Plan). IsLeaf (sieve_source key_stream) (tree_of p) (start_of p) (words_of_seed seed) drawn.leaf drawn.path c.end) (sym same) is;
+        gives = is.gives;
       }
 
-  by_chance : (chance : Chance) (fs : Files) (drawn : Drawn) → drawn.plan ≡ plan → drawn_stage plan (source_of chance) fs ≡ Ok drawn → IsDrawnByChance chance fs drawn
+  by_chance : (chance : Chance) (fs : Files) (drawn : Drawn) → drawn_stage plan (source_of chance) fs ≡ Ok drawn → IsDrawnByChance chance fs drawn
   unfolding drawn_stage
-  by_chance (Seed seed) fs drawn same h = seed_given seed drawn h same
-  by_chance (Tape tape) fs drawn same h =
+  by_chance (Seed seed) fs drawn h = seed_given seed drawn h
+  by_chance (Tape tape) fs drawn h =
       let bytes = step (content tape (fs tape)) _ drawn h in
       let values = step (or_fault tape_status (tape_of bytes.value)) _ drawn bytes.then_is in
       record {
         values = values.value;
         tape_read = ap (option_map tape_of) (content_is (fs tape) tape bytes.value bytes.first_is) ∙ ap Some (read_is tape_status (tape_of bytes.value) values.value values.first_is);
-        full = subst (λ (p : Plan). IsFull (tree_of p) (start_of p) values.value drawn.path drawn.leaf) (sym same) (tape_full values.value drawn values.then_is);
+        all = (tape_full values.value drawn values.then_is).all;
       }
 
 -- all strata are drawn
@@ -429,7 +429,7 @@ module _ (a : DrawArguments) (fs : Files) (before now : Outside) (words : List (
       let whole = by_whole d.plan d.drawn same.only_so d.by_plan in
       record {
         drawn = d.drawn;
-        is_drawn = by_chance d.plan whole.member a.chance fs d.drawn same.by_plan d.staged;
+        is_drawn = by_chance d.plan whole.member a.chance fs d.drawn d.staged;
         by_plan = own_plan d.plan d.drawn whole.by_plan;
         written = d.written;
         put = d.shown;
@@ -463,7 +463,7 @@ module _ (a : QuickArguments) (fs : Files) (before now : Outside) (words : List 
       let whole = by_whole d.plan d.drawn same.only_so d.by_plan in
       record {
         drawn = d.drawn;
-        is_drawn = by_chance d.plan whole.member (Tape a.tape) fs d.drawn same.by_plan d.staged;
+        is_drawn = by_chance d.plan whole.member (Tape a.tape) fs d.drawn d.staged;
         by_plan = own_plan d.plan d.drawn whole.by_plan;
         written = d.written;
         put = d.shown;

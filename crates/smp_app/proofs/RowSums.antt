@@ -1,4 +1,4 @@
--- Sums over the rows of a frame: as the report adds them up, and over the places where the rows stand.
+-- A sum over the rows of a frame is one over the places where the rows stand.
 use Rattle.std.proofs.Common.{◌≡◌, ◌≢◌, ℕ, zero, suc, ◌+◌, ◌<◌, Bool, cond, ℤ, pos, ◌+ℤ◌, map, arith, refl, sym, ap₂, subst, ◌∙◌, inl, inr}
 use Rattle.std.specs.Prelude.{nat_eq}
 use Rattle.std.specs.List.{range_with_len}
@@ -7,9 +7,6 @@ use Rattle.std.proofs.lemmas.Int.{ints}
 use Rattle.smp_fractions.specs.Fractions.{Fraction, Same, integer, plus, sum_below, times, whole}
 use Rattle.smp_fractions.proofs.Fractions.{plus-zero, plus_assoc, plus_same, same_refl, same_sym, same_trans, sum-plus, sum-zero, sum_same, zero-plus}
 use Rattle.smp_frac.specs.declared.fractions.Frac.{Frac}
-use Rattle.smp_weights.specs.Chosen.{chosen_units, weight}
-use Rattle.smp_weights.specs.Values.{weighted_total}
-use Rattle.smp_balance.specs.Frames.{known_sum}
 
 -- ---- one term, two sums
 
@@ -31,11 +28,6 @@ sums_cross : (n m : ℕ) (f : ℕ → ℕ → Fraction) → Same (sum_below n (�
 sums_cross zero m f = same_sym (sum-zero m (λ j. whole 0) (λ j l. same_refl (whole 0)))
 sums_cross (suc n) m f =
     same_trans (plus_same (sums_cross n m f) (same_refl (sum_below m (λ j. f n j)))) (same_sym (sum-plus m (λ j. sum_below n (λ i. f i j)) (λ j. f n j)))
-
-pub sum_first : (n : ℕ) (f : ℕ → Fraction) → Same (sum_below (suc n) f) (plus (f 0) (sum_below n (λ k. f (suc k))))
-sum_first zero f = same_trans (zero-plus (f 0)) (same_sym (plus-zero (f 0)))
-sum_first (suc n) f =
-    same_trans (plus_same (sum_first n f) (same_refl (f (suc n)))) (plus_assoc (f 0) (sum_below n (λ k. f (suc k))) (f (suc n)))
 
 -- ---- the rows, and the places where they stand: each place has one row
 
@@ -80,49 +72,3 @@ module _ (rows count : ℕ) (width : ℕ → ℕ) (first second : ℕ → ℕ) (
       (sum_same count (λ h. sum_below rows (λ row. sum_below (width h) (λ k. term row h k))) (λ h. sum_below (width h) (λ k. f h k))
       (λ h l. same_trans (sums_cross rows (width h) (λ row k. term row h k))
       (sum_same (width h) (λ k. sum_below rows (λ row. term row h k)) (λ k. f h k) (λ k m. place_is h k l m)))))
-
--- ---- as the report adds them up
-
-module _ (value : ℕ → ℤ) (asked : ℕ → Frac) (chosen : ℕ → Bool) where
-  abbrev pub chosen_term : ℕ → Fraction
-  chosen_term row = cond (chosen row) (times (integer (value row)) (weight (asked row))) (whole 0)
-
-  abbrev total_from : ℕ → ℕ → Fraction
-  total_from from n = weighted_total (chosen_units (map value (range_with_len from n)) (map asked (range_with_len from n)) (map chosen (range_with_len from n)))
-
-  one_more : (from n : ℕ) → Same (total_from from (suc n)) (plus (chosen_term from) (total_from (from + 1) n))
-  one_more from n =
-      elim (cases_Bool (chosen from)) [
-        | inl is ↦ rw is (same_refl (plus (times (integer (value from)) (weight (asked from))) (total_from (from + 1) n)))
-        | inr is ↦ rw is (same_sym (zero-plus (total_from (from + 1) n)))
-      ]
-
-  chosen_from : (from n : ℕ) (term : ℕ → Fraction) → ((i : ℕ) → i < n → Same (chosen_term (from + i)) (term i)) → Same (total_from from n) (sum_below n term)
-  chosen_from from zero term each = same_refl (whole 0)
-  chosen_from from (suc n) term each =
-      let here : Same (chosen_term from) (term 0) = subst (λ (k : ℕ). Same (chosen_term k) (term 0)) (omega arith) (each 0 (omega arith)) in
-      let rest = chosen_from (from + 1) n (λ i. term (suc i)) (λ i l. subst (λ (k : ℕ). Same (chosen_term k) (term (suc i))) (omega arith) (each (suc i) (omega (arith, l)))) in
-      same_trans (one_more from n) (same_trans (plus_same here rest) (same_sym (sum_first n term)))
-
-  pub chosen_sum : (n : ℕ) (term : ℕ → Fraction) → ((i : ℕ) → i < n → Same (chosen_term i) (term i)) → Same (total_from 0 n) (sum_below n term)
-  chosen_sum n term each = chosen_from 0 n term (λ i l. subst (λ (k : ℕ). Same (chosen_term k) (term i)) (omega arith) (each i l))
-
-integer_plus : (a b : ℤ) → Same (integer (a +ℤ b)) (plus (integer a) (integer b))
-integer_plus a b = record { cross = omega (arith, ints) }
-
-module _ (value : ℕ → ℤ) (asked : ℕ → Frac) where
-  abbrev pub known_term : ℕ → ℤ
-  known_term row = cond (nat_eq (asked row).num 0) (pos 0) (value row)
-
-  abbrev known_rows : ℕ → ℕ → ℤ
-  known_rows from n = known_sum (map asked (range_with_len from n)) (map value (range_with_len from n))
-
-  known_from : (from n : ℕ) (term : ℕ → Fraction) → ((i : ℕ) → i < n → Same (integer (known_term (from + i))) (term i)) → Same (integer (known_rows from n)) (sum_below n term)
-  known_from from zero term each = same_refl (whole 0)
-  known_from from (suc n) term each =
-      let here : Same (integer (known_term from)) (term 0) = subst (λ (k : ℕ). Same (integer (known_term k)) (term 0)) (omega arith) (each 0 (omega arith)) in
-      let rest = known_from (from + 1) n (λ i. term (suc i)) (λ i l. subst (λ (k : ℕ). Same (integer (known_term k)) (term (suc i))) (omega arith) (each (suc i) (omega (arith, l)))) in
-      same_trans (integer_plus (known_term from) (known_rows (from + 1) n)) (same_trans (plus_same here rest) (same_sym (sum_first n term)))
-
-  pub known_all : (n : ℕ) (term : ℕ → Fraction) → ((i : ℕ) → i < n → Same (integer (known_term i)) (term i)) → Same (integer (known_rows 0 n)) (sum_below n term)
-  known_all n term each = known_from 0 n term (λ i l. subst (λ (k : ℕ). Same (integer (known_term k)) (term i)) (omega arith) (each i l))

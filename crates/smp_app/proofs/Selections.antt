@@ -36,9 +36,10 @@ use Rattle.smp_strata.specs.Plans.{Parts, first_probs}
 use Rattle.smp_strata.specs.declared.strata.FirstUnit.{FirstUnit}
 use Rattle.smp_strata.specs.declared.strata.Stratum.{Stratum}
 use Rattle.smp_twostage.specs.Selections as selections
-use Rattle.smp_twostage.specs.Selections.{BelongsToCovered, BelongsToWhole, Coverage, all_of, covered_start, covered_tree, one_of, place_of, section_count, section_count_by, strata_sections, whole_tree}
+use Rattle.smp_twostage.specs.Selections.{BelongsToCovered, BelongsToWhole, Coverage, all_of, covered_start, covered_tree, one_of, place_of, section_count, strata_sections, whole_tree}
+use Rattle.smp_twostage.specs.Sides.{section_count_by}
 use Rattle.smp_twostage.specs.Covered.{StartsAlone}
-use Rattle.smp_twostage.specs.Starts.{StartsWhole, first_selected, known, row_fraction, second_selected, weighted}
+use Rattle.smp_twostage.specs.Starts.{StartsWhole, covered_first, known, row_fraction, second_selected, weighted}
 use Rattle.smp_twostage.specs.Laws.Places.{place_is_seat}
 use Rattle.smp_twostage.specs.Laws.Staged.{seconds_in}
 use Rattle.smp_twostage.specs.Laws.Wholes.{covered_lawful, strata_sectioned, whole_lawful}
@@ -225,7 +226,7 @@ module _ (plan : FramePlan) (planned : IsPlanned plan) where
       abbrev FirstsBy : Parts → Type 0
       FirstsBy p =
           (h n : ℕ) (s : Stratum) → slice_get p.strata h ≡ Some s → AreAsked plan.design.columns.prob plan.design plan.frame h n
-          → count_by (first_selected p to.states h) (range_with_len 0 (length s.units)) ≡ n
+          → count_by (covered_first (all_of p) to.states h) (range_with_len 0 (length s.units)) ≡ n
 
       firsts_own : FirstsBy plan.plan
       firsts_own h n s is asked = starts.firsts h n s is ((planned.draws h s is).firsts n asked) path to leads done
@@ -233,7 +234,7 @@ module _ (plan : FramePlan) (planned : IsPlanned plan) where
       abbrev AroundBy : Parts → Type 0
       AroundBy p =
           balances plan.design.method ≡ false → (h : ℕ) (s : Stratum) → slice_get p.strata h ≡ Some s
-          → IfSome plan.design.columns.prob (λ column. IsAround (count_by (first_selected p to.states h) (range_with_len 0 (length s.units))) (expected_size (first_probs plan.design plan.frame h)))
+          → IfSome plan.design.columns.prob (λ column. IsAround (count_by (covered_first (all_of p) to.states h) (range_with_len 0 (length s.units))) (expected_size (first_probs plan.design plan.frame h)))
 
       method_is : plan.plan.method ≡ plan.design.method
       method_is = ap (λ (p : Parts). p.method) planned.parts_are
@@ -250,14 +251,14 @@ module _ (plan : FramePlan) (planned : IsPlanned plan) where
       abbrev SecondsBy : Parts → Type 0
       SecondsBy p =
           (h k : ℕ) (s : Stratum) (u : FirstUnit) (asked : second.Second) → slice_get p.strata h ≡ Some s → slice_get s.units k ≡ Some u → plan.design.second ≡ Some asked
-          → first_selected p to.states h k ≡ true → count_by (second_selected p to.states h k) (range_with_len 0 (length u.rows)) ≡ asked.n
+          → covered_first (all_of p) to.states h k ≡ true → count_by (second_selected p to.states h k) (range_with_len 0 (length u.rows)) ≡ asked.n
 
       second_is : plan.plan.second ≡ option_map (λ s. s.method) plan.design.second
       second_is = ap (λ (p : Parts). p.second) planned.parts_are
 
       seconds_by : (h k : ℕ) (s : Stratum) (u : FirstUnit) (asked : second.Second) → slice_get plan.plan.strata h ≡ Some s → slice_get s.units k ≡ Some u
           → (request : Option Request) → u.second ≡ request → is_some request ≡ true → IfSome request (λ r. IsFor r (length u.rows) asked.n)
-          → first_selected plan.plan to.states h k ≡ true → count_by (second_selected plan.plan to.states h k) (range_with_len 0 (length u.rows)) ≡ asked.n
+          → covered_first (all_of plan.plan) to.states h k ≡ true → count_by (second_selected plan.plan to.states h k) (range_with_len 0 (length u.rows)) ≡ asked.n
       seconds_by h k s u asked is_s is_u (Some request) asks some fills first = starts.seconds h k asked.n s u request is_s is_u asks fills path to leads done first
       seconds_by h k s u asked is_s is_u None asks some fills first = absurd (cc)
 

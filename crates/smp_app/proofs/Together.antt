@@ -1,6 +1,6 @@
 -- What the report tells of all strata that are drawn together: each first stage unit is a row of the frame, so the sums over the rows are those
 -- over the units of each stratum.
-use Rattle.std.proofs.Common.{◌≡◌, ℕ, suc, ◌+◌, ◌-◌, ◌<◌, ◌≤◌, Bool, true, false, cond, ℤ, pos, List, [], ◌∷◌, length, map, take, get_or, Option, Some, None, All, arith, refl, sym, ap, subst, ◌∙◌, true≢false}
+use Rattle.std.proofs.Common.{◌≡◌, ℕ, suc, ◌+◌, ◌-◌, ◌<◌, ◌≤◌, Bool, true, false, cond, ℤ, pos, List, [], ◌∷◌, length, map, take, get_or, Option, Some, None, All, arith, refl, sym, ap, ap₂, subst, ◌∙◌}
 use Rattle.std.specs.Prelude.{if◌then◌else◌, is_some, nat_eq, nat_le, nat_lt, ◌&&◌, option_map, option_and_then, unwrap_or}
 use Rattle.std.specs.List.{range_with_len, slice_get}
 use Rattle.std.proofs.lemmas.Bool.{and_parts, eqb-true, le-ltb, ne_eqb}
@@ -28,12 +28,14 @@ use Rattle.smp_weights.proofs.Values.{estimate_value}
 use Rattle.smp_moves.specs.Cubes.{values_in}
 use Rattle.smp_stratcube.specs.States.{Balancing}
 use Rattle.smp_stratcube.specs.Values.{is_one}
-use Rattle.smp_balance.specs.Strata.{StratumUnits, value_in}
-use Rattle.smp_balance.specs.Totals.{can_be_selected, counted, known, known_value}
-use Rattle.smp_balance.specs.FrameTotals.{frame_estimated, frame_known, over_frame, size_of, stratum_estimate, variable_of}
-use Rattle.smp_balance.specs.Frames.{TellsVariable, column_of, frame_estimate, known_sum}
-use Rattle.smp_balance.proofs.Absolute.{absolute_same}
-use Rattle.smp_balance.proofs.Told.{asked_is, asked_positive, no_sign_at}
+use Rattle.smp_balance.specs.Strata.{StratumUnits, value_in, values_of}
+use Rattle.smp_balance.specs.Totals.{can_be_selected, counted, estimate, known, known_value, over_frame, size_of, variable_of}
+use Rattle.smp_balance.specs.Lines as balance
+use Rattle.smp_balance.specs.Lines.{column_estimate, column_of, known_sum}
+use Rattle.smp_balance.specs.Reports.{TellsColumn}
+use Rattle.smp_balance.proofs.Balances.{estimate_in, known_in}
+use Rattle.smp_balance.proofs.Sums.{chosen_sum, known_all, sum_first}
+use Rattle.smp_balance.proofs.Told.{known_is, taken_is}
 use Rattle.smp_design.specs.Words as words
 use Rattle.smp_design.specs.Words.{draws_together, most_balance, takes_columns}
 use Rattle.smp_design.specs.declared.design.Design.{Design}
@@ -49,26 +51,25 @@ use Rattle.smp_frame.specs.declared.frame.Unit as frame
 use Rattle.smp_strata.specs.Clusters.{clusters, clusters_in, strata_numbers}
 use Rattle.smp_strata.specs.Plans.{Parts, first_of, stratum_of}
 use Rattle.smp_strata.specs.Rows.{rows_of}
-use Rattle.smp_strata.specs.Seats.{IsSeat, first_at, stage_fraction}
+use Rattle.smp_strata.specs.Seats.{IsSeat, first_at, first_fraction, unit_fraction}
 use Rattle.smp_strata.specs.declared.strata.FirstUnit.{FirstUnit}
 use Rattle.smp_strata.specs.declared.strata.Seat.{Seat}
 use Rattle.smp_strata.specs.declared.strata.Stratum.{Stratum}
 use Rattle.smp_twostage.specs.Cubes.{IsDrawnTogether, balancing, frame_of}
 use Rattle.smp_twostage.specs.Kept.{IsPlanned}
-use Rattle.smp_twostage.specs.Lines.{drawn_rows, row_drawn, row_values}
+use Rattle.smp_twostage.specs.Lines.{seat_values, told, told_seats}
 use Rattle.smp_twostage.specs.Plans.{CanBeDrawn}
 use Rattle.smp_twostage.specs.Selections.{all_of, balance_count, place_of, units_at}
-use Rattle.smp_twostage.specs.Starts.{row_fraction}
+use Rattle.smp_twostage.specs.Starts.{covered_first}
 use Rattle.smp_twostage.specs.Laws.Places.{StandsIn, place_is_seat}
 use Rattle.smp_twostage.specs.Laws.Staged.{none_in, place_stands}
 use Rattle.smp_twostage.proofs.Columns.{columns_are, is_planned}
 use Rattle.smp_twostage.proofs.DrawnTogether.{selected_at}
 use Rattle.smp_twostage.proofs.OverAll.{free_before}
 use Rattle.smp_twostage.proofs.StartsBy.{first_so}
-use Rattle.smp_twostage.proofs.Values.{fraction_is}
 use Rattle.smp_plan.specs.Plans.{Plan, parts}
 use Rattle.smp_split.specs.Paths.{Entry}
-use Rattle.smp_app.proofs.RowSums.{chosen_sum, known_all, over_places, sum_first}
+use Rattle.smp_app.proofs.RowSums.{over_places}
 
 -- ---- a variable over all strata
 
@@ -98,53 +99,6 @@ module _ (plan : Parts) (part : ℕ → ℕ → StratumUnits → Fraction) (colu
   frame_sum own each =
       subst (Same (sum_below (length plan.strata) own)) (sym (variable_row (frame_of plan)))
       (strata_sum plan.strata 0 own (λ h s is. subst (λ (n : ℕ). Same (own h) (part n (suc column) (balancing plan s))) (omega arith) (each h s is)))
-
--- ---- a unit that is selected, and one that can be
-
-module _ (request : Request) (ok : IsRequest request) (k : ℕ) where
-  known_at : (stands : Inclusion) → inclusion request k ≡ stands → (z : ℤ) → cond (nat_eq (lowest_terms (asked_fraction request k)).num 0) (pos 0) z ≡ cond (can_be_selected stands) z (pos 0)
-  known_at Never is z =
-      let value : Same (fraction (lowest_terms (asked_fraction request k))) (whole 0) =
-      subst (λ (i : Inclusion). Same (fraction (lowest_terms (asked_fraction request k))) (fraction_at request i)) is
-      (same_trans (lowest_terms-value (asked_fraction request k)) (no_sign_at request k)) in
-      let nothing : (lowest_terms (asked_fraction request k)).num ≡ 0 = omega (arith, ints, value.cross) in
-      rw nothing refl
-  known_at Certain is z = rw (ne_eqb (lowest_terms (asked_fraction request k)).num 0 (λ e. omega (arith, e, some))) refl
-    where
-      some : 1 ≤ (lowest_terms (asked_fraction request k)).num
-      some = asked_positive request ok k (ap can_be_selected is)
-  known_at (Free u) is z = rw (ne_eqb (lowest_terms (asked_fraction request k)).num 0 (λ e. omega (arith, e, some))) refl
-    where
-      some : 1 ≤ (lowest_terms (asked_fraction request k)).num
-      some = asked_positive request ok k (ap can_be_selected is)
-
-  pub known_is : (z : ℤ) → cond (nat_eq (lowest_terms (asked_fraction request k)).num 0) (pos 0) z ≡ cond (can_be_selected (inclusion request k)) z (pos 0)
-  known_is = known_at (inclusion request k) refl
-
-  can_at : (chosen : ℕ → Bool) (stands : Inclusion) → is_taken chosen stands ≡ true → can_be_selected stands ≡ true
-  can_at chosen Certain taken = refl
-  can_at chosen (Free u) taken = refl
-  can_at chosen Never taken = absurd (true≢false (sym taken))
-
-  -- a unit that is selected counts for its value times its weight
-  pub taken_is : (chosen : ℕ → Bool) (z : ℤ) (taken : Bool) → is_taken chosen (inclusion request k) ≡ taken
-      → Same (cond taken (times (integer z) (weight (lowest_terms (asked_fraction request k)))) (whole 0))
-      (cond taken (times (integer (cond (can_be_selected (inclusion request k)) z (pos 0))) (inverse (asked_fraction request k))) (whole 0))
-  taken_is chosen z false is = same_refl (whole 0)
-  taken_is chosen z true is =
-      let can = can_at chosen (inclusion request k) is in
-      let positive : 1 ≤ (lowest_terms (asked_fraction request k)).num = asked_positive request ok k can in
-      rw can
-      (times_same (same_refl (integer z))
-      (inverse_same (fraction (lowest_terms (asked_fraction request k))) (asked_fraction request k) (λ none. omega (arith, ints, positive, none))
-      (same_trans (lowest_terms-value (asked_fraction request k)) (no_sign_at request k))))
-
--- the method has no columns of coordinates
-near_none : (method : Method) → method ≡ StratifiedCube → (near columns : ℕ) → takes_columns method near columns ≡ true → near ≡ 0
-unfolding words.row
-near_none method is near columns takes =
-    let fits : (nat_eq near 0 && nat_le columns most_balance) ≡ true = subst (λ m. takes_columns m near columns ≡ true) is takes in
-    eqb-true near 0 (and_parts (nat_eq near 0) (nat_le columns most_balance) fits).0
 
 -- ---- the rows of a plan in one stage
 
@@ -218,26 +172,11 @@ module _ (plan : Parts) (drawable : CanBeDrawn plan) (together : draws_together 
 
   -- ---- what a row has is what its unit has
 
-  module _ (h k : ℕ) (s : Stratum) (u : FirstUnit) (is_s : slice_get plan.strata h ≡ Some s) (is_u : slice_get s.units k ≡ Some u) where
-    abbrev own : IsPlanned plan s
-    own = is_planned plan drawable h s is_s
+  abbrev values_at : ℕ → List ℤ
+  values_at row = seat_values plan (place_of plan.strata row)
 
-    near_is : plan.near ≡ 0
-    near_is = near_none plan.method (is_together plan.method together) plan.near drawable.columns (takes_some plan.method plan.order plan.near drawable.columns drawable.method)
-
-    balanced_values : take (balance_count plan s) u.values ≡ u.values
-    balanced_values =
-        let counted : length u.values ≡ own.columns =
-        subst (λ (v : FirstUnit). length v.values ≡ own.columns) (get_or_from_slice_get s.units k u u is_u)
-        (All-get_or (λ (v : FirstUnit). length v.values ≡ own.columns) s.units k u (slice_get_within s.units k u is_u) own.counted) in
-        take_all (balance_count plan s) u.values (omega (arith, counted, columns_are plan s own, near_is))
-
-    unit_values : (column : ℕ) → value_in (balancing plan s) column k ≡ entry u.values column
-    unit_values column =
-        ap (λ (v : List ℤ). entry v column)
-        (get_or_from_slice_get (map (λ (v : FirstUnit). take (balance_count plan s) v.values) s.units) k (take (balance_count plan s) u.values) []
-        (slice_get-map (λ (v : FirstUnit). take (balance_count plan s) v.values) s.units k ∙ ap (option_map (λ (v : FirstUnit). take (balance_count plan s) v.values)) is_u)
-        ∙ balanced_values)
+  abbrev asked_at : ℕ → Frac
+  asked_at row = lowest_terms (first_fraction plan.strata (first row) (second row))
 
   module _ (row : ℕ) (l : row < plan.rows) where
     abbrev here : StandsIn plan.strata row (place_of plan.strata row)
@@ -249,26 +188,12 @@ module _ (plan : Parts) (drawable : CanBeDrawn plan) (together : draws_together 
     ok : IsRequest request
     ok = (is_planned plan drawable (first row) here.stratum here.is_stratum).stratum.over.sound
 
-    value_is : (column : ℕ) → entry (row_values plan row) column ≡ value_in (balancing plan here.stratum) column (second row)
+    value_is : (column : ℕ) → entry (values_at row) column ≡ value_in (balancing plan here.stratum) column (second row)
     value_is column =
-        ap (λ (o : Option FirstUnit). entry (unwrap_or (option_map (λ (v : FirstUnit). v.values) o) []) column) (unit_is (first row) (second row) here.stratum here.unit here.is_stratum here.is_unit)
-        ∙ sym (unit_values (first row) (second row) here.stratum here.unit here.is_stratum here.is_unit column)
+        ap (λ (o : Option Stratum). entry (unwrap_or (option_map (λ (s : Stratum). values_of (balancing plan s) (second row)) o) []) column) here.is_stratum
 
-    without : (o : Option Request) → is_some o ≡ false → (place : ℕ) → stage_fraction o place ≡ whole 1
-    without None alone place = refl
-    without (Some other) alone place = absurd (true≢false alone)
-
-    fraction_same : Same (row_fraction plan row) (asked_fraction request (second row))
-    fraction_same =
-        let one = without here.unit.second (none_in plan drawable (drawable.together together).one_stage (first row) (second row) here.stratum here.unit here.is_stratum here.is_unit) (place_of plan.strata row).place in
-        subst (λ (f : Fraction). Same f (asked_fraction request (second row))) (sym (fraction_is plan.strata row (place_of plan.strata row) here ∙ ap (times (asked_fraction request (second row))) one))
-        (times-one (asked_fraction request (second row)))
-
-    asked_same : lowest_terms (row_fraction plan row) ≡ lowest_terms (asked_fraction request (second row))
-    asked_same =
-        asked_is request (lowest_terms (row_fraction plan row)) (second row)
-        (same_trans (lowest_terms-value (row_fraction plan row))
-        (same_trans (absolute_same (row_fraction plan row) (asked_fraction request (second row)) fraction_same) (no_sign_at request (second row))))
+    asked_same : asked_at row ≡ lowest_terms (asked_fraction request (second row))
+    asked_same = ap (λ (o : Option Stratum). lowest_terms (unit_fraction o (second row))) here.is_stratum
 
   -- ---- what is known of a variable
 
@@ -277,24 +202,24 @@ module _ (plan : Parts) (drawable : CanBeDrawn plan) (together : draws_together 
   known_part column (Some s) k = integer (known_value (balancing plan s) column k)
 
   known_row : (column row : ℕ) → row < plan.rows
-      → Same (integer (cond (nat_eq (lowest_terms (row_fraction plan row)).num 0) (pos 0) (entry (row_values plan row) column))) (known_part column (slice_get plan.strata (first row)) (second row))
+      → Same (integer (cond (nat_eq (asked_at row).num 0) (pos 0) (entry (values_at row) column))) (known_part column (slice_get plan.strata (first row)) (second row))
   known_row column row l =
       let at = here row l in
-      let same : cond (nat_eq (lowest_terms (row_fraction plan row)).num 0) (pos 0) (entry (row_values plan row) column) ≡ known_value (balancing plan at.stratum) column (second row) =
-      ap (λ (f : Frac). cond (nat_eq f.num 0) (pos 0) (entry (row_values plan row) column)) (asked_same row l)
-      ∙ known_is (request row l) (ok row l) (second row) (entry (row_values plan row) column)
+      let same : cond (nat_eq (asked_at row).num 0) (pos 0) (entry (values_at row) column) ≡ known_value (balancing plan at.stratum) column (second row) =
+      ap (λ (f : Frac). cond (nat_eq f.num 0) (pos 0) (entry (values_at row) column)) (asked_same row l)
+      ∙ known_is (request row l) (ok row l) (second row) (entry (values_at row) column)
       ∙ ap (λ (z : ℤ). cond (can_be_selected (inclusion (request row l) (second row))) z (pos 0)) (value_is row l column) in
-      subst (λ (o : Option Stratum). Same (integer (cond (nat_eq (lowest_terms (row_fraction plan row)).num 0) (pos 0) (entry (row_values plan row) column))) (known_part column o (second row))) (sym at.is_stratum)
-      (subst (λ (z : ℤ). Same (integer (cond (nat_eq (lowest_terms (row_fraction plan row)).num 0) (pos 0) (entry (row_values plan row) column))) (integer z)) same
-      (same_refl (integer (cond (nat_eq (lowest_terms (row_fraction plan row)).num 0) (pos 0) (entry (row_values plan row) column)))))
+      subst (λ (o : Option Stratum). Same (integer (cond (nat_eq (asked_at row).num 0) (pos 0) (entry (values_at row) column))) (known_part column o (second row))) (sym at.is_stratum)
+      (subst (λ (z : ℤ). Same (integer (cond (nat_eq (asked_at row).num 0) (pos 0) (entry (values_at row) column))) (integer z)) same
+      (same_refl (integer (cond (nat_eq (asked_at row).num 0) (pos 0) (entry (values_at row) column)))))
 
   units_long : (s : Stratum) → length (balancing plan s).values ≡ length s.units
   units_long s = length-map s.units (λ u. take (balance_count plan s) u.values)
 
   -- so it is over a stratum
-  known_stratum : (column h : ℕ) (s : Stratum) → slice_get plan.strata h ≡ Some s → Same (sum_below (width h) (λ k. known_part column (slice_get plan.strata h) k)) (known (balancing plan s) (suc column))
+  known_stratum : (column h : ℕ) (s : Stratum) → slice_get plan.strata h ≡ Some s → Same (sum_below (width h) (λ k. known_part column (slice_get plan.strata h) k)) (known_in (balancing plan s) (suc column))
   known_stratum column h s is =
-      subst (λ (o : Option Stratum). Same (sum_below (length (units_at o)) (λ k. known_part column o k)) (known (balancing plan s) (suc column))) (sym is)
+      subst (λ (o : Option Stratum). Same (sum_below (length (units_at o)) (λ k. known_part column o k)) (known_in (balancing plan s) (suc column))) (sym is)
       (subst (λ (n : ℕ). Same (sum_below (length s.units) (λ k. integer (known_value (balancing plan s) column k))) (sum_below n (λ k. integer (known_value (balancing plan s) column k)))) (sym (units_long s))
       (same_refl (sum_below (length s.units) (λ k. integer (known_value (balancing plan s) column k)))))
 
@@ -308,7 +233,7 @@ module _ (plan : Parts) (drawable : CanBeDrawn plan) (together : draws_together 
     selected_part column None h k = whole 0
     selected_part column (Some s) h k = cond (is_taken (chosen_in h) (inclusion s.request k)) (counted (balancing plan s) (suc column) k) (whole 0)
 
-    drawn_is : (row : ℕ) (l : row < plan.rows) → row_drawn (all_of plan) ends row ≡ is_taken (chosen_in (first row)) (inclusion (request row l) (second row))
+    drawn_is : (row : ℕ) (l : row < plan.rows) → covered_first (all_of plan) ends (first row) (second row) ≡ is_taken (chosen_in (first row)) (inclusion (request row l) (second row))
     drawn_is row l =
         let at = here row l in
         ap (λ (b : Bool). first_so b plan ends (first row) (second row)) together
@@ -316,15 +241,15 @@ module _ (plan : Parts) (drawable : CanBeDrawn plan) (together : draws_together 
 
     abbrev row_term : ℕ → ℕ → Fraction
     row_term column row =
-        cond (row_drawn (all_of plan) ends row) (times (integer (entry (row_values plan row) column)) (weight (lowest_terms (row_fraction plan row)))) (whole 0)
+        cond (covered_first (all_of plan) ends (first row) (second row)) (times (integer (entry (values_at row) column)) (weight (asked_at row))) (whole 0)
 
     estimate_row : (column row : ℕ) → row < plan.rows → Same (row_term column row) (selected_part column (slice_get plan.strata (first row)) (first row) (second row))
     estimate_row column row l =
         let at = here row l in
         let taken : Bool = is_taken (chosen_in (first row)) (inclusion (request row l) (second row)) in
-        let z : ℤ = entry (row_values plan row) column in
+        let z : ℤ = entry (values_at row) column in
         let same : row_term column row ≡ cond taken (times (integer z) (weight (lowest_terms (asked_fraction (request row l) (second row))))) (whole 0) =
-        ap (λ (b : Bool). cond b (times (integer z) (weight (lowest_terms (row_fraction plan row)))) (whole 0)) (drawn_is row l)
+        ap (λ (b : Bool). cond b (times (integer z) (weight (asked_at row))) (whole 0)) (drawn_is row l)
         ∙ ap (λ (f : Frac). cond taken (times (integer z) (weight f)) (whole 0)) (asked_same row l) in
         subst (λ (o : Option Stratum). Same (row_term column row) (selected_part column o (first row) (second row))) (sym at.is_stratum)
         (subst (λ (f : Fraction). Same f (cond taken (counted (balancing plan at.stratum) (suc column) (second row)) (whole 0))) (sym same)
@@ -333,37 +258,55 @@ module _ (plan : Parts) (drawable : CanBeDrawn plan) (together : draws_together 
         (taken_is (request row l) (ok row l) (second row) (chosen_in (first row)) z taken refl)))
 
     estimate_stratum : (column h : ℕ) (s : Stratum) → slice_get plan.strata h ≡ Some s
-        → Same (sum_below (width h) (λ k. selected_part column (slice_get plan.strata h) h k)) (stratum_estimate (free_before plan.strata h) leaf (suc column) (balancing plan s))
+        → Same (sum_below (width h) (λ k. selected_part column (slice_get plan.strata h) h k)) (estimate_in (balancing plan s) (chosen_in h) (suc column))
     estimate_stratum column h s is =
-        subst (λ (o : Option Stratum). Same (sum_below (length (units_at o)) (λ k. selected_part column o h k)) (stratum_estimate (free_before plan.strata h) leaf (suc column) (balancing plan s))) (sym is)
+        subst (λ (o : Option Stratum). Same (sum_below (length (units_at o)) (λ k. selected_part column o h k)) (estimate_in (balancing plan s) (chosen_in h) (suc column))) (sym is)
         (subst (λ (n : ℕ). Same (sum_below (length s.units) (λ k. selected_part column (Some s) h k)) (sum_below n (λ k. selected_part column (Some s) h k))) (sym (units_long s))
         (same_refl (sum_below (length s.units) (λ k. selected_part column (Some s) h k))))
 
     -- ---- the report tells both
 
-    values_are : (column : ℕ) → column_of (drawn_rows (all_of plan) ends) column ≡ map (λ row. entry (row_values plan row) column) rows
-    values_are column = map-map (λ (v : List ℤ). entry v column) (row_values plan) rows
+    abbrev drawn : balance.Drawn
+    drawn = told (all_of plan) ends 0
 
-    pub tells_variable : (column : ℕ) → TellsVariable (drawn_rows (all_of plan) ends) (frame_of plan) leaf column
+    abbrev chosen_at : ℕ → Bool
+    chosen_at row = covered_first (all_of plan) ends (first row) (second row)
+
+    seats : told_seats (all_of plan) 0 ≡ map (place_of plan.strata) rows
+    seats = rw together refl
+
+    over_seats : {A : Type 0} (says : Seat → A) → map says (told_seats (all_of plan) 0) ≡ map (λ row. says (place_of plan.strata row)) rows
+    over_seats says = ap (map says) seats ∙ map-map says (place_of plan.strata) rows
+
+    values_are : (column : ℕ) → column_of drawn column ≡ map (λ row. entry (values_at row) column) rows
+    values_are column = ap (map (λ (v : List ℤ). entry v column)) (over_seats (seat_values plan)) ∙ map-map (λ (v : List ℤ). entry v column) values_at rows
+
+    asked_are : drawn.asked ≡ map asked_at rows
+    asked_are = over_seats (λ p. lowest_terms (first_fraction plan.strata p.stratum p.unit))
+
+    chosen_are : drawn.chosen ≡ map chosen_at rows
+    chosen_are = over_seats (λ p. covered_first (all_of plan) ends p.stratum p.unit)
+
+    pub tells_variable : (column : ℕ) → TellsColumn drawn (frame_of plan) (is_one (values_in leaf)) column
     tells_variable column =
-        let drawn = drawn_rows (all_of plan) ends in
         let row : ℕ = length (frame_of plan) + column in
-        let total : Same (weighted_total (chosen_units (column_of drawn column) drawn.asked drawn.chosen)) (frame_estimated (frame_of plan) leaf row) =
-        subst (λ (xs : List ℤ). Same (weighted_total (chosen_units xs drawn.asked drawn.chosen)) (frame_estimated (frame_of plan) leaf row)) (sym (values_are column))
-        (same_trans
-        (chosen_sum (λ r. entry (row_values plan r) column) (λ r. lowest_terms (row_fraction plan r)) (row_drawn (all_of plan) ends) plan.rows
-        (λ r. selected_part column (slice_get plan.strata (first r)) (first r) (second r)) (estimate_row column))
+        let value : ℕ → ℤ = λ r. entry (values_at r) column in
+        let total : Same (weighted_total (chosen_units (map value rows) (map asked_at rows) (map chosen_at rows))) (estimate (frame_of plan) (is_one (values_in leaf)) row) =
+        same_trans (chosen_sum value asked_at chosen_at plan.rows (λ r. selected_part column (slice_get plan.strata (first r)) (first r) (second r)) (estimate_row column))
         (same_trans (over_rows (λ h k. selected_part column (slice_get plan.strata h) h k))
-        (frame_sum plan (λ before j s. stratum_estimate before leaf j s) column (λ h. sum_below (width h) (λ k. selected_part column (slice_get plan.strata h) h k)) (estimate_stratum column)))) in
+        (frame_sum plan (λ before j s. estimate_in s (λ u. is_one (values_in leaf) (before + u)) j) column (λ h. sum_below (width h) (λ k. selected_part column (slice_get plan.strata h) h k)) (estimate_stratum column))) in
+        let units : chosen_units (column_of drawn column) drawn.asked drawn.chosen ≡ chosen_units (map value rows) (map asked_at rows) (map chosen_at rows) =
+        ap (λ (xs : List ℤ). chosen_units xs drawn.asked drawn.chosen) (values_are column) ∙ ap₂ (chosen_units (map value rows)) asked_are chosen_are in
+        let sum : known_sum drawn.asked (column_of drawn column) ≡ known_sum (map asked_at rows) (map value rows) = ap₂ known_sum asked_are (values_are column) in
         record {
-          estimate = IfOk-weaker (frame_estimate drawn column) _ _ (λ a same. same_trans same total) (estimate_value (chosen_units (column_of drawn column) drawn.asked drawn.chosen));
+          estimate = IfOk-weaker (column_estimate drawn column) _ _
+              (λ a same. same_trans same (subst (λ us. Same (weighted_total us) (estimate (frame_of plan) (is_one (values_in leaf)) row)) (sym units) total))
+              (estimate_value (chosen_units (column_of drawn column) drawn.asked drawn.chosen));
           known =
-              subst (λ (xs : List ℤ). Same (integer (known_sum drawn.asked xs)) (frame_known (frame_of plan) row)) (sym (values_are column))
-              (same_trans
-              (known_all (λ r. entry (row_values plan r) column) (λ r. lowest_terms (row_fraction plan r)) plan.rows
-              (λ r. known_part column (slice_get plan.strata (first r)) (second r)) (known_row column))
+              subst (λ (z : ℤ). Same (integer z) (known (frame_of plan) row)) (sym sum)
+              (same_trans (known_all value asked_at plan.rows (λ r. known_part column (slice_get plan.strata (first r)) (second r)) (known_row column))
               (same_trans (over_rows (λ h k. known_part column (slice_get plan.strata h) k))
-              (frame_sum plan (λ before j s. known s j) column (λ h. sum_below (width h) (λ k. known_part column (slice_get plan.strata h) k)) (known_stratum column))));
+              (frame_sum plan (λ before j s. known_in s j) column (λ h. sum_below (width h) (λ k. known_part column (slice_get plan.strata h) k)) (known_stratum column))));
         }
 
 -- ---- in one stage each first stage unit of a frame is a row
@@ -384,6 +327,6 @@ lone_rows plan one =
 
 -- what is told of a draw of all strata together
 pub tells_together : (plan : Plan) → CanBeDrawn (parts plan) → draws_together plan.design.method ≡ true → (part : List Entry) (ends : List AnyState) (drawn : IsDrawnTogether (parts plan) part ends)
-    → (column : ℕ) → TellsVariable (drawn_rows (all_of (parts plan)) ends) (frame_of (parts plan)) drawn.leaf column
+    → (column : ℕ) → TellsColumn (told (all_of (parts plan)) ends 0) (frame_of (parts plan)) (is_one (values_in drawn.leaf)) column
 tells_together plan drawable together part ends drawn column =
     tells_variable (parts plan) drawable together (lone_rows plan (drawable.together together).one_stage) ends drawn.leaf drawn.leaf_is column

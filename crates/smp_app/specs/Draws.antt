@@ -1,5 +1,5 @@
 -- What holds of what a job draws.
-use Rattle.std.specs.Prelude.{◌≡◌, IfSome, ℕ, ◌+◌, ◌-◌, ◌<◌, true, false, ℤ, List, length, Option, Some, None, Result}
+use Rattle.std.specs.Prelude.{◌≡◌, IfSome, ℕ, ◌+◌, ◌-◌, ◌<◌, true, false, ℤ, List, [], ◌∷◌, length, Option, Some, None, Result}
 use Rattle.std.specs.Prelude.{Ok, Err}
 use Rattle.std.specs.List.{count_by, range_with_len, slice_get}
 use Rattle.smp_io.specs.Store.{Files}
@@ -7,9 +7,10 @@ use Rattle.smp_fractions.specs.Bounds.{IsAround}
 use Rattle.smp_fractions.specs.Fractions.{Same, integer, sum_below}
 use Rattle.smp_prob.specs.Given.{expected_size}
 use Rattle.smp_split.specs.Means.{mean, inclusion_probability}
-use Rattle.smp_balance.specs.FrameTotals.{IsBalancedFrame}
-use Rattle.smp_balance.specs.Frames.{TellsVariable}
-use Rattle.smp_balance.specs.Totals.{AreBalanced}
+use Rattle.smp_values.specs.Values.{is_one}
+use Rattle.smp_moves.specs.Cubes.{values_in}
+use Rattle.smp_stratcube.specs.Values as together
+use Rattle.smp_balance.specs.Totals.{AreBalanced, IsBalancedFrame}
 use Rattle.smp_balance.specs.Reports.{TellsColumn}
 use Rattle.smp_design.specs.declared.design.Second as second
 use Rattle.smp_design.specs.Words.{balances, draws_together}
@@ -27,11 +28,11 @@ use Rattle.smp_strata.specs.declared.strata.Stratum.{Stratum}
 use Rattle.smp_stages.specs.Paths.{GoesByStages}
 use Rattle.smp_twostage.specs.Cubes.{IsDrawnByCube, IsDrawnTogether, balancing, frame_of, leaf_of}
 use Rattle.smp_twostage.specs.Covered.{StartsAlone}
-use Rattle.smp_twostage.specs.Lines.{drawn_rows, drawn_stratum}
+use Rattle.smp_twostage.specs.Lines.{told}
 use Rattle.smp_twostage.specs.Plans.{CanBeDrawn}
 use Rattle.smp_twostage.specs.Selections.{BelongsToWhole, all_of, covered_stages, covered_start, covered_states, covered_tree}
 use Rattle.smp_twostage.specs.Selections.{first_number, section_count, tree_of as stage_tree}
-use Rattle.smp_twostage.specs.Starts.{first_selected, known, second_selected, weighted}
+use Rattle.smp_twostage.specs.Starts.{covered_first, known, second_selected, weighted}
 use Rattle.smp_plan.specs.Plans.{Plan, parts, row_probability}
 use Rattle.smp_app.specs.Drawn.{tree_of, start_of, sections_of, Drawn, covered}
 use Rattle.smp_app.specs.Commands.{Source, ByLog, ByOldLog, BySection, Work, Lists, Draws, Job}
@@ -41,7 +42,7 @@ use Rattle.smp_plan.specs.Inputs.{plan_stage}
 -- how many of the first stage units of stratum h are drawn
 abbrev pub firsts_drawn : Drawn → ℕ → Stratum → ℕ
 firsts_drawn drawn h s =
-    let selected = first_selected (parts drawn.plan) drawn.leaf.states h in
+    let selected = covered_first (all_of (parts drawn.plan)) drawn.leaf.states h in
     count_by selected (range_with_len 0 (length s.units))
 
 -- ---- balance
@@ -62,8 +63,8 @@ pub record IsCubeDraw (drawn : Drawn) (goes : Goes drawn) (h : ℕ) (s : Stratum
       (goes.part (first_number (parts drawn.plan) h)) drawn.leaf.states
   pub balanced : AreBalanced (balancing (parts drawn.plan) s)
   -- The report tells the estimates at that leaf and the known totals.
-  pub told : (column : ℕ)
-      → TellsColumn (drawn_stratum (covered drawn) drawn.leaf.states h s) (leaf_of drawn_so) column
+  pub tells : (column : ℕ) → TellsColumn (told (covered drawn) drawn.leaf.states h)
+      (balancing (parts drawn.plan) s ∷ []) (is_one (values_in (leaf_of drawn_so))) column
 
 -- What is drawn of all strata together. The path leads through the method's tree, from the requested probabilities to a leaf. On it, as on
 -- every path of the method from there, each flight step keeps every balancing total in force exactly, over all strata, and the landing
@@ -72,8 +73,8 @@ pub record IsTogetherDraw (drawn : Drawn) (goes : Goes drawn) : Type 0 where
   pub drawn_so : IsDrawnTogether (parts drawn.plan) (goes.part 0) drawn.leaf.states
   pub balanced : IsBalancedFrame (frame_of (parts drawn.plan))
   -- The report tells the estimates at that leaf and the known totals.
-  pub told : (column : ℕ)
-      → TellsVariable (drawn_rows (covered drawn) drawn.leaf.states) (frame_of (parts drawn.plan)) drawn_so.leaf column
+  pub tells : (column : ℕ) → TellsColumn (told (covered drawn) drawn.leaf.states 0)
+      (frame_of (parts drawn.plan)) (together.is_one (values_in drawn_so.leaf)) column
 
 -- The path is made of the stages' own paths; and where the method balances, each stratum is drawn so, or all strata together.
 pub record KeepsBalance (drawn : Drawn) : Type 0 where
@@ -124,7 +125,7 @@ pub record IsDrawnBy (plan : Plan) (drawn : Drawn) : Type 0 where
   pub seconds : (h k : ℕ) (s : Stratum) (u : first.FirstUnit) (asked : second.Second)
       → slice_get (parts drawn.plan).strata h ≡ Some s → slice_get s.units k ≡ Some u
       → drawn.plan.design.second ≡ Some asked
-      → first_selected (parts drawn.plan) drawn.leaf.states h k ≡ true
+      → covered_first (all_of (parts drawn.plan)) drawn.leaf.states h k ≡ true
       → count_by (second_selected (parts drawn.plan) drawn.leaf.states h k)
       (range_with_len 0 (length u.rows)) ≡ asked.n
   -- What the methods that balance keep; of a plan by any other method only that the path is made of the stages' own paths.

@@ -7,8 +7,8 @@ use Rattle.smp_tape.specs.TapeText.{tape_of}
 use Rattle.smp_sieve.specs.Keys.{Place, words_of_seed}
 use Rattle.smp_sieve.specs.SieveSources.{key_stream, sieve_source}
 use Rattle.smp_split.specs.Counts.{selected_units}
-use Rattle.smp_split.specs.Paths.{IsFull}
-use Rattle.smp_split.specs.Runs.{IsLeaf}
+use Rattle.smp_split.specs.Paths.{values_of}
+use Rattle.smp_split.specs.Runs.{Gives}
 use Rattle.smp_methods.specs.declared.any.AnyState.{AnyState}
 use Rattle.smp_stages.specs.Stages.{Progress}
 use Rattle.smp_frame.specs.Frames.{frame_of}
@@ -43,17 +43,16 @@ use Rattle.smp_app.specs.Answers.{Outside}
 
 -- ---- where the draws come from
 
--- The numbers on the tape in its file are a full tape: the values of the path from the start to the leaf, all of them and no more.
+-- The numbers on the tape in its file are the values that the path takes, all of them and no more.
 pub record IsDrawnByTape (tape : List ℕ) (fs : Files) (drawn : Drawn) : Type 0 where
   pub values : List ℕ
   pub tape_read : option_map tape_of (fs tape) ≡ Some (Ok values)
-  pub full : IsFull (tree_of drawn.plan) (start_of drawn.plan) values drawn.path drawn.leaf
+  pub all : values ≡ values_of drawn.path
 
--- The words of the seed give the values of the path from the start to the leaf.
+-- The words of the seed give the values of the path.
 pub record IsDrawnBySeed (seed : List ℕ) (drawn : Drawn) : Type 0 where
   pub left : Place
-  pub given : IsLeaf (sieve_source key_stream) (tree_of drawn.plan) (start_of drawn.plan)
-      (words_of_seed seed) drawn.leaf drawn.path left
+  pub gives : Gives (sieve_source key_stream) (words_of_seed seed) drawn.path left
 
 -- The draws come from the values of a tape, or from the words of a seed.
 abbrev pub IsDrawnByChance : Chance → Files → Drawn → Type 0

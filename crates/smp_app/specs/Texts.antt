@@ -1,6 +1,6 @@
 -- The texts that are written and put.
 use Rattle.std.specs.Prelude.{ℕ, List, [], ◌∷◌, ◌++◌, length, map, codes}
-use Rattle.std.specs.List.{flat_map, range_with_len}
+use Rattle.std.specs.List.{filter, flat_map, range_with_len}
 use Rattle.std.specs.Fmt.{decimal}
 use Rattle.smp_fractions.specs.Fractions.{Fraction}
 use Rattle.smp_frac.specs.Fractions.{fraction_text}
@@ -9,8 +9,8 @@ use Rattle.smp_log.specs.SectionLogs.{sectioned_log_text}
 use Rattle.smp_weights.specs.Rows.{row}
 use Rattle.smp_weights.specs.Sample.{sample_file}
 use Rattle.smp_twostage.specs.Covered.{covered_left}
-use Rattle.smp_twostage.specs.Lines.{balance_lines, covered_strata}
-use Rattle.smp_twostage.specs.Selections.{covered_start, covered_tree, strata_sections}
+use Rattle.smp_twostage.specs.Lines.{balance_lines}
+use Rattle.smp_twostage.specs.Selections.{covered_start, covered_tree, covers, strata_sections}
 use Rattle.smp_joint.specs.JointText.{joint_text}
 use Rattle.smp_plan.specs.Plans.{Plan, parts, row_id, row_probability}
 use Rattle.smp_app.specs.Drawn.{Drawn, covered, rows_by, drawn_rows}
@@ -85,7 +85,8 @@ abbrev pub left_text : Drawn → ℕ → List ℕ
 left_text drawn h = codes " " ++ decimal (covered_left (covered drawn) drawn.leaf.states h)
 
 abbrev pub lefts_text : Drawn → List ℕ
-lefts_text drawn = flat_map (left_text drawn) (covered_strata (covered drawn))
+lefts_text drawn =
+    flat_map (left_text drawn) (filter (covers (covered drawn)) (range_with_len 0 (length (parts drawn.plan).strata)))
 
 abbrev pub demo_text : Drawn → List ℕ
 demo_text drawn =

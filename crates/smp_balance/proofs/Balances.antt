@@ -1,5 +1,5 @@
 -- Every selection from a stratum is balanced where that from its free units is.
-use Rattle.std.proofs.Common.{◌≡◌, ℕ, zero, suc, ◌-◌, ◌^◌, ◌<◌, ◌≤◌, cond, ℤ, List, [], ◌∷◌, length, get_or, arith, refl, sym, ap, ◌∙◌, subst, inl, inr, ◌⊎◌}
+use Rattle.std.proofs.Common.{◌≡◌, ℕ, zero, suc, ◌+◌, ◌-◌, ◌^◌, ◌<◌, ◌≤◌, Bool, cond, ℤ, List, [], ◌∷◌, length, get_or, arith, refl, sym, ap, ◌∙◌, subst, inl, inr, ◌⊎◌}
 use Rattle.std.specs.Prelude.{slice_index}
 use Rattle.std.proofs.lemmas.Bool.{cases_eq}
 use Rattle.std.proofs.lemmas.List.{get_or-map, length-map}
@@ -7,7 +7,8 @@ use Rattle.smp_fractions.specs.Fractions.{Fraction, Same, whole, plus, times, su
 use Rattle.smp_fractions.specs.Bounds.{absolute}
 use Rattle.smp_fractions.proofs.Fractions.{same_refl, same_sym, same_trans, plus_same, plus-zero, sum-zero}
 use Rattle.smp_kernel.specs.Vectors.{Within}
-use Rattle.smp_prob.specs.Inclusions.{inclusion}
+use Rattle.smp_prob.specs.Inclusions.{inclusion, is_taken}
+use Rattle.smp_rows.specs.Rows.{row_value}
 use Rattle.smp_split.specs.Trees.{Tree}
 use Rattle.smp_values.specs.Values.{is_fractional, is_one, value_at}
 use Rattle.smp_moves.specs.Cubes.{values_in}
@@ -30,15 +31,53 @@ use Rattle.smp_localcube.specs.Local.{IsLocal, local_of}
 use Rattle.smp_localcube.specs.Method.{LocalUnits, started}
 use Rattle.smp_localcube.specs.Laws.Splits.{is_local_cube}
 use Rattle.smp_localcube.proofs.Starts.{local_balances}
-use Rattle.smp_balance.specs.Strata.{StratumUnits, AreStratumUnits, values_of, column_count, row_count, free_values, free_units}
-use Rattle.smp_balance.specs.Totals.{AreBalanced, EachIsBalanced, IsBalanced, counted, total, known_of, known, estimate, error_bound}
+use Rattle.smp_moves.specs.Balances.{IsBalanced}
+use Rattle.smp_balance.specs.Strata.{StratumUnits, AreStratumUnits, values_of, column_count, free_values, free_units}
+use Rattle.smp_balance.specs.Totals.{AreBalanced, EachIsBalanced, balance_of, counted, error_bound, estimate, is_undecided, known, known_of, row_count, total}
 use Rattle.smp_rows.proofs.Sums.{at_free, sum_apart}
 use Rattle.smp_balance.proofs.Added.{is_added}
+use Rattle.smp_balance.proofs.Frames.{alone, from_first}
 use Rattle.smp_balance.proofs.Terms.{fixed_at, known_at, total_term, estimate_term, known_term, error_term}
 
 -- what the certain units of a stratum add to a row
 abbrev pub fixed : StratumUnits → ℕ → Fraction
 fixed s row = sum_below (length s.values) (λ k. fixed_at s row k (inclusion s.request k))
+
+-- the total of a row, of free units of these values
+abbrev pub total_in : StratumUnits → (ℕ → Fraction) → ℕ → Fraction
+total_in s value row = sum_below (length s.values) (λ k. times (counted s row k) (row_value value (inclusion s.request k)))
+
+-- what is estimated of it, where these free units are selected
+abbrev pub estimate_in : StratumUnits → (ℕ → Bool) → ℕ → Fraction
+estimate_in s selected row = sum_below (length s.values) (λ k. cond (is_taken selected (inclusion s.request k)) (counted s row k) (whole 0))
+
+-- what is known of it
+abbrev pub known_in : StratumUnits → ℕ → Fraction
+known_in s row = sum_below (length s.values) (known_of s row)
+
+-- what bounds its error, where these free units are undecided
+abbrev pub bound_in : StratumUnits → (ℕ → Bool) → ℕ → Fraction
+bound_in s open_ row = sum_below (length s.values) (λ k. cond (is_undecided open_ (inclusion s.request k)) (absolute (counted s row k)) (whole 0))
+
+-- these are those over the stratum alone
+module _ (s : StratumUnits) (row : ℕ) where
+  pub total_alone : (value : ℕ → Fraction) → Same (total (s ∷ []) value row) (total_in s value row)
+  total_alone value =
+      subst (λ (f : ℕ → Fraction). Same (total (s ∷ []) value row) (total_in s f row)) (from_first value)
+      (alone (λ before r u. total_in u (λ k. value (before + k)) r) s row)
+
+  pub estimate_alone : (selected : ℕ → Bool) → Same (estimate (s ∷ []) selected row) (estimate_in s selected row)
+  estimate_alone selected =
+      subst (λ (f : ℕ → Bool). Same (estimate (s ∷ []) selected row) (estimate_in s f row)) (from_first selected)
+      (alone (λ before r u. estimate_in u (λ k. selected (before + k)) r) s row)
+
+  pub known_alone : Same (known (s ∷ []) row) (known_in s row)
+  known_alone = alone (λ before r u. known_in u r) s row
+
+  pub bound_alone : (open_ : ℕ → Bool) → Same (error_bound (s ∷ []) open_ row) (bound_in s open_ row)
+  bound_alone open_ =
+      subst (λ (f : ℕ → Bool). Same (error_bound (s ∷ []) open_ row) (bound_in s f row)) (from_first open_)
+      (alone (λ before r u. bound_in u (λ k. open_ (before + k)) r) s row)
 
 module _ (s : StratumUnits) (ok : AreStratumUnits s) where
   -- ---- the sums over all units, by those over the free ones
@@ -48,35 +87,35 @@ module _ (s : StratumUnits) (ok : AreStratumUnits s) where
       subst (λ (m : ℕ). Same (sum_below (length s.values) f) (plus (sum_below m g) (sum_below (length s.values) h))) (sym ok.request.paired)
       (sum_apart s.request (length s.values) ok.inside ok.stands g f h each)
 
-  total_of : (at : Balancing) (row : ℕ) → Same (total s at row) (plus (row_total (free_units s) (values_in at) row) (fixed s row))
-  total_of at row =
-      apart (λ k. times (counted s row k) _) (λ u. times (expanded (free_units s) row u) (value_at (values_in at) u)) (λ k. fixed_at s row k (inclusion s.request k))
-      (λ k _. total_term s ok (value_at (values_in at)) row k (inclusion s.request k) refl)
+  pub total_apart : (value : ℕ → Fraction) (row : ℕ)
+      → Same (total_in s value row) (plus (sum_below (length s.request.shape) (λ u. times (expanded (free_units s) row u) (value u))) (fixed s row))
+  total_apart value row =
+      apart (λ k. times (counted s row k) (row_value value (inclusion s.request k))) (λ u. times (expanded (free_units s) row u) (value u)) (λ k. fixed_at s row k (inclusion s.request k))
+      (λ k _. total_term s ok value row k (inclusion s.request k) refl)
 
-  -- what is estimated of the free units
-  abbrev free_estimate : Balancing → ℕ → Fraction
-  free_estimate leaf row = sum_below (length s.request.shape) (λ u. cond (is_one (values_in leaf) u) (expanded (free_units s) row u) (whole 0))
+  pub estimate_apart : (selected : ℕ → Bool) (row : ℕ)
+      → Same (estimate_in s selected row) (plus (sum_below (length s.request.shape) (λ u. cond (selected u) (expanded (free_units s) row u) (whole 0))) (fixed s row))
+  estimate_apart selected row =
+      apart (λ k. cond (is_taken selected (inclusion s.request k)) (counted s row k) (whole 0)) (λ u. cond (selected u) (expanded (free_units s) row u) (whole 0)) (λ k. fixed_at s row k (inclusion s.request k))
+      (λ k _. estimate_term s ok selected row k (inclusion s.request k) refl)
 
-  estimate_of : (leaf : Balancing) (row : ℕ) → Same (estimate s leaf row) (plus (free_estimate leaf row) (fixed s row))
-  estimate_of leaf row =
-      apart (λ k. cond _ (counted s row k) (whole 0)) (λ u. cond (is_one (values_in leaf) u) (expanded (free_units s) row u) (whole 0)) (λ k. fixed_at s row k (inclusion s.request k))
-      (λ k _. estimate_term s ok (is_one (values_in leaf)) row k (inclusion s.request k) refl)
-
-  pub known_of_is : (row k : ℕ) → known_of s row k ≡ known_at s row k (inclusion s.request k)
+  known_of_is : (row k : ℕ) → known_of s row k ≡ known_at s row k (inclusion s.request k)
   known_of_is zero k = refl
   known_of_is (suc j) k = refl
 
-  known_is : (row : ℕ) → Same (known s row) (plus (target (free_units s) row) (fixed s row))
-  known_is row =
+  pub known_apart : (row : ℕ) → Same (known_in s row) (plus (target (free_units s) row) (fixed s row))
+  known_apart row =
       apart (known_of s row) (addend (free_units s) row) (λ k. fixed_at s row k (inclusion s.request k))
       (λ k _. rw (known_of_is row k) (known_term s ok row k (inclusion s.request k) refl))
 
-  error_is : (at : Balancing) (row : ℕ) → Same (error_bound s at row) (free.error_bound (free_units s) (values_in at) row)
-  error_is at row =
+  pub bound_apart : (open_ : ℕ → Bool) (row : ℕ)
+      → Same (bound_in s open_ row) (sum_below (length s.request.shape) (λ u. cond (open_ u) (absolute (expanded (free_units s) row u)) (whole 0)))
+  bound_apart open_ row =
+      let free_part : Fraction = sum_below (length s.request.shape) (λ u. cond (open_ u) (absolute (expanded (free_units s) row u)) (whole 0)) in
       same_trans
-      (apart (λ k. cond _ (absolute (counted s row k)) (whole 0)) (λ u. cond (is_fractional (values_in at) u) (absolute (expanded (free_units s) row u)) (whole 0)) (λ k. whole 0)
-      (λ k _. error_term s ok (is_fractional (values_in at)) row k (inclusion s.request k) refl))
-      (same_trans (plus_same (same_refl (free.error_bound (free_units s) (values_in at) row)) (sum-zero (length s.values) (λ k. whole 0) (λ k _. same_refl (whole 0)))) (plus-zero (free.error_bound (free_units s) (values_in at) row)))
+      (apart (λ k. cond (is_undecided open_ (inclusion s.request k)) (absolute (counted s row k)) (whole 0)) (λ u. cond (open_ u) (absolute (expanded (free_units s) row u)) (whole 0)) (λ k. whole 0)
+      (λ k _. error_term s ok open_ row k (inclusion s.request k) refl))
+      (same_trans (plus_same (same_refl free_part) (sum-zero (length s.values) (λ k. whole 0) (λ k _. same_refl (whole 0)))) (plus-zero free_part))
 
   -- ---- the free units
 
@@ -108,7 +147,7 @@ module _ (s : StratumUnits) (ok : AreStratumUnits s) where
   first_flight = started_flight (free_units s) (units_are s.request ok.request (free_values s) one_each free_are_values)
 
   -- a row of the stratum is a row of the free units, where there are any
-  free_row : (row : ℕ) → row < row_count s → 1 ≤ length s.request.free → row < flights.row_count (free_units s)
+  free_row : (row : ℕ) → row < row_count (s ∷ []) → 1 ≤ length s.request.free → row < flights.row_count (free_units s)
   free_row row l some = omega (arith, l, rows_are s.request ok.request (free_values s) one_each free_are_values, same_length 0 (omega (arith, some)))
 
   -- and where none is, its sums are 0
@@ -122,7 +161,7 @@ module _ (s : StratumUnits) (ok : AreStratumUnits s) where
   some_or_none : (1 ≤ length s.request.free) ⊎ (length s.request.free ≡ 0)
   some_or_none = elim (cases_eq (length s.request.free) 0) [ inl none ↦ inr none | inr some ↦ inl (omega (arith, some)) ]
 
-  fewer_rows : flights.row_count (free_units s) ≤ row_count s
+  fewer_rows : flights.row_count (free_units s) ≤ row_count (s ∷ [])
   fewer_rows =
       let rows = rows_are s.request ok.request (free_values s) one_each free_are_values in
       elim some_or_none [
@@ -135,7 +174,7 @@ module _ (s : StratumUnits) (ok : AreStratumUnits s) where
       first_none (x ∷ xs) h = absurd (omega arith)
 
   -- a row past those of the free units is one where there are none
-  past_free : (row : ℕ) → flights.row_count (free_units s) ≤ row → row < row_count s → length s.request.free ≡ 0
+  past_free : (row : ℕ) → flights.row_count (free_units s) ≤ row → row < row_count (s ∷ []) → length s.request.free ≡ 0
   past_free row past l = elim some_or_none [ inl some ↦ absurd (let within = free_row row l some in omega (arith, within, past)) | inr none ↦ none ]
 
   -- ---- a selection from the free units that is balanced
@@ -149,19 +188,23 @@ module _ (s : StratumUnits) (ok : AreStratumUnits s) where
       free_total_is : (t : State) (row : ℕ) → weighed_total (weighed_of draws) t row ≡ row_total (free_units s) (values_in (seen t)) row
       free_total_is t row = seen_total draws belongs is t row
 
+      abbrev free_estimate : Balancing → ℕ → Fraction
+      free_estimate leaf row = sum_below (length s.request.shape) (λ u. cond (is_one (values_in leaf) u) (expanded (free_units s) row u) (whole 0))
+
       free_estimate_is : (leaf : State) (row : ℕ) → weighed_estimate (weighed_of draws) leaf row ≡ free_estimate (seen leaf) row
       free_estimate_is leaf row = rw (is.units, is.selected leaf) refl
 
       free_bound_is : (t : State) (row : ℕ) → weighed_bound (weighed_of draws) t row ≡ free.error_bound (free_units s) (values_in (seen t)) row
       free_bound_is t row = rw is.units refl
 
-      is_balanced : IsBalanced s draws from
+      is_balanced : IsBalanced (balance_of s draws) from
       is_balanced =
-          is_added (weighed_balance (weighed_of draws)) (λ t. total s (seen t)) (known s) (λ t. estimate s (seen t)) (λ t. error_bound s (seen t)) (fixed s) (row_count s)
-          (λ t row. rw (free_total_is t row) (total_of (seen t) row))
-          known_is
-          (λ t row. rw (free_estimate_is t row) (estimate_of (seen t) row))
-          (λ t row. rw (free_bound_is t row) (same_sym (error_is (seen t) row)))
+          is_added (weighed_balance (weighed_of draws)) (λ t. total (s ∷ []) (value_at (values_in (seen t)))) (known (s ∷ [])) (λ t. estimate (s ∷ []) (is_one (values_in (seen t))))
+          (λ t. error_bound (s ∷ []) (is_fractional (values_in (seen t)))) (fixed s) (row_count (s ∷ []))
+          (λ t row. rw (free_total_is t row) (same_trans (total_alone s row (value_at (values_in (seen t)))) (total_apart (value_at (values_in (seen t))) row)))
+          (λ row. same_trans (known_alone s row) (known_apart row))
+          (λ t row. rw (free_estimate_is t row) (same_trans (estimate_alone s row (is_one (values_in (seen t)))) (estimate_apart (is_one (values_in (seen t))) row)))
+          (λ t row. rw (free_bound_is t row) (same_sym (same_trans (bound_alone s row (is_fractional (values_in (seen t)))) (bound_apart (is_fractional (values_in (seen t))) row))))
           fewer_rows
           (λ t row past l. rw (free_total_is t row) (none_free (λ u. times (expanded (free_units s) row u) (value_at (values_in (seen t)) u)) (addend (free_units s) row) (past_free row past l)))
           (λ t row past l. rw (free_estimate_is t row) (none_free (λ u. cond (is_one (values_in (seen t)) u) (expanded (free_units s) row u) (whole 0)) (addend (free_units s) row) (past_free row past l)))

@@ -9,7 +9,7 @@ use Rattle.smp_stratcube.specs.declared.units.Member.{Member}
 use Rattle.smp_stratcube.specs.Layers.{Layer, layer_of}
 use Rattle.smp_stratcube.specs.Units.{member_of, members_from, nobody}
 use Rattle.smp_balance.specs.Strata.{StratumUnits, free_values}
-use Rattle.smp_balance.specs.FrameTotals.{layers_of, over_frame, size_of, variable_of}
+use Rattle.smp_balance.specs.Totals.{layers_of, over_frame, size_of, variable_of}
 use Rattle.smp_balance.proofs.Runs.{halves, later_unit, own_unit}
 
 abbrev pub layer_in : StratumUnits → Layer

@@ -18,7 +18,7 @@ use Rattle.smp_stratcube.specs.Units.{column_of, member_of, members_from, nobody
 use Rattle.smp_stratcube.specs.Laws.Taken.{lowest_same}
 use Rattle.smp_stratcube.proofs.Stored.{in_rest, length-column}
 use Rattle.smp_balance.specs.Strata.{StratumUnits, AreStratumUnits, column_count, free_units, free_values}
-use Rattle.smp_balance.specs.FrameTotals.{layers_of, over_frame, variable_of}
+use Rattle.smp_balance.specs.Totals.{layers_of, over_frame, variable_of}
 use Rattle.smp_balance.proofs.Balances.{one_each, same_length}
 use Rattle.smp_balance.proofs.Terms.{entry_with, free_asked, some_asked}
 use Rattle.smp_balance.proofs.FrameSums.{ArePaired, layer_in, members_sum, size_sums, sums, variable_sums}

@@ -1,10 +1,12 @@
 pub mod Absolute
 pub mod Terms
 pub mod Added
+pub mod Frames
 pub mod Balances
 pub mod Told
+pub mod Sums
 pub mod Reports
-pub mod FrameRows
+pub mod ColumnSums
 pub mod Runs
 pub mod FrameSums
 pub mod FrameTerms

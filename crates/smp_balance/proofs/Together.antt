@@ -18,16 +18,14 @@ use Rattle.smp_stratcube.specs.Values.{is_fractional, is_one, value_at}
 use Rattle.smp_stratcube.proofs.BySteps.{is_balanced as strat_balanced}
 use Rattle.smp_stratcube.proofs.Layered.{units_are}
 use Rattle.smp_balance.specs.Strata.{StratumUnits, AreStratumUnits, column_count, free_units, free_values}
-use Rattle.smp_balance.specs.Totals.{counted as counts_in, known, known_of}
-use Rattle.smp_balance.specs.FrameTotals.{EachFrameIsBalanced, IsBalancedFrame, IsFrame, columns_in, frame_bound, frame_estimated, frame_known, frame_total_at, frame_units}
-use Rattle.smp_balance.specs.FrameTotals.{layers_of, over_frame, stratum_bound, stratum_estimate, stratum_total}
+use Rattle.smp_balance.specs.Totals.{EachFrameIsBalanced, IsBalancedFrame, IsFrame, columns_in, error_bound, estimate, frame_units, known, layers_of, over_frame, total}
 use Rattle.smp_balance.proofs.Absolute.{absolute_same}
 use Rattle.smp_balance.proofs.Added.{is_added}
-use Rattle.smp_balance.proofs.Balances.{apart, fixed, free_are_values, known_of_is, one_each, same_length}
+use Rattle.smp_balance.proofs.Balances.{bound_apart, bound_in, estimate_apart, estimate_in, fixed, free_are_values, known_apart, known_in, one_each, same_length, total_apart, total_in}
 use Rattle.smp_balance.proofs.FrameSums.{ArePaired, both, layer_in, over_plus, over_same}
 use Rattle.smp_balance.proofs.FrameTerms.{Counts, IsIn, added, adds, counted, counts_for, over_units, part_of}
 use Rattle.smp_balance.proofs.Runs.{all_units}
-use Rattle.smp_balance.proofs.Terms.{cond_same, error_term, estimate_term, fixed_at, known_term, total_term}
+use Rattle.smp_balance.proofs.Terms.{cond_same}
 
 -- ---- the strata as they are drawn from
 
@@ -201,45 +199,35 @@ module _ (frame : List StratumUnits) (is : IsFrame frame) where
         either true = same_refl (whole 0)
         either false = same_refl (whole 0)
 
-    total_is : (row : ℕ) → Same (frame_total_at frame t row) (plus ((balance_of (weighed_of units)).total t row) (over_frame certain_part frame row))
+    total_is : (row : ℕ) → Same (total frame (value_at (values_in t)) row) (plus ((balance_of (weighed_of units)).total t row) (over_frame certain_part frame row))
     total_is row =
-        with_certain (λ before r s. stratum_total before t r s)
+        with_certain (λ before r s. total_in s (λ u. value_at (values_in t) (before + u)) r)
         (part_of by_value value_alike (λ i. zero-times (value_at (values_in t) i)) count (counts_for (length units.firsts)) (λ s. free.expanded (free_units s)) counts)
-        (λ before r s in_. apart s in_.ok (λ k. times (counts_in s r k) _) (λ u. times (free.expanded (free_units s) r u) (value_at (values_in t) (before + u))) (λ k. fixed_at s r k (inclusion s.request k))
-        (λ k _. total_term s in_.ok (λ u. value_at (values_in t) (before + u)) r k (inclusion s.request k) refl))
+        (λ before r s in_. total_apart s in_.ok (λ u. value_at (values_in t) (before + u)) r)
         row ((balance_of (weighed_of units)).total t row)
         (over_units by_value value_alike (λ i. zero-times (value_at (values_in t) i)) count (counts_for (length units.firsts)) (λ s. free.expanded (free_units s)) counts frame paired are all row)
 
-    estimate_is : (row : ℕ) → Same (frame_estimated frame t row) (plus ((balance_of (weighed_of units)).estimate t row) (over_frame certain_part frame row))
+    estimate_is : (row : ℕ) → Same (estimate frame (is_one (values_in t)) row) (plus ((balance_of (weighed_of units)).estimate t row) (over_frame certain_part frame row))
     estimate_is row =
-        with_certain (λ before r s. stratum_estimate before t r s)
+        with_certain (λ before r s. estimate_in s (λ u. is_one (values_in t) (before + u)) r)
         (part_of where_one one_alike no_one count (counts_for (length units.firsts)) (λ s. free.expanded (free_units s)) counts)
-        (λ before r s in_. apart s in_.ok (λ k. cond _ (counts_in s r k) (whole 0)) (λ u. cond (is_one (values_in t) (before + u)) (free.expanded (free_units s) r u) (whole 0)) (λ k. fixed_at s r k (inclusion s.request k))
-        (λ k _. estimate_term s in_.ok (λ u. is_one (values_in t) (before + u)) r k (inclusion s.request k) refl))
+        (λ before r s in_. estimate_apart s in_.ok (λ u. is_one (values_in t) (before + u)) r)
         row ((balance_of (weighed_of units)).estimate t row)
         (over_units where_one one_alike no_one count (counts_for (length units.firsts)) (λ s. free.expanded (free_units s)) counts frame paired are all row)
 
-    bound_in : (before r : ℕ) (s : StratumUnits) → IsIn (length (layers_of frame)) s
-        → Same (part_of where_open open_alike no_open count (counts_for (length units.firsts)) (λ s. free.expanded (free_units s)) counts before r s) (stratum_bound before t r s)
-    bound_in before r s in_ =
-        let own : Fraction = sum_below (length s.request.shape) (λ u. cond (is_fractional (values_in t) (before + u)) (absolute (free.expanded (free_units s) r u)) (whole 0)) in
-        same_sym (same_trans
-        (apart s in_.ok (λ k. cond _ (absolute (counts_in s r k)) (whole 0)) (λ u. cond (is_fractional (values_in t) (before + u)) (absolute (free.expanded (free_units s) r u)) (whole 0)) (λ k. whole 0)
-        (λ k _. error_term s in_.ok (λ u. is_fractional (values_in t) (before + u)) r k (inclusion s.request k) refl))
-        (same_trans (plus_same (same_refl own) (sum-zero (length s.values) (λ k. whole 0) (λ k _. same_refl (whole 0)))) (plus-zero own)))
-
-    bound_is : (row : ℕ) → Same ((balance_of (weighed_of units)).bound t row) (frame_bound frame t row)
+    bound_is : (row : ℕ) → Same ((balance_of (weighed_of units)).bound t row) (error_bound frame (is_fractional (values_in t)) row)
     bound_is row =
         same_trans (over_units where_open open_alike no_open count (counts_for (length units.firsts)) (λ s. free.expanded (free_units s)) counts frame paired are all row)
         (over_same (IsIn (length (layers_of frame)))
-        (part_of where_open open_alike no_open count (counts_for (length units.firsts)) (λ s. free.expanded (free_units s)) counts) (λ before r s. stratum_bound before t r s) bound_in frame are row)
+        (part_of where_open open_alike no_open count (counts_for (length units.firsts)) (λ s. free.expanded (free_units s)) counts)
+        (λ before r s. bound_in s (λ u. is_fractional (values_in t) (before + u)) r)
+        (λ before r s in_. same_sym (bound_apart s in_.ok (λ u. is_fractional (values_in t) (before + u)) r)) frame are row)
 
-  known_is : (row : ℕ) → Same (frame_known frame row) (plus ((balance_of (weighed_of units)).known row) (over_frame certain_part frame row))
+  known_is : (row : ℕ) → Same (known frame row) (plus ((balance_of (weighed_of units)).known row) (over_frame certain_part frame row))
   known_is row =
-      with_certain (λ before r s. known s r)
+      with_certain (λ before r s. known_in s r)
       (part_of (λ x i. x) (λ a b i h. h) (λ i. same_refl (whole 0)) count (adds (length units.firsts)) (λ s. free.addend (free_units s)) adding)
-      (λ before r s in_. apart s in_.ok (known_of s r) (free.addend (free_units s) r) (λ k. fixed_at s r k (inclusion s.request k))
-      (λ k _. rw (known_of_is s in_.ok r k) (known_term s in_.ok r k (inclusion s.request k) refl)))
+      (λ before r s in_. known_apart s in_.ok r)
       row ((balance_of (weighed_of units)).known row)
       (over_units (λ x i. x) (λ a b i h. h) (λ i. same_refl (whole 0)) count (adds (length units.firsts)) (λ s. free.addend (free_units s)) adding frame paired are all row)
 
@@ -260,7 +248,8 @@ module _ (frame : List StratumUnits) (is : IsFrame frame) where
   pub is_balanced : IsBalancedFrame frame
   is_balanced =
       let n : ℕ = length units.members in
-      is_added (balance_of (weighed_of units)) (frame_total_at frame) (frame_known frame) (frame_estimated frame) (frame_bound frame) certain (length frame + columns_in frame)
+      is_added (balance_of (weighed_of units)) (λ t. total frame (value_at (values_in t))) (known frame) (λ t. estimate frame (is_one (values_in t))) (λ t. error_bound frame (is_fractional (values_in t)))
+      certain (length frame + columns_in frame)
       total_is known_is estimate_is bound_is
       (omega (arith, all, variables_most))
       (λ t row past l. none_left (λ k. times (expanded units row k) (value_at (values_in t) k)) (addend units row) n (none_past row past l))

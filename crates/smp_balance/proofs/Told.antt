@@ -1,31 +1,27 @@
--- What is told of a stratum, in the numbers of the code.
-use Rattle.std.proofs.Common.{◌≡◌, ℕ, zero, suc, ◌+◌, ◌-◌, ◌*◌, ◌^◌, ◌<◌, ◌≤◌, Bool, true, false, cond, ℤ, pos, ◌+ℤ◌, List, [], ◌∷◌, ◌++◌, map, drop, length, get_or, arith, refl, sym, ap, ◌∙◌, drop-cons, mul-pos, FitsSigned, SFits, w64}
-use Rattle.std.specs.Prelude.{slice_index, replicate}
+-- Probabilities in lowest terms, and lines one after another.
+use Rattle.std.proofs.Common.{◌≡◌, ◌≢◌, ℕ, suc, ◌+◌, ◌<◌, ◌≤◌, Bool, true, false, true≢false, cond, ℤ, pos, List, [], ◌∷◌, ◌++◌, map, drop, length, get_or, arith, refl, sym, ap, subst, ◌∙◌, drop-cons, mul-pos}
+use Rattle.std.specs.Prelude.{nat_eq, slice_index}
 use Rattle.std.specs.List.{flat_map, range_with_len}
-use Rattle.std.proofs.lemmas.Int.{fits_signed_from_abs}
+use Rattle.std.proofs.lemmas.Bool.{ne_eqb}
+use Rattle.std.proofs.lemmas.Int.{ints}
 use Rattle.std.proofs.lemmas.List.{append-nil, append_assoc, drop_all}
 use Rattle.std.proofs.lemmas.List.FromFn.{get_or-range_with_len, length-range_with_len}
 use Rattle.std.specs.Int.RustNames.{unsigned_abs}
-use Rattle.smp_fractions.specs.Fractions.{Same, whole}
-use Rattle.smp_fractions.proofs.Fractions.{same_refl}
+use Rattle.smp_fractions.specs.Fractions.{Same, inverse, integer, times, whole}
+use Rattle.smp_fractions.proofs.Fractions.{inverse_same, same_refl, same_trans, times_same}
 use Rattle.smp_frac.specs.declared.fractions.Frac.{Frac}
 use Rattle.smp_frac.specs.Fractions.{fraction}
-use Rattle.smp_kernel.proofs.Fits.{abs_sum}
-use Rattle.smp_kernel.proofs.Limits.{entry_within}
 use Rattle.smp_prob.specs.declared.requests.Request.{Request}
 use Rattle.smp_prob.specs.declared.inclusions.Inclusion.{Inclusion}
 use Rattle.smp_prob.specs.declared.inclusions.Inclusion.TheVariants.{Certain, Free, Never}
 use Rattle.smp_prob.specs.Requests.{IsRequest}
-use Rattle.smp_prob.specs.Inclusions.{inclusion, fraction_at, asked_fraction}
-use Rattle.smp_flight.specs.Requests.{AreValues}
+use Rattle.smp_prob.specs.Inclusions.{inclusion, fraction_at, asked_fraction, is_taken}
 use Rattle.smp_frac.specs.LowestTerms.{lowest_terms}
-use Rattle.smp_weights.specs.Chosen.{chosen_units}
+use Rattle.smp_weights.specs.Chosen.{weight}
 use Rattle.smp_rows.specs.Laws.Rows.{free_within}
 use Rattle.smp_fractions.specs.Bounds.{absolute}
-use Rattle.smp_frac.proofs.LowestTerms.{lowest_terms-positive, same-lowest_terms}
-use Rattle.smp_balance.specs.Strata.{StratumUnits, value_in, values_of}
-use Rattle.smp_balance.specs.Totals.{can_be_selected, known_value}
-use Rattle.smp_balance.specs.Lines.{known_total}
+use Rattle.smp_frac.proofs.LowestTerms.{lowest_terms-positive, lowest_terms-value, same-lowest_terms}
+use Rattle.smp_balance.specs.Totals.{can_be_selected}
 
 -- a probability has no sign
 no_sign : (request : Request) (f : Frac) (stand : Inclusion) → Same (fraction f) (fraction_at request stand) → Same (fraction f) (absolute (fraction_at request stand))
@@ -45,43 +41,7 @@ no_sign_at request k = unsigned_is request (inclusion request k)
 pub asked_is : (request : Request) (f : Frac) (k : ℕ) → Same (fraction f) (asked_fraction request k) → f ≡ lowest_terms (asked_fraction request k)
 asked_is request f k h = same-lowest_terms f (asked_fraction request k) (no_sign request f (inclusion request k) h)
 
--- ---- the sum of a column stays small
-
-value_small : (s : StratumUnits) → AreValues s.values → (column k : ℕ) → k < length s.values → unsigned_abs (value_in s column k) ≤ 2 ^ 31
-value_small s ok column k l =
-    let small : unsigned_abs (value_in s column k) ≤ 2 ^ 31 - 1 = entry_within (2 ^ 31 - 1) (values_of s k) (ok.within k l) column in
-    omega (arith, small)
-
-term_small : (b : Bool) (z : ℤ) → unsigned_abs z ≤ 2 ^ 31 → unsigned_abs (cond b z (pos 0)) ≤ 2 ^ 31
-term_small true z h = h
-term_small false z h = omega arith
-
-known_small : (s : StratumUnits) → AreValues s.values → (column k : ℕ) → k < length s.values → unsigned_abs (known_value s column k) ≤ 2 ^ 31
-known_small s ok column k l = term_small (can_be_selected (inclusion s.request k)) (value_in s column k) (value_small s ok column k l)
-
-pub total_small : (s : StratumUnits) → AreValues s.values → (column n : ℕ) → n ≤ length s.values → unsigned_abs (known_total s column n) ≤ n * 2 ^ 31
-total_small s ok column zero l = omega arith
-total_small s ok column (suc n) l =
-    let here = known_small s ok column n (omega (arith, l)) in
-    let before = total_small s ok column n (omega (arith, l)) in
-    let both = abs_sum (known_total s column n) (known_value s column n) in
-    omega (arith, here, before, both)
-
-pub total_fits : (s : StratumUnits) → AreValues s.values → (column n : ℕ) → length s.values ≤ 200000 → n < length s.values → (FitsSigned w64 (known_total s column n +ℤ known_value s column n)) × (SFits w64 (known_value s column n))
-total_fits s ok column n few l =
-    let next = total_small s ok column (suc n) (omega (arith, l)) in
-    let here = known_small s ok column n l in (
-      fits_signed_from_abs w64 (known_total s column n +ℤ known_value s column n) (let h : unsigned_abs (known_total s column n +ℤ known_value s column n) < 2 ^ 63 = omega (arith, next, few, l) in h),
-      fits_signed_from_abs w64 (known_value s column n) (let h : unsigned_abs (known_value s column n) < 2 ^ 63 = omega (arith, here) in h),
-    )
-
--- ---- the drawn units are chosen, each with a positive probability
-
-pub all_chosen : {A : Type 0} (f : ℕ → A) (g : ℕ → Frac) (us : List ℕ) (n : ℕ) → n ≡ length us → chosen_units (map f us) (map g us) (replicate n true) ≡ map (λ k. record { value = f k; asked = g k }) us
-all_chosen f g [] zero e = refl
-all_chosen f g [] (suc n) e = absurd (omega arith)
-all_chosen f g (k ∷ us) zero e = absurd (omega arith)
-all_chosen f g (k ∷ us) (suc n) e = ap (λ rest. record { value = f k; asked = g k } ∷ rest) (all_chosen f g us n (omega arith))
+-- ---- a unit that can be selected has a positive probability
 
 fraction_positive : (request : Request) → IsRequest request → (k : ℕ) (stand : Inclusion) → inclusion request k ≡ stand → can_be_selected stand ≡ true → 1 ≤ unsigned_abs (fraction_at request stand).num
 fraction_positive request ok k Certain is can = omega arith
@@ -93,6 +53,46 @@ fraction_positive request ok k (Free u) is can =
 
 pub asked_positive : (request : Request) → IsRequest request → (k : ℕ) → can_be_selected (inclusion request k) ≡ true → 1 ≤ (lowest_terms (asked_fraction request k)).num
 asked_positive request ok k can = lowest_terms-positive (asked_fraction request k) (fraction_positive request ok k (inclusion request k) refl can)
+
+-- ---- a unit that is selected, and one that can be
+
+module _ (request : Request) (ok : IsRequest request) (k : ℕ) where
+  known_at : (stands : Inclusion) → inclusion request k ≡ stands → (z : ℤ) → cond (nat_eq (lowest_terms (asked_fraction request k)).num 0) (pos 0) z ≡ cond (can_be_selected stands) z (pos 0)
+  known_at Never is z =
+      let value : Same (fraction (lowest_terms (asked_fraction request k))) (whole 0) =
+      subst (λ (i : Inclusion). Same (fraction (lowest_terms (asked_fraction request k))) (fraction_at request i)) is
+      (same_trans (lowest_terms-value (asked_fraction request k)) (no_sign_at request k)) in
+      let nothing : (lowest_terms (asked_fraction request k)).num ≡ 0 = omega (arith, ints, value.cross) in
+      rw nothing refl
+  known_at Certain is z = rw (ne_eqb (lowest_terms (asked_fraction request k)).num 0 (λ e. omega (arith, e, some))) refl
+    where
+      some : 1 ≤ (lowest_terms (asked_fraction request k)).num
+      some = asked_positive request ok k (ap can_be_selected is)
+  known_at (Free u) is z = rw (ne_eqb (lowest_terms (asked_fraction request k)).num 0 (λ e. omega (arith, e, some))) refl
+    where
+      some : 1 ≤ (lowest_terms (asked_fraction request k)).num
+      some = asked_positive request ok k (ap can_be_selected is)
+
+  pub known_is : (z : ℤ) → cond (nat_eq (lowest_terms (asked_fraction request k)).num 0) (pos 0) z ≡ cond (can_be_selected (inclusion request k)) z (pos 0)
+  known_is = known_at (inclusion request k) refl
+
+  can_at : (chosen : ℕ → Bool) (stands : Inclusion) → is_taken chosen stands ≡ true → can_be_selected stands ≡ true
+  can_at chosen Certain taken = refl
+  can_at chosen (Free u) taken = refl
+  can_at chosen Never taken = absurd (true≢false (sym taken))
+
+  -- a unit that is selected counts for its value times its weight
+  pub taken_is : (chosen : ℕ → Bool) (z : ℤ) (taken : Bool) → is_taken chosen (inclusion request k) ≡ taken
+      → Same (cond taken (times (integer z) (weight (lowest_terms (asked_fraction request k)))) (whole 0))
+      (cond taken (times (integer (cond (can_be_selected (inclusion request k)) z (pos 0))) (inverse (asked_fraction request k))) (whole 0))
+  taken_is chosen z false is = same_refl (whole 0)
+  taken_is chosen z true is =
+      let can = can_at chosen (inclusion request k) is in
+      let positive : 1 ≤ (lowest_terms (asked_fraction request k)).num = asked_positive request ok k can in
+      rw can
+      (times_same (same_refl (integer z))
+      (inverse_same (fraction (lowest_terms (asked_fraction request k))) (asked_fraction request k) (λ none. omega (arith, ints, positive, none))
+      (same_trans (lowest_terms-value (asked_fraction request k)) (no_sign_at request k))))
 
 -- ---- one after another
 

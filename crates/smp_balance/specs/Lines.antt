@@ -1,54 +1,53 @@
--- What the report tells of a stratum that was drawn by the cube: `left H L`, and then `balance H J E T` for each balancing column.
-use Rattle.std.specs.Prelude.{◌≡◌, ℕ, zero, suc, ◌+◌, ◌<◌, ◌≤◌, ◌++◌, true, if◌then◌else◌, List, ℤ, pos}
-use Rattle.std.specs.Prelude.{◌+ℤ◌, length, map, All, codes, Result, Ok, Err}
+-- What the report tells of the units that were drawn: `left H L`, and then `balance H J E T` for each balancing column.
+use Rattle.std.specs.Prelude.{◌≡◌, ℕ, ◌+◌, ◌-◌, ◌≤◌, ◌++◌, nat_eq, cond, if◌then◌else◌, Bool, All, List, ◌∷◌, ℤ, pos, ◌+ℤ◌, length, map}
+use Rattle.std.specs.Prelude.{codes, Result, Ok, Err}
 use Rattle.std.specs.List.{flat_map, range_with_len}
 use Rattle.std.specs.Fmt.{decimal, signed_decimal}
-use Rattle.smp_fractions.specs.Limits.{most_rows}
-use Rattle.smp_prob.specs.Inclusions.{inclusion, asked_fraction}
-use Rattle.smp_frac.specs.declared.signed.Signed.{Signed}
+use Rattle.smp_fractions.specs.Limits.{most_rows, number_limit}
 use Rattle.smp_frac.specs.declared.fractions.Frac.{Frac}
 use Rattle.smp_frac.specs.declared.fractions.Wide.{Wide}
-use Rattle.smp_frac.specs.LowestTerms.{lowest_terms}
-use Rattle.smp_weights.specs.Chosen.{Chosen}
+use Rattle.smp_frac.specs.declared.signed.Signed.{Signed}
+use Rattle.smp_kernel.specs.Vectors.{Within, entry}
+use Rattle.smp_weights.specs.Chosen.{ChosenArePositive, chosen_units}
 use Rattle.smp_weights.specs.Totals.{estimate_of}
-use Rattle.smp_balance.specs.declared.lines.DrawnStratum as code
-use Rattle.smp_balance.specs.Strata.{StratumUnits, AreStratumUnits, column_count, value_in}
-use Rattle.smp_balance.specs.Totals.{can_be_selected, known_value}
+use Rattle.smp_balance.specs.declared.lines.DrawnUnits as code
 
--- What was drawn of a stratum: its number, from 1; how many units were undecided where the landing began; how many balancing columns
--- there are; its request and the balancing values of its units; and the units that were drawn, in frame order.
+-- What was drawn of a stratum, or of all strata together: the number that is told; how many units were undecided where the landing began;
+-- how many balancing columns there are; and of each unit, in frame order, its balancing values, its probability, and whether it was drawn.
 pub record Drawn : Type 0 where
   pub number : ℕ
   pub left : ℕ
   pub columns : ℕ
-  pub stratum : StratumUnits
-  pub units : List ℕ
+  pub values : List (List ℤ)
+  pub asked : List Frac
+  pub chosen : List Bool
 
-abbrev pub drawn_view : code.DrawnStratum → Drawn
+abbrev pub drawn_view : code.DrawnUnits → Drawn
 drawn_view drawn = record {
   number = drawn.number;
   left = drawn.left;
   columns = drawn.columns;
-  stratum = record { request = drawn.request.now; values = map (λ v. v.now) drawn.values.now };
-  units = drawn.units.now;
+  values = map (λ v. v.now) drawn.values.now;
+  asked = drawn.asked.now;
+  chosen = drawn.chosen.now;
 }
 
--- the sum of a column over those of the first n units that can be selected
-abbrev pub known_total : StratumUnits → ℕ → ℕ → ℤ
-known_total s column zero = pos 0
-known_total s column (suc n) =
-    known_total s column n +ℤ known_value s column n
+-- the values of the units in a column
+abbrev pub column_of : Drawn → ℕ → List ℤ
+column_of drawn column = map (λ v. entry v column) drawn.values
 
--- the drawn units with their values in a column and their probabilities
-abbrev pub weighed : StratumUnits → ℕ → ℕ → Chosen ℤ
-weighed s column k = record {
-  value = value_in s column k;
-  asked = lowest_terms (asked_fraction s.request k);
-}
+-- the sum of some numbers over the units whose probability isn't 0
+abbrev pub known_sum : List Frac → List ℤ → ℤ
+known_sum (p ∷ asked) (x ∷ xs) = cond (nat_eq p.num 0) (pos 0) x +ℤ known_sum asked xs
+known_sum asked xs = pos 0
+
+-- the sum of a column over them
+abbrev pub known_total : Drawn → ℕ → ℤ
+known_total drawn column = known_sum drawn.asked (column_of drawn column)
 
 -- the estimate of a column's sum, by exact arithmetic in frame order
 abbrev pub column_estimate : Drawn → ℕ → Result Signed Wide
-column_estimate drawn column = estimate_of (map (weighed drawn.stratum column) drawn.units)
+column_estimate drawn column = estimate_of (chosen_units (column_of drawn column) drawn.asked drawn.chosen)
 
 -- ---- the lines
 
@@ -60,28 +59,30 @@ abbrev pub estimate_text : Result Signed Wide → List ℕ
 estimate_text (Ok a) = if a.minus then codes "-" ++ size_text a.size else size_text a.size
 estimate_text (Err wide) = codes "wide"
 
--- the line `left` of a stratum: its number, and how many units were undecided where its landing began
+-- the line `left`: the number, and how many units were undecided where the landing began
 abbrev pub left_line : Drawn → List ℕ
 left_line drawn =
     codes "left " ++ (decimal drawn.number ++ (codes " " ++ (decimal drawn.left ++ codes "\n")))
 
--- the line `balance` of a column: the numbers of the stratum and of the column, the estimate of its sum, and the known sum
+-- the line `balance` of a column: the number, that of the column, the estimate of its sum, and the known sum
 abbrev pub balance_line : Drawn → ℕ → List ℕ
 balance_line drawn column =
     codes "balance " ++ (decimal drawn.number ++ (codes " " ++ (decimal (column + 1)
     ++ (codes " " ++ (estimate_text (column_estimate drawn column)
-    ++ (codes " " ++ (signed_decimal (known_total drawn.stratum column (length drawn.stratum.values))
-    ++ codes "\n")))))))
+    ++ (codes " " ++ (signed_decimal (known_total drawn column) ++ codes "\n")))))))
 
--- the lines of a stratum
+-- all lines
 abbrev pub balance_lines : Drawn → List ℕ
 balance_lines drawn =
     left_line drawn ++ flat_map (balance_line drawn) (range_with_len 0 drawn.columns)
 
--- what is told can be told: the units have a value in each column, and those that are drawn can be selected
-pub record IsTold (drawn : Drawn) : Type 0 where
-  pub stratum : AreStratumUnits drawn.stratum
-  pub few : length drawn.stratum.values ≤ most_rows
-  pub columns : drawn.columns ≡ column_count drawn.stratum
-  pub units : All (λ k. can_be_selected (inclusion drawn.stratum.request k) ≡ true) drawn.units
-  pub within : All (λ k. k < length drawn.stratum.values) drawn.units
+-- What is told can be told: there are 15 columns at most, each unit has a value in each of them, below 2^31 without its sign, and those
+-- that are drawn have a probability.
+pub record AreTold (drawn : Drawn) : Type 0 where
+  pub few : length drawn.values ≤ most_rows
+  pub narrow : drawn.columns ≤ 15
+  pub asked : length drawn.asked ≡ length drawn.values
+  pub chosen : length drawn.chosen ≡ length drawn.values
+  pub counted : All (λ v. drawn.columns ≤ length v) drawn.values
+  pub small : All (Within (number_limit - 1)) drawn.values
+  pub positive : ChosenArePositive drawn.asked drawn.chosen

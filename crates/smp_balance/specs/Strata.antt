@@ -1,6 +1,6 @@
 -- A stratum that is drawn by the cube method (Deville and Tillé 2004), or by the local cube, over all of its units: those that are free,
 -- which the method draws from, those that are certain, and those that are never selected.
-use Rattle.std.specs.Prelude.{◌≡◌, ℕ, suc, ◌<◌, List, [], ℤ, length, map, slice_index, slice_index_or}
+use Rattle.std.specs.Prelude.{◌≡◌, ℕ, ◌<◌, List, [], ℤ, length, map, slice_index, slice_index_or}
 use Rattle.smp_prob.specs.declared.requests.Request.{Request}
 use Rattle.smp_prob.specs.declared.inclusions.Inclusion.TheVariants.{Free}
 use Rattle.smp_prob.specs.Requests.{IsRequest}
@@ -21,12 +21,9 @@ values_of s k = slice_index_or s.values k []
 abbrev pub value_in : StratumUnits → ℕ → ℕ → ℤ
 value_in s column k = entry (values_of s k) column
 
--- how many balancing columns there are, and how many rows: the probabilities are the first
+-- how many balancing columns there are
 abbrev pub column_count : StratumUnits → ℕ
 column_count s = length (values_of s 0)
-
-abbrev pub row_count : StratumUnits → ℕ
-row_count s = suc (column_count s)
 
 -- the balancing values of the free units, in their order
 abbrev pub free_values : StratumUnits → List (List ℤ)

@@ -1,21 +1,31 @@
--- Balancing totals over all units of a stratum, and what is estimated of them by design weights (Horvitz and Thompson 1952).
-use Rattle.std.specs.Prelude.{ℕ, zero, suc, Bool, true, false, cond, List, ℤ, pos, length}
-use Rattle.smp_fractions.specs.Fractions.{Fraction, whole, integer, times, inverse, sum_below}
+-- Balancing totals over all units of the strata that are drawn in one selection, and what is estimated of them by design weights (Horvitz and
+-- Thompson 1952): of one stratum alone, by the cube or the local cube; or of all strata together (Chauvet 2009). The first rows are the sizes
+-- of the strata, the others the variables.
+use Rattle.std.specs.Prelude.{◌≡◌, ℕ, zero, suc, ◌+◌, ◌-◌, ◌≤◌, nat_lt, if◌then◌else◌, Bool, true, false, cond, All, List, [], ◌∷◌, ℤ, pos}
+use Rattle.std.specs.Prelude.{length, map}
+use Rattle.smp_fractions.specs.Fractions.{Fraction, whole, integer, plus, times, inverse, sum_below}
 use Rattle.smp_fractions.specs.Bounds.{absolute}
 use Rattle.smp_prob.specs.declared.inclusions.Inclusion.{Inclusion}
 use Rattle.smp_prob.specs.declared.inclusions.Inclusion.TheVariants.{Free, Never}
 use Rattle.smp_prob.specs.Inclusions.{inclusion, is_taken, asked_fraction}
-use Rattle.smp_values.specs.Values.{fractional_count, is_fractional, is_one, value_at}
 use Rattle.smp_rows.specs.Rows.{row_value}
-use Rattle.smp_moves.specs.Balances as moves
-use Rattle.smp_moves.specs.Balances.{Balance}
-use Rattle.smp_moves.specs.Cubes.{HasIndependentColumns, left_in, rows_in, values_in}
-use Rattle.smp_flight.specs.Selections.{Balancing, Selection, shares_cube, starting}
+use Rattle.smp_split.specs.Trees.{Tree}
+use Rattle.smp_moves.specs.Balances.{Balance, IsBalanced}
+use Rattle.smp_moves.specs.Cubes.{Balancing, Cube, HasIndependentColumns, left_in, rows_in, values_in}
+use Rattle.smp_flight.specs.Selections.{Selection, shares_cube, starting}
 use Rattle.smp_flight.specs.Landings.{IsStuck}
 use Rattle.smp_landing.specs.Cube.{cube_of}
 use Rattle.smp_localcube.specs.Local.{local_of}
 use Rattle.smp_localcube.specs.Method.{started}
-use Rattle.smp_balance.specs.Strata.{StratumUnits, AreStratumUnits, free_units, row_count, value_in}
+use Rattle.smp_stratcube.specs.Balances as together
+use Rattle.smp_stratcube.specs.Cube.{cube_by, strat_tree}
+use Rattle.smp_stratcube.specs.Layers.{Layer, layer_of}
+use Rattle.smp_stratcube.specs.States as strata
+use Rattle.smp_stratcube.specs.Steps.{stepping}
+use Rattle.smp_stratcube.specs.Units.{Units, units_of}
+use Rattle.smp_balance.specs.Strata.{StratumUnits, AreStratumUnits, column_count, free_units, free_values, value_in}
+
+-- ---- what a unit counts for
 
 -- whether a unit can be selected: its probability isn't 0
 abbrev pub can_be_selected : Inclusion → Bool
@@ -27,79 +37,137 @@ abbrev pub known_value : StratumUnits → ℕ → ℕ → ℤ
 known_value s column k =
     cond (can_be_selected (inclusion s.request k)) (value_in s column k) (pos 0)
 
--- What a unit counts for in the total of a row: 1 in the first row; in any other its balancing value over the probability that is asked for
--- it, and 0 where that is 0.
+-- What a unit counts for in the total of a row: 1 in that of a size; in that of a variable its balancing value over the probability that is
+-- asked for it, and 0 where that is 0. Row 0 is that of the size of its stratum, and those behind are the variables.
 abbrev pub counted : StratumUnits → ℕ → ℕ → Fraction
 counted s zero k = whole 1
 counted s (suc column) k =
     times (integer (known_value s column k)) (inverse (asked_fraction s.request k))
 
--- the value of a unit at a state: 1 where it is certain, and 0 where it is never selected
-abbrev pub value_of : StratumUnits → Balancing → ℕ → Fraction
-value_of s state k = row_value (value_at (values_in state)) (inclusion s.request k)
-
--- The total of a row at a state: the sum over the units of what each counts for, times its value. In the first row that is the sum of the
--- values. A unit of probability 0 has the value 0, so it adds nothing.
-abbrev pub total : StratumUnits → Balancing → ℕ → Fraction
-total s state row = sum_below (length s.values) (λ k. times (counted s row k) (value_of s state k))
-
--- what a unit adds to what is known of a row: in the first row its probability, in that of a column its value where it can be selected
+-- what it adds to what is known of a row: to a size its probability, to a variable its value where it can be selected
 abbrev pub known_of : StratumUnits → ℕ → ℕ → Fraction
 known_of s zero k = asked_fraction s.request k
 known_of s (suc column) k = integer (known_value s column k)
-
--- What is known of a row: the sum of the probabilities; of a column the sum over the units that can be selected.
-abbrev pub known : StratumUnits → ℕ → Fraction
-known s row = sum_below (length s.values) (known_of s row)
-
--- whether a unit is selected at a leaf
-abbrev pub is_selected : StratumUnits → Balancing → ℕ → Bool
-is_selected s leaf k = is_taken (is_one (values_in leaf)) (inclusion s.request k)
-
--- the estimate at a leaf: the number of selected units; of a column the sum of their values over their probabilities
-abbrev pub estimate : StratumUnits → Balancing → ℕ → Fraction
-estimate s leaf row =
-    sum_below (length s.values) (λ k. cond (is_selected s leaf k) (counted s row k) (whole 0))
 
 -- whether a unit that stands so is undecided, where these free units are
 abbrev pub is_undecided : (ℕ → Bool) → Inclusion → Bool
 is_undecided fractional (Free u) = fractional u
 is_undecided fractional other = false
 
--- the sum of |x| over the probability, over the units that are undecided at a state; in the first row, their number
-abbrev pub error_bound : StratumUnits → Balancing → ℕ → Fraction
-error_bound s state row =
-    sum_below (length s.values)
-    (λ k. cond (is_undecided (is_fractional (values_in state)) (inclusion s.request k))
-    (absolute (counted s row k)) (whole 0))
+-- ---- the totals
+
+-- A row over some strata, where `part` is what a stratum has of a row, with so many free units before it: the size of a stratum is that
+-- of the stratum alone, a variable is summed up over all.
+module _ (part : ℕ → ℕ → StratumUnits → Fraction) where
+  abbrev pub size_of : ℕ → ℕ → List StratumUnits → Fraction
+  size_of before h [] = whole 0
+  size_of before zero (s ∷ frame) = part before 0 s
+  size_of before (suc h) (s ∷ frame) = size_of (before + length s.request.free) h frame
+
+  abbrev pub variable_of : ℕ → ℕ → List StratumUnits → Fraction
+  variable_of before column [] = whole 0
+  variable_of before column (s ∷ frame) =
+      plus (part before (suc column) s) (variable_of (before + length s.request.free) column frame)
+
+  abbrev pub over_frame : List StratumUnits → ℕ → Fraction
+  over_frame frame row =
+      if nat_lt row (length frame) then size_of 0 row frame
+      else variable_of 0 (row - length frame) frame
+
+-- The total of a row, where the free units have these values: the sum over the units of what each counts for, times its value, which is 1
+-- where it is certain, and 0 where it is never selected.
+abbrev pub total : List StratumUnits → (ℕ → Fraction) → ℕ → Fraction
+total frame value = over_frame
+    (λ before row s. sum_below (length s.values) (λ k. times (counted s row k) (row_value (λ u. value (before + u)) (inclusion s.request k))))
+    frame
+
+-- what is known of it: the sum of the probabilities of a stratum; of a variable the sum over the units that can be selected
+abbrev pub known : List StratumUnits → ℕ → Fraction
+known frame = over_frame (λ before row s. sum_below (length s.values) (known_of s row)) frame
+
+-- the estimate, where these free units are selected: how many units of a stratum are; of a variable the sum of their values over their
+-- probabilities
+abbrev pub estimate : List StratumUnits → (ℕ → Bool) → ℕ → Fraction
+estimate frame selected = over_frame
+    (λ before row s. sum_below (length s.values) (λ k. cond (is_taken (λ u. selected (before + u)) (inclusion s.request k)) (counted s row k) (whole 0)))
+    frame
+
+-- the sum of |x| over the probability, over the units that are undecided, where these free units are; of a stratum, their number
+abbrev pub error_bound : List StratumUnits → (ℕ → Bool) → ℕ → Fraction
+error_bound frame fractional = over_frame
+    (λ before row s. sum_below (length s.values)
+    (λ k. cond (is_undecided (λ u. fractional (before + u)) (inclusion s.request k)) (absolute (counted s row k)) (whole 0)))
+    frame
+
+-- how many balancing columns there are, as many as in the first stratum, and how many rows
+abbrev pub columns_in : List StratumUnits → ℕ
+columns_in [] = 0
+columns_in (s ∷ frame) = column_count s
+
+abbrev pub row_count : List StratumUnits → ℕ
+row_count frame = length frame + columns_in frame
 
 -- ---- what is balanced
 
--- what a selection from the free units of a stratum balances, by its search among these and the totals of all
-abbrev pub balance_of : {State : Type 0} → StratumUnits → Selection State → Balance State
-balance_of s c = record {
-  tree = c.tree;
-  rows = λ t. rows_in (c.seen t);
-  left = λ t. left_in (c.seen t);
-  undecided = λ t. fractional_count (values_in (c.seen t));
-  all_rows = row_count s;
-  total = λ t. total s (c.seen t);
-  known = known s;
-  estimate = λ t. estimate s (c.seen t);
-  bound = λ t. error_bound s (c.seen t);
-  independent = λ t. HasIndependentColumns (shares_cube (free_units s)) (c.seen t);
-  stuck = λ t. IsStuck (free_units s) (c.order t) (c.seen t);
-}
+-- What a selection from the free units of these strata balances: by its draw tree, by the state of the cube that is seen of each of its
+-- states, and by where its landing may begin.
+module _ {State Values Fixed : Type 0} (frame : List StratumUnits) (cube : Cube Values) where
+  abbrev pub balance_over : Tree State → (State → Balancing Values Fixed) → (State → Type 0) → Balance State
+  balance_over tree seen stuck = record {
+    tree = tree;
+    rows = λ t. rows_in (seen t);
+    left = λ t. left_in (seen t);
+    undecided = λ t. cube.fractional_count (values_in (seen t));
+    all_rows = row_count frame;
+    total = λ t. total frame (cube.value_at (values_in (seen t)));
+    known = known frame;
+    estimate = λ t. estimate frame (cube.is_one (values_in (seen t)));
+    bound = λ t. error_bound frame (cube.is_fractional (values_in (seen t)));
+    independent = λ t. HasIndependentColumns cube (seen t);
+    stuck = stuck;
+  }
 
--- the selection is balanced from a state
-abbrev pub IsBalanced : {State : Type 0} → StratumUnits → Selection State → State → Type 0
-IsBalanced s c = moves.IsBalanced (balance_of s c)
+-- ---- one stratum alone
+
+-- what a selection from the free units of a stratum balances
+abbrev pub balance_of : {State : Type 0} → StratumUnits → Selection State → Balance State
+balance_of s c =
+    balance_over (s ∷ []) (shares_cube (free_units s)) c.tree c.seen (λ t. IsStuck (free_units s) (c.order t) (c.seen t))
 
 -- every selection from the stratum is balanced from its start: by the cube, and by the local cube wherever its free units lie
 pub record AreBalanced (s : StratumUnits) : Type 0 where
-  pub cube : IsBalanced s (cube_of (free_units s)) (starting (free_units s))
+  pub cube : IsBalanced (balance_of s (cube_of (free_units s))) (starting (free_units s))
   pub local_cube : (coords : List (List ℤ))
-      → IsBalanced s (local_of (free_units s)) (started (record { units = free_units s; coords = coords }))
+      → IsBalanced (balance_of s (local_of (free_units s))) (started (record { units = free_units s; coords = coords }))
 
 abbrev pub EachIsBalanced : Type 0
 EachIsBalanced = (s : StratumUnits) → AreStratumUnits s → AreBalanced s
+
+-- ---- all strata together
+
+-- the free units of each stratum with their balancing values, and the units that the method draws from
+abbrev pub layers_of : List StratumUnits → List Layer
+layers_of frame = map (λ s. layer_of s.request (free_values s)) frame
+
+abbrev pub frame_units : List StratumUnits → Units
+frame_units frame = units_of (layers_of frame)
+
+-- what the cube over all strata balances
+abbrev pub frame_balance : List StratumUnits → Balance strata.Balancing
+frame_balance frame =
+    balance_over frame (cube_by stepping (frame_units frame)) (strat_tree (frame_units frame)) (λ t. t) (together.IsStuck (frame_units frame))
+
+-- the selection of all strata is balanced from its start
+abbrev pub IsBalancedFrame : List StratumUnits → Type 0
+IsBalancedFrame frame = IsBalanced (frame_balance frame) (strata.started (frame_units frame))
+
+-- strata that can be drawn together: 15 at most, with as many balancing columns each, and 16 rows at most
+pub record IsFrame (frame : List StratumUnits) : Type 0 where
+  pub some : 1 ≤ length frame
+  pub few : length frame ≤ 15
+  pub rows : row_count frame ≤ 16
+  pub each : All AreStratumUnits frame
+  pub same : All (λ s. column_count s ≡ columns_in frame) frame
+
+abbrev pub EachFrameIsBalanced : Type 0
+EachFrameIsBalanced = (frame : List StratumUnits) → IsFrame frame → IsBalancedFrame frame

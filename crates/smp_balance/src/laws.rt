@@ -1,8 +1,7 @@
-//! What holds of every selection from a stratum.
+//! What holds of every selection from a stratum, or from all strata together.
 
-ghost use Rattle.smp_balance.specs.Totals.{EachIsBalanced};
+ghost use Rattle.smp_balance.specs.Totals.{EachFrameIsBalanced, EachIsBalanced};
 ghost use Rattle.smp_balance.specs.Reports.{EachLineTells};
-ghost use Rattle.smp_balance.specs.FrameTotals.{EachFrameIsBalanced};
 
 /// The law that every selection from a stratum by the cube, or by the local cube, is balanced: its flight keeps each total in force
 /// exactly, its landing begins only where no direction is left or the next step doesn't fit, and the units that are undecided there
@@ -11,7 +10,7 @@ pub fn balance_law()
     ensures { EachIsBalanced }
 {}
 
-/// The law that the lines of the report tell the totals of this statement in exact fractions: the estimate of a column at the leaf,
+/// The law that the lines of the report on a stratum tell the totals of this statement in exact fractions: the estimate of a column,
 /// unless it is wide, and what is known of it.
 pub fn report_law()
     ensures { EachLineTells }

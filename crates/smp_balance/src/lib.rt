@@ -1,16 +1,14 @@
 //! The balance of a stratum that is drawn by the cube method (Deville and Tillé 2004), or by the local cube, over all of its units.
 //!
 //! The method draws among the free units alone. What it keeps and what its landing gives up is said here of the totals over all units of
-//! the stratum, with those that are certain, which are selected at every leaf. [`balance_lines`] is what the report tells of it.
+//! the stratum, with those that are certain, which are selected at every leaf. Where the cube draws all strata together (Chauvet 2009), so
+//! it is said of the size of each stratum and of the totals over all strata.
 //!
-//! Where the cube draws all strata together (Chauvet 2009), so it is said of the size of each stratum and of the totals over all strata;
-//! [`frame_lines`] is what the report tells then.
+//! [`balance_lines`] is what the report tells of it.
 #![tactic(auto)]
 
-mod frames;
 mod laws;
 mod lines;
 
-pub use frames::{DrawnRows, frame_lines};
 pub use laws::{balance_law, frame_law, report_law};
-pub use lines::{DrawnStratum, balance_lines};
+pub use lines::{DrawnUnits, balance_lines};

@@ -38,6 +38,7 @@ shares_cube units = record {
   units = length units.sizes;
   value_at = value_at;
   is_one = is_one;
+  is_fractional = is_fractional;
   fractional_count = fractional_count;
   columns = λ s. columns_of units (fractional_units s);
   end_at = stepping.end_at units.requested.den;

@@ -65,12 +65,13 @@ flight_kind (move m) = kind.Flight
 flight_kind independent = kind.Drop
 flight_kind wide = kind.Wide
 
--- A cube: how many units there are; the value of each, whether it is 1, how many units are fractional, and their columns; the values
--- at the end of a line; and the kind and the parts of a pivotal step.
+-- A cube: how many units there are; the value of each, whether it is 1, and whether it is fractional; how many units are, and their
+-- columns; the values at the end of a line; and the kind and the parts of a pivotal step.
 pub record Cube (Values : Type 0) : Type 0 where
   pub units : ℕ
   pub value_at : Values → ℕ → Fraction
   pub is_one : Values → ℕ → Bool
+  pub is_fractional : Values → ℕ → Bool
   pub fractional_count : Values → ℕ
   pub columns : Values → List (List ℤ)
   pub end_at : Values → Line → Values

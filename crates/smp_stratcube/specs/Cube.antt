@@ -6,7 +6,7 @@ use Rattle.smp_moves.specs.Cubes as cubes
 use Rattle.smp_moves.specs.Cubes.{Cube}
 use Rattle.smp_stratcube.specs.declared.values.Value.{Value}
 use Rattle.smp_stratcube.specs.Units.{Units, columns_of}
-use Rattle.smp_stratcube.specs.Values.{fractional_count, fractional_units, is_one, value_at}
+use Rattle.smp_stratcube.specs.Values.{fractional_count, fractional_units, is_fractional, is_one, value_at}
 use Rattle.smp_stratcube.specs.States.{Balancing}
 use Rattle.smp_stratcube.specs.Moves.{Stepping}
 use Rattle.smp_stratcube.specs.Steps.{stepping}
@@ -18,6 +18,7 @@ cube_by steps units = record {
   units = length units.members;
   value_at = value_at;
   is_one = is_one;
+  is_fractional = is_fractional;
   fractional_count = fractional_count;
   columns = λ values. columns_of units (fractional_units values);
   end_at = steps.end_at units;

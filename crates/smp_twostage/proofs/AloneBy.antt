@@ -11,8 +11,9 @@ use Rattle.smp_stages.specs.Stages.{IsUnderWay, Progress, progress, staged_tree}
 use Rattle.smp_strata.specs.Plans.{Parts}
 use Rattle.smp_twostage.specs.Covered.{StartsAlone}
 use Rattle.smp_twostage.specs.Plans.{CanBeDrawn}
-use Rattle.smp_twostage.specs.Selections.{BelongsToWhole, all_of, belongs_to, is_in_section, is_together, one_of, seats_in, section_count_by, stages_before_by}
-use Rattle.smp_twostage.specs.Selections.{stages_by, tree_of}
+use Rattle.smp_twostage.specs.Selections.{BelongsToWhole, all_of, belongs_to, is_together, one_of}
+use Rattle.smp_twostage.specs.Selections.{tree_of}
+use Rattle.smp_twostage.specs.Sides.{is_in_section, seats_in, section_count_by, stages_before_by, stages_by}
 use Rattle.smp_twostage.specs.Starts.{row_fraction}
 use Rattle.smp_twostage.proofs.StartsBy.{states_so, stages_so, tree_so}
 

@@ -13,10 +13,12 @@ use Rattle.smp_split.proofs.Lenses.{came_whole}
 use Rattle.smp_rows.specs.Rows.{rows_tree}
 use Rattle.smp_rows.specs.Laws.Rows.{row_view, rows_lens, rows_close}
 use Rattle.smp_flight.specs.Requests.{units_of}
-use Rattle.smp_flight.specs.Selections.{Balancing, Selection, starting}
+use Rattle.smp_moves.specs.Cubes.{values_in}
+use Rattle.smp_flight.specs.Selections.{Balancing, starting}
 use Rattle.smp_localpiv.specs.Coordinates.{points_from}
-use Rattle.smp_landing.specs.Cube.{cube_of}
-use Rattle.smp_localcube.specs.Local.{Local, local_of}
+use Rattle.smp_values.specs.Values.{is_one}
+use Rattle.smp_landing.specs.Cube.{cube_of, cube_tree}
+use Rattle.smp_localcube.specs.Local.{Local, local_of, local_tree}
 use Rattle.smp_localcube.specs.Method.{LocalUnits, started}
 use Rattle.smp_design.specs.declared.method.Method.{Method}
 use Rattle.smp_design.specs.declared.method.Method.TheVariants.{Cube, LocalCube}
@@ -34,7 +36,6 @@ use Rattle.smp_stages.specs.Laws.Reads.{some_within}
 use Rattle.smp_strata.specs.Plans.{Parts}
 use Rattle.smp_strata.specs.declared.strata.FirstUnit.{FirstUnit}
 use Rattle.smp_strata.specs.declared.strata.Stratum.{Stratum}
-use Rattle.smp_balance.specs.Totals.{is_selected}
 use Rattle.smp_twostage.specs.Cubes.{IsDrawnByCube, IsDrawnFrom, balancing, by_cube, by_local_cube, leaf_of, local_units}
 use Rattle.smp_twostage.specs.Plans.{CanBeDrawn}
 use Rattle.smp_balance.specs.Strata.{column_count, free_units, free_values, values_of}
@@ -118,13 +119,13 @@ module _ (plan : Parts) (drawable : CanBeDrawn plan) (path : List Entry) (ends :
       subst (λ drawn. IsStagePath drawn (tree_of (first_stage plan s).design) start_so (goes.part at) last.0) is_first
       (goes.each at (first_stage plan s) start_so last.0 there begins last.1)
 
-  module _ {State : Type 0} (c : Selection State) (from : State) (into : State → AnyState) (out : AnyState → Option State) (back : (i : State) → out (into i) ≡ Some i)
-      (tree_is : (method_of (design_so plan s plan.method)).tree ≡ embedded into out c.tree) (start_is : start_so ≡ into from)
-      (closed : (i : State) → (embedded into out c.tree).done (into i) ≡ c.tree.done i) (count : c.tree.units ≡ length s.request.shape) where
+  module _ {State : Type 0} (tree : Tree State) (from : State) (into : State → AnyState) (out : AnyState → Option State) (back : (i : State) → out (into i) ≡ Some i)
+      (tree_is : (method_of (design_so plan s plan.method)).tree ≡ embedded into out tree) (start_is : start_so ≡ into from)
+      (closed : (i : State) → (embedded into out tree).done (into i) ≡ tree.done i) (count : tree.units ≡ length s.request.shape) where
     abbrev outer : Tree AnyState
-    outer = embedded into out c.tree
+    outer = embedded into out tree
 
-    drawn_from : IsDrawnFrom c from into plan h (goes.part at) ends
+    drawn_from : IsDrawnFrom tree from into (first_number plan h) (goes.part at) ends
     drawn_from =
         let request = (is_planned plan drawable h s is).stratum.over.sound in
         let leads : Leads (rows_tree (length s.units) s.request outer) (into from) (goes.part at) last.0 =
@@ -134,8 +135,8 @@ module _ (plan : Parts) (drawable : CanBeDrawn plan) (path : List Entry) (ends :
         let rows = came_whole outer (λ _. Unit {0}) (rows_tree (length s.units) s.request outer) (λ t. t) (λ row. row_view (inclusion s.request row))
         (rows_lens (length s.units) s.request outer (λ _. Unit {0}) (sym request.paired ∙ sym count)) (rows_close (length s.units) s.request outer (λ _. Unit {0}))
         (goes.part at) (into from) last.0 leads in
-        let cubes = came_whole c.tree (λ _. Unit {0}) outer into (λ k. as_unit k)
-        (embedded_lens into out c.tree back (λ _. Unit {0})) (embedded_closes into out c.tree back (λ _. Unit {0}))
+        let cubes = came_whole tree (λ _. Unit {0}) outer into (λ k. as_unit k)
+        (embedded_lens into out tree back (λ _. Unit {0})) (embedded_closes into out tree back (λ _. Unit {0}))
         (goes.part at) from rows.inside rows.leads in
         let same : last.0 ≡ into cubes.inside = rows.is ∙ cubes.is in
         record {
@@ -148,8 +149,8 @@ module _ (plan : Parts) (drawable : CanBeDrawn plan) (path : List Entry) (ends :
   pub drawn_by_cube : balances plan.method ≡ true → draws_together plan.method ≡ false → IsDrawnByCube plan h s (goes.part at) ends
   drawn_by_cube balance apart =
       elim (is_cube plan.method balance apart) [
-        | inl m ↦ by_cube m (drawn_from (cube_of (free_units (balancing plan s))) (starting (free_units (balancing plan s))) states.Cube (cube_out plan s) (λ _. refl) (cube_tree_is plan s m) (cube_start_is plan s m) (λ _. refl) refl)
-        | inr m ↦ by_local_cube m (drawn_from (local_of (free_units (balancing plan s))) (started (local_units plan s)) states.LocalCube (local_out plan s) (λ _. refl) (local_tree_is plan s m) (local_start_is plan s m) (λ _. refl) refl)
+        | inl m ↦ by_cube m (drawn_from (cube_tree (free_units (balancing plan s))) (starting (free_units (balancing plan s))) states.Cube (cube_out plan s) (λ _. refl) (cube_tree_is plan s m) (cube_start_is plan s m) (λ _. refl) refl)
+        | inr m ↦ by_local_cube m (drawn_from (local_tree (free_units (balancing plan s))) (started (local_units plan s)) states.LocalCube (local_out plan s) (λ _. refl) (local_tree_is plan s m) (local_start_is plan s m) (λ _. refl) refl)
       ]
 
 -- ---- which units are selected
@@ -173,7 +174,7 @@ module _ (plan : Parts) (ends : List AnyState) (h : ℕ) (s : Stratum) (is : sli
         ∙ read_there k
 
   -- those that are certain, and those whose value is 1 at the leaf
-  pub cube_selected : (part : List Entry) (drawn : IsDrawnByCube plan h s part ends) (k : ℕ) → first_so false plan ends h k ≡ is_selected (balancing plan s) (leaf_of drawn) k
+  pub cube_selected : (part : List Entry) (drawn : IsDrawnByCube plan h s part ends) (k : ℕ) → first_so false plan ends h k ≡ is_taken (is_one (values_in (leaf_of drawn))) (inclusion s.request k)
   cube_selected part (by_cube m d) k =
       selected_so (states.Cube d.leaf) d.leaf_is k ∙ ap (λ tree. selected_by (states.Cube d.leaf) d.leaf_is tree k) (cube_tree_is plan s m)
   cube_selected part (by_local_cube m d) k =

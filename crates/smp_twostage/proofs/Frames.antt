@@ -3,7 +3,7 @@ use Rattle.std.proofs.Common.{◌≡◌, ℕ, ◌-◌, ◌≤◌, true, List, []
 use Rattle.std.proofs.lemmas.List.{length-map}
 use Rattle.std.proofs.lemmas.List.Elements.{All-head, All-map}
 use Rattle.std.proofs.lemmas.Option.{slice_get-get_or}
-use Rattle.smp_balance.specs.FrameTotals.{IsBalancedFrame, IsFrame, columns_in}
+use Rattle.smp_balance.specs.Totals.{IsBalancedFrame, IsFrame, columns_in}
 use Rattle.smp_balance.specs.Strata.{AreStratumUnits, StratumUnits, column_count}
 use Rattle.smp_balance.proofs.Together.{each_frame_is_balanced}
 use Rattle.smp_design.specs.Words.{draws_together}

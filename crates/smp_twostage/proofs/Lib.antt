@@ -14,7 +14,7 @@ pub mod Numbers
 pub mod Told
 pub mod OverAll
 pub mod Frames
-pub mod RowsTold
+pub mod SeatsTold
 pub mod Together
 pub mod StartsBy
 pub mod AloneBy

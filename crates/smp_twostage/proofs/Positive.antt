@@ -24,7 +24,8 @@ use Rattle.smp_strata.specs.Seats.{first_at, first_fraction, place_fraction, sta
 use Rattle.smp_strata.specs.declared.strata.Seat.{Seat}
 use Rattle.smp_twostage.specs.Plans.{CanBeDrawn}
 use Rattle.smp_twostage.specs.Selections.{Coverage, Selecting, tree_of, covered_tree, first_number, first_stage, is_of_stratum, is_together, parts_by, place_of, seat_alone, seat_by, seat_together}
-use Rattle.smp_twostage.specs.Selections.{seats_in, second_stage, stage_of_strata, stages_by, stages_of, units_before}
+use Rattle.smp_twostage.specs.Selections.{second_stage, stage_of_strata, stages_of, units_before}
+use Rattle.smp_twostage.specs.Sides.{seats_in, stages_by}
 use Rattle.smp_twostage.specs.Starts.{is_positive, row_fraction}
 use Rattle.smp_twostage.specs.Laws.Covered.{its_place, made_at}
 use Rattle.smp_twostage.specs.Laws.Numbering.{first_there, second_there}

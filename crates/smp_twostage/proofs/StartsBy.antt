@@ -8,7 +8,7 @@ use Rattle.smp_split.specs.Paths.{AtEachLeaf, Entry}
 use Rattle.smp_split.specs.Trees.{Tree}
 use Rattle.smp_design.specs.Words.{balances, draws_together}
 use Rattle.smp_prob.specs.declared.requests.Request.{Request}
-use Rattle.smp_balance.specs.FrameTotals.{IsBalancedFrame}
+use Rattle.smp_balance.specs.Totals.{IsBalancedFrame}
 use Rattle.smp_methods.specs.declared.any.AnyState.{AnyState}
 use Rattle.smp_methods.specs.Designs.{first_state}
 use Rattle.smp_stages.specs.declared.places.Stage.{Stage}
@@ -20,7 +20,8 @@ use Rattle.smp_strata.specs.declared.strata.FirstUnit.{FirstUnit}
 use Rattle.smp_strata.specs.declared.strata.Stratum.{Stratum}
 use Rattle.smp_twostage.specs.Cubes.{IsDrawnByCube, IsDrawnTogether, frame_of}
 use Rattle.smp_twostage.specs.Plans.{CanBeDrawn}
-use Rattle.smp_twostage.specs.Selections.{Selecting, all_of, belongs_to, first_number, first_place_by, is_together, seats_in, stages_by, tree_of}
+use Rattle.smp_twostage.specs.Selections.{Selecting, all_of, belongs_to, first_number, is_together, tree_of}
+use Rattle.smp_twostage.specs.Sides.{first_place_by, seats_in, stages_by}
 use Rattle.smp_twostage.specs.Starts.{StartsWhole, known, row_fraction, weighted}
 
 module _ (together : Bool) (plan : Parts) where

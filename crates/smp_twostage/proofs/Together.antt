@@ -21,7 +21,6 @@ use Rattle.smp_values.proofs.Requests.{adds_to_draws, requested_values}
 use Rattle.smp_moves.specs.Moves.{fraction_of}
 use Rattle.smp_rows.specs.Rows.{row_value}
 use Rattle.smp_rows.specs.Laws.Rows.{free_within}
-use Rattle.smp_moves.specs.Cubes.{values_in}
 use Rattle.smp_methods.specs.declared.any.AnyState.{AnyState}
 use Rattle.smp_design.specs.Words.{draws_together}
 use Rattle.smp_methods.specs.Designs.{design_of_strata, first_state, method_of}
@@ -40,6 +39,7 @@ use Rattle.smp_strata.specs.declared.strata.Seat.{Seat}
 use Rattle.smp_strata.specs.declared.strata.Stratum.{Stratum}
 use Rattle.smp_stratcube.specs.Cube.{strat_tree}
 use Rattle.smp_stratcube.specs.States as together
+use Rattle.smp_moves.specs.Cubes.{values_in}
 use Rattle.smp_stratcube.specs.declared.values.Value.{Value}
 use Rattle.smp_stratcube.specs.Balances.{addend, target}
 use Rattle.smp_stratcube.specs.Counts.{selected_in}
@@ -52,8 +52,9 @@ use Rattle.smp_stratcube.proofs.StratumSums.{whole_same, whole_sum}
 use Rattle.smp_balance.specs.Strata.{free_values}
 use Rattle.smp_twostage.specs.Cubes.{balancing, units_together}
 use Rattle.smp_twostage.specs.Plans.{CanBeDrawn}
-use Rattle.smp_twostage.specs.Selections.{BelongsToWhole, Selecting, all_of, belongs_to, is_in_section, layers_of, numbers_from, place_of, seat_together}
-use Rattle.smp_twostage.specs.Selections.{seats_together, section_count_by, stage_of_strata, stages_before_by, stages_by, tree_of, units_before}
+use Rattle.smp_twostage.specs.Selections.{BelongsToWhole, Selecting, all_of, belongs_to, layers_of, numbers_from, place_of, seat_together}
+use Rattle.smp_twostage.specs.Selections.{seats_together, stage_of_strata, tree_of, units_before}
+use Rattle.smp_twostage.specs.Sides.{is_in_section, section_count_by, stages_before_by, stages_by}
 use Rattle.smp_twostage.specs.Kept.{EachFirst}
 use Rattle.smp_twostage.specs.Starts.{row_fraction}
 use Rattle.smp_twostage.specs.Laws.Covered.{made_at, sections_case, together_staged}

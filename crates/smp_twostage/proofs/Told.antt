@@ -1,4 +1,4 @@
--- What is told of a stratum that is drawn by the cube can be told.
+-- A first stage unit that is selected can be, and a stratum is one that the cube draws from.
 use Rattle.std.proofs.Common.{◌≡◌, ℕ, ◌+◌, ◌-◌, ◌^◌, ◌<◌, ◌≤◌, Bool, true, false, true≢false, ℤ, List, [], ◌∷◌, length, map, get_or, take, Option, Some, None, refl, sym, ap, ◌∙◌, subst, arith, length-take}
 use Rattle.std.specs.Prelude.{◌||◌}
 use Rattle.std.specs.List.{slice_get}
@@ -11,8 +11,6 @@ use Rattle.smp_prob.specs.declared.inclusions.Inclusion.TheVariants.{Certain, Fr
 use Rattle.smp_prob.specs.Inclusions.{is_taken, inclusion}
 use Rattle.smp_kernel.specs.Vectors.{Within}
 use Rattle.smp_flight.specs.Requests.{AreValues}
-use Rattle.smp_balance.specs.Lines as lines
-use Rattle.smp_balance.specs.Lines.{IsTold}
 use Rattle.smp_balance.specs.Strata.{AreStratumUnits}
 use Rattle.smp_balance.specs.Totals.{can_be_selected}
 use Rattle.smp_design.specs.Words.{balances}
@@ -28,17 +26,16 @@ use Rattle.smp_strata.specs.Bounds.{IsFirst}
 use Rattle.smp_strata.specs.Plans.{Parts}
 use Rattle.smp_strata.specs.declared.strata.FirstUnit.{FirstUnit}
 use Rattle.smp_strata.specs.declared.strata.Stratum.{Stratum}
-use Rattle.smp_twostage.specs.Covered.{covered_first}
 use Rattle.smp_twostage.specs.Cubes.{balancing}
 use Rattle.smp_twostage.specs.Kept.{IsPlanned}
-use Rattle.smp_twostage.specs.Lines.{drawn_stratum}
 use Rattle.smp_twostage.specs.Plans.{CanBeDrawn}
-use Rattle.smp_twostage.specs.Selections.{Coverage, Selecting, balance_count, covered_number, covered_parts, covers, first_number, first_place_by, first_stage, is_only, is_together, parts_by, place_together, stage_of_strata, stages_by, stages_of, tree_of}
+use Rattle.smp_twostage.specs.Selections.{Coverage, Selecting, balance_count, covered_number, covered_parts, covers, first_number, first_stage, is_only, is_together, parts_by, place_together, stage_of_strata, stages_of, tree_of}
+use Rattle.smp_twostage.specs.Sides.{first_place_by, stages_by}
+use Rattle.smp_twostage.specs.Starts.{covered_first}
 use Rattle.smp_twostage.specs.Laws.Covered.{alone_there}
 use Rattle.smp_twostage.specs.Laws.Numbering.{first_there}
 use Rattle.smp_twostage.proofs.Columns.{are_over, columns_are, is_planned, near_within}
 use Rattle.smp_twostage.proofs.OverAll.{free_before, stands_behind, stands_over}
-use Rattle.smp_twostage.proofs.Numbers.{passing}
 
 -- ---- a first stage unit that is selected can be
 
@@ -96,7 +93,7 @@ module _ (plan : Parts) (drawable : CanBeDrawn plan) (balance : balances plan.me
   abbrev cut : FirstUnit → List ℤ
   cut u = take (balance_count plan s) u.values
 
-  few_columns : balance_count plan s ≤ 15
+  pub few_columns : balance_count plan s ≤ 15
   few_columns =
       subst (λ n. n - plan.near ≤ 15) (sym (columns_are plan s own))
       (balances_few plan.method plan.near own.columns balance (takes_some plan.method plan.order plan.near own.columns own.method))
@@ -116,32 +113,3 @@ module _ (plan : Parts) (drawable : CanBeDrawn plan) (balance : balances plan.me
     stands = own.stratum.over.apart;
     values = values_are;
   }
-
--- ---- what is told of it
-
-module _ (c : Coverage) (drawable : CanBeDrawn c.plan) (balance : balances c.plan.method ≡ true) (states : List AnyState) (h : ℕ) (s : Stratum) (is : slice_get c.plan.strata h ≡ Some s) where
-  pub is_told : covers c h ≡ true → IsTold (drawn_stratum c states h s)
-  is_told covered = record {
-    stratum = is_stratum c.plan drawable balance h s is;
-    few = (let few = (is_planned c.plan drawable h s is).stratum.few in omega (arith, few, length-map s.units (cut c.plan drawable balance h s is)));
-    columns = refl;
-    units =
-        All-from_get_or (λ k. can_be_selected (inclusion s.request k) ≡ true) (drawn_stratum c states h s).units 0
-        (λ i l. let its = passing (covered_first c states h) 0 0 (length s.units) i l in covered_open c drawable states h s is (get_or (drawn_stratum c states h s).units i 0) (omega (arith, its.0)) covered its.1);
-    within =
-        All-from_get_or (λ k. k < length (map (λ u. take (balance_count c.plan s) u.values) s.units)) (drawn_stratum c states h s).units 0
-        (λ i l. let below = (passing (covered_first c states h) 0 0 (length s.units) i l).0 in omega (arith, below, length-map s.units (cut c.plan drawable balance h s is)));
-  }
-
--- what the code says of it
-module _ (c : Coverage) (states : List AnyState) (h : ℕ) (s : Stratum) where
-  abbrev told : lines.Drawn
-  told = drawn_stratum c states h s
-
-  pub drawn_same : (left columns : ℕ) (values : List (List ℤ)) (units : List ℕ) → left ≡ told.left → columns ≡ told.columns → values ≡ map (λ u. take (balance_count c.plan s) u.values) s.units → units ≡ told.units
-      → ◌≡◌ {A = lines.Drawn} (record { number = h + 1; left = left; columns = columns; stratum = record { request = s.request; values = values }; units = units }) told
-  drawn_same left columns values units left_is columns_are values_are units_are =
-      ap (λ (n : ℕ). record { number = h + 1; left = n; columns = columns; stratum = record { request = s.request; values = values }; units = units }) left_is
-      ∙ ap (λ (n : ℕ). record { number = h + 1; left = told.left; columns = n; stratum = record { request = s.request; values = values }; units = units }) columns_are
-      ∙ ap (λ (vs : List (List ℤ)). record { number = h + 1; left = told.left; columns = told.columns; stratum = record { request = s.request; values = vs }; units = units }) values_are
-      ∙ ap (λ (us : List ℕ). record { number = h + 1; left = told.left; columns = told.columns; stratum = balancing c.plan s; units = us }) units_are

@@ -14,11 +14,8 @@ use Rattle.smp_twostage.specs.Starts.{left_by, row_fraction}
 
 -- ---- what is read of a stratum
 
--- whether a first stage unit of a stratum is selected, and how many of them were undecided where the landing of its cube began; where all
--- strata are drawn together, how many of all strata
-abbrev pub covered_first : Coverage → List AnyState → ℕ → ℕ → Bool
-covered_first c states h k = selected_in tree_of (covered_stages c) states (first_place c h k)
-
+-- how many first stage units of a stratum were undecided where the landing of its cube began; where all strata are drawn together, how many
+-- of all strata
 abbrev pub covered_left : Coverage → List AnyState → ℕ → ℕ
 covered_left c states h =
     left_by (slice_get (covered_stages c) (first_place c h 0).stage)

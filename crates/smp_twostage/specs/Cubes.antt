@@ -2,10 +2,11 @@
 use Rattle.std.specs.Prelude.{◌≡◌, ℕ, true, List, Some, map}
 use Rattle.std.specs.List.{slice_get}
 use Rattle.smp_split.specs.Paths.{Entry, Leads}
-use Rattle.smp_flight.specs.Selections.{Balancing, Selection, starting}
+use Rattle.smp_split.specs.Trees.{Tree}
+use Rattle.smp_flight.specs.Selections.{Balancing, starting}
 use Rattle.smp_localpiv.specs.Coordinates.{points_from}
-use Rattle.smp_landing.specs.Cube.{cube_of}
-use Rattle.smp_localcube.specs.Local.{local_of}
+use Rattle.smp_landing.specs.Cube.{cube_tree}
+use Rattle.smp_localcube.specs.Local.{local_tree}
 use Rattle.smp_localcube.specs.Method.{LocalUnits, started}
 use Rattle.smp_stratcube.specs.Cube.{strat_tree}
 use Rattle.smp_stratcube.specs.States as together
@@ -19,13 +20,13 @@ use Rattle.smp_strata.specs.declared.strata.Stratum.{Stratum}
 use Rattle.smp_twostage.specs.Selections.{balance_count, first_number, layers_of, valued}
 pub use Rattle.smp_twostage.specs.Selections.{balancing}
 
--- The stratum's part of a path leads through the tree of a selection, from a state to a leaf, and it ends the selection in the stratum.
-pub record IsDrawnFrom {State : Type 0} (c : Selection State) (from : State) (into : State → AnyState)
-    (plan : Parts) (h : ℕ) (part : List Entry) (ends : List AnyState) : Type 0 where
+-- A part of a path leads through the tree of a selection, from a state to a leaf, at which the stage of this number ends.
+pub record IsDrawnFrom {State : Type 0} (tree : Tree State) (from : State) (into : State → AnyState)
+    (number : ℕ) (part : List Entry) (ends : List AnyState) : Type 0 where
   pub leaf : State
-  pub leaf_is : slice_get ends (first_number plan h) ≡ Some (into leaf)
-  pub leads : Leads c.tree from part leaf
-  pub ended : c.tree.done leaf ≡ true
+  pub leaf_is : slice_get ends number ≡ Some (into leaf)
+  pub leads : Leads tree from part leaf
+  pub ended : tree.done leaf ≡ true
 
 -- the units that the local cube draws from, and where they lie
 abbrev pub local_units : Parts → Stratum → LocalUnits
@@ -38,11 +39,11 @@ local_units plan s = record {
 pub data IsDrawnByCube (plan : Parts) (h : ℕ) (s : Stratum) (part : List Entry)
     (ends : List AnyState) : Type 0 where
   by_cube : plan.method ≡ method.Cube
-      → IsDrawnFrom (cube_of (free_units (balancing plan s))) (starting (free_units (balancing plan s)))
-      states.Cube plan h part ends → IsDrawnByCube plan h s part ends
+      → IsDrawnFrom (cube_tree (free_units (balancing plan s))) (starting (free_units (balancing plan s)))
+      states.Cube (first_number plan h) part ends → IsDrawnByCube plan h s part ends
   by_local_cube : plan.method ≡ method.LocalCube
-      → IsDrawnFrom (local_of (free_units (balancing plan s))) (started (local_units plan s))
-      states.LocalCube plan h part ends → IsDrawnByCube plan h s part ends
+      → IsDrawnFrom (local_tree (free_units (balancing plan s))) (started (local_units plan s))
+      states.LocalCube (first_number plan h) part ends → IsDrawnByCube plan h s part ends
 
 -- the leaf, as a state of flight and landing
 abbrev pub leaf_of : {plan : Parts} {h : ℕ} {s : Stratum} {part : List Entry} {ends : List AnyState}
@@ -61,8 +62,6 @@ abbrev pub units_together : Parts → strata.Units
 units_together plan = strata.units_of (layers_of plan)
 
 -- The path leads from the requested probabilities to a leaf of the cube over all strata, and it ends the selection.
-pub record IsDrawnTogether (plan : Parts) (part : List Entry) (ends : List AnyState) : Type 0 where
-  pub leaf : together.Balancing
-  pub leaf_is : slice_get ends 0 ≡ Some (states.StratifiedCube leaf)
-  pub leads : Leads (strat_tree (units_together plan)) (together.started (units_together plan)) part leaf
-  pub ended : (strat_tree (units_together plan)).done leaf ≡ true
+abbrev pub IsDrawnTogether : Parts → List Entry → List AnyState → Type 0
+IsDrawnTogether plan part ends = IsDrawnFrom (strat_tree (units_together plan)) (together.started (units_together plan))
+    states.StratifiedCube 0 part ends

@@ -1,6 +1,6 @@
 -- What the code keeps on the way. No public clause cites it.
-use Rattle.std.specs.Prelude.{◌≡◌, ℕ, suc, true, All, IfSome, IsTrue, is_some, ℤ, List, Some, length, map}
-use Rattle.std.specs.List.{filter, range_with_len, slice_get}
+use Rattle.std.specs.Prelude.{◌≡◌, ℕ, suc, ◌<◌, true, if◌then◌else◌, All, IfSome, IsTrue, is_some, List, Some, length, map}
+use Rattle.std.specs.List.{range_with_len, slice_get}
 use Rattle.smp_split.specs.Counts.{AddsUp}
 use Rattle.smp_values.specs.Starts.{IsWhole}
 use Rattle.smp_design.specs.Words.{row}
@@ -13,13 +13,15 @@ use Rattle.smp_methods.specs.Procedures.{procedure_of}
 use Rattle.smp_methods.specs.Starts.{SelectsAround}
 use Rattle.smp_strata.specs.Bounds.{IsStratum}
 use Rattle.smp_strata.specs.Plans.{Parts}
+use Rattle.smp_strata.specs.declared.strata.Seat.{Seat}
 use Rattle.smp_strata.specs.declared.strata.Stratum.{Stratum}
 use Rattle.smp_prob.specs.declared.requests.Request.{Request}
 use Rattle.smp_twostage.specs.declared.stage.Asked.{Asked}
 use Rattle.smp_twostage.specs.declared.stage.Asked.TheVariants as asked
-use Rattle.smp_twostage.specs.Covered.{covered_first}
+use Rattle.smp_balance.specs.Lines as balance
+use Rattle.smp_twostage.specs.Lines.{told}
 use Rattle.smp_twostage.specs.Plans.{TakesRows}
-use Rattle.smp_twostage.specs.Selections.{Coverage, Selecting, balancing, belongs_to, section_count, stages_before, tree_of}
+use Rattle.smp_twostage.specs.Selections.{Coverage, Selecting, belongs_to, is_together, place_of, section_count, stages_before, tree_of, units_at}
 
 -- where the units of a stage stand, as the code holds it
 abbrev pub asked_view : Asked → Request
@@ -60,8 +62,27 @@ pub record EachStarts (stages : List (Stage Selecting)) (states : List AnyState)
       → slice_get stages i ≡ Some stage → slice_get states i ≡ Some state
       → StageStarts stage.design state
 
--- what is read of stratum h: the values of its first stage units that are balanced, and which of the units are selected
-pub record IsSelected (c : Coverage) (states : List AnyState) (h : ℕ) (values : List (List ℤ)) (units : List ℕ) : Type 0 where
-  pub values_are : (s : Stratum) → slice_get c.plan.strata h ≡ Some s → values ≡ (balancing c.plan s).values
-  pub units_are : (s : Stratum) → slice_get c.plan.strata h ≡ Some s
-      → units ≡ filter (covered_first c states h) (range_with_len 0 (length s.units))
+-- ---- what is told
+
+-- a place among the first stage units of the strata of a plan
+pub record IsThere (plan : Parts) (p : Seat) : Type 0 where
+  pub stratum : p.stratum < length plan.strata
+  pub unit : p.unit < length (units_at (slice_get plan.strata p.stratum))
+
+-- where the first stage units of a section stand that are told, one by one
+abbrev pub told_seat : Coverage → ℕ → ℕ → Seat
+told_seat c h i =
+    if is_together c then place_of c.plan.strata i else record { stratum = h; unit = i; place = 0 }
+
+-- how many these are
+abbrev pub told_count : Coverage → ℕ → ℕ
+told_count c h =
+    if is_together c then c.plan.rows else length (units_at (slice_get c.plan.strata h))
+
+-- what is said of each of them
+abbrev pub each_told : {A : Type 0} → (Seat → A) → Coverage → ℕ → ℕ → List A
+each_told says c h n = map (λ i. says (told_seat c h i)) (range_with_len 0 n)
+
+-- the lines of a section
+abbrev pub section_lines : Coverage → List AnyState → ℕ → List ℕ
+section_lines c states h = balance.balance_lines (told c states h)

@@ -1,4 +1,5 @@
 pub mod Selections
+pub mod Sides
 pub mod Plans
 pub mod Cubes
 pub mod Starts

@@ -15,8 +15,7 @@ use Rattle.smp_design.specs.declared.method.Method.{Method}
 use Rattle.smp_design.specs.Words.{draws_together}
 use Rattle.smp_methods.specs.declared.any.AnyDesign.{AnyDesign}
 use Rattle.smp_methods.specs.declared.any.AnyState.{AnyState}
-use Rattle.smp_methods.specs.Procedures.{procedure}
-use Rattle.smp_methods.specs.Designs.{design_of, design_of_strata, first_state, method_of}
+use Rattle.smp_methods.specs.Designs.{design_by, design_of_strata, first_state, method_of}
 use Rattle.smp_strata.specs.Plans.{Parts}
 use Rattle.smp_strata.specs.declared.strata.FirstUnit as unit
 use Rattle.smp_strata.specs.declared.strata.Seat as place
@@ -69,7 +68,7 @@ first_stage plan s = record {
   design = record {
     units = length s.units;
     request = s.request;
-    design = design_of (procedure plan.method plan.order plan.near (column_count (valued s)))
+    design = design_by plan.method plan.order plan.near (column_count (valued s))
         s.request (free_values (valued s));
   };
   within = None;
@@ -81,7 +80,7 @@ second_stage method request rows at k = record {
   design = record {
     units = rows;
     request = request;
-    design = design_of (procedure method Frame 0 0) request (map (λ _. []) request.free);
+    design = design_by method Frame 0 0 request (map (λ _. []) request.free);
   };
   within = Some (record { stage = at; unit = k });
 }
@@ -270,12 +269,9 @@ abbrev pub covered_parts : Coverage → Parts
 covered_parts c = parts_by c.plan c.only
 
 -- the stages: one of all strata, or those of the strata that are drawn
-abbrev pub stages_by : Bool → Coverage → List (Stage Selecting)
-stages_by true c = stage_of_strata c.plan ∷ []
-stages_by false c = stages_of (covered_parts c)
-
 abbrev pub covered_stages : Coverage → List (Stage Selecting)
-covered_stages c = stages_by (is_together c) c
+covered_stages c =
+    if is_together c then stage_of_strata c.plan ∷ [] else stages_of (covered_parts c)
 
 -- the states from which they start, and the state before the first step
 abbrev pub covered_states : Coverage → List AnyState
@@ -293,25 +289,19 @@ abbrev pub covered_number : Coverage → ℕ → ℕ
 covered_number c h = number_by c.only h
 
 -- where unit k of stratum h stands in the stages
-abbrev pub first_place_by : Bool → Coverage → ℕ → ℕ → Place
-first_place_by true c h k = place_together c.plan.strata h k
-first_place_by false c h k =
-    record { stage = first_number (covered_parts c) (covered_number c h); unit = k }
-
 abbrev pub first_place : Coverage → ℕ → ℕ → Place
-first_place c = first_place_by (is_together c) c
+first_place c h k =
+    if is_together c then place_together c.plan.strata h k
+    else record { stage = first_number (covered_parts c) (covered_number c h); unit = k }
 
 -- whether a row is one of stratum h
 abbrev pub is_of_stratum : Parts → ℕ → ℕ → Bool
 is_of_stratum plan h row = nat_eq (place_of plan.strata row).stratum h
 
 -- whether a row is one of section h: of its stratum, or any where all strata are drawn together
-abbrev pub is_in_section : Bool → Parts → ℕ → ℕ → Bool
-is_in_section true plan h row = true
-is_in_section false plan h row = is_of_stratum plan h row
-
 abbrev pub is_of_section : Parts → ℕ → ℕ → Bool
-is_of_section plan h row = is_in_section (draws_together plan.method) plan h row
+is_of_section plan h row =
+    if draws_together plan.method then true else is_of_stratum plan h row
 
 -- the seat of a row where stratum h is drawn alone, whose first stage has the number 0; rows of other strata have none
 abbrev pub seat_alone : Parts → ℕ → ℕ → Seat
@@ -323,13 +313,9 @@ abbrev pub seats_by : Parts → Option ℕ → List Seat
 seats_by plan None = seats_of plan
 seats_by plan (Some h) = map (seat_alone plan h) (range_with_len 0 plan.rows)
 
--- the same, in the one stage where all strata are drawn together
-abbrev pub seats_in : Bool → Coverage → List Seat
-seats_in true c = seats_together c.plan
-seats_in false c = seats_by c.plan c.only
-
+-- the same, or those in the one stage where all strata are drawn together
 abbrev pub covered_seats : Coverage → List Seat
-covered_seats c = seats_in (is_together c) c
+covered_seats c = if is_together c then seats_together c.plan else seats_by c.plan c.only
 
 -- the draw tree, whose units are the rows of the frame
 abbrev pub covered_tree : Coverage → Tree (Progress AnyState)
@@ -341,19 +327,11 @@ pub record BelongsToCovered (c : Coverage) (state : Progress AnyState) : Type 0 
   pub member : IsUnderWay tree_of belongs_to (covered_stages c) state
 
 -- Each stratum that is drawn is a section, or all strata are one: how many sections there are, and how many stages stand before one.
-abbrev pub section_count_by : Bool → Coverage → ℕ
-section_count_by true c = 1
-section_count_by false c = strata_count c
-
 abbrev pub section_count : Coverage → ℕ
-section_count c = section_count_by (is_together c) c
-
-abbrev pub stages_before_by : Bool → Coverage → ℕ → ℕ
-stages_before_by true c h = h
-stages_before_by false c h = first_number (covered_parts c) h
+section_count c = if is_together c then 1 else strata_count c
 
 abbrev pub stages_before : Coverage → ℕ → ℕ
-stages_before c = stages_before_by (is_together c) c
+stages_before c h = if is_together c then h else first_number (covered_parts c) h
 
 abbrev pub strata_sections : Coverage → Sectioning (Progress AnyState)
 strata_sections c = sections_by (stages_before c) (section_count c)

@@ -18,9 +18,9 @@ use Rattle.smp_methods.specs.Designs.{left_at}
 use Rattle.smp_stages.specs.declared.places.Stage.{Stage}
 use Rattle.smp_stages.specs.Stages.{Progress, selected_in}
 use Rattle.smp_stages.specs.Paths.{GoesByStages}
-use Rattle.smp_balance.specs.FrameTotals.{IsBalancedFrame}
+use Rattle.smp_balance.specs.Totals.{IsBalancedFrame}
 use Rattle.smp_twostage.specs.Cubes.{IsDrawnByCube, IsDrawnTogether, frame_of}
-use Rattle.smp_twostage.specs.Selections.{Selecting, BelongsToWhole, all_of, covered_stages, covered_states, first_number, first_place}
+use Rattle.smp_twostage.specs.Selections.{Coverage, Selecting, BelongsToWhole, all_of, covered_stages, covered_states, first_number, first_place}
 use Rattle.smp_twostage.specs.Selections.{place_of, tree_of, whole_tree}
 
 -- the probability that a plan gives a row
@@ -45,12 +45,11 @@ weighted asked x = times (integer (known asked x)) (inverse asked)
 
 -- ---- units that are selected
 
--- whether a unit of a stratum's first stage, and a row within it, by its place among the unit's rows, are selected in their stages, where
--- the stages are in these states
-abbrev pub first_selected : Parts → List AnyState → ℕ → ℕ → Bool
-first_selected plan states h k =
-    selected_in tree_of (covered_stages (all_of plan)) states (first_place (all_of plan) h k)
+-- whether unit k of stratum h is selected in the first stage, where the stages are in these states
+abbrev pub covered_first : Coverage → List AnyState → ℕ → ℕ → Bool
+covered_first c states h k = selected_in tree_of (covered_stages c) states (first_place c h k)
 
+-- whether a row within it is selected in the second stage, by its place among the rows of the unit
 abbrev pub second_selected : Parts → List AnyState → ℕ → ℕ → ℕ → Bool
 second_selected plan states h k row =
     selected_in tree_of (covered_stages (all_of plan)) states
@@ -65,20 +64,20 @@ left_by stage state = 0
 abbrev pub FirstSelects : Parts → Progress AnyState → ℕ → stratum.Stratum → ℕ → Type 0
 FirstSelects plan start h s n =
     AtEachLeaf (whole_tree plan) start (λ path leaf.
-    count_by (first_selected plan leaf.states h) (range_with_len 0 (length s.units)) ≡ n)
+    count_by (covered_first (all_of plan) leaf.states h) (range_with_len 0 (length s.units)) ≡ n)
 
 -- at each leaf as many of them are selected as are expected of the stratum, or one of the two whole numbers around that where it
 -- isn't whole
 abbrev pub FirstSelectsAround : Parts → Progress AnyState → ℕ → stratum.Stratum → Type 0
 FirstSelectsAround plan start h s =
     AtEachLeaf (whole_tree plan) start (λ path leaf.
-    IsAround (count_by (first_selected plan leaf.states h) (range_with_len 0 (length s.units)))
+    IsAround (count_by (covered_first (all_of plan) leaf.states h) (range_with_len 0 (length s.units)))
     (expected_firsts s))
 
 -- at each leaf at which unit k of stratum h is selected, n of its rows are
 abbrev pub SecondSelects : Parts → Progress AnyState → ℕ → ℕ → unit.FirstUnit → ℕ → Type 0
 SecondSelects plan start h k u n =
-    AtEachLeaf (whole_tree plan) start (λ path leaf. first_selected plan leaf.states h k ≡ true
+    AtEachLeaf (whole_tree plan) start (λ path leaf. covered_first (all_of plan) leaf.states h k ≡ true
     → count_by (second_selected plan leaf.states h k) (range_with_len 0 (length u.rows)) ≡ n)
 
 -- ---- the start

@@ -7,7 +7,7 @@ ghost use Rattle.smp_methods.specs.Designs.{left_at};
 ghost use Rattle.smp_stages.specs.Starts.{StartsInStages};
 ghost use Rattle.smp_strata.specs.declared.strata.Stratum.{Stratum};
 ghost use Rattle.smp_design.specs.Words.{draws_together};
-ghost use Rattle.smp_twostage.specs.Covered.{StartsAlone, covered_first, covered_left};
+ghost use Rattle.smp_twostage.specs.Covered.{StartsAlone, covered_left};
 ghost use Rattle.smp_twostage.specs.Kept.{EachFirst, first_numbers};
 ghost use Rattle.smp_twostage.specs.Laws.Wholes.{covered_method, strata_sectioned};
 ghost use Rattle.smp_twostage.specs.Plans.{CanBeDrawn};
@@ -15,7 +15,7 @@ ghost use Rattle.smp_twostage.specs.Selections as Selections;
 ghost use Rattle.smp_twostage.specs.Selections.{BelongsToCovered, all_of, belongs_to, covered_seats, covered_stages, covered_start};
 ghost use Rattle.smp_twostage.specs.Selections.{covered_states, covered_tree, covers, first_place, is_only, one_of, seat_by};
 ghost use Rattle.smp_twostage.specs.Selections.{section_count, start_of, strata_sections, tree_of, units_at};
-ghost use Rattle.smp_twostage.specs.Starts.{StartsWhole};
+ghost use Rattle.smp_twostage.specs.Starts.{StartsWhole, covered_first};
 
 use crate::StageDesign;
 use crate::made::{Made, units_before};

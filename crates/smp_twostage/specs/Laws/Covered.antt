@@ -19,9 +19,10 @@ use Rattle.smp_strata.specs.declared.strata.Seat.{Seat}
 use Rattle.smp_strata.specs.declared.strata.Stratum.{Stratum}
 use Rattle.smp_twostage.specs.Plans.{CanBeDrawn}
 use Rattle.smp_twostage.specs.Selections.{Coverage, count_by, covered_seats, covered_stages, first_number, is_of_stratum, is_together}
-use Rattle.smp_twostage.specs.Selections.{parts_by, place_of, place_together, seat_alone, seat_by, seat_together, seats_by, seats_in}
-use Rattle.smp_twostage.specs.Selections.{seats_together, section_count, section_count_by, stage_of_strata, stages_before, stages_before_by}
-use Rattle.smp_twostage.specs.Selections.{stages_below, stages_by, stages_in, stages_of, tree_of, unit_count, units_before}
+use Rattle.smp_twostage.specs.Selections.{parts_by, place_of, place_together, seat_alone, seat_by, seat_together, seats_by}
+use Rattle.smp_twostage.specs.Selections.{seats_together, section_count, stage_of_strata, stages_before}
+use Rattle.smp_twostage.specs.Selections.{stages_below, stages_in, stages_of, tree_of, unit_count, units_before}
+use Rattle.smp_twostage.specs.Sides.{seats_in, section_count_by, stages_before_by, stages_by}
 use Rattle.smp_twostage.specs.Laws.Places.{StandsIn}
 use Rattle.smp_twostage.specs.Laws.Staged.{first_seat, place_stands, second_seat, seconds_in, staged_below, whole_staged}
 

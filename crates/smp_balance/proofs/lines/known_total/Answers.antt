@@ -1,41 +1,61 @@
-use Rattle.std.proofs.Common.{◌≡◌, ◌+◌, ◌+ℤ◌, ℕ, suc, length, arith, ap, ◌∙◌, to_z, of_z, w64, FitsSigned, SFits}
+use Rattle.std.proofs.Common.{◌≡◌, ◌+◌, ◌≤◌, ◌+ℤ◌, ◌^◌, ℕ, List, ℤ, pos, get_or, length, arith, ap, sym, subst, ◌∙◌, to_z, of_z, w64, SFits}
+use Rattle.std.specs.Int.RustNames.{unsigned_abs}
 use Rattle.std.proofs.lemmas.Int.{to_z-of_z}
 use Rattle.std.proofs.lemmas.List.{length-map}
-use Rattle.smp_balance.specs.Totals.{known_value}
-use Rattle.smp_balance.specs.Lines as Lines
-use Rattle.smp_balance.specs.Lines.{drawn_view}
-use Rattle.smp_balance.proofs.Told.{total_fits}
+use Rattle.smp_balance.specs.Lines.{Drawn, column_of, known_sum, drawn_view}
+use Rattle.smp_balance.proofs.ColumnSums.{IsSum, adds_none, adds_value, next_sum, no_sum, small_in, sum_fits, whole_sum}
+use Rattle.smp_kernel.specs.Vectors.{entry}
 use Rattle.smp_balance.proofs.lines.known_total.Goals as goal
+use Rattle.smp_balance.proofs.lines.known_total.Goals.{then-num-ne0, else-num-ne0}
 
--- where a term and the sum with it fit, the sum in the machine's numbers is the sum
-sum_in_words : (total value : _) (bits : ℕ) → to_z w64 bits ≡ total → SFits w64 value → FitsSigned w64 (total +ℤ value) → to_z w64 (of_z w64 (to_z w64 bits +ℤ to_z w64 (of_z w64 value))) ≡ total +ℤ value
-sum_in_words total value bits is fits all =
-    ap (λ z. to_z w64 (of_z w64 (z +ℤ to_z w64 (of_z w64 value)))) is
-    ∙ ap (λ z. to_z w64 (of_z w64 (total +ℤ z))) (to_z-of_z w64 value fits) ∙ to_z-of_z w64 (total +ℤ value) all
+-- how many values there are
+count_is : (drawn : Drawn) (values : List ℤ) (column : ℕ) → values ≡ column_of drawn column → length values ≡ length drawn.values
+count_is drawn values column is = ap length is ∙ length-map drawn.values (λ v. entry v column)
+
+pub bounds-drawn-unit : goal.bounds-drawn-unit
+bounds-drawn-unit c =
+    let drawn = drawn_view c.args.drawn.now in
+    omega (arith, c.loop-unit-test.true, count_is drawn c.args.values.now c.args.column c.requires.values, c.requires.told.asked)
 
 pub overflow_add-total : goal.overflow_add-total
 overflow_add-total c =
-    let s = (drawn_view c.args.drawn.now).stratum in
-    let values = c.args.drawn.now.values.now in
-    let fits = total_fits s c.requires.told.stratum.values c.args.column c.loop-unit.unit c.requires.told.few (omega (arith, length-map values (λ v. v.now), c.loop-unit-test.true)) in
-    let term : to_z w64 (of_z w64 c.known_value-total.result) ≡ known_value s c.args.column c.loop-unit.unit =
-    ap (λ z. to_z w64 (of_z w64 z)) c.known_value-total.ensures ∙ to_z-of_z w64 _ fits.1 in
-    rw (c.loop-unit.invariant, term) fits.0
+    let drawn = drawn_view c.args.drawn.now in
+    let values = c.args.values.now in
+    let count = count_is drawn values c.args.column c.requires.values in
+    let x : ℤ = get_or values c.loop-unit.unit (pos 0) in
+    let small : unsigned_abs x ≤ 2 ^ 31 = small_in drawn c.requires.told c.args.column c.loop-unit.unit (omega (arith, c.loop-unit-test.true, count)) values c.requires.values in
+    let fits = sum_fits c.args.drawn.now.asked.now values c.loop-unit.unit (to_z w64 c.loop-unit.total-bits) x c.loop-unit-test.true (omega (arith, count, c.requires.told.few)) small c.loop-unit.invariant in
+    subst (λ (z : ℤ). SFits w64 (to_z w64 c.loop-unit.total-bits +ℤ z)) (sym (to_z-of_z w64 x fits.1)) fits.0
+
+pub loop-unit-init : goal.loop-unit-init
+loop-unit-init c = no_sum c.args.drawn.now.asked.now c.args.values.now
 
 pub loop-unit-preserved : goal.loop-unit-preserved
 loop-unit-preserved c =
-    let s = (drawn_view c.args.drawn.now).stratum in
-    let values = c.args.drawn.now.values.now in
-    let i = c.loop-unit.unit in
-    let fits = total_fits s c.requires.told.stratum.values c.args.column i c.requires.told.few (omega (arith, length-map values (λ v. v.now), c.loop-unit-test.true)) in
-    let on : suc i ≡ i + 1 = omega arith in
-    ap (λ z. to_z w64 (of_z w64 (to_z w64 c.loop-unit.total-bits +ℤ to_z w64 (of_z w64 z)))) c.known_value-total.ensures
-    ∙ sum_in_words (Lines.known_total s c.args.column i) (known_value s c.args.column i) c.loop-unit.total-bits c.loop-unit.invariant fits.1 fits.0
-    ∙ ap (Lines.known_total s c.args.column) on
+    let drawn = drawn_view c.args.drawn.now in
+    let values = c.args.values.now in
+    let asked = c.args.drawn.now.asked.now in
+    let count = count_is drawn values c.args.column c.requires.values in
+    let x : ℤ = get_or values c.loop-unit.unit (pos 0) in
+    let small : unsigned_abs x ≤ 2 ^ 31 = small_in drawn c.requires.told c.args.column c.loop-unit.unit (omega (arith, c.loop-unit-test.true, count)) values c.requires.values in
+    let next = next_sum asked values c.index-drawn-unit.result c.loop-unit.unit (to_z w64 c.loop-unit.total-bits) c.loop-unit-test.true (omega (arith, count, c.requires.told.asked)) small c.loop-unit.invariant in
+    let fits = sum_fits asked values c.loop-unit.unit (to_z w64 c.loop-unit.total-bits) x c.loop-unit-test.true (omega (arith, count, c.requires.told.few)) small c.loop-unit.invariant in
+    let total : ℤ = to_z w64 c.loop-unit.total-bits in
+    let sum : to_z w64 (of_z w64 (total +ℤ to_z w64 (of_z w64 x))) ≡ total +ℤ x =
+    ap (λ z. to_z w64 (of_z w64 (total +ℤ z))) (to_z-of_z w64 x fits.1) ∙ to_z-of_z w64 (total +ℤ x) fits.0 in
+    let p = get_or asked c.loop-unit.unit c.index-drawn-unit.result in
+    elim c.if-num-ne0.branch [
+      | then-num-ne0 w ↦
+          subst (IsSum asked values (c.loop-unit.unit + 1)) (sym (w.total-is ∙ sum ∙ ap (λ z. total +ℤ z) (adds_value p x c.num.result c.num.ensures w.if-num-ne0.true))) next
+      | else-num-ne0 w ↦
+          subst (IsSum asked values (c.loop-unit.unit + 1)) (sym (w.total-is ∙ adds_none p total x c.num.result c.num.ensures w.if-num-ne0.false)) next
+    ]
 
 pub returns : goal.returns
 returns c =
-    let s = (drawn_view c.args.drawn.now).stratum in
-    let values = c.args.drawn.now.values.now in
-    let all : c.loop-unit.unit ≡ length s.values = omega (arith, length-map values (λ v. v.now), c.loop-unit-test.false, c.loop-unit.auto.unit-end) in
-    c.loop-unit.invariant ∙ ap (Lines.known_total s c.args.column) all
+    let drawn = drawn_view c.args.drawn.now in
+    let values = c.args.values.now in
+    let asked = c.args.drawn.now.asked.now in
+    let count = count_is drawn values c.args.column c.requires.values in
+    whole_sum asked values c.loop-unit.unit (to_z w64 c.loop-unit.total-bits) c.loop-unit-test.false (omega (arith, count, c.requires.told.asked)) c.loop-unit.invariant
+    ∙ ap (known_sum asked) c.requires.values

@@ -1,4 +1,4 @@
-use Rattle.std.proofs.Common.{◌≡◌, ◌+◌, ◌<◌, length, arith, refl, sym, ap, ◌∙◌}
+use Rattle.std.proofs.Common.{◌+◌, ◌<◌, length, arith, refl}
 use Rattle.smp_balance.proofs.Told.{next_mapped}
 use Rattle.smp_twostage.proofs.made.push_behind.Goals as goal
 

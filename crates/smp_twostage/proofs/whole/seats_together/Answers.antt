@@ -1,4 +1,4 @@
-use Rattle.std.proofs.Common.{◌≡◌, ◌<◌, arith}
+use Rattle.std.proofs.Common.{◌<◌, arith}
 use Rattle.smp_twostage.proofs.Layers.{few_before}
 use Rattle.smp_twostage.proofs.Seats.{inside, next_together, unit_few}
 use Rattle.smp_twostage.proofs.whole.seats_together.Goals as goal

@@ -1,7 +1,6 @@
-use Rattle.std.proofs.Common.{◌≡◌, true, arith, refl, sym, subst, ◌∙◌}
-use Rattle.smp_stages.specs.Stages.{Progress}
+use Rattle.std.proofs.Common.{true, arith, refl, sym, subst, ◌∙◌}
 use Rattle.smp_twostage.specs.Covered.{StartsAlone}
-use Rattle.smp_twostage.specs.Selections.{Coverage, covered_start}
+use Rattle.smp_twostage.specs.Selections.{Coverage}
 use Rattle.smp_twostage.specs.Starts.{StartsWhole}
 use Rattle.smp_twostage.proofs.CoveredSo.{firsts_so, seats_so, stages_in, start_so, starts_in}
 use Rattle.smp_twostage.proofs.Layers.{few_strata}

@@ -1,6 +1,5 @@
 use Rattle.std.proofs.Common.{◌<◌, length, arith}
-use Rattle.smp_stages.specs.declared.places.Place.{Place}
-use Rattle.smp_twostage.specs.Selections.{Coverage, covered_stages, first_place}
+use Rattle.smp_twostage.specs.Selections.{covered_stages, first_place}
 use Rattle.smp_twostage.proofs.Columns.{is_planned}
 use Rattle.smp_twostage.proofs.Inside.{IsPlaced, first_is, inside_units, member, placed, stratum_there}
 use Rattle.smp_twostage.proofs.whole.Whole.first.Goals as goal

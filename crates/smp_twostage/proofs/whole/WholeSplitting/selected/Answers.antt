@@ -1,5 +1,15 @@
-use Rattle.smp_twostage.proofs.Inside.{member}
+use Rattle.std.proofs.Common.{◌≡◌, subst}
+use Rattle.smp_methods.specs.declared.any.AnyState.{AnyState}
+use Rattle.smp_stages.specs.Stages.{Progress}
+use Rattle.smp_split.specs.Trees.{Tree}
+use Rattle.smp_twostage.proofs.Inside.{member, tree_is}
 use Rattle.smp_twostage.proofs.whole.WholeSplitting.selected.Goals as goal
 
 pub selected-requires-clause-state : goal.selected-requires-clause-state
 selected-requires-clause-state c = member c.args.self.now (record { plan = c.self.inside.plan.now; only = c.self.inside.only }) c.self.view_is c.self.inside.stages.stages.items c.self.invariant.0 c.args.state.now c.requires.state.member
+
+pub returns : goal.returns
+returns c =
+    subst (λ (t : Tree (Progress AnyState)). c.selected.result ≡ t.selected c.args.state.now c.args.unit)
+    (tree_is c.args.self.now (record { plan = c.self.inside.plan.now; only = c.self.inside.only }) c.self.view_is c.self.inside.stages.stages.items c.self.invariant.0
+    c.self.inside.stages.seats.items c.self.invariant.1) c.selected.ensures

@@ -1,0 +1,30 @@
+use Rattle.std.proofs.Common.{◌≡◌, true, sym, ap, subst, ◌∙◌}
+use Rattle.smp_design.specs.Words.{draws_together}
+use Rattle.smp_strata.specs.Plans.{Parts}
+use Rattle.smp_strata.specs.Seats.{IsSeat}
+use Rattle.smp_strata.specs.declared.strata.Seat.{Seat}
+use Rattle.smp_twostage.specs.Kept.{IsThere}
+use Rattle.smp_twostage.specs.Selections.{covers, is_together}
+use Rattle.smp_twostage.proofs.SeatsTold.{row_told, seat_here}
+use Rattle.smp_twostage.proofs.lines.told_seat.Goals as goal
+
+pub returns-then-draws_together-clause-is : goal.returns-then-draws_together-clause-is
+returns-then-draws_together-clause-is c =
+    let whole = c.args.whole.now in
+    let yes : is_together whole ≡ true =
+    ap (λ (p : Parts). draws_together p.method) (sym c.plan-plan.ensures) ∙ ap draws_together (sym c.method.ensures) ∙ sym c.draws_together.ensures ∙ c.if-draws_together.true in
+    let once : (q : Seat) → IsSeat whole.plan.strata c.args.number q → q ≡ c.seat.result =
+    subst (λ (p : Parts). (q : Seat) → IsSeat p.strata c.args.number q → q ≡ c.seat.result) c.plan-plan.ensures c.seat.ensures.once in
+    row_told whole c.args.section c.requires.drawable c.requires.within c.requires.covered yes c.args.number c.seat.result c.requires.number once
+
+pub returns-then-draws_together-clause-there : goal.returns-then-draws_together-clause-there
+returns-then-draws_together-clause-there c =
+    let whole = c.args.whole.now in
+    subst (IsThere whole.plan) (sym (returns-then-draws_together-clause-is c))
+    (seat_here whole c.args.section c.requires.drawable c.requires.within c.requires.covered c.args.number c.requires.number).0
+
+pub returns-then-draws_together-clause-covered : goal.returns-then-draws_together-clause-covered
+returns-then-draws_together-clause-covered c =
+    let whole = c.args.whole.now in
+    subst (λ (p : Seat). covers whole p.stratum ≡ true) (sym (returns-then-draws_together-clause-is c))
+    (seat_here whole c.args.section c.requires.drawable c.requires.within c.requires.covered c.args.number c.requires.number).1

@@ -1,0 +1,29 @@
+-- What a selection is on either side: where all strata are drawn together, and where they are drawn one by one. The proofs go by these.
+use Rattle.std.specs.Prelude.{ℕ, Bool, true, if◌then◌else◌, List, [], ◌∷◌}
+use Rattle.smp_stages.specs.declared.places.Place.{Place}
+use Rattle.smp_stages.specs.declared.places.Seat.{Seat}
+use Rattle.smp_stages.specs.declared.places.Stage.{Stage}
+use Rattle.smp_strata.specs.Plans.{Parts}
+use Rattle.smp_twostage.specs.Selections.{Coverage, Selecting, covered_number, covered_parts, first_number, is_of_stratum, place_together}
+use Rattle.smp_twostage.specs.Selections.{seats_by, seats_together, stage_of_strata, stages_of, strata_count}
+
+module _ (together : Bool) where
+  abbrev pub stages_by : Coverage → List (Stage Selecting)
+  stages_by c = if together then stage_of_strata c.plan ∷ [] else stages_of (covered_parts c)
+
+  abbrev pub first_place_by : Coverage → ℕ → ℕ → Place
+  first_place_by c h k =
+      if together then place_together c.plan.strata h k
+      else record { stage = first_number (covered_parts c) (covered_number c h); unit = k }
+
+  abbrev pub is_in_section : Parts → ℕ → ℕ → Bool
+  is_in_section plan h row = if together then true else is_of_stratum plan h row
+
+  abbrev pub seats_in : Coverage → List Seat
+  seats_in c = if together then seats_together c.plan else seats_by c.plan c.only
+
+  abbrev pub section_count_by : Coverage → ℕ
+  section_count_by c = if together then 1 else strata_count c
+
+  abbrev pub stages_before_by : Coverage → ℕ → ℕ
+  stages_before_by c h = if together then h else first_number (covered_parts c) h
