@@ -1,6 +1,6 @@
--- Balancing totals over all units of the strata that are drawn in one selection, and what is estimated of them by design weights (Horvitz and
--- Thompson 1952): of one stratum alone, by the cube or the local cube; or of all strata together (Chauvet 2009). The first rows are the sizes
--- of the strata, the others the variables.
+-- Balancing totals over all units of the strata that are drawn in one selection, and what is estimated of them by design weights (Horvitz
+-- and Thompson 1952): of one stratum alone, by the cube or the local cube; or of all strata together (Chauvet 2009). The first rows are the
+-- sizes of the strata, the others the variables.
 use Rattle.std.specs.Prelude.{◌≡◌, ℕ, zero, suc, ◌+◌, ◌-◌, ◌≤◌, nat_lt, if◌then◌else◌, Bool, true, false, cond, All, List, [], ◌∷◌, ℤ, pos}
 use Rattle.std.specs.Prelude.{length, map}
 use Rattle.smp_fractions.specs.Fractions.{Fraction, whole, integer, plus, times, inverse, sum_below}
@@ -78,7 +78,8 @@ module _ (part : ℕ → ℕ → StratumUnits → Fraction) where
 -- where it is certain, and 0 where it is never selected.
 abbrev pub total : List StratumUnits → (ℕ → Fraction) → ℕ → Fraction
 total frame value = over_frame
-    (λ before row s. sum_below (length s.values) (λ k. times (counted s row k) (row_value (λ u. value (before + u)) (inclusion s.request k))))
+    (λ before row s. sum_below (length s.values)
+    (λ k. times (counted s row k) (row_value (λ u. value (before + u)) (inclusion s.request k))))
     frame
 
 -- what is known of it: the sum of the probabilities of a stratum; of a variable the sum over the units that can be selected
@@ -89,7 +90,8 @@ known frame = over_frame (λ before row s. sum_below (length s.values) (known_of
 -- probabilities
 abbrev pub estimate : List StratumUnits → (ℕ → Bool) → ℕ → Fraction
 estimate frame selected = over_frame
-    (λ before row s. sum_below (length s.values) (λ k. cond (is_taken (λ u. selected (before + u)) (inclusion s.request k)) (counted s row k) (whole 0)))
+    (λ before row s. sum_below (length s.values)
+    (λ k. cond (is_taken (λ u. selected (before + u)) (inclusion s.request k)) (counted s row k) (whole 0)))
     frame
 
 -- the sum of |x| over the probability, over the units that are undecided, where these free units are; of a stratum, their number
@@ -155,7 +157,8 @@ frame_units frame = units_of (layers_of frame)
 -- what the cube over all strata balances
 abbrev pub frame_balance : List StratumUnits → Balance strata.Balancing
 frame_balance frame =
-    balance_over frame (cube_by stepping (frame_units frame)) (strat_tree (frame_units frame)) (λ t. t) (together.IsStuck (frame_units frame))
+    balance_over frame (cube_by stepping (frame_units frame)) (strat_tree (frame_units frame)) (λ t. t)
+    (together.IsStuck (frame_units frame))
 
 -- the selection of all strata is balanced from its start
 abbrev pub IsBalancedFrame : List StratumUnits → Type 0

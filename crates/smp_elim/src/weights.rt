@@ -63,7 +63,8 @@ pub(crate) fn expect(
     requires now { IsCutAt draws sizes.now now }
     requires next { IsCutAt (draws - 1) sizes.now next }
     requires fewer { next.count ≤ now.count }
-    requires narrow { sum_by (fresh_amount sizes.now draws) (range_with_len 0 (length sizes.now)) < 2 ^ 63 }
+    requires narrow { sum_by (fresh_amount sizes.now draws)
+        (range_with_len 0 (length sizes.now)) < 2 ^ 63 }
     ensures length { length fresh.new ≡ length sizes.now }
     ensures amounts { (unit : ℕ) → unit < length sizes.now
         → slice_index fresh.new unit ≡ fresh_amount sizes.now draws unit }

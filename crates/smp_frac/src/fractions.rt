@@ -211,8 +211,10 @@ impl Frac {
         requires apart { IsGcd num part 1 }
         requires rest_apart { IsGcd num (den / common) 1 }
         ensures value { IfOk result (λ f. Same (fraction f) (over num (part * den))) }
-        ensures fits { OnOk result (part * (den / greatest_common_divisor num common) < wide_limit) }
-        ensures wide { OnErr result (wide_limit ≤ part * (den / greatest_common_divisor num common)) }
+        ensures fits { OnOk result
+            (part * (den / greatest_common_divisor num common) < wide_limit) }
+        ensures wide { OnErr result
+            (wide_limit ≤ part * (den / greatest_common_divisor num common)) }
     {
         let divisor = gcd(num, common);
         let den = narrow_product(part, den / divisor)?;

@@ -21,7 +21,8 @@ use Rattle.smp_twostage.specs.declared.stage.Asked.TheVariants as asked
 use Rattle.smp_balance.specs.Lines as balance
 use Rattle.smp_twostage.specs.Lines.{told}
 use Rattle.smp_twostage.specs.Plans.{TakesRows}
-use Rattle.smp_twostage.specs.Selections.{Coverage, Selecting, belongs_to, is_together, place_of, section_count, stages_before, tree_of, units_at}
+use Rattle.smp_twostage.specs.Selections.{Coverage, Selecting, belongs_to, is_together, place_of, section_count}
+use Rattle.smp_twostage.specs.Selections.{stages_before, tree_of, units_at}
 
 -- where the units of a stage stand, as the code holds it
 abbrev pub asked_view : Asked → Request

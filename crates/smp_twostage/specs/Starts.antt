@@ -20,8 +20,8 @@ use Rattle.smp_stages.specs.Stages.{Progress, selected_in}
 use Rattle.smp_stages.specs.Paths.{GoesByStages}
 use Rattle.smp_balance.specs.Totals.{IsBalancedFrame}
 use Rattle.smp_twostage.specs.Cubes.{IsDrawnByCube, IsDrawnTogether, frame_of}
-use Rattle.smp_twostage.specs.Selections.{Coverage, Selecting, BelongsToWhole, all_of, covered_stages, covered_states, first_number, first_place}
-use Rattle.smp_twostage.specs.Selections.{place_of, tree_of, whole_tree}
+use Rattle.smp_twostage.specs.Selections.{Coverage, Selecting, BelongsToWhole, all_of, covered_stages, covered_states, first_number}
+use Rattle.smp_twostage.specs.Selections.{first_place, place_of, tree_of, whole_tree}
 
 -- the probability that a plan gives a row
 abbrev pub row_fraction : Parts → ℕ → Fraction

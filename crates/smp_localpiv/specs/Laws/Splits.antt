@@ -29,7 +29,8 @@ module _ (units : ℕ) (s : Local) (ok : IsLocal units s) where
   stepped : (parts : List (Part Shares)) → LawfulParts (steps_tree units) (IsValues units most_denominator) s.state parts
       → IsSplit (moved (located_values s.coords) parts)
   stepped =
-      parts_through (steps_tree units) (IsValues units most_denominator) (local_tree units) (IsLocal units) (located_values s.coords) as_unit s.state s
+      parts_through (steps_tree units) (IsValues units most_denominator) (local_tree units) (IsLocal units)
+      (located_values s.coords) as_unit s.state s
       (record {
         within = λ k h. h;
         part = λ p is. (let fewer : fractional_count p.state < fractional_count s.state = is.falls in
