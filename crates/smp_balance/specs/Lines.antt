@@ -1,5 +1,6 @@
 -- What the report tells of the units that were drawn: `left H L`, and then `balance H J E T` for each balancing column.
-use Rattle.std.specs.Prelude.{◌≡◌, ℕ, ◌+◌, ◌-◌, ◌≤◌, ◌++◌, nat_eq, cond, if◌then◌else◌, Bool, All, List, ◌∷◌, ℤ, pos, ◌+ℤ◌, length, map}
+use Rattle.std.specs.Prelude.{◌≡◌, ℕ, ◌+◌, ◌-◌, ◌≤◌, ◌++◌, nat_eq, cond, if◌then◌else◌}
+use Rattle.std.specs.Prelude.{Bool, All, List, ◌∷◌, ℤ, pos, ◌+ℤ◌, length, map}
 use Rattle.std.specs.Prelude.{codes, Result, Ok, Err}
 use Rattle.std.specs.List.{flat_map, range_with_len}
 use Rattle.std.specs.Fmt.{decimal, signed_decimal}

@@ -1,7 +1,8 @@
 -- Balancing totals over all units of the strata that are drawn in one selection, and what is estimated of them by design weights (Horvitz
 -- and Thompson 1952): of one stratum alone, by the cube or the local cube; or of all strata together (Chauvet 2009). The first rows are the
 -- sizes of the strata, the others the variables.
-use Rattle.std.specs.Prelude.{◌≡◌, ℕ, zero, suc, ◌+◌, ◌-◌, ◌≤◌, nat_lt, if◌then◌else◌, Bool, true, false, cond, All, List, [], ◌∷◌, ℤ, pos}
+use Rattle.std.specs.Prelude.{◌≡◌, ℕ, zero, suc, ◌+◌, ◌-◌, ◌≤◌, nat_lt, if◌then◌else◌}
+use Rattle.std.specs.Prelude.{Bool, true, false, cond, All, List, [], ◌∷◌, ℤ, pos}
 use Rattle.std.specs.Prelude.{length, map}
 use Rattle.smp_fractions.specs.Fractions.{Fraction, whole, integer, plus, times, inverse, sum_below}
 use Rattle.smp_fractions.specs.Bounds.{absolute}

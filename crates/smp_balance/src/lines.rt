@@ -3,7 +3,8 @@
 ghost use Rattle.std.specs.Prelude.{◌≡◌, ◌++◌, ◌<◌, [], IfOk, OnOk, length, slice_index_or, string_bytes};
 ghost use Rattle.smp_kernel.specs.Vectors.{entry};
 ghost use Rattle.smp_balance.specs.Lines as Lines;
-ghost use Rattle.smp_balance.specs.Lines.{AreTold, balance_line, balance_lines, column_of, drawn_view, estimate_text, known_total, left_line};
+ghost use Rattle.smp_balance.specs.Lines.{AreTold, balance_line, balance_lines, column_of, drawn_view};
+ghost use Rattle.smp_balance.specs.Lines.{estimate_text, known_total, left_line};
 
 use smp_frac::{Frac, NoMemory, Signed, Wide};
 use smp_weights::estimate;

@@ -1,5 +1,6 @@
 -- What the code keeps on the way. No public clause cites it.
-use Rattle.std.specs.Prelude.{◌≡◌, ℕ, suc, ◌<◌, true, if◌then◌else◌, All, IfSome, IsTrue, is_some, List, Some, length, map}
+use Rattle.std.specs.Prelude.{◌≡◌, ℕ, suc, ◌<◌, true, if◌then◌else◌, All, IfSome, IsTrue}
+use Rattle.std.specs.Prelude.{is_some, List, Some, length, map}
 use Rattle.std.specs.List.{range_with_len, slice_get}
 use Rattle.smp_split.specs.Counts.{AddsUp}
 use Rattle.smp_values.specs.Starts.{IsWhole}

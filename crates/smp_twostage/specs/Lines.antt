@@ -10,14 +10,14 @@ use Rattle.smp_strata.specs.Plans.{Parts}
 use Rattle.smp_strata.specs.Seats.{first_fraction}
 use Rattle.smp_strata.specs.declared.strata.Seat.{Seat}
 use Rattle.smp_twostage.specs.Covered.{covered_left}
-use Rattle.smp_twostage.specs.Selections.{Coverage, balancing, covers, is_together, place_of, units_at}
+use Rattle.smp_twostage.specs.Selections.{Coverage, all_of, balancing, covers, is_together, place_of, section_count, units_at}
 use Rattle.smp_twostage.specs.Starts.{covered_first}
 
 -- The sections that are told, by their numbers, counted from 0: the strata that are covered, or all strata as one where they are drawn
 -- together.
 abbrev pub told_sections : Coverage → List ℕ
 told_sections c =
-    filter (covers c) (range_with_len 0 (if is_together c then 1 else length c.plan.strata))
+    filter (covers c) (range_with_len 0 (section_count (all_of c.plan)))
 
 -- where the first stage units of a section stand: those of all rows, or those of its stratum
 abbrev pub told_seats : Coverage → ℕ → List Seat

@@ -1,6 +1,6 @@
 //! What the report tells of the strata that are balanced.
 
-ghost use Rattle.std.specs.Prelude.{◌≡◌, ◌++◌, ◌+◌, ◌^◌, ◌<◌, true, if◌then◌else◌, length, map, IfOk, OnOk, string_bytes};
+ghost use Rattle.std.specs.Prelude.{◌≡◌, ◌++◌, ◌+◌, ◌^◌, ◌<◌, true, length, map, IfOk, OnOk, string_bytes};
 ghost use Rattle.std.specs.List.{flat_map, slice_get};
 ghost use Rattle.smp_design.specs.Words.{balances};
 ghost use Rattle.smp_balance.specs.Strata.{column_count};
@@ -9,11 +9,11 @@ ghost use Rattle.smp_strata.specs.Seats.{first_fraction};
 ghost use Rattle.smp_twostage.specs.Kept.{IsThere, each_told, section_lines, told_count, told_seat};
 ghost use Rattle.smp_twostage.specs.Lines.{balance_lines, seat_values, told_sections};
 ghost use Rattle.smp_twostage.specs.Plans.{CanBeDrawn};
-ghost use Rattle.smp_twostage.specs.Selections.{BelongsToCovered, balance_count, balancing, covered_tree, covers, is_together};
+ghost use Rattle.smp_twostage.specs.Selections.{BelongsToCovered, balance_count, balancing, covered_tree, covers};
 ghost use Rattle.smp_twostage.specs.Starts.{covered_first};
 
-use crate::Whole;
 use crate::made::column_count;
+use crate::{Whole, section_count};
 use smp_balance::DrawnUnits;
 use smp_frac::{Frac, NoMemory};
 use smp_methods::AnyState;
@@ -62,24 +62,12 @@ fn all_lines(
         ≡ flat_map (section_lines whole.now state.now.states) (told_sections whole.now)) }
 {
     let mut text = String::new(alloc);
-    for section in 0..sections(whole) {
+    for section in 0..section_count(whole.plan()) {
         if whole.covers(section) {
             push_lines(alloc, &mut text, whole, state, section)?;
         }
     }
     Ok(text)
-}
-
-// How many sections there are: as many as strata, or one where they are drawn together.
-fn sections(whole: &Whole) -> usize
-    ensures { result ≡ (if is_together whole.now then 1 else length whole.now.plan.strata) }
-{
-    let plan = whole.plan();
-    if plan.method().draws_together() {
-        1
-    } else {
-        plan.strata()
-    }
 }
 
 // Writes the lines of a section.
