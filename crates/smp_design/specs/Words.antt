@@ -63,22 +63,23 @@ abbrev pub is_nothing : Needs → Bool
 is_nothing Nothing = true
 is_nothing other = false
 
--- those of `balance`, alone or beside those of `near`
+-- whether columns of `balance` are needed, alone or beside those of `near`
 abbrev pub is_balance : Needs → Bool
 is_balance Balance = true
 is_balance Both = true
 is_balance other = false
 
--- those of `near`, alone or beside those of `balance`
+-- whether columns of `near` are needed, alone or beside those of `balance`
 abbrev pub is_near : Needs → Bool
 is_near Near = true
 is_near Both = true
 is_near other = false
 
--- the most columns of `balance`, and of `near`
+-- the most columns of `balance`
 abbrev pub most_balance : ℕ
 most_balance = 15
 
+-- the most columns of `near`
 abbrev pub most_near : ℕ
 most_near = 4
 

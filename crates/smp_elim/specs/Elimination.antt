@@ -28,26 +28,29 @@ size_of s unit = slice_index s.sizes unit
 abbrev pub is_left : Remaining → ℕ → Bool
 is_left s unit = slice_index_or s.left unit false
 
--- how many units are left, and how many when one more is taken out
+-- how many units are left
 abbrev pub left_count : Remaining → ℕ
 left_count s = count_by (λ b. b) s.left
 
+-- how many are left when one more is taken out
 abbrev pub fewer : Remaining → ℕ
 fewer s = left_count s - 1
 
 -- ---- samples of n units, with probabilities in proportion to size
 
--- where n of all units are drawn in proportion to size: the probability of a unit, and whether it is certain
+-- the probability of a unit where n of all units are drawn in proportion to size
 abbrev pub fraction_at : Remaining → ℕ → ℕ → Fraction
 fraction_at s n unit = requested_fraction n s.sizes (size_of s unit)
 
+-- whether a unit is certain where n of all units are drawn in proportion to size
 abbrev pub is_certain_at : Remaining → ℕ → ℕ → Bool
 is_certain_at s n unit = is_certain n s.sizes (size_of s unit)
 
--- then how many draws the certain units leave, and the sum of the sizes of the units that aren't certain
+-- how many draws the certain units leave, where n of all units are drawn
 abbrev pub draws_at : Remaining → ℕ → ℕ
 draws_at s n = n - certain_units n s.sizes
 
+-- the sum of the sizes of the units that aren't certain, where n of all units are drawn
 abbrev pub total_at : Remaining → ℕ → ℕ
 total_at s n = open_total n s.sizes
 

@@ -14,6 +14,8 @@ greatest_up_to a b zero = 0
 greatest_up_to a b (suc n) = if divides_both a b (suc n) then suc n else greatest_up_to a b n
 
 -- the greatest common divisor of a and b, 0 where both are 0
+-- = gcd(a, b)
+-- e.g. of 6 and 10: 2
 unfoldable pub greatest_common_divisor : ℕ → ℕ → ℕ
 greatest_common_divisor a b = greatest_up_to a b (max a b)
 

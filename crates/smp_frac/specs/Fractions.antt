@@ -8,14 +8,17 @@ use Rattle.smp_frac.specs.declared.fractions.Frac.{Frac}
 use Rattle.smp_frac.specs.declared.signed.Signed.{Signed}
 use Rattle.smp_frac.specs.Divisors.{greatest_common_divisor}
 
--- the value of a fraction, and of one with a sign
+-- the value of a fraction of the code
+-- = num/den
 abbrev pub fraction : Frac → Fraction
 fraction f = record { num = pos f.num; den = f.den; positive = f.positive }
 
+-- the value of a fraction of the code with a sign
 abbrev pub signed_fraction : Signed → Fraction
 signed_fraction d = if d.minus then negated (fraction d.size) else fraction d.size
 
 -- n over d in lowest terms, in decimal
+-- e.g. of 10 and 6: `5/3`
 abbrev pub lowest_text : ℕ → ℕ → List ℕ
 lowest_text n d =
     let divisor = greatest_common_divisor n d in decimal (n / divisor) ++ codes "/" ++ decimal (d / divisor)
@@ -26,13 +29,15 @@ sign_text (pos n) = []
 sign_text (negsuc n) = codes "-"
 
 -- a fraction in lowest terms, in decimal
+-- e.g. of 10/6: `5/3`
 abbrev pub fraction_text : Fraction → List ℕ
 fraction_text a = sign_text a.num ++ lowest_text (unsigned_abs a.num) a.den
 
--- the numerators of p and of q over the least common multiple of their denominators
+-- the numerator of p over the least common multiple of the denominators of p and q
 abbrev pub first_term : Frac → Frac → ℕ
 first_term p q = p.num * (q.den / greatest_common_divisor p.den q.den)
 
+-- the numerator of q over the least common multiple of the denominators of p and q
 abbrev pub second_term : Frac → Frac → ℕ
 second_term p q = q.num * (p.den / greatest_common_divisor p.den q.den)
 

@@ -13,6 +13,8 @@ pub record DifferByAtMost (e a b : Fraction) : Type 0 where
   pub below : AtMost b (plus a e)
 
 -- n is a where that is whole, and else one of the two whole numbers around it
+-- = |n - a| < 1
+-- e.g. 2, 3 are around 5/2
 pub record IsAround (n : ℕ) (a : Fraction) : Type 0 where
   pub above : LessThan a (whole (n + 1))
   pub below : LessThan (whole n) (plus a (whole 1))

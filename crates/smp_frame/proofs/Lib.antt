@@ -7,3 +7,4 @@ pub mod NextUnit
 pub mod Places
 pub mod RecordFields
 pub mod Rows
+pub mod Four

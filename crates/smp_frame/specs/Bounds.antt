@@ -4,13 +4,15 @@ use Rattle.smp_fractions.specs.Limits.{most_rows, number_limit}
 use Rattle.smp_frac.specs.declared.fractions.Frac.{Frac}
 use Rattle.smp_frame.specs.declared.frame.Unit as unit
 
--- the sizes of the units, their sizes in the second stage, and their probabilities
+-- the sizes of the units
 abbrev pub sizes_of : List unit.Unit → List ℕ
 sizes_of units = map (λ u. u.size) units
 
+-- the sizes of the units in the second stage
 abbrev pub second_sizes_of : List unit.Unit → List ℕ
 second_sizes_of units = map (λ u. u.second_size) units
 
+-- the probabilities of the units
 abbrev pub probs_of : List unit.Unit → List Frac
 probs_of units = map (λ u. u.prob) units
 

@@ -53,5 +53,6 @@ units_of columns (header ∷ rows) = do
   Ok units
 
 -- the units of a frame, or its first fault
+-- e.g. of `id,size⏎a,1⏎b,2⏎c,3⏎d,4⏎` the four rows
 unfoldable pub frame_of : Columns → List ℕ → Result (List unit.Unit) FrameFault
 frame_of columns bytes = units_of columns (records_of bytes)

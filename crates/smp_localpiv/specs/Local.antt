@@ -34,7 +34,7 @@ neighbour s unit = unwrap_or (nearest (points_of s) unit) unit
 
 -- ---- the steps
 
--- the same units with this one chosen
+-- a state with this unit chosen
 abbrev pub choosing : Local → ℕ → Local
 choosing s unit = record { coords = s.coords; state = s.state; chosen = Some unit }
 

@@ -8,7 +8,7 @@ use Rattle.smp_log.specs.Lines.{ShareLines, whole_lines}
 use Rattle.smp_log.specs.Logs.{log_text}
 use Rattle.smp_log.specs.Told.{path_told}
 
--- the path of a full tape from a state: it leads to this leaf
+-- the path of a full tape from a state: it leads to this leaf, which is done
 pub record IsFullPath {State : Type 0} (tree : Tree State) (from : State) (path : List Entry)
     (leaf : State) : Type 0 where
   pub leads : Leads tree from path leaf

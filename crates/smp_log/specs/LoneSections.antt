@@ -28,10 +28,11 @@ IsGenuineSection tree from number text leaf = IsLogOf (IsLoneText number) tree f
 
 -- ---- the opening line
 
--- its first words, and whether a line begins with them
+-- the first words of a section's opening line
 abbrev pub opening_words : ℕ → List ℕ
 opening_words number = codes "stratum " ++ (decimal number ++ 32 ∷ [])
 
+-- whether a line begins with the first words of a section's opening line
 abbrev pub opens : ℕ → List ℕ → Bool
 opens number line = is_some (behind (opening_words number) line)
 
@@ -134,6 +135,7 @@ pub data LonePlace (State : Type 0) : Type 0 where
   start : LonePlace State
   at : LogPlace State → LonePlace State
 
+-- the place that a line leads to, where it goes on a genuine section
 abbrev pub next_lone : {State : Type 0} → Tree State → ℕ → State → LonePlace State → List ℕ
     → Option (LonePlace State)
 next_lone tree number from start line =
@@ -141,10 +143,12 @@ next_lone tree number from start line =
 next_lone tree number from (at place) line =
     option_map at (next_place tree (done_line number) from place line)
 
+-- whether the last line of the section was read
 abbrev pub is_over : {State : Type 0} → LonePlace State → Bool
 is_over start = false
 is_over (at place) = is_closed place
 
+-- a section's lines as a script: which place each leads to, and where it is over
 abbrev pub lone_script : {State : Type 0} → Tree State → ℕ → State → Script (LonePlace State)
 lone_script tree number from = record { follow = next_lone tree number from; over = is_over }
 
@@ -164,6 +168,7 @@ from_opening number (line ∷ lines) =
     if opens number line then (0, line ∷ lines)
     else (let rest = from_opening number lines in (suc rest.0, rest.1))
 
+-- the state at the end of a section that was read whole
 abbrev pub lone_leaf : {State : Type 0} → LonePlace State → Option State
 lone_leaf start = None
 lone_leaf (at (heading wanted lines)) = None

@@ -10,10 +10,11 @@ use Rattle.smp_log.specs.Reading.{Script, behind, step_value, end_line}
 use Rattle.smp_log.specs.SectionLogs.{sectioned_head}
 use Rattle.smp_log.specs.Answers.{read_by, log_reading}
 
--- the lines before and behind the steps of a section, without their line feeds
+-- the line before the steps of a section, without its line feed
 abbrev pub stratum_line : ℕ → ℕ → List ℕ
 stratum_line number place = codes "stratum " ++ (decimal number ++ 32 ∷ decimal place)
 
+-- the line behind the steps of a section, without its line feed
 abbrev pub done_line : ℕ → ℕ → List ℕ
 done_line number steps = codes "done " ++ (decimal number ++ 32 ∷ decimal steps)
 
@@ -34,7 +35,7 @@ before from (line ∷ lines) = heading line lines
 abbrev pub taken_at : {State : Type 0} → Tree State → State → ℕ
 taken_at tree s = if nat_lt 1 (weight_sum (tree.parts s)) then 1 else 0
 
--- this place, where the line is the one that is wanted
+-- a place, where the line is the one that is wanted
 abbrev pub where_same : {Place : Type 0} → List ℕ → List ℕ → Place → Option Place
 where_same line wanted place = if bytes_eq line wanted then Some place else None
 

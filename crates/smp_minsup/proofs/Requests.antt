@@ -27,7 +27,7 @@ module _ (request : Request) (is : IsRequest request) (whole : sum request.shape
   none_requested : length request.free ≡ 0 → draws_of (started request) ≡ 0
   none_requested none = draws_are 0 (started request) (denominator_positive request is) (none_selected none)
 
-  belongs_requested : IsSupport (length (numerators request)) (started request)
+  pub belongs_requested : IsSupport (length (numerators request)) (started request)
   belongs_requested = record {
     values = wider (length (numerators request)) (2 ^ 80) (2 ^ 126 - 1) (started request) (omega arith) (shares_in_range request is);
     whole = elim (cases_eq (length request.free) 0) [

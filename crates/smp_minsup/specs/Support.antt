@@ -39,10 +39,11 @@ abbrev pub least : ℕ → List ℕ → ℕ
 least bound [] = bound
 least bound (a ∷ rest) = min a (least bound rest)
 
--- the largest numerator of the units that aren't among the r largest, and the least one of those that are
+-- the largest numerator of the units that aren't among the r largest
 abbrev pub most_small : Shares → ℕ
 most_small s = largest_of (for_units s (λ k. if is_large s k then 0 else slice_index s.numer k))
 
+-- the least numerator of the r largest
 abbrev pub least_large : Shares → ℕ
 least_large s =
     least s.den (for_units s (λ k. if is_large s k then slice_index s.numer k else s.den))

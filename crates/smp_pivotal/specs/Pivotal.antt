@@ -7,7 +7,7 @@ use Rattle.smp_split.specs.Orders.{Ordered}
 use Rattle.smp_values.specs.InOrder.{StepRule, IsPlacedBy, placed_tree}
 use Rattle.smp_values.specs.Steps.{pivotal_kind, pivotal_parts}
 
--- pivotal steps, of which each settles a value at least
+-- pivotal steps, with the number of fractional values as their rank
 abbrev pub pivotal_rule : StepRule
 pivotal_rule = record {
   most = most_denominator;
@@ -17,6 +17,7 @@ pivotal_rule = record {
 }
 
 -- these steps on the values of so many units, once their order is drawn
+-- e.g. of 4 units it is the tree of section 2 of draw.md
 abbrev pub pivotal_tree : ℕ → Tree (Ordered Shares)
 pivotal_tree units = placed_tree pivotal_rule units
 

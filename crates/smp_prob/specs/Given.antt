@@ -20,10 +20,11 @@ pub record AreGiven (probs : List Frac) : Type 0 where
   pub few : length probs ≤ most_rows
   pub at_most_one : All (λ p. p.num ≤ p.den) probs
 
--- a unit is certain where its fraction is 1, and free where that is strictly between 0 and 1
+-- a unit is certain where its fraction is 1
 abbrev pub is_certain : Frac → Bool
 is_certain p = nat_eq p.num p.den
 
+-- a unit is free where its fraction is strictly between 0 and 1
 abbrev pub is_free : Frac → Bool
 is_free p = nat_lt 0 p.num && nat_lt p.num p.den
 
@@ -79,6 +80,7 @@ abbrev pub given_fraction : List Frac → ℕ → Fraction
 given_fraction probs unit = slice_index_or (map fraction probs) unit (whole 0)
 
 -- how many units are expected: the sum of all probabilities
+-- = Σ π of the column
 abbrev pub expected_size : List Frac → Fraction
 expected_size probs = sum_below (length probs) (given_fraction probs)
 

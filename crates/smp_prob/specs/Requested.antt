@@ -5,15 +5,22 @@ use Rattle.smp_fractions.specs.Fractions.{Fraction, whole, over}
 use Rattle.smp_prob.specs.declared.requests.Request.{Request}
 use Rattle.smp_prob.specs.Shapes.{shape_of}
 
--- how many sizes are larger than z, and the sum of those that aren't
+-- how many sizes are larger than z
+-- = #{x > z}
+-- e.g. of 3 it is 1
 abbrev pub larger : List ℕ → ℕ → ℕ
 larger sizes z = count_by (nat_lt z) sizes
 
+-- the sum of the sizes that are no larger than z
+-- = Σ x over x ≤ z
+-- e.g. of 4 it is 10, of 3 it is 6
 abbrev pub rest : List ℕ → ℕ → ℕ
 rest sizes z = sum_by (λ x. if nat_lt z x then 0 else x) sizes
 
 -- A unit of size z is certain where its share of the draws that the larger units leave is at least one. The test reads the size alone, so
--- units of equal size are certain together.
+-- units of equal size are certain together; `FirstAreCertain` says it of the sizes in falling order.
+-- = (n - #{x > z})·z ≥ Σ{x ≤ z} x, and z > 0
+-- e.g. of 4 not: 2·4 < 10
 abbrev pub is_certain : ℕ → List ℕ → ℕ → Bool
 is_certain n sizes z = nat_lt 0 z && nat_le (rest sizes z) ((n - larger sizes z) * z)
 
@@ -26,10 +33,14 @@ abbrev pub positive_units : List ℕ → ℕ
 positive_units sizes = count_by (nat_lt 0) sizes
 
 -- how many units are certain
+-- = c = #{certain}
+-- e.g. 0
 abbrev pub certain_units : ℕ → List ℕ → ℕ
 certain_units n sizes = count_by (is_certain n sizes) sizes
 
 -- the sum of the sizes of the units that aren't certain
+-- = R = Σ of the sizes that aren't certain
+-- e.g. 10
 abbrev pub open_total : ℕ → List ℕ → ℕ
 open_total n sizes = sum_by (λ x. if is_certain n sizes x then 0 else x) sizes
 
@@ -44,6 +55,8 @@ free_sizes n sizes = filter (is_free n sizes) sizes
 
 -- the probability that is requested of a unit of size z: 1 where it is certain, 0 where it has no size, and else z times the draws that
 -- the certain units leave, divided by the sum of the sizes that aren't certain
+-- = π = (n - c)·z/R, or 1 where z is certain
+-- e.g. of c: 2·3/10 = 6/10 = 3/5
 abbrev pub requested_fraction : ℕ → List ℕ → ℕ → Fraction
 requested_fraction n sizes z =
     if is_certain n sizes z then whole 1

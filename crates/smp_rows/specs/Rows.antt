@@ -16,7 +16,7 @@ row_value value Certain = whole 1
 row_value value (Free unit) = value unit
 row_value value Never = whole 0
 
--- the tree of the design, with the rows as its units
+-- the tree of the design, with all units of a stage as its units
 abbrev pub rows_tree : {State : Type 0} → ℕ → Request → Tree State → Tree State
 rows_tree rows request tree = record {
   units = rows;

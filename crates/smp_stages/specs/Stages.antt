@@ -60,32 +60,36 @@ module _ {Design State : Type 0} (tree_of : Design → Tree State) where
   rank_sum stages states = 0
 
   module _ (stages : List (Stage Design)) where
-    -- whether a stage is done, the kind of its next step, and the parts of this step
+    -- whether a stage is done
     abbrev pub stage_done : List State → ℕ → Bool
     stage_done states i = read true (λ tree state. tree.done state) (slice_get stages i) (slice_get states i)
 
+    -- the kind of a stage's next step
     abbrev pub stage_kind : List State → ℕ → Kind
     stage_kind states i = read Pivot (λ tree state. tree.kind state) (slice_get stages i) (slice_get states i)
 
+    -- the parts of a stage's next step
     abbrev pub stage_parts : List State → ℕ → List (Part State)
     stage_parts states i = read [] (λ tree state. tree.parts state) (slice_get stages i) (slice_get states i)
 
-    -- the value of a unit in its own stage, and whether it is selected there
+    -- the value of a unit in its own stage
     abbrev pub unit_value : List State → Place → Fraction
     unit_value states place = read (whole 0) (λ tree state. tree.value state place.unit)
         (slice_get stages place.stage) (slice_get states place.stage)
 
+    -- whether a unit is selected in its own stage
     abbrev pub unit_selected : List State → Place → Bool
     unit_selected states place = read false (λ tree state. tree.selected state place.unit)
         (slice_get stages place.stage) (slice_get states place.stage)
 
     -- ---- which stage comes next
 
-    -- a first stage is drawn, and a second stage where the unit within which it selects is selected
+    -- whether a stage is drawn by what it selects within: a first stage is, and a second stage where that unit is selected
     abbrev pub drawn_within : List State → Option Place → Bool
     drawn_within states None = true
     drawn_within states (Some place) = unit_selected states place
 
+    -- whether a stage is drawn, by its number
     abbrev pub is_drawn : List State → ℕ → Bool
     is_drawn states i = drawn_within states (within_of (slice_get stages i))
 

@@ -3,10 +3,11 @@ use Rattle.std.specs.Prelude.{◌≡◌, ◌⊎◌, ℕ, ◌+◌, ◌-◌, ◌*�
 use Rattle.std.specs.Prelude.{◌&&◌, ◌||◌, if◌then◌else◌, List, length, map, slice_index, sum, sum_by, count_by}
 use Rattle.std.specs.List.{range_with_len}
 
--- the whole part of n * N_h / N and its remainder, for a stratum of `count` of the `all` first stage units
+-- the whole part of n * N_h / N, for a stratum of `count` of the `all` first stage units
 abbrev pub whole : ℕ → ℕ → ℕ → ℕ
 whole n all count = n * count / all
 
+-- the remainder of n * N_h / N, for a stratum of `count` of the `all` first stage units
 abbrev pub remainder : ℕ → ℕ → ℕ → ℕ
 remainder n all count = n * count % all
 
@@ -32,6 +33,8 @@ share n counts h =
     + (if nat_lt (rank n counts h) (left_over n counts) then 1 else 0)
 
 -- what each stratum gets
+-- = largest remainders of n·N_h/N
+-- e.g. 2 of one stratum
 abbrev pub allocation : ℕ → List ℕ → List ℕ
 allocation n counts = map (share n counts) (range_with_len 0 (length counts))
 

@@ -18,6 +18,8 @@ cluster_of None units row = row ∷ []
 cluster_of (Some second) units row = in_psu units (psu_at units row)
 
 -- the probability of a first stage unit of some rows in its stratum: the one of the column of probabilities, or else in proportion to size
+-- = π₁ = n·x/Σx by the sizes x, or the column of probabilities
+-- e.g. 3/5
 abbrev pub fraction_by : Option (List ℕ) → Design → List unit.Unit → ℕ → List ℕ → Fraction
 fraction_by None design units stratum rows =
     requested_fraction (sample_size design units stratum) (first_sizes design units stratum)
@@ -25,12 +27,16 @@ fraction_by None design units stratum rows =
 fraction_by (Some column) design units stratum rows = fraction (prob_at units (first_row rows))
 
 -- the probability of the first stage unit of a row in its stratum
+-- = π₁(row)
+-- e.g. of c: 3/5
 abbrev pub fraction_in_stratum : Design → List unit.Unit → ℕ → Fraction
 fraction_in_stratum design units row =
     fraction_by design.columns.prob design units (stratum_number units row)
     (cluster_of design.second units row)
 
 -- the probability of a row in its psu: 1 without a second stage
+-- = π₂(row)
+-- e.g. 1
 abbrev pub fraction_in_psu : Option second.Second → List unit.Unit → ℕ → Fraction
 fraction_in_psu None units row = whole 1
 fraction_in_psu (Some second) units row =
@@ -38,6 +44,7 @@ fraction_in_psu (Some second) units row =
     (second_size_at units row)
 
 -- the probability that is asked for a row
+-- = π₁·π₂
 abbrev pub row_fraction : Design → List unit.Unit → ℕ → Fraction
 row_fraction design units row =
     times (fraction_in_stratum design units row) (fraction_in_psu design.second units row)

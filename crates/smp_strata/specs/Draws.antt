@@ -29,6 +29,8 @@ IsAllocated design units =
     IfSome design.n (λ n. IsAllocation n (cluster_counts design units) (sample_sizes design units))
 
 -- So many first stage units are asked of a stratum: its sample size, or with given probabilities their sum, where that is a whole number.
+-- = n = n_h, or n = Σ of the given probabilities
+-- e.g. 2
 abbrev pub AreAsked : Option (List ℕ) → Design → List unit.Unit → ℕ → ℕ → Type 0
 AreAsked None design units number n = n ≡ sample_size design units number
 AreAsked (Some column) design units number n =

@@ -130,27 +130,31 @@ abbrev pub row_limit_by : Bool → ℕ → ℕ → Option Misfit
 row_limit_by together strata variables =
     when (together && nat_lt most_equations (strata + variables)) (RowLimit strata variables)
 
+-- the misfit that strata and variables make more balancing equations than there may be
 abbrev pub row_limit : Design → List unit.Unit → Option Misfit
 row_limit design units =
     row_limit_by (draws_together design.method) (length (stratum_names units)) (length design.columns.values)
 
 -- ---- the first
 
--- the first misfit among those of a design without a column of probabilities, among those of one with it, and by which of the two it is
+-- the first misfit among those of a design without a column of probabilities
 abbrev pub sizes_misfit : Design → List unit.Unit → Option Misfit
 sizes_misfit design units =
     or_else (no_size design units)
     (or_else (too_many design units)
     (second_too_many design.second units))
 
+-- the first misfit among those of a design with a column of probabilities
 abbrev pub probs_misfit : Design → List unit.Unit → Option Misfit
 probs_misfit design units = or_else (denominator design units) (not_whole design units)
 
+-- the first misfit of a design, by whether it has a column of probabilities
 abbrev pub misfit_by : Option (List ℕ) → Design → List unit.Unit → Option Misfit
 misfit_by None design units = sizes_misfit design units
 misfit_by (Some column) design units = probs_misfit design units
 
 -- the first misfit of a frame and a design, in the order of these lines
+-- e.g. none
 unfoldable pub misfit_of : Design → List unit.Unit → Option Misfit
 misfit_of design units =
     or_else (unit_in_two design.second units)

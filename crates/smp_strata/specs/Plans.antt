@@ -46,17 +46,22 @@ abbrev pub sizes_by : Option ℕ → List quota.Quota → List (List ℕ) → Li
 sizes_by (Some n) quotas names counts = allocation n counts
 sizes_by None quotas names counts = map (quota_of quotas) names
 
--- how many first stage units are drawn from each stratum, and from one
+-- how many first stage units are drawn from each stratum
 abbrev pub sample_sizes : Design → List unit.Unit → List ℕ
 sample_sizes design units =
     sizes_by design.n design.sizes (stratum_names units) (cluster_counts design units)
 
+-- how many first stage units are drawn from a stratum
+-- = n_h
+-- e.g. 2
 abbrev pub sample_size : Design → List unit.Unit → ℕ → ℕ
 sample_size design units stratum = slice_index (sample_sizes design units) stratum
 
 -- ---- the plan
 
 -- the sizes of the first stage units of a stratum
+-- = the sizes x of the stratum's first stage units
+-- e.g. 1 2 3 4
 abbrev pub first_sizes : Design → List unit.Unit → ℕ → List ℕ
 first_sizes design units stratum = map (size_of units) (clusters_in design units stratum)
 

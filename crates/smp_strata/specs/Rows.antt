@@ -15,22 +15,24 @@ rows_of units = range_with_len 0 (length units)
 
 -- ---- a row
 
--- the name of a row's stratum, and of its psu
+-- the name of a row's stratum
+-- e.g. empty
 abbrev pub stratum_at : List unit.Unit → ℕ → List ℕ
 stratum_at units row = slice_index_or (map (λ u. u.stratum) units) row []
 
+-- the name of a row's psu
 abbrev pub psu_at : List unit.Unit → ℕ → List ℕ
 psu_at units row = slice_index_or (map (λ u. u.psu) units) row []
 
--- its size in the second stage
+-- the size of a row in the second stage
 abbrev pub second_size_at : List unit.Unit → ℕ → ℕ
 second_size_at units row = slice_index (second_sizes_of units) row
 
--- its probability, where the frame has a column of these
+-- the probability of a row, where the frame has a column of these
 abbrev pub prob_at : List unit.Unit → ℕ → Frac
 prob_at units row = slice_index_or (probs_of units) row (lowest_terms (whole 1))
 
--- its value in a column of values
+-- the value of a row in a column of values
 abbrev pub value_at : List unit.Unit → ℕ → ℕ → ℤ
 value_at units row column =
     slice_index_or (slice_index_or (map (λ u. u.values) units) row []) column (pos 0)
@@ -38,6 +40,8 @@ value_at units row column =
 -- ---- some rows
 
 -- the sum of the sizes of some rows
+-- = Σ size
+-- e.g. of c: 3
 abbrev pub size_of : List unit.Unit → List ℕ → ℕ
 size_of units rows = sum_by (λ row. slice_index (sizes_of units) row) rows
 

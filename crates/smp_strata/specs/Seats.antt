@@ -28,24 +28,26 @@ pub record Seated (strata : List stratum.Stratum) (row : ℕ) : Type 0 where
 
 -- ---- probabilities
 
--- the probability of a first stage unit in its stratum
+-- the probability of a first stage unit in a stratum
 abbrev pub unit_fraction : Option stratum.Stratum → ℕ → Fraction
 unit_fraction None unit = whole 0
 unit_fraction (Some stratum) unit = asked_fraction stratum.request unit
 
+-- the probability of a first stage unit in a stratum, by the stratum's number
 abbrev pub first_fraction : List stratum.Stratum → ℕ → ℕ → Fraction
 first_fraction strata stratum unit = unit_fraction (slice_get strata stratum) unit
 
--- that of a row in its first stage unit, which is 1 without a second stage
+-- the probability of a row in its first stage unit: 1 without a second stage
 abbrev pub stage_fraction : Option Request → ℕ → Fraction
 stage_fraction None place = whole 1
 stage_fraction (Some request) place = asked_fraction request place
 
+-- the probability of a row in a first stage unit, if there is one
 abbrev pub place_fraction : Option first.FirstUnit → ℕ → Fraction
 place_fraction None place = whole 0
 place_fraction (Some first) place = stage_fraction first.second place
 
--- that of the row at a seat: its first stage unit's, times its own in that unit
+-- the probability of the row at a seat: its first stage unit's, times its own in that unit
 abbrev pub seat_fraction : List stratum.Stratum → seat.Seat → Fraction
 seat_fraction strata seat =
     times (first_fraction strata seat.stratum seat.unit)

@@ -1,2 +1,3 @@
 pub mod FirstLine
 pub mod Front
+pub mod Four

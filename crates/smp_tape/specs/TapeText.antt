@@ -32,5 +32,6 @@ values_from number [] = Ok []
 values_from number (line ∷ lines) = value_and number (line_value line) (values_from (number + 1) lines)
 
 -- the values of a tape, a value a line; or the first line, counted from 1, that has none
+-- e.g. of `0⏎3⏎4⏎` they are 0, 3 and 4
 unfoldable pub tape_of : List ℕ → Result (List ℕ) TapeFault
 tape_of bytes = values_from 1 (lines_in bytes)

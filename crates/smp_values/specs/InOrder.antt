@@ -20,11 +20,11 @@ pub record StepRule : Type 0 where
   pub parts : Shares → List (Part Shares)
   pub rank : ℕ → ℕ
 
--- these steps on the values at so many places
+-- the tree of steps on the values at so many places
 abbrev pub places_tree : StepRule → ℕ → Tree Shares
 places_tree rule units = values_tree units rule.kind rule.parts rule.rank
 
--- the same on the values of so many units, once their order is drawn
+-- the tree of steps on the values of so many units, once their order is drawn
 abbrev pub placed_tree : StepRule → ℕ → Tree (Ordered Shares)
 placed_tree rule units = ordered_tree (places_tree rule units) exchanged_values
 
@@ -45,6 +45,7 @@ pub record LawfulRule (rule : StepRule) : Type 0 where
       → LeavesSelectAround (placed_tree rule units) s
 
 -- the state before the first step, with the requested values
+-- e.g. (1,2,3,4)/5, in frame order
 abbrev pub started : Request → Order → Ordered Shares
 started request order = ordered_values order (shares_of request)
 

@@ -9,6 +9,7 @@ use Rattle.smp_values.specs.Pairs.{pair_weights, pair_first, pair_second}
 use Rattle.smp_values.specs.Values.{fractional_units, with_one, with_pair, values_tree}
 
 -- the parts of a step on the units i and j, by the pair step on their values
+-- e.g. of a and b in (1,2,3,4)/5: (3,0,3,4)/5 with 1, (0,3,3,4)/5 with 2
 abbrev pub pair_parts : Shares → ℕ → ℕ → List (Part Shares)
 pair_parts s i j =
     let a = slice_index s.numer i in
@@ -18,6 +19,7 @@ pair_parts s i j =
     ∷ record { weight = weights.second; state = with_pair s i j (pair_second a b s.den) } ∷ []
 
 -- the parts of a step on unit i alone: with weight a it gets the value 1, else 0
+-- = 1 with a, 0 with D - a
 abbrev pub lone_parts : Shares → ℕ → List (Part Shares)
 lone_parts s i =
     let a = slice_index s.numer i in
@@ -35,10 +37,11 @@ abbrev pub kind_on : List ℕ → Kind
 kind_on (i ∷ j ∷ others) = Pivot
 kind_on others = Lone
 
--- the parts and the kind of the next step, which is on the first two fractional units, or on the only one
+-- the parts of the next step, which is on the first two fractional units, or on the only one
 abbrev pub pivotal_parts : Shares → List (Part Shares)
 pivotal_parts s = parts_on s (fractional_units s)
 
+-- the kind of the next pivotal step
 abbrev pub pivotal_kind : Shares → Kind
 pivotal_kind s = kind_on (fractional_units s)
 

@@ -10,6 +10,7 @@ use Rattle.smp_split.specs.Trees.{Part, Tree}
 use Rattle.smp_split.specs.declared.kind.Kind.{Kind}
 
 -- whether a numerator over a denominator, the first number, is the value of a fractional unit: above 0 and below 1
+-- = 0 < a < D
 abbrev pub fractional : ℕ → ℕ → Bool
 fractional den a = nat_lt 0 a && nat_lt a den
 
@@ -18,6 +19,7 @@ abbrev pub is_fractional : Shares → ℕ → Bool
 is_fractional s unit = fractional s.den (slice_index s.numer unit)
 
 -- the fractional units in order
+-- e.g. of (1,0,5,4)/5: 0 and 3
 abbrev pub fractional_units : Shares → List ℕ
 fractional_units s = filter (is_fractional s) (range_with_len 0 (length s.numer))
 
@@ -26,6 +28,7 @@ abbrev pub fractional_at : Shares → ℕ → ℕ
 fractional_at s place = slice_index (fractional_units s) place
 
 -- how many units are fractional
+-- e.g. of (1,0,5,4)/5: 2
 abbrev pub fractional_count : Shares → ℕ
 fractional_count s = count_by (fractional s.den) s.numer
 
@@ -33,10 +36,13 @@ fractional_count s = count_by (fractional s.den) s.numer
 abbrev pub is_settled : Shares → Bool
 is_settled s = nat_eq (fractional_count s) 0
 
--- the value of a unit, and whether it is 1
+-- the value of a unit
+-- = a/D
+-- e.g. of a in (1,2,3,4)/5: 1/5
 abbrev pub value_at : Shares → ℕ → Fraction
 value_at s unit = over (slice_index s.numer unit) s.den
 
+-- whether the value of a unit is 1
 abbrev pub is_one : Shares → ℕ → Bool
 is_one s unit = nat_eq (slice_index s.numer unit) s.den
 
@@ -44,10 +50,11 @@ is_one s unit = nat_eq (slice_index s.numer unit) s.den
 abbrev pub AddTo : ℕ → Shares → Type 0
 AddTo n s = sum s.numer ≡ n * s.den
 
--- the values with another numerator of one unit, and of two units
+-- the values with another numerator of one unit
 abbrev pub with_one : Shares → ℕ → ℕ → Shares
 with_one s i new = record { numer = slice_set s.numer i new; den = s.den }
 
+-- the values with other numerators of two units
 abbrev pub with_pair : Shares → ℕ → ℕ → ℕ × ℕ → Shares
 with_pair s i j new = record { numer = slice_set (slice_set s.numer i new.0) j new.1; den = s.den }
 

@@ -22,15 +22,15 @@ signed_lowest_terms a = record {
 abbrev pub within_limit : {A : Type 0} → ℕ → A → Result A Wide
 within_limit needed result = if nat_lt needed wide_limit then Ok result else Err (record {})
 
--- the product of two fractions
+-- the product of two fractions, within the limit
 abbrev pub product_of : Frac → Frac → Result Frac Wide
 product_of p q = within_limit (product_size p q) (lowest_terms (times (fraction p) (fraction q)))
 
--- their sum
+-- the sum of two fractions, within the limit
 abbrev pub sum_of : Frac → Frac → Result Frac Wide
 sum_of p q = within_limit (sum_size p q) (lowest_terms (plus (fraction p) (fraction q)))
 
--- the second taken from the first
+-- the second of two fractions taken from the first, within the limit
 abbrev pub difference_of : Frac → Frac → Result Signed Wide
 difference_of p q =
     within_limit (difference_size p q) (signed_lowest_terms (minus (fraction p) (fraction q)))

@@ -35,10 +35,11 @@ total_of us = with_terms zero us
 abbrev pub has_sign : Bool → ℤ → Bool
 has_sign minus z = if minus then is_negative z else is_positive z
 
--- the units whose values are above zero, and those whose values are below it
+-- the units whose values are above zero
 abbrev pub gains : List (Chosen ℤ) → List (Chosen ℤ)
 gains us = filter (λ u. is_positive u.value) us
 
+-- the units whose values are below zero
 abbrev pub losses : List (Chosen ℤ) → List (Chosen ℤ)
 losses us = filter (λ u. is_negative u.value) us
 

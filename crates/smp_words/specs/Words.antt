@@ -28,7 +28,7 @@ pub record Given : Type 0 where
   pub stratum : Option (List ℕ)
   pub to : Option (List ℕ)
 
--- the same, of the values that clap found
+-- what is given, by the values that clap found
 abbrev pub given_of : List Row → Given
 given_of rows = record {
   command = first_of (codes "command") rows;
@@ -65,6 +65,7 @@ abbrev pub is_among : List (List ℕ) → List ℕ × Option (List ℕ) → Bool
 is_among names (name, Some value) = list_any (bytes_eq name) names
 is_among names (name, None) = true
 
+-- each option has one of these names, or isn't there
 abbrev pub are_among : List (List ℕ) → List (List ℕ × Option (List ℕ)) → Bool
 are_among names options = list_all (is_among names) options
 
@@ -72,6 +73,7 @@ are_among names options = list_all (is_among names) options
 abbrev pub has_only : List (List ℕ) → Given → Bool
 has_only names g = are_among names (options_of g)
 
+-- whether there are no words
 abbrev pub is_empty : List (List ℕ) → Bool
 is_empty [] = true
 is_empty (word ∷ words) = false
@@ -89,11 +91,12 @@ in_range least most n = when (nat_le least n && nat_le n most) (Some n)
 abbrev pub number_from : ℕ → ℕ → List ℕ → Option ℕ
 number_from least most text = number_below (2 ^ 128) text >>= in_range least most
 
--- the 32 bytes that 64 hexadecimal digits write, two digits a byte and in either case
+-- the seed of the bytes that were decoded
 abbrev pub seed_of : Result (List ℕ) FromHexError → Option (List ℕ)
 seed_of (Ok bytes) = Some bytes
 seed_of (Err error) = None
 
+-- the seed that 64 hexadecimal digits write, two digits a byte and in either case
 abbrev pub seed_from : List ℕ → Option (List ℕ)
 seed_from text = seed_of (decode_sized text 32)
 
@@ -107,10 +110,11 @@ quick_words (frame ∷ n ∷ tape ∷ out ∷ []) =
     (Quick (record { frame = frame; n = size; tape = tape; out = out })))
 quick_words other = None
 
--- the fewest and the most units of the frame that `demo` makes
+-- the fewest units of the frame that `demo` makes
 abbrev pub least_demo_units : ℕ
 least_demo_units = 30
 
+-- the most units of the frame that `demo` makes
 abbrev pub most_demo_units : ℕ
 most_demo_units = 100000
 
@@ -136,7 +140,7 @@ pub record LogFiles : Type 0 where
   pub log : List ℕ
   pub out : List ℕ
 
--- these files, where all are named and no other word is there
+-- the files of a command on a log, where all are named and no other word is there
 abbrev pub log_files : Given → Option (List ℕ) → Option LogFiles
 log_files g last = when (is_empty g.rest) (do
   design ← g.design
@@ -149,6 +153,7 @@ log_files g last = when (is_empty g.rest) (do
 abbrev pub have_own_names : LogFiles → Bool
 have_own_names files = all_distinct (files.design ∷ files.frame ∷ files.log ∷ files.out ∷ [])
 
+-- a draw to these files
 abbrev pub draw_command : LogFiles → Chance → Command
 draw_command files chance = Draw (record {
   design = files.design;
@@ -168,6 +173,7 @@ draw_by files None (Some seed) =
 draw_by files None None = None
 draw_by files (Some tape) (Some seed) = None
 
+-- the command `draw`, where its files are given and exactly one of a tape and a seed
 abbrev pub draw : Given → Option Command
 draw g = log_files g g.sample >>= λ files. draw_by files g.tape g.seed
 
@@ -176,6 +182,7 @@ abbrev pub stratum_from : Option (List ℕ) → Option (Option ℕ)
 stratum_from (Some number) = option_map Some (number_from 1 most_rows number)
 stratum_from None = Some None
 
+-- a replay to these files, of all strata or of one
 abbrev pub replay_command : LogFiles → Option ℕ → Command
 replay_command files stratum = Replay (record {
   design = files.design;
@@ -185,13 +192,15 @@ replay_command files stratum = Replay (record {
   stratum = stratum;
 })
 
+-- the command `replay`, where its files are given with names of their own
 abbrev pub replay : Given → Option Command
 replay g = log_files g g.sample >>= λ files. when (have_own_names files) (option_map (replay_command files) (stratum_from g.stratum))
 
--- the log is read, and another one is written of it
+-- a log is read, and another one is written of it
 abbrev pub migrate_command : LogFiles → Command
 migrate_command files = Migrate (record { design = files.design; frame = files.frame; log = files.log; to = files.out })
 
+-- the command `migrate`, where its files are given with names of their own
 abbrev pub migrate : Given → Option Command
 migrate g = log_files g g.to >>= λ files. when (have_own_names files) (Some (migrate_command files))
 
