@@ -89,4 +89,6 @@ module _ {State : Type 0} (b : Balance State) (totals : State → ℕ → Fracti
           (differ_plus (b.bound t row) (b.estimate leaf row) (b.known row) (fixed row) (own_error before after t leaf (of_landing before t lands) leads done row l)));
       none_left = of_free.none_left;
       left = λ before after entry t to lands leads. of_free.left before after entry t to (of_landing before t lands) leads;
+      never_wide = of_free.never_wide;
+      few_left = λ n path t leads. (let few = of_free.few_left n path t leads in omega (arith, few, fewer));
     }

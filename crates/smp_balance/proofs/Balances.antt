@@ -13,7 +13,16 @@ use Rattle.smp_split.specs.Trees.{Tree}
 use Rattle.smp_values.specs.Values.{is_fractional, is_one, value_at}
 use Rattle.smp_moves.specs.Cubes.{values_in}
 use Rattle.smp_flight.specs.States as flights
-use Rattle.smp_flight.specs.States.{Units, column}
+use Rattle.smp_flight.specs.States.{Flight, Units, column}
+use Rattle.smp_flight.specs.Moves.{IsNext}
+use Rattle.smp_flight.specs.Steps.{next, stepping}
+use Rattle.smp_values.specs.Values.{fractional_units}
+use Rattle.smp_moves.specs.Cubes.{flying}
+use Rattle.smp_moves.specs.Moves.{IsOrder}
+use Rattle.smp_split.specs.Paths.{Entry, Leads}
+use Rattle.smp_split.proofs.Steps.{leads_belong}
+use Rattle.smp_landing.specs.Cube.{cube_tree}
+use Rattle.smp_landing.specs.Laws.Splits.{cube_lawful}
 use Rattle.smp_flight.specs.Requests.{AreValues}
 use Rattle.smp_flight.specs.Totals as free
 use Rattle.smp_flight.specs.Totals.{expanded, addend, row_total, target}
@@ -30,7 +39,7 @@ use Rattle.smp_landing.proofs.Starts.{cube_balances}
 use Rattle.smp_localcube.specs.Local.{IsLocal, local_of}
 use Rattle.smp_localcube.specs.Method.{LocalUnits, started}
 use Rattle.smp_localcube.specs.Laws.Splits.{is_local_cube}
-use Rattle.smp_localcube.proofs.Starts.{local_balances}
+use Rattle.smp_localcube.proofs.Starts.{local_balances, started_local}
 use Rattle.smp_moves.specs.Balances.{IsBalanced}
 use Rattle.smp_balance.specs.Strata.{StratumUnits, AreStratumUnits, values_of, column_count, free_values, free_units}
 use Rattle.smp_balance.specs.Totals.{AreBalanced, EachIsBalanced, balance_of, counted, error_bound, estimate, is_undecided, known, known_of, row_count, total}
@@ -215,6 +224,8 @@ module _ (s : StratumUnits) (ok : AreStratumUnits s) where
 
   pub are_balanced : AreBalanced s
   are_balanced = record {
+    own = first_flight;
+    local_own = λ coords. started_local (record { units = free_units s; coords = coords }) first_flight;
     cube =
         (let c = cube_of (free_units s) in
         is_balanced c.tree c.seen c.order (IsBalancing (free_units s)) (is_cube (free_units s)) (starting (free_units s)) (cube_balances (free_units s) first_flight));
@@ -226,3 +237,10 @@ module _ (s : StratumUnits) (ok : AreStratumUnits s) where
 
 pub each_is_balanced : EachIsBalanced
 each_is_balanced s ok = are_balanced s ok
+
+-- the step of a state to which a path of the cube leads is by its properties: from what is said of a balanced stratum alone
+pub step_known : (s : StratumUnits) → AreBalanced s → (path : List Entry) (f : Flight) (left : ℕ) → Leads (cube_tree (free_units s)) (starting (free_units s)) path (flying f left)
+    → IsOrder f.values (fractional_units f.values) → IsNext (free_units s) f (fractional_units f.values) (next (free_units s) f)
+step_known s b path f left leads order =
+    stepping.is_next (free_units s) f (fractional_units f.values)
+    (leads_belong (cube_tree (free_units s)) (IsBalancing (free_units s)) (cube_lawful (free_units s)) path (starting (free_units s)) (flying f left) leads b.own) order

@@ -15,10 +15,12 @@ use Rattle.smp_stratcube.specs.States.{Balancing, started}
 use Rattle.smp_stratcube.specs.Layers.{AreLayers, IsLayer, Layer, first_of, no_layer, variables, width}
 use Rattle.smp_stratcube.specs.Units.{IsUnits, Units, members_from}
 use Rattle.smp_stratcube.specs.Values.{is_fractional, is_one, value_at}
+use Rattle.smp_moves.specs.Balances.{IsBalanced}
+use Rattle.smp_stratcube.proofs.Balances.{started_flying}
 use Rattle.smp_stratcube.proofs.BySteps.{is_balanced as strat_balanced}
 use Rattle.smp_stratcube.proofs.Layered.{units_are}
 use Rattle.smp_balance.specs.Strata.{StratumUnits, AreStratumUnits, column_count, free_units, free_values}
-use Rattle.smp_balance.specs.Totals.{EachFrameIsBalanced, IsBalancedFrame, IsFrame, columns_in, error_bound, estimate, frame_units, known, layers_of, over_frame, total}
+use Rattle.smp_balance.specs.Totals.{EachFrameIsBalanced, IsBalancedFrame, IsFrame, columns_in, error_bound, estimate, frame_balance, frame_units, known, layers_of, over_frame, total}
 use Rattle.smp_balance.proofs.Absolute.{absolute_same}
 use Rattle.smp_balance.proofs.Added.{is_added}
 use Rattle.smp_balance.proofs.Balances.{bound_apart, bound_in, estimate_apart, estimate_in, fixed, free_are_values, known_apart, known_in, one_each, same_length, total_apart, total_in}
@@ -245,8 +247,8 @@ module _ (frame : List StratumUnits) (is : IsFrame frame) where
   nothing_left : (g : ℕ → Fraction) (n : ℕ) → n ≡ 0 → Same (whole 0) (sum_below n g)
   nothing_left g n none = subst (λ (m : ℕ). Same (whole 0) (sum_below m g)) (sym none) (same_refl (whole 0))
 
-  pub is_balanced : IsBalancedFrame frame
-  is_balanced =
+  free_balanced : IsBalanced (frame_balance frame) (started (frame_units frame))
+  free_balanced =
       let n : ℕ = length units.members in
       is_added (balance_of (weighed_of units)) (λ t. total frame (value_at (values_in t))) (known frame) (λ t. estimate frame (is_one (values_in t))) (λ t. error_bound frame (is_fractional (values_in t)))
       certain (length frame + columns_in frame)
@@ -256,6 +258,9 @@ module _ (frame : List StratumUnits) (is : IsFrame frame) where
       (λ t row past l. none_left (λ k. cond (is_one (values_in t) k) (expanded units row k) (whole 0)) (addend units row) n (none_past row past l))
       (λ t row past l. nothing_left (λ k. cond (is_fractional (values_in t) k) (absolute (expanded units row k)) (whole 0)) n (none_past row past l))
       (started units) (strat_balanced units are_units)
+
+  pub is_balanced : IsBalancedFrame frame
+  is_balanced = record { own = started_flying units are_units; balanced = free_balanced }
 
 pub each_frame_is_balanced : EachFrameIsBalanced
 each_frame_is_balanced frame is = is_balanced frame is

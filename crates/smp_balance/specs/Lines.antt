@@ -56,6 +56,7 @@ column_estimate drawn column = estimate_of (chosen_units (column_of drawn column
 abbrev pub size_text : Frac → List ℕ
 size_text f = decimal f.num ++ (codes "/" ++ decimal f.den)
 
+-- an estimate, with a minus where it is negative, or `wide`
 abbrev pub estimate_text : Result Signed Wide → List ℕ
 estimate_text (Ok a) = if a.minus then codes "-" ++ size_text a.size else size_text a.size
 estimate_text (Err wide) = codes "wide"

@@ -14,10 +14,11 @@ pub record StratumUnits : Type 0 where
   pub request : Request
   pub values : List (List ℤ)
 
--- the balancing values of a unit, and that in a column
+-- the balancing values of a unit
 abbrev pub values_of : StratumUnits → ℕ → List ℤ
 values_of s k = slice_index_or s.values k []
 
+-- the balancing value of a unit in a column
 abbrev pub value_in : StratumUnits → ℕ → ℕ → ℤ
 value_in s column k = entry (values_of s k) column
 

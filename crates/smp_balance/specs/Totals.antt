@@ -13,10 +13,11 @@ use Rattle.smp_rows.specs.Rows.{row_value}
 use Rattle.smp_split.specs.Trees.{Tree}
 use Rattle.smp_moves.specs.Balances.{Balance, IsBalanced}
 use Rattle.smp_moves.specs.Cubes.{Balancing, Cube, HasIndependentColumns, left_in, rows_in, values_in}
-use Rattle.smp_flight.specs.Selections.{Selection, shares_cube, starting}
+use Rattle.smp_flight.specs.Selections.{IsBalancing, Selection, shares_cube, starting}
 use Rattle.smp_flight.specs.Landings.{IsStuck}
+use Rattle.smp_flight.specs.Narrow.{IsNarrow}
 use Rattle.smp_landing.specs.Cube.{cube_of}
-use Rattle.smp_localcube.specs.Local.{local_of}
+use Rattle.smp_localcube.specs.Local.{IsLocal, local_of}
 use Rattle.smp_localcube.specs.Method.{started}
 use Rattle.smp_stratcube.specs.Balances as together
 use Rattle.smp_stratcube.specs.Cube.{cube_by, strat_tree}
@@ -102,21 +103,22 @@ error_bound frame fractional = over_frame
     (λ k. cond (is_undecided (λ u. fractional (before + u)) (inclusion s.request k)) (absolute (counted s row k)) (whole 0)))
     frame
 
--- how many balancing columns there are, as many as in the first stratum, and how many rows
+-- how many balancing columns there are: as many as in the first stratum
 abbrev pub columns_in : List StratumUnits → ℕ
 columns_in [] = 0
 columns_in (s ∷ frame) = column_count s
 
+-- how many balancing rows there are: one for each stratum and one for each column
 abbrev pub row_count : List StratumUnits → ℕ
 row_count frame = length frame + columns_in frame
 
 -- ---- what is balanced
 
 -- What a selection from the free units of these strata balances: by its draw tree, by the state of the cube that is seen of each of its
--- states, and by where its landing may begin.
+-- states, by where its landing may begin, and by whether the numbers of the free units are narrow.
 module _ {State Values Fixed : Type 0} (frame : List StratumUnits) (cube : Cube Values) where
-  abbrev pub balance_over : Tree State → (State → Balancing Values Fixed) → (State → Type 0) → Balance State
-  balance_over tree seen stuck = record {
+  abbrev pub balance_over : Tree State → (State → Balancing Values Fixed) → (State → Type 0) → Type 0 → Balance State
+  balance_over tree seen stuck narrow = record {
     tree = tree;
     rows = λ t. rows_in (seen t);
     left = λ t. left_in (seen t);
@@ -128,6 +130,7 @@ module _ {State Values Fixed : Type 0} (frame : List StratumUnits) (cube : Cube 
     bound = λ t. error_bound frame (cube.is_fractional (values_in (seen t)));
     independent = λ t. HasIndependentColumns cube (seen t);
     stuck = stuck;
+    narrow = narrow;
   }
 
 -- ---- one stratum alone
@@ -136,9 +139,14 @@ module _ {State Values Fixed : Type 0} (frame : List StratumUnits) (cube : Cube 
 abbrev pub balance_of : {State : Type 0} → StratumUnits → Selection State → Balance State
 balance_of s c =
     balance_over (s ∷ []) (shares_cube (free_units s)) c.tree c.seen (λ t. IsStuck (free_units s) (c.order t) (c.seen t))
+    (IsNarrow (free_units s))
 
 -- every selection from the stratum is balanced from its start: by the cube, and by the local cube wherever its free units lie
 pub record AreBalanced (s : StratumUnits) : Type 0 where
+  -- both start from a state of their own, and so is each to which a path leads from there, by the laws of the methods
+  pub own : IsBalancing (free_units s) (starting (free_units s))
+  pub local_own : (coords : List (List ℤ))
+      → IsLocal (free_units s) (started (record { units = free_units s; coords = coords }))
   pub cube : IsBalanced (balance_of s (cube_of (free_units s))) (starting (free_units s))
   pub local_cube : (coords : List (List ℤ))
       → IsBalanced (balance_of s (local_of (free_units s))) (started (record { units = free_units s; coords = coords }))
@@ -148,10 +156,11 @@ EachIsBalanced = (s : StratumUnits) → AreStratumUnits s → AreBalanced s
 
 -- ---- all strata together
 
--- the free units of each stratum with their balancing values, and the units that the method draws from
+-- the free units of each stratum with their balancing values
 abbrev pub layers_of : List StratumUnits → List Layer
 layers_of frame = map (λ s. layer_of s.request (free_values s)) frame
 
+-- the units that the method draws from
 abbrev pub frame_units : List StratumUnits → Units
 frame_units frame = units_of (layers_of frame)
 
@@ -159,11 +168,12 @@ frame_units frame = units_of (layers_of frame)
 abbrev pub frame_balance : List StratumUnits → Balance strata.Balancing
 frame_balance frame =
     balance_over frame (cube_by stepping (frame_units frame)) (strat_tree (frame_units frame)) (λ t. t)
-    (together.IsStuck (frame_units frame))
+    (together.IsStuck (frame_units frame)) ⊥
 
--- the selection of all strata is balanced from its start
-abbrev pub IsBalancedFrame : List StratumUnits → Type 0
-IsBalancedFrame frame = IsBalanced (frame_balance frame) (strata.started (frame_units frame))
+-- the selection of all strata is balanced from its start, which is a state of its own
+pub record IsBalancedFrame (frame : List StratumUnits) : Type 0 where
+  pub own : strata.IsBalancing (frame_units frame) (strata.started (frame_units frame))
+  pub balanced : IsBalanced (frame_balance frame) (strata.started (frame_units frame))
 
 -- strata that can be drawn together: 15 at most, with as many balancing columns each, and 16 rows at most
 pub record IsFrame (frame : List StratumUnits) : Type 0 where

@@ -25,6 +25,7 @@ use Rattle.smp_flight.specs.Selections.{Balancing, GoesOn, IsBalancing, IsSelect
 use Rattle.smp_flight.specs.Landings.{IsBalanced, IsStuck, weighed_of}
 use Rattle.smp_flight.proofs.ByOrder.{both_totals, few_fractional, values_ok}
 use Rattle.smp_flight.proofs.Nexts.{independent_columns, next_is}
+use Rattle.smp_flight.proofs.NeverWide.{KeepsFront, never_wide}
 use Rattle.smp_flight.proofs.Seen.{Flies, each_seen, each_so, each_unmoved, total_is}
 use Rattle.smp_flight.proofs.Settled.{IsSettledAt, step_settled}
 use Rattle.smp_flight.proofs.WholeOrders.{independent_in_frame_order}
@@ -255,6 +256,8 @@ module _ {State : Type 0} (c : Selection State) (belongs : State → Type 0) (is
     totals = λ row l. start_total row;
   }
 
-  -- so it is balanced
-  pub selection_balanced : IsBalanced c from
-  selection_balanced = is_balanced (weighed_of c) belongs (λ s. IsFlying (c.seen s)) (selection_owes c belongs is) from selection_start
+  -- so it is balanced, and where its numbers are small no step is wide, as its searches begin with what moves have changed
+  pub selection_balanced : (front : State → List ℕ → Type 0) → KeepsFront c front belongs → front from [] → IsBalanced c from
+  selection_balanced front keeps first =
+      is_balanced (weighed_of c) belongs (λ s. IsFlying (c.seen s)) (selection_owes c belongs is) from selection_start
+      (λ n. never_wide c belongs is front keeps is_flight.are n from member is_start first)

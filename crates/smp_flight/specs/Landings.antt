@@ -8,6 +8,7 @@ use Rattle.smp_moves.specs.Cubes.{HasIndependentColumns, left_in, rows_in, value
 use Rattle.smp_moves.specs.Owed.{Weighed, balance_of}
 use Rattle.smp_flight.specs.States.{Units, row_count}
 use Rattle.smp_flight.specs.Moves.{IsWide}
+use Rattle.smp_flight.specs.Narrow.{IsNarrow}
 use Rattle.smp_flight.specs.Totals.{expanded, target}
 use Rattle.smp_flight.specs.Selections.{Balancing, Selection, shares_cube}
 
@@ -30,6 +31,7 @@ weighed_of c = record {
   known = target c.units;
   independent = λ s. HasIndependentColumns (shares_cube c.units) (c.seen s);
   stuck = λ s. IsStuck c.units (c.order s) (c.seen s);
+  narrow = IsNarrow c.units;
 }
 
 -- the selection is balanced from a state

@@ -62,8 +62,8 @@ IsNext units s order (move m) = IsFlown units s order m
 IsNext units s order independent = Finds units s order none
 IsNext units s order wide = IsWide units s order
 
--- The step of a state whose search goes through the columns of these units, and the values at the end of a line, over a multiple of
--- the requested denominator: any functions with these properties. They leave no choice at a state of the flight.
+-- The step of a state whose search goes through the columns of these units, and the values at the end of a line, over a multiple of the
+-- requested denominator: any functions with these properties, which leave no choice at a state of the flight (`step_law`).
 pub record Stepping : Type 0 where
   pub next_on : Units → List ℕ → Flight → Next
   pub end_at : ℕ → Shares → Line → Shares

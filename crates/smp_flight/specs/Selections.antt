@@ -19,7 +19,7 @@ use Rattle.smp_flight.specs.Steps.{next_on, stepping}
 
 -- a state of flight and landing
 abbrev pub Balancing : Type 0
-Balancing = cubes.Balancing Shares ℕ
+Balancing = cubes.Balancing Shares Units
 
 -- a state of these units
 abbrev pub IsBalancing : Units → Balancing → Type 0

@@ -1,6 +1,6 @@
 //! What a selection that flies and then lands does with a state of the flight.
 
-ghost use Rattle.std.specs.Prelude.{◌≡◌, ◌≤◌, length};
+ghost use Rattle.std.specs.Prelude.{◌≡◌, ◌+◌, ◌≤◌, length};
 ghost use Rattle.smp_fractions.specs.Limits.{most_rows};
 ghost use Rattle.smp_values.specs.Values.{fractional_count};
 ghost use Rattle.smp_moves.specs.Cubes.{landed};
@@ -38,7 +38,8 @@ pub fn landed(flight: &FlightState, left: u32) -> u32
     }
 }
 
-/// Goes to an end of a move of the flight as [`apply`] does, counted on a ledger that nothing was written into.
+/// Goes to an end of a move of the flight as [`apply`] does, counted on a ledger that nothing was written into. Numerators are written at
+/// most one time more than there are rows in force.
 pub fn fly<L: Ledger>(shape: &Shape, flight: &mut FlightState, mv: &Move, plus: bool, blank: Blank)
     requires flight { IsFlight shape.now flight.old.flight }
     requires mv { IsMoveOf shape.now flight.old mv.now }
@@ -53,6 +54,8 @@ pub fn fly<L: Ledger>(shape: &Shape, flight: &mut FlightState, mv: &Move, plus: 
         → AreFirst flight.old.flight (move_of mv.now).direction.units
         → AreFirst flight.new.flight flight.new.window }
     ensures window { IsNextWindow flight.old (move_of mv.now).direction flight.new }
+    ensures rises { flight.old.writes ≤ flight.new.writes }
+    ensures few { flight.new.writes ≤ flight.old.writes + (flight.old.flight.rows + 1) }
 {
     let mut steps = Steps::<L>::new(blank);
     apply(shape, flight, mv, plus, &mut steps);

@@ -8,7 +8,7 @@ use Rattle.smp_prob.proofs.Fractions.{length-numerators}
 use Rattle.smp_split.specs.Methods.{Starts}
 use Rattle.smp_split.proofs.Methods.{starts}
 use Rattle.smp_values.specs.Starts.{IsRequested}
-use Rattle.smp_values.specs.Values.{value_at}
+use Rattle.smp_values.specs.Values.{fractional_units, value_at}
 use Rattle.smp_values.proofs.Requests.{requested_values}
 use Rattle.smp_flight.specs.States as flights
 use Rattle.smp_flight.specs.States.{Units, IsFlight}
@@ -17,6 +17,7 @@ use Rattle.smp_flight.specs.Landings.{IsBalanced}
 use Rattle.smp_flight.specs.Selections.{IsBalancing, starting}
 use Rattle.smp_flight.proofs.Owed.{selection_balanced}
 use Rattle.smp_flight.proofs.WholeSums.{leaves_count}
+use Rattle.smp_landing.proofs.Fronts.{IsFront, keeps_front}
 use Rattle.smp_landing.specs.Cube.{cube_of, cube_tree}
 use Rattle.smp_landing.specs.Laws.Splits.{is_cube}
 use Rattle.smp_landing.specs.Method.{method_of}
@@ -33,4 +34,4 @@ module _ (units : Units) (is_flight : IsFlight units (flights.started units)) wh
       (λ n adds. leaves_count (cube_of units) (IsBalancing units) (is_cube units) n (starting units) is_flight (omega arith) adds)
 
   pub cube_balances : IsBalanced (cube_of units) (starting units)
-  cube_balances = selection_balanced (cube_of units) (IsBalancing units) (is_cube units) (starting units) is_flight refl
+  cube_balances = selection_balanced (cube_of units) (IsBalancing units) (is_cube units) (starting units) is_flight refl IsFront (keeps_front units) (fractional_units units.requested, refl)

@@ -1,6 +1,6 @@
 //! The cube as a design.
 
-ghost use Rattle.std.specs.Prelude.{◌≡◌, IfOk, length};
+ghost use Rattle.std.specs.Prelude.{◌≡◌, IfOk, length, true};
 ghost use Rattle.smp_prob.specs.Requests.{IsRequest};
 ghost use Rattle.smp_split.specs.Methods.{Starts};
 ghost use Rattle.smp_values.specs.Starts.{IsRequested};
@@ -9,11 +9,12 @@ ghost use Rattle.smp_flight.specs.Requests.{AreValues, units_of};
 ghost use Rattle.smp_flight.specs.States.{Units};
 ghost use Rattle.smp_flight.specs.Selections.{starting};
 ghost use Rattle.smp_flight.specs.Landings.{IsBalanced};
+ghost use Rattle.smp_flight.specs.Narrow.{IsNarrow};
 ghost use Rattle.smp_landing.specs.Cube.{cube_of};
 ghost use Rattle.smp_landing.specs.Method.{method_of};
 
 use crate::state::{CubeState, Phase};
-use smp_flight::{Shape, start};
+use smp_flight::{Shape, is_narrow, look, start};
 use smp_frac::NoMemory;
 use smp_frame::Numbers;
 use smp_prob::Request;
@@ -64,14 +65,23 @@ impl Cube {
         ensures starts { IfOk result (Starts (method_of self.now)) }
         ensures balanced { IfOk result (IsBalanced (cube_of self.now)) }
     {
-        self.shape.rows();
+        let mut flight = start(alloc, &self.shape)?;
+        look(&self.shape, &mut flight);
         Ok(CubeState {
-            flight: start(alloc, &self.shape)?,
+            flight,
             phase: Phase::Flying,
             left: 0,
             room: Values::with_room(alloc, self.units)?,
             steps: PivotalSteps::from_values(Values::with_room(alloc, 0)?),
         })
+    }
+
+    /// Whether the numbers of the units are so small that no step of a selection is wide, whatever is drawn. Then no more units are left
+    /// where a landing begins than there are rows, by the clause `balanced` of [`Cube::start`].
+    pub fn is_narrow(&self) -> bool
+        ensures { result ≡ true → IsNarrow self.now }
+    {
+        is_narrow(&self.shape)
     }
 
     /// How many units were fractional where the landing began, and 0 as long as it hasn't begun.

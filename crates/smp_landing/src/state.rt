@@ -1,6 +1,6 @@
 //! The states of a selection by the cube.
 
-ghost use Rattle.std.specs.Prelude.{◌≡◌, ◌<◌, ◌≤◌, false, length};
+ghost use Rattle.std.specs.Prelude.{◌≡◌, ◌+◌, ◌<◌, ◌≤◌, false, length};
 ghost use Rattle.smp_split.specs.Trees.{picked, weight_sum};
 ghost use Rattle.smp_values.specs.Values.{is_one, is_settled};
 ghost use Rattle.smp_moves.specs.Cubes.{values_in};
@@ -64,6 +64,8 @@ fn fly_and_look<L: Ledger>(
     ensures units { length flight.new.flight.values.numer
         ≡ length flight.old.flight.values.numer }
     ensures first { AreFirst flight.new.flight flight.new.window }
+    ensures rises { flight.old.writes ≤ flight.new.writes }
+    ensures few { flight.new.writes ≤ flight.old.writes + (flight.old.flight.rows + 1) }
 {
     fly::<L>(shape, flight, mv, plus, blank);
     look(shape, flight);
@@ -134,6 +136,7 @@ impl CubeState {
                 Next::Independent => {
                     self.left = landed(&self.flight, self.left);
                     self.flight.drop_row(shape);
+                    look(shape, &mut self.flight);
                 }
                 Next::Wide => {
                     self.left = landed(&self.flight, self.left);

@@ -7,8 +7,7 @@ use Rattle.smp_near.specs.Nearest.{LivingPoints, neighbours}
 use Rattle.smp_prob.specs.Shares.{Shares}
 use Rattle.smp_values.specs.Values.{fractional_units, is_fractional}
 use Rattle.smp_values.proofs.Units.{fractional_within}
-use Rattle.smp_flight.specs.Answers.{AreSearched, units_in}
-use Rattle.smp_flight.specs.declared.found.Found.{Found}
+use Rattle.smp_flight.specs.Answers.{AreSearched}
 use Rattle.smp_flight.specs.Kept.Windows.{is_in}
 use Rattle.smp_moves.specs.Moves.{IsOrder}
 use Rattle.smp_flight.specs.Selections.{IsWholeOrder}
@@ -21,7 +20,7 @@ use Rattle.smp_flight.proofs.Nexts.{next_on_front}
 use Rattle.smp_flight.proofs.WholeOrders.{in_order_going, whole_length}
 use Rattle.smp_flight.proofs.Windowed.{in_append_left}
 use Rattle.smp_localcube.specs.Local.{IsCarried, IsChosen, front_of, is_one_of, order_around, untouched}
-use Rattle.smp_localcube.specs.Kept.States.{IsLookedFor, step_around, touched_in}
+use Rattle.smp_localcube.specs.Kept.States.{touched_in}
 use Rattle.smp_localcube.specs.Laws.Orders.{filter_again, in_filter, whole as whole_order}
 use Rattle.smp_localcube.specs.Laws.Splits.{HasHead}
 
@@ -42,12 +41,6 @@ touched_again f = filter_again (is_one_of f.window) (fractional_units f.flight.v
 
 pub carried_now : (f : Tracked) (chosen : Option ℕ) → IsChosen f.flight.values chosen → IsCarried f.flight.values (touched_in f) chosen
 carried_now f chosen is = record { touched_are = touched_again f; chosen_is = is }
-
--- the step that was looked for is the next one around its head
-pub kept_is : (units : Units) (f : Tracked) (coords : List (List ℤ)) (chosen : Option ℕ) (found : Found) (looked : IsLookedFor f coords chosen found)
-    → next_on units (units_in found) f.flight ≡ step_around units coords f looked.head
-kept_is units f coords chosen found looked =
-    ap (λ (us : List ℕ). next_on units us f.flight) looked.units ∙ next_on_front units f.flight (order_around coords f.flight.values (touched_in f) looked.head)
 
 module _ (f : Tracked) (window_ok : IsOrder f.flight.values f.window) (coords : List (List ℤ)) (head : ℕ) (has : HasHead f.flight.values (touched_in f) head) (few : length (touched_in f) ≤ f.flight.rows + 1) where
   abbrev pub around : List ℕ

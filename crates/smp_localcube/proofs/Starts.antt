@@ -21,6 +21,7 @@ use Rattle.smp_flight.specs.Requests.{units_of}
 use Rattle.smp_flight.specs.Landings.{IsBalanced}
 use Rattle.smp_flight.proofs.Owed.{selection_balanced}
 use Rattle.smp_flight.proofs.WholeSums.{leaves_count}
+use Rattle.smp_localcube.proofs.Fronts.{IsFront, keeps_front}
 use Rattle.smp_localcube.specs.Local.{IsLocal, is_untouched, local_of, local_tree, untouched}
 use Rattle.smp_localcube.specs.Kept.States.{IsPlaced, IsReady, touched_in, weights_of}
 use Rattle.smp_localcube.specs.Method.{LocalUnits, method_of, started}
@@ -39,7 +40,7 @@ module _ (design : LocalUnits) (is_flight : IsFlight design.units (flights.start
   local_starts = starts (method_of design) (started design) started_local (λ n adds. leaves_count (local_of design.units) (IsLocal design.units) (is_local_cube design.units) n (started design) started_local (omega arith) adds)
 
   pub local_balances : IsBalanced (local_of design.units) (started design)
-  local_balances = selection_balanced (local_of design.units) (IsLocal design.units) (is_local_cube design.units) (started design) started_local refl
+  local_balances = selection_balanced (local_of design.units) (IsLocal design.units) (is_local_cube design.units) (started design) started_local refl IsFront (keeps_front design.units) refl
 
 -- ---- what the code starts with
 

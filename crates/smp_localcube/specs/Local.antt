@@ -84,11 +84,11 @@ after s next t = record {
   chosen = chosen_after s.chosen next;
 }
 
--- the same state with this unit chosen
+-- a state with this unit chosen
 abbrev pub choosing : Local → ℕ → Local
 choosing s unit = record { coords = s.coords; at = s.at; touched = s.touched; chosen = Some unit }
 
--- the same state with these values on which pivotal steps go on
+-- a state with these values, on which pivotal steps go on
 abbrev pub settling : Local → ℕ → Shares → Local
 settling s left t = record { coords = s.coords; at = pairing t left; touched = s.touched; chosen = s.chosen }
 
@@ -106,15 +106,17 @@ parts_around units s f left None = choice s f.values
 parts_around units s f left (Some head) =
     moved (after s (next_around units s f head)) (flight_parts (shares_cube units) f left (next_around units s f head))
 
+-- the kind of the step of a state in flight, by its head
 abbrev pub kind_around : Units → Local → Flight → Option ℕ → Kind
 kind_around units s f None = kind.Choose
 kind_around units s f (Some head) = flight_kind (next_around units s f head)
 
--- the parts and the kind of a state's step
+-- the parts of a state's step
 abbrev pub parts_from : Units → Local → Balancing → List (Part Local)
 parts_from units s (flying f left) = parts_around units s f left (head_of s.touched s.chosen)
 parts_from units s (pairing t left) = moved (settling s left) (pivotal_parts t)
 
+-- the kind of a state's step
 abbrev pub kind_from : Units → Local → Balancing → Kind
 kind_from units s (flying f left) = kind_around units s f (head_of s.touched s.chosen)
 kind_from units s (pairing t left) = pivotal_kind t
@@ -142,7 +144,7 @@ abbrev pub order_with : Local → Shares → Option ℕ → List ℕ
 order_with s values None = fractional_units values
 order_with s values (Some head) = order_around s.coords values s.touched head
 
--- the same, by the state: that of pivotal steps goes through the fractional units in frame order
+-- the order of the units by the state: that of pivotal steps goes through the fractional units in frame order
 abbrev pub order_from : Local → Balancing → List ℕ
 order_from s (flying f left) = order_with s f.values (head_of s.touched s.chosen)
 order_from s (pairing t left) = fractional_units t
@@ -163,7 +165,7 @@ pub record IsCarried (s : Shares) (touched : List ℕ) (chosen : Option ℕ) : T
   pub touched_are : touched ≡ filter (is_one_of touched) (fractional_units s)
   pub chosen_is : IsChosen s chosen
 
--- the same of a state in flight; of one in pivotal steps nothing
+-- of a state in flight, that the touched units and the chosen one are carried (`IsCarried`); of one in pivotal steps nothing
 abbrev pub AreCarried : Balancing → List ℕ → Option ℕ → Type 0
 AreCarried (flying f left) touched chosen = IsCarried f.values touched chosen
 AreCarried (pairing t left) touched chosen = Unit {0}

@@ -1,19 +1,20 @@
 //! The local cube as a design.
 
-ghost use Rattle.std.specs.Prelude.{◌≡◌, ◌≤◌, IfOk, length};
+ghost use Rattle.std.specs.Prelude.{◌≡◌, ◌≤◌, IfOk, length, true};
 ghost use Rattle.smp_near.specs.Nearest.{all_living};
 ghost use Rattle.smp_prob.specs.Requests.{IsRequest};
 ghost use Rattle.smp_split.specs.Methods.{Starts};
 ghost use Rattle.smp_values.specs.Starts.{IsRequested};
 ghost use Rattle.smp_moves.specs.Cubes.{left_in};
 ghost use Rattle.smp_flight.specs.Landings.{IsBalanced};
+ghost use Rattle.smp_flight.specs.Narrow.{IsNarrow};
 ghost use Rattle.smp_flight.specs.Requests.{AreValues, units_of};
 ghost use Rattle.smp_localcube.specs.Kept.States.{IsPlaced};
 ghost use Rattle.smp_localcube.specs.Local.{local_of};
 ghost use Rattle.smp_localcube.specs.Method.{LocalUnits, method_of, started};
 
 use crate::state::{LocalCubeState, Phase};
-use smp_flight::{Shape, start};
+use smp_flight::{Shape, is_narrow, start};
 use smp_frac::NoMemory;
 use smp_frame::Numbers;
 use smp_near::Points;
@@ -96,6 +97,14 @@ impl<const K: usize> LocalCube<K> {
             chosen: None,
             found: Box::new(alloc, None)?,
         })
+    }
+
+    /// Whether the numbers of the units are so small that no step of a selection is wide, whatever is drawn. Then no more units are left
+    /// where a landing begins than there are rows, by the clause `balanced` of [`LocalCube::start`].
+    pub fn is_narrow(&self) -> bool
+        ensures { result ≡ true → IsNarrow self.now.units }
+    {
+        is_narrow(&self.shape)
     }
 
     /// How many units were fractional where the landing began, and 0 as long as it hasn't begun.

@@ -14,7 +14,7 @@ ghost use Rattle.smp_localcube.specs.Kept.States.{AreTouched, IsKept, IsLookedFo
 ghost use Rattle.smp_localcube.specs.Kept.States.{step_around, touched_in, weights_of};
 
 use crate::orders::{Order, is_among, rising};
-use smp_flight::{FlightState, Found, Line, Next, Shape, fill, find_on, fly, landed, step_on};
+use smp_flight::{FlightState, Line, Next, Shape, fill, fly, landed, step_on};
 use smp_near::Points;
 use smp_places::Amounts;
 use smp_split::Kind;
@@ -47,7 +47,7 @@ pub struct LocalCubeState<const K: usize> {
     pub(crate) weights: Amounts,
     pub(crate) chosen: Option<usize>,
     /// The next step, where it was looked for: in a box, since it takes more bytes than all else here.
-    pub(crate) found: Box<Option<Found>>,
+    pub(crate) found: Box<Option<Next>>,
 }
 
 impl<const K: usize> Model for LocalCubeState<K> {
@@ -64,7 +64,7 @@ fn next_step<const K: usize>(
     flight: &FlightState,
     points: &Points<K>,
     chosen: Option<usize>,
-    found: &Option<Found>,
+    found: &Option<Next>,
 ) -> Option<Next>
     requires flight { IsFlight shape.now flight.now.flight }
     requires carried { IsCarried flight.now.flight.values (touched_in flight.now) chosen }
@@ -78,15 +78,9 @@ fn next_step<const K: usize>(
     ensures allows { IfSome result
         (Allows (IsMoveOf shape.now flight.now) shape.now flight.now) }
 {
-    if let Some(found) = found {
-        if let Some(next) = found.step_in(shape, flight) {
-            return Some(next);
-        }
-    }
-    let touched = rising(flight.window(), flight.units());
-    match touched.head(chosen) {
-        None => None,
-        Some(head) => Some(step_from(shape, flight, points, &touched, head)),
+    match found {
+        Some(next) => Some(*next),
+        None => look(shape, flight, points, chosen),
     }
 }
 
@@ -140,32 +134,34 @@ fn searched<const K: usize>(
     touched.front(head).with_neighbours(points, head, most)
 }
 
-/// The step of a flight, looked for once; none where a unit is to be chosen first.
+/// The next step of a flight, searched for; none where a unit is to be chosen first.
 fn look<const K: usize>(
     shape: &Shape,
     flight: &FlightState,
     points: &Points<K>,
     chosen: Option<usize>,
-) -> Option<Found>
+) -> Option<Next>
     requires flight { IsFlight shape.now flight.now.flight }
     requires carried { IsCarried flight.now.flight.values (touched_in flight.now) chosen }
     requires placed { length points.now.coords ≡ length flight.now.flight.values.numer }
     requires living { points.now.living
         ≡ (untouched points.now.coords flight.now.flight.values (touched_in flight.now)).living }
-    ensures { IfSome result (IsLookedFor flight.now points.now.coords chosen) }
+    ensures is { option_map answer_of result
+        ≡ option_map (step_around shape.now points.now.coords flight.now)
+        (head_of (touched_in flight.now) chosen) }
+    ensures allows { IfSome result
+        (Allows (IsMoveOf shape.now flight.now) shape.now flight.now) }
+    ensures looked { IfSome result (IsLookedFor flight.now points.now.coords chosen) }
 {
     let touched = rising(flight.window(), flight.units());
     match touched.head(chosen) {
         None => None,
-        Some(head) => {
-            let order = searched(flight, points, &touched, head);
-            Some(find_on(shape, flight, &order.units, order.number))
-        }
+        Some(head) => Some(step_from(shape, flight, points, &touched, head)),
     }
 }
 
 /// Keeps a step that was looked for in place of the one before.
-fn keep(kept: &mut Box<Option<Found>>, found: Option<Found>)
+fn keep(kept: &mut Box<Option<Next>>, found: Option<Next>)
     ensures { kept.new.value ≡ found }
 {
     **kept = found;

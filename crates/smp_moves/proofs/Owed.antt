@@ -1,5 +1,5 @@
 -- A method that owes what a balanced selection owes is balanced.
-use Rattle.std.proofs.Common.{◌≡◌, ◌≢◌, ℕ, ◌<◌, true, false, cond, List, [], ◌∷◌, arith, refl, sym, ap, ◌∙◌, subst, inl, inr, ◌⊎◌}
+use Rattle.std.proofs.Common.{◌≡◌, ◌≢◌, ℕ, ◌<◌, ◌≤◌, true, false, cond, List, [], ◌∷◌, arith, refl, sym, ap, ◌∙◌, subst, inl, inr, ◌⊎◌}
 use Rattle.std.proofs.lemmas.Bool.{cases_Bool}
 use Rattle.smp_fractions.specs.Fractions.{Fraction, Same, whole, times}
 use Rattle.smp_fractions.proofs.Fractions.{same_refl, same_sym, same_trans, times_same}
@@ -12,7 +12,7 @@ use Rattle.smp_split.specs.declared.kind.Kind.TheVariants as kind
 use Rattle.smp_split.proofs.Means.{selected_sum_is_value_sum}
 use Rattle.smp_split.proofs.Steps.{picked_is_part, picked_belongs, leads_keep, leads_belong, value_within}
 use Rattle.smp_moves.specs.Balances.{Balance, Begins, IsBalanced, IsBeforeLanding, Lands, LandsAt}
-use Rattle.smp_moves.specs.Owed.{Weighed, HasKept, HasStayed, IsStart, Owes, balance_of, is_open, weighed_bound, weighed_estimate, weighed_total}
+use Rattle.smp_moves.specs.Owed.{Weighed, HasKept, HasStayed, IsStart, NeverWide, Owes, balance_of, is_open, weighed_bound, weighed_estimate, weighed_total}
 
 -- ---- each path lands, or stays before the landing
 
@@ -153,8 +153,22 @@ module _ {State : Type 0} (b : Weighed State) (belongs flying : State → Type 0
         leads_keep b.tree belongs owes.lawful (λ t. b.left t ≡ b.undecided s) (λ t m going e. owes.later (b.undecided s) (owes.some s u.member lands.going) t m going e)
         after next to leads.1 (picked_belongs b.tree belongs owes.lawful s next entry.2 u.member lands.going within refl) first
 
-    pub is_balanced : IsBalanced (balance_of b) from
-    is_balanced = record {
+    -- a landing that begins with a dropped row leaves no more units than there are rows
+    left_few : NeverWide b from → b.narrow → (path : List Entry) (to : State) → Leads b.tree from path to → b.left to ≤ b.all_rows
+    left_few never narrow path to leads =
+        elim (lands_or_not (balance_of b) path from to leads) [
+          | inl before ↦ (let none = (unlanded_path path from to leads before unlanded).left in omega (arith, none))
+          | inr r ↦
+              (let u = at_landing r.before r.at r.lands in
+              let count = left_counted r.before r.after r.entry r.at to r.lands r.goes_on in
+              elim r.lands.begins [
+                | inl drops ↦ (let few = owes.few r.at u.member drops in omega (arith, count, few, u.rows))
+                | inr wides ↦ absurd (never narrow r.before r.at r.lands.leads r.lands.going wides)
+              ])
+        ]
+
+    pub is_balanced : NeverWide b from → IsBalanced (balance_of b) from
+    is_balanced never = record {
       flights = flight_keeps;
       totals = λ path s leads before row l. (unlanded_path path from s leads before unlanded).totals row l;
       exact = λ path leaf leads before done row l.
@@ -170,4 +184,6 @@ module _ {State : Type 0} (b : Weighed State) (belongs flying : State → Type 0
           differ_by_same (estimate_is s leaf after u.member leads done row) (same_sym (u.totals row l)) (total_error s leaf after u.member leads row));
       none_left = λ path s leads before. (unlanded_path path from s leads before unlanded).left;
       left = left_counted;
+      never_wide = never;
+      few_left = left_few never;
     }

@@ -12,7 +12,7 @@ use Rattle.smp_split.specs.declared.kind.Kind.TheVariants as kind
 -- it hasn't begun), and how many are fractional; how many rows there are; the total of a row at a state, what it should be, what is
 -- estimated of it at a leaf, and what bounds the error where the landing begins at a state. Of the search at a state: the columns of
 -- the fractional units are independent in the rows in force; and it finds no direction, or a number of it or of its move passes its
--- gate.
+-- gate. And what is known before the draw: the numbers are so small that none can.
 pub record Balance (State : Type 0) : Type 1 where
   pub tree : Tree State
   pub rows : State → ℕ
@@ -25,6 +25,7 @@ pub record Balance (State : Type 0) : Type 1 where
   pub bound : State → ℕ → Fraction
   pub independent : State → Type 0
   pub stuck : State → Type 0
+  pub narrow : Type 0
 
 -- a path without a step that drops a row or goes over to pivotal steps
 abbrev pub IsBeforeLanding : List Entry → Type 0
@@ -88,3 +89,8 @@ module _ {State : Type 0} (b : Balance State) where
         → IsBeforeLanding path → b.left s ≡ 0
     pub left : (before after : List Entry) (entry : Entry) (s to : State) → LandsAt from before s
         → Leads b.tree s (entry ∷ after) to → b.left to ≡ b.undecided s
+    -- where the numbers are narrow, no step goes over to pivotal steps: neither the first of a landing nor one after it
+    pub never_wide : b.narrow → (path : List Entry) (s : State) → Leads b.tree from path s
+        → b.tree.done s ≡ false → b.tree.kind s ≢ kind.Wide
+    -- so no more units are left than there are rows, whatever is drawn
+    pub few_left : b.narrow → (path : List Entry) (s : State) → Leads b.tree from path s → b.left s ≤ b.all_rows

@@ -99,11 +99,12 @@ module _ {Values Fixed : Type 0} (cube : Cube Values) where
   IsStuck IsWide (pairing values left) = ⊥
 
   module _ (next : Flight Values Fixed → Next) where
-    -- the kind of the step of a state, and its parts
+    -- the kind of the step of a state
     abbrev pub kind_by : Balancing Values Fixed → Kind
     kind_by (flying f left) = flight_kind (next f)
     kind_by (pairing values left) = cube.pair_kind values
 
+    -- the parts of the step of a state
     abbrev pub parts_by : Balancing Values Fixed → List (Part (Balancing Values Fixed))
     parts_by (flying f left) = flight_parts f left (next f)
     parts_by (pairing values left) = moved (λ t. pairing t left) (cube.pair_parts values)

@@ -87,12 +87,12 @@ pub record Fits (m : Move) (plus_end minus_end : Shares) : Type 0 where
 
 -- ---- what a search goes through
 
--- fractional units, each of them once
+-- some fractional units, none of them twice
 pub record IsOrder (s : Shares) (order : List ℕ) : Type 0 where
   pub going : All (λ k. is_fractional s k ≡ true) order
   pub distinct : AllPairs (λ k l. k ≢ l) order
 
--- a line over fractional units, each of them once, that isn't 0
+-- a line over some fractional units, none of them twice, that isn't 0
 pub record IsLine (s : Shares) (line : Line) : Type 0 where
   pub lengths : length line.entries ≡ length line.units
   pub order : IsOrder s line.units
@@ -104,9 +104,10 @@ pub data Next : Type 0 where
   independent : Next
   wide : Next
 
--- of the end that is chosen, the first where `plus` is true: its line, and how far that is followed
+-- the line of the end that is chosen, the first where `plus` is true
 abbrev pub chosen_line : Move → Bool → Line
 chosen_line m plus = cond plus m.direction (turned m.direction)
 
+-- how far the line of the end that is chosen is followed
 abbrev pub chosen_extent : Move → Bool → Ratio
 chosen_extent m plus = cond plus m.up m.down

@@ -1,8 +1,9 @@
 -- What a method owes of one step for its selections to be balanced on every path.
-use Rattle.std.specs.Prelude.{◌≡◌, ℕ, ◌<◌, ◌≤◌, Bool, false, cond}
+use Rattle.std.specs.Prelude.{◌≡◌, ◌≢◌, ℕ, ◌<◌, ◌≤◌, Bool, false, cond, List}
 use Rattle.smp_fractions.specs.Fractions.{Fraction, Same, whole, over, sum_below}
 use Rattle.smp_fractions.specs.Bounds.{absolute}
 use Rattle.smp_split.specs.Trees.{Tree, EachPart, Lawful}
+use Rattle.smp_split.specs.Paths.{Entry, Leads}
 use Rattle.smp_split.specs.Means.{value_sum, selected_sum}
 use Rattle.smp_split.specs.declared.kind.Kind.TheVariants as kind
 use Rattle.smp_values.specs.Values.{fractional}
@@ -22,6 +23,7 @@ pub record Weighed (State : Type 0) : Type 1 where
   pub known : ℕ → Fraction
   pub independent : State → Type 0
   pub stuck : State → Type 0
+  pub narrow : Type 0
 
 module _ {State : Type 0} (w : Weighed State) where
   -- whether a unit is fractional at a state
@@ -54,7 +56,12 @@ module _ {State : Type 0} (w : Weighed State) where
     bound = weighed_bound;
     independent = w.independent;
     stuck = w.stuck;
+    narrow = w.narrow;
   }
+
+  -- where the numbers are narrow, no path from a state has a step that goes over to pivotal steps
+  abbrev pub NeverWide : State → Type 0
+  NeverWide from = w.narrow → (path : List Entry) (s : State) → Leads w.tree from path s → w.tree.done s ≡ false → w.tree.kind s ≢ kind.Wide
 
   -- a step before the landing leaves the rows in force and their totals as they were
   pub record HasStayed (flying : State → Type 0) (s to : State) : Type 0 where

@@ -241,13 +241,14 @@ module _ (units : Units) where
     first_narrow : common_of units first ≤ 2 ^ 80
     first_narrow = (let e : touched_units first ≡ [] = none_touched (fractional_units first) in rw e (omega arith))
 
-    pub started_flying : IsFlying units (flight_of (map requested_value units.members) units.rows)
+    pub started_flying : IsFlying units (flight_of units (map requested_value units.members) units.rows)
     started_flying = record {
       are = are;
       values = first_ok;
       fresh = λ k l t. ap (λ (v : Value). v.at) (first_at k);
       narrow = first_narrow;
       rows_in = omega arith;
+      fixed_is = refl;
     }
 
     start_term : (row k : ℕ) → k < length units.members → Same (times (expanded units row k) (value_at (map requested_value units.members) k)) (addend units row k)
@@ -276,4 +277,4 @@ module _ (units : Units) where
     }
 
     pub strat_balanced : IsBalanced units (started units)
-    strat_balanced = is_balanced (weighed_of units) (IsBalancing units) IsInFlight strat_owes (started units) strat_start
+    strat_balanced = is_balanced (weighed_of units) (IsBalancing units) IsInFlight strat_owes (started units) strat_start (λ none. absurd none)

@@ -35,20 +35,24 @@ use Rattle.smp_stratcube.proofs.Stepped.{off_units}
 
 -- ---- the values of a state
 
-pub values_of : (p : Phase) (values : List Value) (rows left : ℕ) → values_in (balancing_of p values rows left) ≡ values
-values_of Flying values rows left = refl
-values_of Pairing values rows left = refl
+pub values_of : (of : Units) (p : Phase) (values : List Value) (rows left : ℕ) → values_in (balancing_of of p values rows left) ≡ values
+values_of of Flying values rows left = refl
+values_of of Pairing values rows left = refl
 
 -- ---- a state in flight
 
-pub in_flight : (units : Units) (p : Phase) (values : List Value) (rows left : ℕ) → IsInFlight units (balancing_of p values rows left) → IsFlying units (flight_of values rows)
-in_flight units Flying values rows left h = h
-in_flight units Pairing values rows left h = absurd h
+pub in_flight : (units of : Units) (p : Phase) (values : List Value) (rows left : ℕ) → IsInFlight units (balancing_of of p values rows left) → IsFlying units (flight_of of values rows)
+in_flight units of Flying values rows left h = h
+in_flight units of Pairing values rows left h = absurd h
 
-pub next_of : (units : Units) (p : Phase) (values : List Value) (rows left : ℕ) (answer : Answer) → IsInFlight units (balancing_of p values rows left) → IsStep units (flight_of values rows) answer →
-    IsNextOf units (balancing_of p values rows left) answer
-next_of units Flying values rows left answer h step = step
-next_of units Pairing values rows left answer h step = absurd h
+pub next_of : (units of : Units) (p : Phase) (values : List Value) (rows left : ℕ) (answer : Answer) → IsInFlight units (balancing_of of p values rows left) → IsStep units (flight_of of values rows) answer →
+    IsNextOf units (balancing_of of p values rows left) answer
+next_of units of Flying values rows left answer h step = step
+next_of units of Pairing values rows left answer h step = absurd h
+
+-- the units that a state in flight is of are those in which it is one
+pub own_flight : (units of : Units) (values : List Value) (rows : ℕ) → IsFlying units (flight_of of values rows) → IsFlying units (flight_of units values rows)
+own_flight units of values rows ok = subst (λ (u : Units). IsFlying units (flight_of u values rows)) ok.fixed_is ok
 
 -- ---- the part that a draw picks
 

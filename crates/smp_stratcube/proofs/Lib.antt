@@ -12,7 +12,6 @@ pub mod Ahead
 pub mod Directed
 pub mod Ending
 pub mod Stepped
-pub mod Alike
 pub mod Pairing
 pub mod FirstPairs
 pub mod Going

@@ -38,7 +38,7 @@ abbrev pub IsStuck : Units → Balancing → Type 0
 IsStuck units = cubes.IsStuck (cube_by stepping units) (IsTooWide units)
 
 -- The total of a row at a state is the sum of what each unit counts for, times its value: in the tree by such steps, and in that of the
--- cube.
+-- cube. Of no units is it said here that their numbers are narrow.
 abbrev pub weighed_by : Stepping → Units → Weighed Balancing
 weighed_by steps units = record {
   tree = tree_by steps units;
@@ -52,6 +52,7 @@ weighed_by steps units = record {
   known = target units;
   independent = HasIndependentColumns (cube_by steps units);
   stuck = IsStuck units;
+  narrow = ⊥;
 }
 
 abbrev pub weighed_of : Units → Weighed Balancing

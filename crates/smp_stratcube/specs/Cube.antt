@@ -26,9 +26,10 @@ cube_by steps units = record {
   pair_parts = paired_parts units;
 }
 
--- the draw tree of the cube over all strata of these units, by such steps, and by the steps of the cube
+-- the draw tree of the cube over all strata of these units, by such steps
 abbrev pub tree_by : Stepping → Units → Tree Balancing
 tree_by steps units = cubes.tree_by (cube_by steps units) (steps.next units)
 
+-- the draw tree of the cube over all strata of these units, by the steps of the cube
 abbrev pub strat_tree : Units → Tree Balancing
 strat_tree = tree_by stepping

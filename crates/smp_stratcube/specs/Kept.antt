@@ -4,7 +4,6 @@ pub mod Moves
 pub mod Fronts
 pub mod Lines
 pub mod Steps
-pub mod Founds
 pub mod Pairs
 pub mod States
 pub mod Behind

@@ -45,11 +45,12 @@ abbrev pub kind_by : Option (ℕ × ℕ) → Kind
 kind_by (Some pair) = Pivot
 kind_by None = Lone
 
--- the parts of a pivotal step, and its kind
+-- the parts of a pivotal step
 abbrev pub paired_parts : Units → List Value → List (Part (List Value))
 paired_parts units values =
     parts_by units values (fractional_units values) (first_pair units (fractional_units values))
 
+-- the kind of a pivotal step
 abbrev pub paired_kind : Units → List Value → Kind
 paired_kind units values = kind_by (first_pair units (fractional_units values))
 

@@ -1,5 +1,5 @@
 -- The states of a selection by the cube over all strata, and which of them are the selection's.
-use Rattle.std.specs.Prelude.{◌≡◌, ℕ, ◌<◌, ◌≤◌, false, List, length, map, ⊤}
+use Rattle.std.specs.Prelude.{◌≡◌, ℕ, ◌<◌, ◌≤◌, false, List, length, map}
 use Rattle.smp_fractions.specs.Limits.{most_denominator}
 use Rattle.smp_moves.specs.Cubes as cubes
 use Rattle.smp_moves.specs.Cubes.{flying, pairing}
@@ -8,29 +8,32 @@ use Rattle.smp_stratcube.specs.declared.values.Value.{Value}
 use Rattle.smp_stratcube.specs.Units.{Units, IsUnits, share}
 use Rattle.smp_stratcube.specs.Values.{AreValues, common_of, stratum_common, value}
 
--- a state of the flight: but for the values and the rows in force nothing stands with it
+-- a state of the flight; what no step changes is the units that it is of
 abbrev pub Flight : Type 0
-Flight = cubes.Flight (List Value) ⊤
+Flight = cubes.Flight (List Value) Units
 
 -- a state of flight and landing
 abbrev pub Balancing : Type 0
-Balancing = cubes.Balancing (List Value) ⊤
+Balancing = cubes.Balancing (List Value) Units
 
--- the requested probability of a unit as its value, those of all units, and the state before the first step: these, with all rows in force
+-- the requested probability of a unit as its value
 abbrev pub requested_value : Member → Value
 requested_value m = record { at = m.share; touched = false }
 
+-- the requested probabilities of all units as their values
 abbrev pub requested_values : Units → List Value
 requested_values units = map requested_value units.members
 
+-- the state before the first step: the requested values, with all rows in force
 abbrev pub started : Units → Balancing
-started units = flying (record { values = requested_values units; rows = units.rows; fixed = tt }) 0
+started units = flying (record { values = requested_values units; rows = units.rows; fixed = units }) 0
 
 -- ---- the states of a selection
 
 -- A state of the flight: a unit that no move has changed has the value that is requested of it, and the common denominator fits its gate.
 pub record IsFlying (units : Units) (f : Flight) : Type 0 where
   pub are : IsUnits units
+  pub fixed_is : f.fixed ≡ units
   pub values : AreValues (length units.members) f.values
   pub fresh : (k : ℕ) → k < length units.members → (value f.values k).touched ≡ false
       → (value f.values k).at ≡ share units k

@@ -56,13 +56,15 @@ units_of layers = record {
 abbrev pub nobody : Member
 nobody = record { column = []; stratum = 0; share = record { num = 0; den = 1 } }
 
--- a unit by its number, its column, and its stratum
+-- a unit by its number
 abbrev pub member : Units → ℕ → Member
 member units k = slice_index_or units.members k nobody
 
+-- the column of a unit
 abbrev pub column : Units → ℕ → List ℤ
 column units k = (member units k).column
 
+-- the stratum of a unit
 abbrev pub stratum : Units → ℕ → ℕ
 stratum units k = (member units k).stratum
 

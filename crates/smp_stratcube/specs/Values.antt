@@ -16,24 +16,27 @@ use Rattle.smp_stratcube.specs.Units.{Units, first, stratum}
 abbrev pub nothing : Value
 nothing = record { at = record { num = 0; den = 1 }; touched = false }
 
--- the value of a unit as it stands, and as a fraction
+-- the value of a unit as it stands
 abbrev pub value : List Value → ℕ → Value
 value values k = slice_index_or values k nothing
 
+-- the value of a unit as a fraction
 abbrev pub value_at : List Value → ℕ → Fraction
 value_at values k = fraction_of (value values k).at
 
--- whether a unit's value is 1, and whether it is strictly between 0 and 1
+-- whether a unit's value is 1
 abbrev pub is_one : List Value → ℕ → Bool
 is_one values k = nat_eq (value values k).at.num (value values k).at.den
 
+-- whether a unit's value is strictly between 0 and 1
 abbrev pub is_fractional : List Value → ℕ → Bool
 is_fractional values k = fractional (value values k).at.den (value values k).at.num
 
--- the fractional units in order, and how many they are
+-- the fractional units in order
 abbrev pub fractional_units : List Value → List ℕ
 fractional_units values = filter (is_fractional values) (range_with_len 0 (length values))
 
+-- how many units are fractional
 abbrev pub fractional_count : List Value → ℕ
 fractional_count values = count_by (is_fractional values) (range_with_len 0 (length values))
 
@@ -69,17 +72,18 @@ denominators units values (k ∷ ks) =
 abbrev pub common_of : Units → List Value → ℕ
 common_of units values = common_multiple (denominators units values (touched_units values))
 
--- the fractional units of a stratum, and the least common denominator of their values
+-- the fractional units of a stratum
 abbrev pub open_in : Units → List Value → ℕ → List ℕ
 open_in units values h = filter (λ k. nat_eq (stratum units k) h) (fractional_units values)
 
+-- the least common denominator of the values of a stratum's fractional units
 abbrev pub stratum_common : Units → List Value → ℕ → ℕ
 stratum_common units values h =
     common_multiple (map (λ k. (value values k).at.den) (open_in units values h))
 
 -- ---- what a step changes
 
--- these units take over the values of a row of numerators; each is touched then
+-- the values in which these units have taken over those of a row of numerators; each is touched then
 abbrev pub taken_over : (ℕ → Bool) → List Value → Shares → List Value
 taken_over moves values t =
     map (λ k. cond (moves k)

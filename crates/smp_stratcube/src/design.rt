@@ -21,6 +21,7 @@ use smp_frac::NoMemory;
 use smp_split::{Kind, Splitting};
 use std::alloc::Global;
 use std::marker::Model;
+use std::snapshot::Snapshot;
 
 /// A design that selects by the cube over all strata.
 ///
@@ -80,6 +81,7 @@ impl StratCube {
             phase: Phase::Flying,
             left: 0,
             found: Box::new(alloc, None)?,
+            of: Snapshot::of(&self.units),
         })
     }
 

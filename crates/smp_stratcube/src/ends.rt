@@ -99,7 +99,7 @@ pub(crate) fn end_fits(
     common.is_some()
 }
 
-/// Goes to the end of a line: the units whose entry isn't 0 are written.
+/// Goes to the end of a line: each of its units is written, one whose entry is 0 with the value that it has.
 pub(crate) fn go(values: &mut Vec<Value>, line: &Line, den: u128, reach: Reach)
     requires along { IsAlong (length values.old.items) values.old.items line.now den reach }
     requires inside { (j : ℕ) → j < line.now.number

@@ -9,7 +9,6 @@
 mod design;
 mod directions;
 mod ends;
-mod found;
 mod fronts;
 mod gates;
 mod laws;

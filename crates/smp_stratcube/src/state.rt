@@ -1,6 +1,6 @@
 //! The states of a selection.
 
-ghost use Rattle.std.specs.Prelude.{◌≡◌, ◌*◌, ◌<◌, ◌≤◌, false, length};
+ghost use Rattle.std.specs.Prelude.{◌≡◌, ◌*◌, ◌<◌, ◌≤◌, None, Some, false, length};
 ghost use Rattle.smp_fractions.specs.Limits.{most_rows};
 ghost use Rattle.smp_split.specs.Trees.{picked, weight_sum};
 ghost use Rattle.smp_moves.specs.Cubes.{landed, values_in};
@@ -13,14 +13,14 @@ ghost use Rattle.smp_stratcube.specs.Kept.Computed.{flight_of};
 ghost use Rattle.smp_stratcube.specs.Kept.States.{IsInFlight, IsKept, IsNextOf, balancing_of};
 
 use crate::ends::go;
-use crate::found::{Found, forget, found_of, keep, next_step};
 use crate::fronts::{Front, front_of};
 use crate::pairs::{advance, bound, kind};
-use crate::steps::{Move, Next};
+use crate::steps::{Move, Next, step};
 use crate::units::Units;
 use crate::values::Value;
 use smp_split::Kind;
 use std::marker::Model;
+use std::snapshot::Snapshot;
 
 /// Where a selection stands.
 #[derive(Clone, Copy)]
@@ -40,15 +40,17 @@ pub struct StratCubeState {
     pub(crate) phase: Phase,
     pub(crate) left: u32,
     /// The next step of the flight, where it was looked for: in a box, since it takes more bytes than all else here.
-    pub(crate) found: Box<Option<Found>>,
+    pub(crate) found: Box<Option<Next>>,
+    /// The units that it is a state of, for contracts alone: it takes no bytes.
+    pub(crate) of: Snapshot<Units>,
 }
 
 impl Model for StratCubeState {
     ghost Value = { Balancing };
 
-    ghost view = { λ a. balancing_of a.phase a.values.items a.rows a.left };
+    ghost view = { λ a. balancing_of a.of.value a.phase a.values.items a.rows a.left };
 
-    ghost invariant = { λ a. IsKept a.values.items a.rows a.front a.found.value };
+    ghost invariant = { λ a. IsKept a.of.value a.values.items a.rows a.front a.found.value };
 }
 
 /// How many units are fractional.
@@ -72,11 +74,25 @@ fn landed(values: &[Value], front: &Front, left: u32) -> u32
     }
 }
 
+/// Keeps no step.
+fn forget(found: &mut Box<Option<Next>>)
+    ensures { found.new.value ≡ None }
+{
+    **found = None;
+}
+
+/// Keeps a step.
+fn keep(found: &mut Box<Option<Next>>, step: Next)
+    ensures { found.new.value ≡ Some step }
+{
+    **found = Some(step);
+}
+
 /// Goes to an end of a move.
 fn fly(units: &Units, values: &mut Vec<Value>, rows: usize, mv: &Move, plus: bool)
-    requires flying { IsFlying units.now (flight_of values.old.items rows) }
-    requires mv { IsMoveOf units.now (flight_of values.old.items rows) mv.now }
-    ensures { HasGone units.now (flight_of values.old.items rows)
+    requires flying { IsFlying units.now (flight_of units.now values.old.items rows) }
+    requires mv { IsMoveOf units.now (flight_of units.now values.old.items rows) mv.now }
+    ensures { HasGone units.now (flight_of units.now values.old.items rows)
         mv.now plus values.new.items }
 {
     if plus {
@@ -103,18 +119,15 @@ impl StratCubeState {
         value.at.num == value.at.den
     }
 
-    /// The next step of a state in flight: the one that is kept, where it was found for these units.
+    /// The next step of a state in flight: the one that is kept, where it was looked for.
     fn next_step(&self, units: &Units) -> Next
         requires { IsInFlight units.now self.now }
         ensures { IsNextOf units.now self.now result }
     {
-        next_step(
-            units,
-            self.values.as_slice(),
-            self.rows,
-            &self.front,
-            &*self.found,
-        )
+        match &*self.found {
+            Some(next) => *next,
+            None => step(units, self.values.as_slice(), self.rows, &self.front),
+        }
     }
 
     /// The kind of the next step.
@@ -189,8 +202,8 @@ impl StratCubeState {
     {
         match self.phase {
             Phase::Flying => {
-                let found = found_of(units, self.values.as_slice(), self.rows, &self.front);
-                keep(&mut self.found, found);
+                let next = step(units, self.values.as_slice(), self.rows, &self.front);
+                keep(&mut self.found, next);
             }
             Phase::Pairing => {}
         }

@@ -40,10 +40,10 @@ pub(crate) enum Next {
 
 /// The step along a direction.
 fn step_along(units: &Units, values: &[Value], rows: usize, front: &Front, line: Line) -> Next
-    requires flying { IsFlying units.now (flight_of values.now rows) }
+    requires flying { IsFlying units.now (flight_of units.now values.now rows) }
     requires front { IsFront values.now front.now }
-    requires line { HasDirection units.now (flight_of values.now rows) line }
-    ensures { IsStep units.now (flight_of values.now rows) result }
+    requires line { HasDirection units.now (flight_of units.now values.now rows) line }
+    ensures { IsStep units.now (flight_of units.now values.now rows) result }
 {
     match denominator(units, values, front, &line) {
         None => Next::Wide,
@@ -72,9 +72,9 @@ fn step_along(units: &Units, values: &[Value], rows: usize, front: &Front, line:
 
 /// The step of these values with so many rows in force, of which these are the first fractional units.
 pub(crate) fn step(units: &Units, values: &[Value], rows: usize, front: &Front) -> Next
-    requires flying { IsFlying units.now (flight_of values.now rows) }
+    requires flying { IsFlying units.now (flight_of units.now values.now rows) }
     requires front { IsFront values.now front.now }
-    ensures { IsStep units.now (flight_of values.now rows) result }
+    ensures { IsStep units.now (flight_of units.now values.now rows) result }
 {
     let columns = columns_of(units, front);
     match search(&columns[..front.number], rows) {

@@ -1,5 +1,5 @@
 -- What the code keeps of a design and of a state.
-use Rattle.std.specs.Prelude.{◌≡◌, ℕ, ◌+◌, ◌≤◌, Bool, true, false, not, nat_eq, ◌&&◌, if◌then◌else◌, List, ℤ, length}
+use Rattle.std.specs.Prelude.{◌≡◌, ℕ, ◌≤◌, Bool, true, false, not, nat_eq, ◌&&◌, if◌then◌else◌, List, ℤ, length}
 use Rattle.std.specs.Prelude.{map, take, Option, Some, IfSome}
 use Rattle.std.specs.Int.RustNames.{unsigned_abs}
 use Rattle.std.specs.List.{filter}
@@ -12,8 +12,8 @@ use Rattle.smp_flight.specs.Selections.{Balancing}
 use Rattle.smp_moves.specs.Moves.{Line, entry_of}
 use Rattle.smp_moves.specs.declared.lines.Line.{Line as LineOfPlaces}
 use Rattle.smp_flight.specs.States.{Flight, Tracked, Units}
-use Rattle.smp_flight.specs.Answers.{IsFoundOn, units_in}
-use Rattle.smp_flight.specs.declared.found.Found.{Found}
+use Rattle.smp_flight.specs.Answers.{Allows, IsMoveOf, answer_of}
+use Rattle.smp_flight.specs.declared.steps.Next.{Next as Answer}
 use Rattle.smp_moves.specs.Moves.{Next}
 use Rattle.smp_flight.specs.Steps.{next_on}
 use Rattle.smp_localcube.specs.Local.{Local, head_of, is_one_of, order_around, untouched}
@@ -89,18 +89,18 @@ pub record IsReady (f : Tracked) (room : Shares) (points : LivingPoints) (weight
   pub weighed : weights ≡ weights_of points.living
 
 -- the step of a flight that was found by the search of its state
-pub record IsLookedFor (f : Tracked) (coords : List (List ℤ)) (chosen : Option ℕ) (found : Found) : Type 0 where
+pub record IsLookedFor (f : Tracked) (coords : List (List ℤ)) (chosen : Option ℕ) (found : Answer) : Type 0 where
   pub head : ℕ
   pub is_head : head_of (touched_in f) chosen ≡ Some head
-  pub found_on : IsFoundOn f found
-  pub units : units_in found ≡ take (f.flight.rows + 1) (order_around coords f.flight.values (touched_in f) head)
+  pub is : answer_of found ≡ step_around f.flight.fixed coords f head
+  pub allows : Allows (IsMoveOf f.flight.fixed f) f.flight.fixed f found
 
 -- and the step that was looked for is the next one
 pub record IsFlownOn (f : Tracked) (room : Shares) (points : LivingPoints) (weights : List ℕ)
-    (chosen : Option ℕ) (found : Option Found) : Type 0 where
+    (chosen : Option ℕ) (found : Option Answer) : Type 0 where
   pub ready : IsReady f room points weights
   pub looked : IfSome found (IsLookedFor f points.coords chosen)
 
-abbrev pub IsKept : Phase → Tracked → Shares → LivingPoints → List ℕ → Option ℕ → Option Found → Type 0
+abbrev pub IsKept : Phase → Tracked → Shares → LivingPoints → List ℕ → Option ℕ → Option Answer → Type 0
 IsKept Flying f room points weights chosen found = IsFlownOn f room points weights chosen found
 IsKept Pairing f room points weights chosen found = Unit {0}

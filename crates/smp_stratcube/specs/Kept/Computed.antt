@@ -40,9 +40,9 @@ moved_values units values line =
 
 -- ---- the step
 
--- the state of the flight with these values and so many rows in force
-abbrev pub flight_of : List Value → ℕ → Flight
-flight_of values rows = record { values = values; rows = rows; fixed = tt }
+-- the state of the flight of these units with these values and so many rows in force
+abbrev pub flight_of : Units → List Value → ℕ → Flight
+flight_of units values rows = record { values = values; rows = rows; fixed = units }
 
 -- whether each number fits its gate: the common denominator of the products, the entries of the direction, the common denominator of
 -- the state with the strata of the units, and those of both ends

@@ -2,7 +2,6 @@
 use Rattle.std.specs.Prelude.{ℕ, ◌*◌, ◌≤◌, List, length, Option, IfSome}
 use Rattle.smp_fractions.specs.Limits.{most_rows}
 use Rattle.smp_moves.specs.Cubes.{flying, pairing}
-use Rattle.smp_stratcube.specs.declared.found.Found.{Found}
 use Rattle.smp_stratcube.specs.declared.fronts.Front.{Front}
 use Rattle.smp_stratcube.specs.declared.state.Phase.{Phase}
 use Rattle.smp_stratcube.specs.declared.state.Phase.TheVariants.{Flying, Pairing}
@@ -11,13 +10,12 @@ use Rattle.smp_stratcube.specs.declared.values.Value.{Value}
 use Rattle.smp_stratcube.specs.Units.{Units}
 use Rattle.smp_stratcube.specs.States.{Balancing, IsFlying}
 use Rattle.smp_stratcube.specs.Kept.Fronts.{IsFront}
-use Rattle.smp_stratcube.specs.Kept.Founds.{IsFound}
 use Rattle.smp_stratcube.specs.Kept.Computed.{flight_of}
 use Rattle.smp_stratcube.specs.Kept.Moves.{IsStep}
 
-abbrev pub balancing_of : Phase → List Value → ℕ → ℕ → Balancing
-balancing_of Flying values rows left = flying (flight_of values rows) left
-balancing_of Pairing values rows left = pairing values left
+abbrev pub balancing_of : Units → Phase → List Value → ℕ → ℕ → Balancing
+balancing_of units Flying values rows left = flying (flight_of units values rows) left
+balancing_of units Pairing values rows left = pairing values left
 
 -- a state in flight
 abbrev pub IsInFlight : Units → Balancing → Type 0
@@ -30,7 +28,7 @@ IsNextOf units (flying f left) answer = IsStep units f answer
 IsNextOf units (pairing values left) answer = ⊥
 
 -- the units can be counted, the first fractional ones are known, and so is the next step, where it was looked for
-pub record IsKept (values : List Value) (rows : ℕ) (front : Front) (kept : Option Found) : Type 0 where
+pub record IsKept (units : Units) (values : List Value) (rows : ℕ) (front : Front) (kept : Option Answer) : Type 0 where
   pub few : length values ≤ 15 * most_rows
   pub first : IsFront values front
-  pub step : IfSome kept (IsFound values rows front)
+  pub step : IfSome kept (IsStep units (flight_of units values rows))

@@ -31,7 +31,7 @@ pub record IsEnd (units : Units) (f : Flight) (line : Line) (t : Fraction) : Typ
       (plus (value_at f.values k) (times t (integer (entry_of line k))))
   pub fewer : (k : ℕ) → is_fractional (moved_values units f.values line) k ≡ true → is_fractional f.values k ≡ true
   pub falls : fractional_count (moved_values units f.values line) < fractional_count f.values
-  pub flight : IsFlying units (flight_of (moved_values units f.values line) f.rows)
+  pub flight : IsFlying units (flight_of f.fixed (moved_values units f.values line) f.rows)
 
 module _ (units : Units) (f : Flight) (ok : IsFlying units f) (line : Line)
     (some : 1 ≤ line_common units f.values line.units) (narrow : line_common units f.values line.units ≤ 2 ^ 80)
@@ -71,7 +71,7 @@ module _ (units : Units) (f : Flight) (ok : IsFlying units f) (line : Line)
     along = after_along n f.values ok.values line_den some narrow line is divides;
     fewer = after_fractional n f.values ok.values line_den some narrow line is divides;
     falls = after_falls n f.values ok.values line_den some narrow line is divides;
-    flight = record { are = ok.are; values = after_ok; fresh = after_fresh; narrow = room; rows_in = ok.rows_in };
+    flight = record { are = ok.are; fixed_is = ok.fixed_is; values = after_ok; fresh = after_fresh; narrow = room; rows_in = ok.rows_in };
   }
 
 -- ---- both ends

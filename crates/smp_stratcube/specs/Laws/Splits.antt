@@ -147,7 +147,7 @@ module _ (units : Units) (f : Flight) (ok : IsFlying units f) where
   wide_pairing = record { are = ok.are; values = ok.values; fresh = ok.fresh; narrow = narrow_at }
 
   dropped_flight : IsFlying units (dropped f)
-  dropped_flight = record { are = ok.are; values = ok.values; fresh = ok.fresh; narrow = ok.narrow; rows_in = omega (arith, ok.rows_in) }
+  dropped_flight = record { are = ok.are; fixed_is = ok.fixed_is; values = ok.values; fresh = ok.fresh; narrow = ok.narrow; rows_in = omega (arith, ok.rows_in) }
 
   pub split_by : (left : ℕ) → is_settled f.values ≡ false → (a : Next) → next units f ≡ a
       → LawfulParts (strat_tree units) (IsBalancing units) (flying f left) (flight_parts units f left a)

@@ -1,22 +1,30 @@
-use Rattle.std.proofs.Common.{◌≡◌, ◌+◌, min, take, sym, ap, ◌∙◌, subst}
+use Rattle.std.proofs.Common.{◌≡◌, ℕ, ◌+◌, List, min, take, sym, ap, ◌∙◌, subst}
 use Rattle.smp_values.specs.Values.{fractional_units}
-use Rattle.smp_flight.specs.States.{Tracked}
+use Rattle.smp_flight.specs.States.{Tracked, Units}
+use Rattle.smp_flight.specs.Steps.{next, next_on}
 use Rattle.smp_flight.specs.Answers.{AreSearched}
+use Rattle.smp_flight.proofs.Known.{padded_of}
+use Rattle.smp_flight.proofs.Nexts.{next_on_front}
 use Rattle.smp_flight.proofs.Searched.{front_searched}
 use Rattle.smp_flight.proofs.steps.find.Goals as goal
 
-pub find_on-requires-clause-units : goal.find_on-requires-clause-units
-find_on-requires-clause-units c =
+pub step_on-requires-clause-units : goal.step_on-requires-clause-units
+step_on-requires-clause-units c =
     let s = c.args.state.now.flight.values in
     let units = c.next_front-front.result.units in
     let first : take c.min.result units ≡ take (c.args.state.now.flight.rows + 1) (fractional_units s) =
     ap (λ k. take k units) (c.min.ensures ∙ ap (λ (f : Tracked). min c.next_front-front.result.number (f.flight.rows + 1)) c.state.view_is) ∙ c.next_front-front.ensures.first in
     subst (AreSearched c.args.state.now) (sym first) (front_searched c.args.state.now c.requires.first)
 
-pub returns-clause-found : goal.returns-clause-found
-returns-clause-found c =
-    let s = c.args.state.now.flight.values in
+pub returns : goal.returns
+returns c =
+    let f = c.args.state.now.flight in
     let units = c.next_front-front.result.units in
-    let first : take c.min.result units ≡ take (c.args.state.now.flight.rows + 1) (fractional_units s) =
+    let first : take c.min.result units ≡ take (c.args.state.now.flight.rows + 1) (fractional_units c.args.state.now.flight.values) =
     ap (λ k. take k units) (c.min.ensures ∙ ap (λ (f : Tracked). min c.next_front-front.result.number (f.flight.rows + 1)) c.state.view_is) ∙ c.next_front-front.ensures.first in
-    record { found_on = c.find_on.ensures.found; units = c.find_on.ensures.units ∙ first }
+    record {
+      is =
+          c.step_on.ensures.is ∙ ap (λ (order : List ℕ). next_on c.args.shape.now order f) first
+          ∙ next_on_front c.args.shape.now f (fractional_units f.values) ∙ ap (λ (u : Units). next u f) (sym c.requires.flight.fixed_is);
+      padded = padded_of c.args.shape.now c.args.state.now c.step_on.result c.step_on.ensures.allows;
+    }

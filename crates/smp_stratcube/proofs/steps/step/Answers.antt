@@ -32,15 +32,15 @@ direction-requires-clause-inside c =
 
 pub direction-requires-clause-fewer : goal.direction-requires-clause-fewer
 direction-requires-clause-fewer c =
-    found_fewer c.args.units.now (flight_of c.args.values.now c.args.rows) c.requires.flying c.args.front.now c.requires.front (omega (arith, c.requires.front.short)) c.in-Found.factors.w c.in-Found.factors.number (omega (arith, c.in-Found.ensures.padded.0, c.requires.flying.rows_in, c.requires.flying.are.few_rows)) c.in-Found.ensures.padded.1 (subst (λ (cs : List (List ℤ)). IsSearch c.args.rows (cut c.args.rows cs) (found (take c.in-Found.factors.number c.in-Found.factors.w))) c.columns_of-columns.ensures.are c.in-Found.ensures.is)
+    found_fewer c.args.units.now (flight_of c.args.units.now c.args.values.now c.args.rows) c.requires.flying c.args.front.now c.requires.front (omega (arith, c.requires.front.short)) c.in-Found.factors.w c.in-Found.factors.number (omega (arith, c.in-Found.ensures.padded.0, c.requires.flying.rows_in, c.requires.flying.are.few_rows)) c.in-Found.ensures.padded.1 (subst (λ (cs : List (List ℤ)). IsSearch c.args.rows (cut c.args.rows cs) (found (take c.in-Found.factors.number c.in-Found.factors.w))) c.columns_of-columns.ensures.are c.in-Found.ensures.is)
 
 pub direction-requires-clause-small : goal.direction-requires-clause-small
 direction-requires-clause-small c =
-    found_small c.args.units.now (flight_of c.args.values.now c.args.rows) c.requires.flying c.args.front.now c.requires.front (omega (arith, c.requires.front.short)) c.in-Found.factors.w c.in-Found.factors.number (omega (arith, c.in-Found.ensures.padded.0, c.requires.flying.rows_in, c.requires.flying.are.few_rows)) c.in-Found.ensures.padded.1 (subst (λ (cs : List (List ℤ)). IsSearch c.args.rows (cut c.args.rows cs) (found (take c.in-Found.factors.number c.in-Found.factors.w))) c.columns_of-columns.ensures.are c.in-Found.ensures.is)
+    found_small c.args.units.now (flight_of c.args.units.now c.args.values.now c.args.rows) c.requires.flying c.args.front.now c.requires.front (omega (arith, c.requires.front.short)) c.in-Found.factors.w c.in-Found.factors.number (omega (arith, c.in-Found.ensures.padded.0, c.requires.flying.rows_in, c.requires.flying.are.few_rows)) c.in-Found.ensures.padded.1 (subst (λ (cs : List (List ℤ)). IsSearch c.args.rows (cut c.args.rows cs) (found (take c.in-Found.factors.number c.in-Found.factors.w))) c.columns_of-columns.ensures.are c.in-Found.ensures.is)
 
 pub direction-requires-clause-some : goal.direction-requires-clause-some
 direction-requires-clause-some c =
-    found_some c.args.units.now (flight_of c.args.values.now c.args.rows) c.requires.flying c.args.front.now c.requires.front (omega (arith, c.requires.front.short)) c.in-Found.factors.w c.in-Found.factors.number (omega (arith, c.in-Found.ensures.padded.0, c.requires.flying.rows_in, c.requires.flying.are.few_rows)) c.in-Found.ensures.padded.1 (subst (λ (cs : List (List ℤ)). IsSearch c.args.rows (cut c.args.rows cs) (found (take c.in-Found.factors.number c.in-Found.factors.w))) c.columns_of-columns.ensures.are c.in-Found.ensures.is)
+    found_some c.args.units.now (flight_of c.args.units.now c.args.values.now c.args.rows) c.requires.flying c.args.front.now c.requires.front (omega (arith, c.requires.front.short)) c.in-Found.factors.w c.in-Found.factors.number (omega (arith, c.in-Found.ensures.padded.0, c.requires.flying.rows_in, c.requires.flying.are.few_rows)) c.in-Found.ensures.padded.1 (subst (λ (cs : List (List ℤ)). IsSearch c.args.rows (cut c.args.rows cs) (found (take c.in-Found.factors.number c.in-Found.factors.w))) c.columns_of-columns.ensures.are c.in-Found.ensures.is)
 
 pub step_along-requires-clause-flying : goal.step_along-requires-clause-flying
 step_along-requires-clause-flying c =
@@ -52,19 +52,19 @@ step_along-requires-clause-front c =
 
 pub step_along-requires-clause-line : goal.step_along-requires-clause-line
 step_along-requires-clause-line c =
-    found_line c.args.units.now (flight_of c.args.values.now c.args.rows) c.requires.flying c.args.front.now c.requires.front (omega (arith, c.requires.front.short)) c.in-Found.factors.w c.in-Found.factors.number (omega (arith, c.in-Found.ensures.padded.0, c.requires.flying.rows_in, c.requires.flying.are.few_rows)) c.in-Found.ensures.padded.1 (subst (λ (cs : List (List ℤ)). IsSearch c.args.rows (cut c.args.rows cs) (found (take c.in-Found.factors.number c.in-Found.factors.w))) c.columns_of-columns.ensures.are c.in-Found.ensures.is) c.in-Some.line c.in-Some.ensures
+    found_line c.args.units.now (flight_of c.args.units.now c.args.values.now c.args.rows) c.requires.flying c.args.front.now c.requires.front (omega (arith, c.requires.front.short)) c.in-Found.factors.w c.in-Found.factors.number (omega (arith, c.in-Found.ensures.padded.0, c.requires.flying.rows_in, c.requires.flying.are.few_rows)) c.in-Found.ensures.padded.1 (subst (λ (cs : List (List ℤ)). IsSearch c.args.rows (cut c.args.rows cs) (found (take c.in-Found.factors.number c.in-Found.factors.w))) c.columns_of-columns.ensures.are c.in-Found.ensures.is) c.in-Some.line c.in-Some.ensures
 
 pub returns-in-Independent : goal.returns-in-Independent
 returns-in-Independent c =
-    step_found c.args.units.now (flight_of c.args.values.now c.args.rows) c.requires.flying c.args.front.now c.requires.front (omega (arith, c.requires.front.short)) none (subst (λ (cs : List (List ℤ)). IsSearch c.args.rows (cut c.args.rows cs) none) c.columns_of-columns.ensures.are c.in-Independent.ensures.is)
+    step_found c.args.units.now (flight_of c.args.units.now c.args.values.now c.args.rows) c.requires.flying c.args.front.now c.requires.front (omega (arith, c.requires.front.short)) none (subst (λ (cs : List (List ℤ)). IsSearch c.args.rows (cut c.args.rows cs) none) c.columns_of-columns.ensures.are c.in-Independent.ensures.is)
 
 pub returns-in-TooWide : goal.returns-in-TooWide
 returns-in-TooWide c =
-    step_found c.args.units.now (flight_of c.args.values.now c.args.rows) c.requires.flying c.args.front.now c.requires.front (omega (arith, c.requires.front.short)) too_wide (subst (λ (cs : List (List ℤ)). IsSearch c.args.rows (cut c.args.rows cs) too_wide) c.columns_of-columns.ensures.are c.in-TooWide.ensures.is)
+    step_found c.args.units.now (flight_of c.args.units.now c.args.values.now c.args.rows) c.requires.flying c.args.front.now c.requires.front (omega (arith, c.requires.front.short)) too_wide (subst (λ (cs : List (List ℤ)). IsSearch c.args.rows (cut c.args.rows cs) too_wide) c.columns_of-columns.ensures.are c.in-TooWide.ensures.is)
 
 pub returns-in-None : goal.returns-in-None
 returns-in-None c =
-    found_wide c.args.units.now (flight_of c.args.values.now c.args.rows) c.requires.flying c.args.front.now c.requires.front (omega (arith, c.requires.front.short)) c.in-Found.factors.w c.in-Found.factors.number (omega (arith, c.in-Found.ensures.padded.0, c.requires.flying.rows_in, c.requires.flying.are.few_rows)) c.in-Found.ensures.padded.1 (subst (λ (cs : List (List ℤ)). IsSearch c.args.rows (cut c.args.rows cs) (found (take c.in-Found.factors.number c.in-Found.factors.w))) c.columns_of-columns.ensures.are c.in-Found.ensures.is) c.in-None.ensures
+    found_wide c.args.units.now (flight_of c.args.units.now c.args.values.now c.args.rows) c.requires.flying c.args.front.now c.requires.front (omega (arith, c.requires.front.short)) c.in-Found.factors.w c.in-Found.factors.number (omega (arith, c.in-Found.ensures.padded.0, c.requires.flying.rows_in, c.requires.flying.are.few_rows)) c.in-Found.ensures.padded.1 (subst (λ (cs : List (List ℤ)). IsSearch c.args.rows (cut c.args.rows cs) (found (take c.in-Found.factors.number c.in-Found.factors.w))) c.columns_of-columns.ensures.are c.in-Found.ensures.is) c.in-None.ensures
 
 pub returns-in-Some : goal.returns-in-Some
 returns-in-Some c =

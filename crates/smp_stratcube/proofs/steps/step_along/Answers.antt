@@ -17,7 +17,7 @@ use Rattle.smp_stratcube.proofs.steps.step_along.Goals.{After-reach_along-down, 
 
 pub denominator-requires-clause-line : goal.denominator-requires-clause-line
 denominator-requires-clause-line c =
-    λ j l. line_inside c.args.units.now (flight_of c.args.values.now c.args.rows) c.requires.flying c.args.line c.requires.line j l
+    λ j l. line_inside c.args.units.now (flight_of c.args.units.now c.args.values.now c.args.rows) c.requires.flying c.args.line c.requires.line j l
 
 pub denominator-requires-clause-are : goal.denominator-requires-clause-are
 denominator-requires-clause-are c = c.requires.flying.are
@@ -47,7 +47,7 @@ can_reach : (c : In-Some) (along : Line) → IsPadded along → HasSmallEntries 
 }
 can_reach c along padded small inside = record {
   values = c.requires.flying.values.each;
-  den = den_narrow c.args.units.now (flight_of c.args.values.now c.args.rows) c.requires.flying c.args.front.now c.requires.front (omega (arith, c.requires.front.short)) c.args.line c.requires.line c.in-Some.den c.in-Some.ensures;
+  den = den_narrow c.args.units.now (flight_of c.args.units.now c.args.values.now c.args.rows) c.requires.flying c.args.front.now c.requires.front (omega (arith, c.requires.front.short)) c.args.line c.requires.line c.in-Some.den c.in-Some.ensures;
   padded = padded;
   small = small;
   line = inside;
@@ -56,19 +56,19 @@ can_reach c along padded small inside = record {
 pub reach_along-up-requires : goal.reach_along-up-requires
 reach_along-up-requires c =
     can_reach (goal.at.reach_along-up-requires c).In-Some c.args.line c.requires.line.is_line.padded c.requires.line.is_line.small
-    (λ j l. (let b = line_inside c.args.units.now (flight_of c.args.values.now c.args.rows) c.requires.flying c.args.line c.requires.line j l in omega (arith, b, c.requires.flying.values.count)))
+    (λ j l. (let b = line_inside c.args.units.now (flight_of c.args.units.now c.args.values.now c.args.rows) c.requires.flying c.args.line c.requires.line j l in omega (arith, b, c.requires.flying.values.count)))
 
 pub reach_along-down-requires : goal.reach_along-down-requires
 reach_along-down-requires c =
     can_reach (goal.at.reach_along-down-requires c).In-Some c.turned-back.result c.turned-back.ensures.padded c.turned-back.ensures.small
-    (back_inside c.args.units.now (flight_of c.args.values.now c.args.rows) c.requires.flying c.args.front.now c.requires.front (omega (arith, c.requires.front.short)) c.args.line c.requires.line c.in-Some.den c.in-Some.ensures c.turned-back.result c.turned-back.ensures.line c.turned-back.ensures.padded c.turned-back.ensures.small)
+    (back_inside c.args.units.now (flight_of c.args.units.now c.args.values.now c.args.rows) c.requires.flying c.args.front.now c.requires.front (omega (arith, c.requires.front.short)) c.args.line c.requires.line c.in-Some.den c.in-Some.ensures c.turned-back.result c.turned-back.ensures.line c.turned-back.ensures.padded c.turned-back.ensures.small)
 
 -- both ways, and whether the common denominator fits there
 along_up : (c : After-reach_along-up) → IsAlong (length c.args.units.now.members) c.args.values.now c.args.line c.in-Some.den c.reach_along-up.result
-along_up c = forth c.args.units.now (flight_of c.args.values.now c.args.rows) c.requires.flying c.args.front.now c.requires.front (omega (arith, c.requires.front.short)) c.args.line c.requires.line c.in-Some.den c.in-Some.ensures c.reach_along-up.result c.reach_along-up.ensures.is
+along_up c = forth c.args.units.now (flight_of c.args.units.now c.args.values.now c.args.rows) c.requires.flying c.args.front.now c.requires.front (omega (arith, c.requires.front.short)) c.args.line c.requires.line c.in-Some.den c.in-Some.ensures c.reach_along-up.result c.reach_along-up.ensures.is
 
 along_down : (c : After-reach_along-down) → IsAlong (length c.args.units.now.members) c.args.values.now c.turned-back.result c.in-Some.den c.reach_along-down.result
-along_down c = backward c.args.units.now (flight_of c.args.values.now c.args.rows) c.requires.flying c.args.front.now c.requires.front (omega (arith, c.requires.front.short)) c.args.line c.requires.line c.in-Some.den c.in-Some.ensures c.turned-back.result c.turned-back.ensures.line c.turned-back.ensures.padded c.turned-back.ensures.small c.reach_along-down.result c.reach_along-down.ensures.is
+along_down c = backward c.args.units.now (flight_of c.args.units.now c.args.values.now c.args.rows) c.requires.flying c.args.front.now c.requires.front (omega (arith, c.requires.front.short)) c.args.line c.requires.line c.in-Some.den c.in-Some.ensures c.turned-back.result c.turned-back.ensures.line c.turned-back.ensures.padded c.turned-back.ensures.small c.reach_along-down.result c.reach_along-down.ensures.is
 
 can_fit : (c : In-Some) (line : Line) (r : Reach) → IsAlong (length c.args.units.now.members) c.args.values.now line c.in-Some.den r → record {
   are : IsUnits c.args.units.now;
@@ -89,7 +89,7 @@ end_fits-requires c =
 
 pub returns-then-not-end_fits : goal.returns-then-not-end_fits
 returns-then-not-end_fits c =
-    no_plus c.args.units.now (flight_of c.args.values.now c.args.rows) c.requires.flying c.args.front.now c.requires.front (omega (arith, c.requires.front.short)) c.args.line c.requires.line c.in-Some.den c.in-Some.ensures c.reach_along-up.result c.reach_along-up.ensures.is (sym c.end_fits.ensures ∙ c.if-not-end_fits.true)
+    no_plus c.args.units.now (flight_of c.args.units.now c.args.values.now c.args.rows) c.requires.flying c.args.front.now c.requires.front (omega (arith, c.requires.front.short)) c.args.line c.requires.line c.in-Some.den c.in-Some.ensures c.reach_along-up.result c.reach_along-up.ensures.is (sym c.end_fits.ensures ∙ c.if-not-end_fits.true)
 
 pub end_fits-requires-in-Some : goal.end_fits-requires-in-Some
 end_fits-requires-in-Some c =
@@ -97,7 +97,7 @@ end_fits-requires-in-Some c =
 
 pub returns-then-not-end_fits-2 : goal.returns-then-not-end_fits-2
 returns-then-not-end_fits-2 c =
-    no_minus c.args.units.now (flight_of c.args.values.now c.args.rows) c.requires.flying c.args.front.now c.requires.front (omega (arith, c.requires.front.short)) c.args.line c.requires.line c.in-Some.den c.in-Some.ensures c.turned-back.result c.turned-back.ensures.line c.turned-back.ensures.padded c.turned-back.ensures.small c.reach_along-down.result c.reach_along-down.ensures.is (sym c.end_fits-in-Some.ensures ∙ c.if-not-end_fits-2.true)
+    no_minus c.args.units.now (flight_of c.args.units.now c.args.values.now c.args.rows) c.requires.flying c.args.front.now c.requires.front (omega (arith, c.requires.front.short)) c.args.line c.requires.line c.in-Some.den c.in-Some.ensures c.turned-back.result c.turned-back.ensures.line c.turned-back.ensures.padded c.turned-back.ensures.small c.reach_along-down.result c.reach_along-down.ensures.is (sym c.end_fits-in-Some.ensures ∙ c.if-not-end_fits-2.true)
 
 pub overflow_mul-down : goal.overflow_mul-down
 overflow_mul-down c =
@@ -109,12 +109,12 @@ overflow_mul-up c =
 
 pub lowest-weights-requires : goal.lowest-weights-requires
 lowest-weights-requires c =
-    reaches_some c.args.units.now (flight_of c.args.values.now c.args.rows) c.requires.flying c.args.front.now c.requires.front (omega (arith, c.requires.front.short)) c.args.line c.requires.line c.in-Some.den c.in-Some.ensures c.turned-back.result c.turned-back.ensures.line c.turned-back.ensures.padded c.turned-back.ensures.small c.reach_along-up.result c.reach_along-down.result c.reach_along-up.ensures.is c.reach_along-down.ensures.is
+    reaches_some c.args.units.now (flight_of c.args.units.now c.args.values.now c.args.rows) c.requires.flying c.args.front.now c.requires.front (omega (arith, c.requires.front.short)) c.args.line c.requires.line c.in-Some.den c.in-Some.ensures c.turned-back.result c.turned-back.ensures.line c.turned-back.ensures.padded c.turned-back.ensures.small c.reach_along-up.result c.reach_along-down.result c.reach_along-up.ensures.is c.reach_along-down.ensures.is
 
 pub returns-in-None : goal.returns-in-None
 returns-in-None c =
-    no_denominator c.args.units.now (flight_of c.args.values.now c.args.rows) c.requires.flying c.args.front.now c.requires.front (omega (arith, c.requires.front.short)) c.args.line c.requires.line c.in-None.ensures
+    no_denominator c.args.units.now (flight_of c.args.units.now c.args.values.now c.args.rows) c.requires.flying c.args.front.now c.requires.front (omega (arith, c.requires.front.short)) c.args.line c.requires.line c.in-None.ensures
 
 pub returns-else-not-end_fits-2 : goal.returns-else-not-end_fits-2
 returns-else-not-end_fits-2 c =
-    is_move_of c.args.units.now (flight_of c.args.values.now c.args.rows) c.requires.flying c.args.front.now c.requires.front (omega (arith, c.requires.front.short)) c.args.line c.requires.line c.in-Some.den c.in-Some.ensures c.turned-back.result c.turned-back.ensures.line c.turned-back.ensures.padded c.turned-back.ensures.small c.reach_along-up.result c.reach_along-down.result c.reach_along-up.ensures.is c.reach_along-down.ensures.is (sym c.end_fits.ensures ∙ c.if-not-end_fits.false) (sym c.end_fits-in-Some.ensures ∙ c.if-not-end_fits-2.false) c.lowest-weights.result c.lowest-weights.ensures
+    is_move_of c.args.units.now (flight_of c.args.units.now c.args.values.now c.args.rows) c.requires.flying c.args.front.now c.requires.front (omega (arith, c.requires.front.short)) c.args.line c.requires.line c.in-Some.den c.in-Some.ensures c.turned-back.result c.turned-back.ensures.line c.turned-back.ensures.padded c.turned-back.ensures.small c.reach_along-up.result c.reach_along-down.result c.reach_along-up.ensures.is c.reach_along-down.ensures.is (sym c.end_fits.ensures ∙ c.if-not-end_fits.false) (sym c.end_fits-in-Some.ensures ∙ c.if-not-end_fits-2.false) c.lowest-weights.result c.lowest-weights.ensures

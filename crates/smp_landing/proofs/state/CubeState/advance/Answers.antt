@@ -1,6 +1,6 @@
-use Rattle.std.proofs.Common.{◌≡◌, false, arith, sym, ◌∙◌}
+use Rattle.std.proofs.Common.{◌≡◌, false, length, arith, sym, ap, ◌∙◌, subst}
 use Rattle.smp_values.specs.Values.{is_settled}
-use Rattle.smp_flight.specs.States.{IsFlight}
+use Rattle.smp_flight.specs.States.{AreFirst, IsFlight, Tracked}
 use Rattle.smp_values.specs.Values.{fractional_units}
 use Rattle.smp_flight.proofs.ByOrder.{some_row}
 use Rattle.smp_flight.proofs.WholeOrders.{frame_whole}
@@ -13,6 +13,18 @@ drop_row-requires-clause-some c =
     let e = rw c.in-Independent.is at c.step.ensures.is in
     some_row c.args.shape.now c.self.inside.flight.flight c.self.inside.left
     (fractional_units c.self.inside.flight.flight.values) ok (frame_whole c.self.inside.flight.flight.values) (sym e) going
+
+-- a row fewer, and the step from there: the values are what they were
+pub invariant_of-self : goal.invariant_of-self
+invariant_of-self c =
+    let kept = rw c.in-Flying.is at c.self.invariant in
+    let same = ap (λ (t : Tracked). length t.flight.values.numer) (c.look.ensures ∙ c.drop_row.ensures.is) in
+    rw c.in-Flying.is
+    (record {
+      fits = kept.fits ∙ sym same;
+      few = omega (arith, kept.few, same);
+      first = subst (λ (t : Tracked). AreFirst t.flight t.window) (sym c.look.ensures) c.drop_row.ensures.first;
+    })
 
 pub invariant_of-self-in-Move : goal.invariant_of-self-in-Move
 invariant_of-self-in-Move c =

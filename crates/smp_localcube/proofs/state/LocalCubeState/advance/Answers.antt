@@ -48,7 +48,7 @@ look-found-requires g c =
 pub invariant_of-self : goal.invariant_of-self
 invariant_of-self g c =
     let ready = (rw c.in-Flying.is at c.self.invariant).ready in
-    rw c.in-Flying.is (record { ready = ready; looked = rw c.keep.ensures c.look-found.ensures })
+    rw c.in-Flying.is (record { ready = ready; looked = rw c.keep.ensures c.look-found.ensures.looked })
 
 pub drop_row-requires-clause-some : goal.drop_row-requires-clause-some
 drop_row-requires-clause-some g c =
@@ -71,7 +71,7 @@ invariant_of-self-in-Independent g c =
     let ready = (rw c.in-Flying.is at c.self.invariant).ready in
     rw c.in-Flying.is (record {
       ready = rw c.drop_row.ensures.is (record { fits = ready.fits; few = ready.few; placed = ready.placed; living = ready.living; weighed = ready.weighed });
-      looked = rw c.keep-in-Independent.ensures c.look-found-in-Independent.ensures;
+      looked = rw c.keep-in-Independent.ensures c.look-found-in-Independent.ensures.looked;
     })
 
 pub touch-requires : goal.touch-requires
@@ -96,7 +96,7 @@ invariant_of-self-in-Move g c =
     let ready = (rw c.in-Flying.is at c.self.invariant).ready in
     let allows = rw (c.in-Some.is, c.in-Move.is) at c.next_step-next.ensures.allows in
     let flown = flown_ready c.args.shape.now c.self.inside.flight c.fly.new.flight c.self.inside.left allows.order here.state allows.is_order (move_of c.in-Move.mv) allows.is (nat_lt c.args.draw c.in-Move.mv.plus_weight) c.fly.ensures.is c.fly.ensures.window c.self.inside.room c.self.inside.points c.touch.new.points c.self.inside.weights c.touch.new.weights ready c.touch.ensures.touched c.fly.ensures.units c.touch.ensures.weighed in
-    rw c.in-Flying.is (record { ready = flown; looked = rw c.keep-in-Move.ensures c.look-found-in-Move.ensures })
+    rw c.in-Flying.is (record { ready = flown; looked = rw c.keep-in-Move.ensures c.look-found-in-Move.ensures.looked })
 
 pub returns-in-Move : goal.returns-in-Move
 returns-in-Move g c =

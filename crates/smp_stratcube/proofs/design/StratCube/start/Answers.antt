@@ -2,7 +2,7 @@ use Rattle.std.proofs.Common.{ℕ, List, length, arith, refl, sym, ap, ap₂, �
 use Rattle.std.proofs.lemmas.List.{length-map}
 use Rattle.smp_moves.specs.Cubes.{flying}
 use Rattle.smp_stratcube.specs.declared.values.Value.{Value}
-use Rattle.smp_stratcube.specs.Units.{IsUnits}
+use Rattle.smp_stratcube.specs.Units.{IsUnits, Units}
 use Rattle.smp_stratcube.specs.States.{requested_value, started}
 use Rattle.smp_stratcube.specs.Balances.{IsBalanced}
 use Rattle.smp_stratcube.specs.Counts.{HasCounts}
@@ -26,7 +26,8 @@ invariant_of-result c = record {
 
 pub returns-clause-state : goal.returns-clause-state
 returns-clause-state c =
-    ap₂ (λ (vs : List Value) (n : ℕ). flying (flight_of vs n) 0) c.in_ok-values.ensures c.rows.ensures ∙ ap started c.self.view_is
+    ap (λ (u : Units). flying (flight_of u c.in_ok-values.values.items c.rows.result) 0) c.of.ensures
+    ∙ ap₂ (λ (vs : List Value) (n : ℕ). flying (flight_of c.self.inside.units vs n) 0) c.in_ok-values.ensures c.rows.ensures ∙ ap started c.self.view_is
 
 pub returns-clause-means : goal.returns-clause-means
 returns-clause-means c =

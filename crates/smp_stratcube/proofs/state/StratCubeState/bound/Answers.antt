@@ -18,9 +18,9 @@ next_step-requires c = rw (← c.self.view_is, c.in-Flying.is) (rw (← c.self.v
 
 pub overflow_add-result : goal.overflow_add-result
 overflow_add-result c =
-    (let ok : IsFlying c.args.units.now (flight_of c.self.inside.values.items c.self.inside.rows) = (rw (← c.self.view_is, c.in-Flying.is) at c.requires.state) in
+    (let ok : IsFlying c.args.units.now (flight_of c.self.inside.of.value c.self.inside.values.items c.self.inside.rows) = (rw (← c.self.view_is, c.in-Flying.is) at c.requires.state) in
     let m = (rw (← c.self.view_is, c.in-Flying.is) at c.in-Move.ensures) in
-    let n = (move_split c.args.units.now (flight_of c.self.inside.values.items c.self.inside.rows) ok c.self.inside.left (next_along c.args.units.now c.self.inside.values.items (line_of c.in-Move.mv.line)) m.next).narrow in
+    let n = (move_split c.args.units.now (flight_of c.self.inside.of.value c.self.inside.values.items c.self.inside.rows) ok c.self.inside.left (next_along c.args.units.now c.self.inside.values.items (line_of c.in-Move.mv.line)) m.next).narrow in
     omega (arith, n, m.plus, m.minus))
 
 pub bound-requires-clause-pairing : goal.bound-requires-clause-pairing
@@ -39,15 +39,15 @@ pub returns-in-Move : goal.returns-in-Move
 returns-in-Move c =
     (let m = (rw (← c.self.view_is, c.in-Flying.is) at c.in-Move.ensures) in
     let both : c.in-Move.mv.plus_weight + c.in-Move.mv.minus_weight ≡ (next_along c.args.units.now c.self.inside.values.items (line_of c.in-Move.mv.line)).plus_weight + ((next_along c.args.units.now c.self.inside.values.items (line_of c.in-Move.mv.line)).minus_weight + 0) = omega (arith, m.plus, m.minus) in
-    rw (← c.self.view_is, c.in-Flying.is) (both ∙ sym (ap (λ (a : Next). weight_sum (flight_parts c.args.units.now (flight_of c.self.inside.values.items c.self.inside.rows) c.self.inside.left a)) m.next)))
+    rw (← c.self.view_is, c.in-Flying.is) (both ∙ sym (ap (λ (a : Next). weight_sum (flight_parts c.args.units.now (flight_of c.self.inside.of.value c.self.inside.values.items c.self.inside.rows) c.self.inside.left a)) m.next)))
 
 pub returns-in-Independent : goal.returns-in-Independent
 returns-in-Independent c =
-    rw (← c.self.view_is, c.in-Flying.is) (sym (ap (λ (a : Next). weight_sum (flight_parts c.args.units.now (flight_of c.self.inside.values.items c.self.inside.rows) c.self.inside.left a)) (rw (← c.self.view_is, c.in-Flying.is) at c.in-Independent.ensures)))
+    rw (← c.self.view_is, c.in-Flying.is) (sym (ap (λ (a : Next). weight_sum (flight_parts c.args.units.now (flight_of c.self.inside.of.value c.self.inside.values.items c.self.inside.rows) c.self.inside.left a)) (rw (← c.self.view_is, c.in-Flying.is) at c.in-Independent.ensures)))
 
 pub returns-in-Wide : goal.returns-in-Wide
 returns-in-Wide c =
-    rw (← c.self.view_is, c.in-Flying.is) (sym (ap (λ (a : Next). weight_sum (flight_parts c.args.units.now (flight_of c.self.inside.values.items c.self.inside.rows) c.self.inside.left a)) (rw (← c.self.view_is, c.in-Flying.is) at c.in-Wide.ensures)))
+    rw (← c.self.view_is, c.in-Flying.is) (sym (ap (λ (a : Next). weight_sum (flight_parts c.args.units.now (flight_of c.self.inside.of.value c.self.inside.values.items c.self.inside.rows) c.self.inside.left a)) (rw (← c.self.view_is, c.in-Flying.is) at c.in-Wide.ensures)))
 
 pub returns-in-Pairing : goal.returns-in-Pairing
 returns-in-Pairing c =

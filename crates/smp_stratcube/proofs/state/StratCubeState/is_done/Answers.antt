@@ -12,4 +12,4 @@ fractional-requires c =
 
 pub returns : goal.returns
 returns c =
-    ap (λ n. nat_eq n 0) (c.fractional.ensures ∙ ap fractional_count c.as_slice.ensures.value) ∙ ap is_settled (sym (values_of c.self.inside.phase c.self.inside.values.items c.self.inside.rows c.self.inside.left) ∙ ap values_in c.self.view_is)
+    ap (λ n. nat_eq n 0) (c.fractional.ensures ∙ ap fractional_count c.as_slice.ensures.value) ∙ ap is_settled (sym (values_of c.self.inside.of.value c.self.inside.phase c.self.inside.values.items c.self.inside.rows c.self.inside.left) ∙ ap values_in c.self.view_is)

@@ -8,10 +8,10 @@ use Rattle.smp_stratcube.proofs.state.StratCubeState.is_one.Goals as goal
 
 pub index-value-requires : goal.index-value-requires
 index-value-requires c =
-    (let b = subst (λ (vs : List Value). c.args.unit < length vs) (sym (sym (values_of c.self.inside.phase c.self.inside.values.items c.self.inside.rows c.self.inside.left) ∙ ap values_in c.self.view_is)) c.requires in omega (arith, b, c.self.inside.values.ok.0))
+    (let b = subst (λ (vs : List Value). c.args.unit < length vs) (sym (sym (values_of c.self.inside.of.value c.self.inside.phase c.self.inside.values.items c.self.inside.rows c.self.inside.left) ∙ ap values_in c.self.view_is)) c.requires in omega (arith, b, c.self.inside.values.ok.0))
 
 pub returns : goal.returns
 returns c =
-    (let b = subst (λ (vs : List Value). c.args.unit < length vs) (sym (sym (values_of c.self.inside.phase c.self.inside.values.items c.self.inside.rows c.self.inside.left) ∙ ap values_in c.self.view_is)) c.requires in
+    (let b = subst (λ (vs : List Value). c.args.unit < length vs) (sym (sym (values_of c.self.inside.of.value c.self.inside.phase c.self.inside.values.items c.self.inside.rows c.self.inside.left) ∙ ap values_in c.self.view_is)) c.requires in
     let at : c.index-value.result.now ≡ value c.self.inside.values.items c.args.unit = get_or_read c.self.inside.values.items c.args.unit c.index-value.result.now b c.index-value.ensures nothing in
-    ap (λ (v : Value). nat_eq v.at.num v.at.den) at ∙ ap (λ (vs : List Value). is_one vs c.args.unit) (sym (values_of c.self.inside.phase c.self.inside.values.items c.self.inside.rows c.self.inside.left) ∙ ap values_in c.self.view_is))
+    ap (λ (v : Value). nat_eq v.at.num v.at.den) at ∙ ap (λ (vs : List Value). is_one vs c.args.unit) (sym (values_of c.self.inside.of.value c.self.inside.phase c.self.inside.values.items c.self.inside.rows c.self.inside.left) ∙ ap values_in c.self.view_is))

@@ -11,7 +11,9 @@ use Rattle.smp_stratcube.specs.States.{IsFlying, IsPairing}
 use Rattle.smp_stratcube.specs.Kept.Trees.{flight_parts, strat_parts}
 use Rattle.smp_stratcube.specs.Kept.Fronts.{IsAhead, IsFront}
 use Rattle.smp_stratcube.specs.Laws.Splits.{some_row}
-use Rattle.smp_stratcube.proofs.Keeping.{move_ahead, move_count, pair_ahead, pair_behind, pair_sum, picks_drop, picks_move, picks_pair, picks_wide}
+use Rattle.smp_stratcube.specs.Units.{Units}
+use Rattle.smp_stratcube.specs.Kept.Moves.{IsMoveOf}
+use Rattle.smp_stratcube.proofs.Keeping.{move_ahead, move_count, own_flight, pair_ahead, pair_behind, pair_sum, picks_drop, picks_move, picks_pair, picks_wide}
 use Rattle.smp_stratcube.proofs.state.StratCubeState.make.Goals as goal
 
 pub next_step-requires : goal.next_step-requires
@@ -27,9 +29,9 @@ landed-self-inside-requires-clause-front c =
 
 pub overflow_sub-self : goal.overflow_sub-self
 overflow_sub-self c =
-    (let ok : IsFlying c.args.units.now (flight_of c.self.inside.values.items c.self.inside.rows) = (rw (← c.self.view_is, c.in-Flying.is) at c.requires.state) in
+    (let ok : IsFlying c.args.units.now (flight_of c.self.inside.of.value c.self.inside.values.items c.self.inside.rows) = (rw (← c.self.view_is, c.in-Flying.is) at c.requires.state) in
     let going : is_settled c.self.inside.values.items ≡ false = (rw (← c.self.view_is, c.in-Flying.is) at c.requires.going) in
-    some_row c.args.units.now (flight_of c.self.inside.values.items c.self.inside.rows) ok (rw (← c.self.view_is, c.in-Flying.is) at c.in-Independent.ensures) going)
+    some_row c.args.units.now (flight_of c.self.inside.of.value c.self.inside.values.items c.self.inside.rows) ok (rw (← c.self.view_is, c.in-Flying.is) at c.in-Independent.ensures) going)
 
 pub invariant_of-self : goal.invariant_of-self
 invariant_of-self c =
@@ -49,24 +51,27 @@ invariant_of-self-in-Wide c =
 
 pub fly-requires-clause-flying : goal.fly-requires-clause-flying
 fly-requires-clause-flying c =
-    (rw (← c.self.view_is, c.in-Flying.is) at c.requires.state)
+    (let ok : IsFlying c.args.units.now (flight_of c.self.inside.of.value c.self.inside.values.items c.self.inside.rows) = (rw (← c.self.view_is, c.in-Flying.is) at c.requires.state) in
+    own_flight c.args.units.now c.self.inside.of.value c.self.inside.values.items c.self.inside.rows ok)
 
 pub fly-requires-clause-mv : goal.fly-requires-clause-mv
 fly-requires-clause-mv c =
-    (rw (← c.self.view_is, c.in-Flying.is) at c.in-Move.ensures)
+    (let ok : IsFlying c.args.units.now (flight_of c.self.inside.of.value c.self.inside.values.items c.self.inside.rows) = (rw (← c.self.view_is, c.in-Flying.is) at c.requires.state) in
+    let m : IsMoveOf c.args.units.now (flight_of c.self.inside.of.value c.self.inside.values.items c.self.inside.rows) c.in-Move.mv = (rw (← c.self.view_is, c.in-Flying.is) at c.in-Move.ensures) in
+    subst (λ (u : Units). IsMoveOf c.args.units.now (flight_of u c.self.inside.values.items c.self.inside.rows) c.in-Move.mv) ok.fixed_is m)
 
 pub front_of-self-inside-requires : goal.front_of-self-inside-requires
 front_of-self-inside-requires c =
-    (let ok : IsFlying c.args.units.now (flight_of c.self.inside.values.items c.self.inside.rows) = (rw (← c.self.view_is, c.in-Flying.is) at c.requires.state) in
+    (let ok : IsFlying c.args.units.now (flight_of c.self.inside.of.value c.self.inside.values.items c.self.inside.rows) = (rw (← c.self.view_is, c.in-Flying.is) at c.requires.state) in
     let m = (rw (← c.self.view_is, c.in-Flying.is) at c.in-Move.ensures) in
-    subst (λ (vs : List Value). IsAhead vs c.self.inside.front) (sym (c.as_slice-in-Move.ensures.value ∙ c.fly.ensures.is)) (move_ahead c.args.units.now (flight_of c.self.inside.values.items c.self.inside.rows) ok c.self.inside.front c.self.invariant.first (omega (arith, c.self.invariant.first.short)) (next_along c.args.units.now c.self.inside.values.items (line_of c.in-Move.mv.line)) m.next (nat_lt c.args.draw c.in-Move.mv.plus_weight)))
+    subst (λ (vs : List Value). IsAhead vs c.self.inside.front) (sym (c.as_slice-in-Move.ensures.value ∙ c.fly.ensures.is)) (move_ahead c.args.units.now (flight_of c.self.inside.of.value c.self.inside.values.items c.self.inside.rows) ok c.self.inside.front c.self.invariant.first (omega (arith, c.self.invariant.first.short)) (next_along c.args.units.now c.self.inside.values.items (line_of c.in-Move.mv.line)) m.next (nat_lt c.args.draw c.in-Move.mv.plus_weight)))
 
 pub invariant_of-self-in-Move : goal.invariant_of-self-in-Move
 invariant_of-self-in-Move c =
-    (let ok : IsFlying c.args.units.now (flight_of c.self.inside.values.items c.self.inside.rows) = (rw (← c.self.view_is, c.in-Flying.is) at c.requires.state) in
+    (let ok : IsFlying c.args.units.now (flight_of c.self.inside.of.value c.self.inside.values.items c.self.inside.rows) = (rw (← c.self.view_is, c.in-Flying.is) at c.requires.state) in
     let m = (rw (← c.self.view_is, c.in-Flying.is) at c.in-Move.ensures) in
     record {
-      few = omega (arith, ap length c.fly.ensures.is, move_count c.args.units.now (flight_of c.self.inside.values.items c.self.inside.rows) ok c.self.inside.front c.self.invariant.first (omega (arith, c.self.invariant.first.short)) (next_along c.args.units.now c.self.inside.values.items (line_of c.in-Move.mv.line)) m.next (nat_lt c.args.draw c.in-Move.mv.plus_weight), c.self.invariant.few);
+      few = omega (arith, ap length c.fly.ensures.is, move_count c.args.units.now (flight_of c.self.inside.of.value c.self.inside.values.items c.self.inside.rows) ok c.self.inside.front c.self.invariant.first (omega (arith, c.self.invariant.first.short)) (next_along c.args.units.now c.self.inside.values.items (line_of c.in-Move.mv.line)) m.next (nat_lt c.args.draw c.in-Move.mv.plus_weight), c.self.invariant.few);
       first = subst (λ (vs : List Value). IsFront vs c.front_of-self-inside.result) c.as_slice-in-Move.ensures.value c.front_of-self-inside.ensures;
       step = rw c.forget-in-Move.ensures tt;
     })
@@ -112,25 +117,25 @@ invariant_of-self-in-Pairing c =
 
 pub returns-in-Independent : goal.returns-in-Independent
 returns-in-Independent c =
-    (let w : c.args.draw < weight_sum (strat_parts c.args.units.now (flying (flight_of c.self.inside.values.items c.self.inside.rows) c.self.inside.left)) = (rw (← c.self.view_is, c.in-Flying.is) at c.requires.within) in
-    let one : c.args.draw < 1 = subst (λ n. c.args.draw < n) (ap (λ (a : Next). weight_sum (flight_parts c.args.units.now (flight_of c.self.inside.values.items c.self.inside.rows) c.self.inside.left a)) (rw (← c.self.view_is, c.in-Flying.is) at c.in-Independent.ensures)) w in
-    rw (← c.self.view_is, c.in-Flying.is) (ap (λ l. flying (flight_of c.self.inside.values.items (c.self.inside.rows - 1)) l) (c.landed-self-inside.ensures ∙ ap (λ (vs : List Value). landed (fractional_count vs) c.self.inside.left) c.as_slice.ensures.value) ∙ sym (picks_drop c.args.units.now (flight_of c.self.inside.values.items c.self.inside.rows) c.self.inside.left c.args.draw (rw (← c.self.view_is, c.in-Flying.is) at c.in-Independent.ensures) one)))
+    (let w : c.args.draw < weight_sum (strat_parts c.args.units.now (flying (flight_of c.self.inside.of.value c.self.inside.values.items c.self.inside.rows) c.self.inside.left)) = (rw (← c.self.view_is, c.in-Flying.is) at c.requires.within) in
+    let one : c.args.draw < 1 = subst (λ n. c.args.draw < n) (ap (λ (a : Next). weight_sum (flight_parts c.args.units.now (flight_of c.self.inside.of.value c.self.inside.values.items c.self.inside.rows) c.self.inside.left a)) (rw (← c.self.view_is, c.in-Flying.is) at c.in-Independent.ensures)) w in
+    rw (← c.self.view_is, c.in-Flying.is) (ap (λ l. flying (flight_of c.self.inside.of.value c.self.inside.values.items (c.self.inside.rows - 1)) l) (c.landed-self-inside.ensures ∙ ap (λ (vs : List Value). landed (fractional_count vs) c.self.inside.left) c.as_slice.ensures.value) ∙ sym (picks_drop c.args.units.now (flight_of c.self.inside.of.value c.self.inside.values.items c.self.inside.rows) c.self.inside.left c.args.draw (rw (← c.self.view_is, c.in-Flying.is) at c.in-Independent.ensures) one)))
 
 pub returns-in-Wide : goal.returns-in-Wide
 returns-in-Wide c =
-    (let w : c.args.draw < weight_sum (strat_parts c.args.units.now (flying (flight_of c.self.inside.values.items c.self.inside.rows) c.self.inside.left)) = (rw (← c.self.view_is, c.in-Flying.is) at c.requires.within) in
-    let one : c.args.draw < 1 = subst (λ n. c.args.draw < n) (ap (λ (a : Next). weight_sum (flight_parts c.args.units.now (flight_of c.self.inside.values.items c.self.inside.rows) c.self.inside.left a)) (rw (← c.self.view_is, c.in-Flying.is) at c.in-Wide.ensures)) w in
-    rw (← c.self.view_is, c.in-Flying.is) (ap (λ l. pairing c.self.inside.values.items l) (c.landed-self-inside-in-Wide.ensures ∙ ap (λ (vs : List Value). landed (fractional_count vs) c.self.inside.left) c.as_slice-in-Wide.ensures.value) ∙ sym (picks_wide c.args.units.now (flight_of c.self.inside.values.items c.self.inside.rows) c.self.inside.left c.args.draw (rw (← c.self.view_is, c.in-Flying.is) at c.in-Wide.ensures) one)))
+    (let w : c.args.draw < weight_sum (strat_parts c.args.units.now (flying (flight_of c.self.inside.of.value c.self.inside.values.items c.self.inside.rows) c.self.inside.left)) = (rw (← c.self.view_is, c.in-Flying.is) at c.requires.within) in
+    let one : c.args.draw < 1 = subst (λ n. c.args.draw < n) (ap (λ (a : Next). weight_sum (flight_parts c.args.units.now (flight_of c.self.inside.of.value c.self.inside.values.items c.self.inside.rows) c.self.inside.left a)) (rw (← c.self.view_is, c.in-Flying.is) at c.in-Wide.ensures)) w in
+    rw (← c.self.view_is, c.in-Flying.is) (ap (λ l. pairing c.self.inside.values.items l) (c.landed-self-inside-in-Wide.ensures ∙ ap (λ (vs : List Value). landed (fractional_count vs) c.self.inside.left) c.as_slice-in-Wide.ensures.value) ∙ sym (picks_wide c.args.units.now (flight_of c.self.inside.of.value c.self.inside.values.items c.self.inside.rows) c.self.inside.left c.args.draw (rw (← c.self.view_is, c.in-Flying.is) at c.in-Wide.ensures) one)))
 
 pub returns-in-Move : goal.returns-in-Move
 returns-in-Move c =
     (let m = (rw (← c.self.view_is, c.in-Flying.is) at c.in-Move.ensures) in
-    let w : c.args.draw < weight_sum (strat_parts c.args.units.now (flying (flight_of c.self.inside.values.items c.self.inside.rows) c.self.inside.left)) = (rw (← c.self.view_is, c.in-Flying.is) at c.requires.within) in
-    let sum : c.args.draw < (next_along c.args.units.now c.self.inside.values.items (line_of c.in-Move.mv.line)).plus_weight + ((next_along c.args.units.now c.self.inside.values.items (line_of c.in-Move.mv.line)).minus_weight + 0) = subst (λ n. c.args.draw < n) (ap (λ (a : Next). weight_sum (flight_parts c.args.units.now (flight_of c.self.inside.values.items c.self.inside.rows) c.self.inside.left a)) m.next) w in
+    let w : c.args.draw < weight_sum (strat_parts c.args.units.now (flying (flight_of c.self.inside.of.value c.self.inside.values.items c.self.inside.rows) c.self.inside.left)) = (rw (← c.self.view_is, c.in-Flying.is) at c.requires.within) in
+    let sum : c.args.draw < (next_along c.args.units.now c.self.inside.values.items (line_of c.in-Move.mv.line)).plus_weight + ((next_along c.args.units.now c.self.inside.values.items (line_of c.in-Move.mv.line)).minus_weight + 0) = subst (λ n. c.args.draw < n) (ap (λ (a : Next). weight_sum (flight_parts c.args.units.now (flight_of c.self.inside.of.value c.self.inside.values.items c.self.inside.rows) c.self.inside.left a)) m.next) w in
     rw (← c.self.view_is, c.in-Flying.is)
-    (ap (λ (vs : List Value). flying (flight_of vs c.self.inside.rows) c.self.inside.left) c.fly.ensures.is
-    ∙ ap (λ n. flying (chosen c.args.units.now (flight_of c.self.inside.values.items c.self.inside.rows) (next_along c.args.units.now c.self.inside.values.items (line_of c.in-Move.mv.line)) (nat_lt c.args.draw n)) c.self.inside.left) m.plus
-    ∙ sym (picks_move c.args.units.now (flight_of c.self.inside.values.items c.self.inside.rows) c.self.inside.left (next_along c.args.units.now c.self.inside.values.items (line_of c.in-Move.mv.line)) c.args.draw m.next (omega (arith, sum)))))
+    (ap (λ (vs : List Value). flying (flight_of c.self.inside.of.value vs c.self.inside.rows) c.self.inside.left) c.fly.ensures.is
+    ∙ ap (λ n. flying (chosen c.args.units.now (flight_of c.self.inside.of.value c.self.inside.values.items c.self.inside.rows) (next_along c.args.units.now c.self.inside.values.items (line_of c.in-Move.mv.line)) (nat_lt c.args.draw n)) c.self.inside.left) m.plus
+    ∙ sym (picks_move c.args.units.now (flight_of c.self.inside.of.value c.self.inside.values.items c.self.inside.rows) c.self.inside.left (next_along c.args.units.now c.self.inside.values.items (line_of c.in-Move.mv.line)) c.args.draw m.next (omega (arith, sum)))))
 
 pub returns-in-Pairing : goal.returns-in-Pairing
 returns-in-Pairing c =

@@ -1,0 +1,237 @@
+-- The units that moves have changed: their columns stay independent, so where the numbers are small the denominator at an end of a move is too.
+use Rattle.std.proofs.Common.{◌≡◌, ◌≢◌, ℕ, zero, suc, ◌*◌, ◌<◌, ◌≤◌, true, nat_eq, ◌⊎◌, List, [], ◌∷◌, ◌++◌, ℤ, pos, neg_ℤ, ◌*ℤ◌, take, length, get_or, arith, sym, ap, ◌∙◌, subst, inl, inr, mul-le-mul, le_of_suc-le-suc}
+use Rattle.std.specs.List.{AllPairs, filter}
+use Rattle.std.proofs.lemmas.Bool.{cases_eq, cases_lt, eq-eqb, ne_eqb, or_left, or_right, true≢false}
+use Rattle.std.proofs.lemmas.Int.{ints}
+use Rattle.std.proofs.lemmas.List.Elements.{filter_passes}
+use Rattle.std.proofs.lemmas.List.Kept.{AllPairs-filter}
+use Rattle.smp_fractions.specs.Limits.{most_denominator}
+use Rattle.smp_fractions.proofs.Fractions.{cancel}
+use Rattle.smp_fractions.proofs.Integers.{diff, by_diff, diffs, diff-same}
+use Rattle.smp_kernel.specs.Vectors.{entry}
+use Rattle.smp_kernel.specs.Elimination.{cut, AreIndependent}
+use Rattle.smp_kernel.specs.Minors.{minor_limit}
+use Rattle.smp_kernel.specs.Searches.{found}
+use Rattle.smp_kernel.proofs.Ring.{positive_some, zero_or}
+use Rattle.smp_kernel.proofs.TableSizes.{limit_upto}
+use Rattle.smp_prob.specs.Shares.{Shares}
+use Rattle.smp_values.specs.Values.{fractional_units, is_fractional}
+use Rattle.smp_moves.specs.Ends.{end_of, extent, move_along}
+use Rattle.smp_moves.specs.Kept.Ends.{IsOver}
+use Rattle.smp_moves.specs.Moves.{IsLine, IsMoved, IsOrder, Line, entry_of, turned}
+use Rattle.smp_moves.proofs.Entries.{entry_turned, frame_order, off_line, order_going, order_within, place_or, turned_line}
+use Rattle.smp_moves.proofs.LineEnds.{greatest, moved}
+use Rattle.smp_moves.proofs.Moved.{end_within, keeps_fractional, keeps_still}
+use Rattle.smp_flight.specs.Kept.Windows.{is_in}
+use Rattle.smp_flight.specs.Laws.Entries.{entry-sized}
+use Rattle.smp_flight.specs.Laws.Nexts.{direction_line, flight_over, is_move}
+use Rattle.smp_flight.specs.Moves.{Finds, IsDirection}
+use Rattle.smp_flight.specs.Narrow.{IsNarrow, IsWideByDenominator}
+use Rattle.smp_flight.specs.States.{Units, Flight, IsFlight, IsUnits, columns_of, row_count, size}
+use Rattle.smp_flight.proofs.Denominators.{HasFree, IsTouched, small_denominator}
+use Rattle.smp_flight.proofs.Firsts.{fractional_in}
+use Rattle.smp_flight.proofs.Free.{all_free, factor_some, front_free, in_filter, line_count, parts_add_up, place, its_relation}
+use Rattle.smp_flight.proofs.Gained.{AddsUp, still_adds}
+use Rattle.smp_flight.proofs.OneMove.{one_move}
+use Rattle.smp_flight.proofs.Reordered.{independent_as}
+use Rattle.smp_flight.proofs.Windowed.{in_at, in_or}
+
+-- ---- the line of a circuit, or its opposite
+pub record IsAlong (units : Units) (order : List ℕ) (w : List ℤ) (line : Line) : Type 0 where
+  pub prefix : line.units ≡ take (length w) order
+  pub factor : ℤ
+  pub some : factor ≢ pos 0
+  pub product : (j : ℕ) → j < length line.units → factor *ℤ entry line.entries j ≡ pos (size units (get_or line.units j 0)) *ℤ entry w j
+
+both_turned : (g e : ℤ) → neg_ℤ g *ℤ neg_ℤ e ≡ g *ℤ e
+both_turned g e =
+    by_diff (λ x. neg_ℤ x *ℤ neg_ℤ e ≡ x *ℤ e)
+    (λ p q. by_diff (λ y. neg_ℤ (diff p q) *ℤ neg_ℤ y ≡ diff p q *ℤ y) (λ u v. simp diffs (diff-same _ _ _ _ (omega arith))) e) g
+
+turned_some : (g : ℤ) → g ≢ pos 0 → neg_ℤ g ≢ pos 0
+turned_some g some e = some (omega (arith, ints))
+
+module _ (units : Units) (order : List ℕ) (w : List ℤ) (line : Line) (d : IsDirection units order w line) (count : length line.units ≡ length w) where
+  pub along_it : IsAlong units order w line
+  along_it = record {
+    prefix = d.prefix;
+    factor = d.entries.divisor;
+    some = positive_some d.entries.divisor d.entries.positive;
+    product = λ j l. d.entries.product j ∙ entry-sized units line.units w j l (omega (arith, l, count));
+  }
+
+  pub against_it : IsAlong units order w (turned line)
+  against_it = record {
+    prefix = d.prefix;
+    factor = neg_ℤ d.entries.divisor;
+    some = turned_some d.entries.divisor (positive_some d.entries.divisor d.entries.positive);
+    product = λ j l. ap (λ x. neg_ℤ d.entries.divisor *ℤ x) (entry_turned line.entries j) ∙ both_turned d.entries.divisor (entry line.entries j)
+        ∙ d.entries.product j ∙ entry-sized units line.units w j l (omega (arith, l, count));
+  }
+
+-- ---- the front of a list
+pub in_front : (n : ℕ) (xs ys : List ℕ) (k : ℕ) → length xs ≤ n → is_in xs k ≡ true → is_in (take n (xs ++ ys)) k ≡ true
+in_front n [] ys k l h = absurd (true≢false (sym h))
+in_front zero (x ∷ xs) ys k l h = absurd (omega arith)
+in_front (suc n) (x ∷ xs) ys k l h =
+    elim (cases_eq x k) [
+      | inl e ↦ or_left (nat_eq x k) (is_in (take n (xs ++ ys)) k) (eq-eqb x k e)
+      | inr ne ↦ or_right (nat_eq x k) (is_in (take n (xs ++ ys)) k) (in_front n xs ys k (le_of_suc-le-suc l) (rw (ne_eqb x k ne) at h))
+    ]
+
+pub within_front : (n : ℕ) (xs ys : List ℕ) (k : ℕ) → n ≤ length xs → is_in (take n (xs ++ ys)) k ≡ true → is_in xs k ≡ true
+within_front zero xs ys k l h = absurd (true≢false (sym h))
+within_front (suc n) [] ys k l h = absurd (omega arith)
+within_front (suc n) (x ∷ xs) ys k l h =
+    elim (cases_eq x k) [
+      | inl e ↦ or_left (nat_eq x k) (is_in xs k) (eq-eqb x k e)
+      | inr ne ↦ or_right (nat_eq x k) (is_in xs k) (within_front n xs ys k (le_of_suc-le-suc l) (rw (ne_eqb x k ne) at h))
+    ]
+
+-- a value that stays what it was is touched only where it was so before
+still_untouched : (a c b d r q : ℕ) → 1 ≤ d → b * d ≡ a * c → a * r ≡ q * d → b * r ≡ q * c
+still_untouched a c b d r q p same e =
+    let x : b * d * r ≡ a * c * r = ap (λ z. z * r) same in
+    let y : a * r * c ≡ q * d * c = ap (λ z. z * c) e in
+    cancel (b * r) (q * c) d p (omega (arith, x, y))
+
+module _ (units : Units) (are : IsUnits units) (n : IsNarrow units) where
+  -- Units that stand first in the search, the touched fractional ones among them. Their columns are independent in the rows in force, or, after a
+  -- dropped row, those of all fractional units are in one row more. And what was gained adds up to 0.
+  pub record IsHeld (f : Flight) (held : List ℕ) : Type 0 where
+    pub order : IsOrder f.values held
+    pub touched : (k : ℕ) → is_fractional f.values k ≡ true → IsTouched units f.values k → is_in held k ≡ true
+    pub adds : AddsUp units are n.multiple n.of_denominator n.of_sizes f.values f.rows
+    pub free : AreIndependent f.rows (cut f.rows (columns_of units held)) ⊎ AreIndependent (suc f.rows) (cut (suc f.rows) (columns_of units (fractional_units f.values)))
+
+  -- ---- the end of a move
+  module _ (f : Flight) (is_flight : IsFlight units f) (order : List ℕ) (ordered : IsOrder f.values order) (held rest : List ℕ) (split : order ≡ held ++ rest) (h : IsHeld f held)
+      (w : List ℤ) (finds : Finds units f order (found w)) (line : Line) (a : IsAlong units order w line) (line_ok : IsLine f.values line) where
+    abbrev t : Shares
+    t = end_of units.requested.den f.values line
+
+    over_it : IsOver units.requested.den f.values
+    over_it = flight_over units f is_flight
+
+    held_inside : (j : ℕ) → j < length held → get_or held j 0 < length units.sizes
+    held_inside j l = omega (arith, order_within f.values held h.order j l, is_flight.values.count)
+
+    line_inside : (j : ℕ) → j < length line.units → get_or line.units j 0 < length units.sizes
+    line_inside j l = omega (arith, order_within f.values line.units line_ok.order j l, is_flight.values.count)
+
+    -- a search goes through all of them
+    beside : AreIndependent f.rows (cut f.rows (columns_of units held)) → (k : ℕ) → is_in held k ≡ true → is_in line.units k ≡ true
+    beside ind k e =
+        let whole : line.units ≡ take (length w) (held ++ rest) = a.prefix ∙ ap (take (length w)) split in
+        elim (cases_lt (length held) (length w)) [
+          | inl l ↦ (let long : length held ≤ length w = omega arith in subst (λ (us : List ℕ). is_in us k ≡ true) (sym whole) (in_front (length w) held rest k long e))
+          | inr m ↦
+              absurd (let has : (x : ℕ) → is_in line.units x ≡ true → is_in held x ≡ true =
+              λ x i. within_front (length w) held rest x m (subst (λ (us : List ℕ). is_in us x ≡ true) whole i) in
+              let free : AreIndependent f.rows (cut f.rows (columns_of units line.units)) =
+              independent_as units f.rows (length units.sizes) line.units held line_inside held_inside line_ok.order.distinct h.order.distinct has ind in
+              factor_some units f is_flight order ordered w finds line a.prefix line_ok a.factor a.some a.product
+              (free w (its_relation units f is_flight order ordered w finds line a.prefix line_ok a.factor a.some a.product)
+              (place units f is_flight order ordered w finds line a.prefix line_ok a.factor a.some a.product)))
+        ]
+
+    on_units : (k : ℕ) → entry_of line k ≢ pos 0 → is_in line.units k ≡ true
+    on_units k ne =
+        elim (place_or line.units k) [
+          | inl i ↦ subst (λ (x : ℕ). is_in line.units x ≡ true) i.2 (in_at line.units i.0 i.1)
+          | inr out ↦ absurd (ne (off_line f.values line line_ok k out))
+        ]
+
+    -- a touched unit was touched before, or the move changes it
+    touched_on : (k : ℕ) → is_fractional t k ≡ true → IsTouched units t k → (is_in held k ≡ true) ⊎ (entry_of line k ≢ pos 0)
+    touched_on k e tch =
+        elim (zero_or (entry_of line k)) [
+          | inr ne ↦ inr ne
+          | inl z ↦ inl (h.touched k (keeps_fractional units.requested.den f.values over_it line line_ok k e)
+              (λ u. tch (still_untouched (get_or f.values.numer k 0) t.den (get_or t.numer k 0) f.values.den units.requested.den (get_or units.requested.numer k 0) is_flight.values.positive
+              (keeps_still units.requested.den f.values over_it line line_ok k z) u)))
+        ]
+
+    -- the fractional ones of these units and of those of the line, and maybe others
+    pub record IsFreeAfter : Type 0 where
+      pub list : List ℕ
+      pub listed : IsOrder t list
+      pub has : (k : ℕ) → is_fractional t k ≡ true → (is_in held k ≡ true) ⊎ (is_in line.units k ≡ true) → is_in list k ≡ true
+      pub free : AreIndependent f.rows (cut f.rows (columns_of units list))
+
+    filtered : (us : List ℕ) → AllPairs (λ k l. k ≢ l) us → IsOrder t (filter (is_fractional t) us)
+    filtered us apart = record { going = filter_passes (is_fractional t) us; distinct = AllPairs-filter (λ k l. k ≢ l) (is_fractional t) us apart }
+
+    free_after : IsFreeAfter
+    free_after =
+        elim h.free [
+          | inl ind ↦ record {
+            list = filter (is_fractional t) line.units;
+            listed = filtered line.units line_ok.order.distinct;
+            has = λ k e i. in_filter (is_fractional t) line.units k (elim i [ inl x ↦ beside ind k x | inr x ↦ x ]) e;
+            free = front_free units f is_flight order ordered w finds line a.prefix line_ok a.factor a.some a.product;
+          }
+          | inr ind ↦ record {
+            list = filter (is_fractional t) (fractional_units f.values);
+            listed = filtered (fractional_units f.values) (frame_order f.values).distinct;
+            has = λ k e i. in_filter (is_fractional t) (fractional_units f.values) k (fractional_in f.values k (keeps_fractional units.requested.den f.values over_it line line_ok k e)) e;
+            free = all_free units f is_flight order ordered w finds line a.prefix line_ok a.factor a.some a.product ind;
+          }
+        ]
+
+    has_free : HasFree units f.rows t
+    has_free = record {
+      list = free_after.list;
+      order = free_after.listed;
+      touched = λ k e tch. free_after.has k e (elim (touched_on k e tch) [ inl x ↦ inl x | inr ne ↦ inr (on_units k ne) ]);
+      free = free_after.free;
+    }
+
+    there : IsMoved units.requested.den f.values line (extent f.values line) t
+    there = moved units.requested.den f.values over_it line line_ok
+
+    count_there : length t.numer ≡ length units.sizes
+    count_there = there.same_length ∙ is_flight.values.count
+
+    adds_there : AddsUp units are n.multiple n.of_denominator n.of_sizes t f.rows
+    adds_there =
+        still_adds units are n.multiple n.of_denominator n.of_sizes f.values t line (extent f.values line) is_flight.values.positive
+        (greatest units.requested.den f.values over_it line line_ok).some there f.rows h.adds
+        (parts_add_up units f is_flight order ordered w finds line a.prefix line_ok a.factor a.some a.product are n.multiple n.of_denominator n.of_sizes)
+
+    -- so its denominator is within the gate
+    pub small_end : t.den ≤ most_denominator
+    small_end =
+        let s : t.den ≤ n.multiple * minor_limit n.bound f.rows =
+        small_denominator units are n.multiple n.of_denominator n.of_sizes f.rows t count_there there.positive (end_within units.requested.den f.values over_it line line_ok) has_free adds_there
+        n.bound n.bounded there.times there.multiple there.least n.some in
+        let same : n.multiple ≤ n.multiple = omega arith in
+        let more : n.multiple * minor_limit n.bound f.rows ≤ n.multiple * minor_limit n.bound (row_count units) =
+        mul-le-mul same (limit_upto n.bound n.bounded.some f.rows (row_count units) is_flight.rows_in) in
+        omega (arith, s, more, n.denominators)
+
+    -- and such units are held there
+    pub next_held : (next : List ℕ) → IsOrder t next → ((k : ℕ) → is_in next k ≡ true → (is_in held k ≡ true) ⊎ (is_in line.units k ≡ true)) →
+        ((k : ℕ) → is_fractional t k ≡ true → (is_in held k ≡ true) ⊎ (entry_of line k ≢ pos 0) → is_in next k ≡ true) → IsHeld (record { values = t; rows = f.rows; fixed = f.fixed }) next
+    next_held next ok alone all = record {
+      order = ok;
+      touched = λ k e tch. all k e (touched_on k e tch);
+      adds = adds_there;
+      free = inl (independent_as units f.rows (length units.sizes) next free_after.list
+          (λ j l. omega (arith, order_within t next ok j l, count_there)) (λ j l. omega (arith, order_within t free_after.list free_after.listed j l, count_there)) ok.distinct free_after.listed.distinct
+          (λ k e. free_after.has k (let at = in_or next k e in subst (λ (x : ℕ). is_fractional t x ≡ true) at.is (order_going t next ok at.place at.here)) (alone k e)) free_after.free);
+    }
+
+  -- ---- no step is wide
+  pub not_by_denominator : (f : Flight) → IsFlight units f → (order : List ℕ) → IsOrder f.values order → (held rest : List ℕ) → order ≡ held ++ rest → IsHeld f held → IsWideByDenominator units f order → ⊥
+  not_by_denominator f is_flight order ordered held rest split h b =
+      let over_it = flight_over units f is_flight in
+      let ok : IsLine f.values b.m.direction = direction_line units f.values order ordered b.circuit b.m.direction b.is.direction in
+      let back : IsLine f.values (turned b.m.direction) = turned_line f.values b.m.direction ok in
+      let count : length b.m.direction.units ≡ length b.circuit = line_count units f order b.circuit b.finds b.m.direction b.is.direction.prefix in
+      let same = one_move units f.values over_it order ordered b.circuit b.m b.plus_end b.minus_end b.is (move_along f.values b.m.direction)
+      (end_of units.requested.den f.values b.m.direction) (end_of units.requested.den f.values (turned b.m.direction)) (is_move units f.values over_it order b.circuit b.m.direction ok b.is.direction) in
+      let P : Shares → Type 0 = λ x. x.den ≤ most_denominator in
+      b.wide
+      (subst P (sym same.1) (small_end f is_flight order ordered held rest split h b.circuit b.finds b.m.direction (along_it units order b.circuit b.m.direction b.is.direction count) ok))
+      (subst P (sym same.2) (small_end f is_flight order ordered held rest split h b.circuit b.finds (turned b.m.direction) (against_it units order b.circuit b.m.direction b.is.direction count) back))

@@ -1,0 +1,30 @@
+-- What the step of a state says, by its equation alone.
+use Rattle.std.proofs.Common.{◌≡◌, ◌+◌, take, sym, ap, ◌∙◌, subst}
+use Rattle.smp_values.specs.Values.{fractional_units}
+use Rattle.smp_moves.proofs.Entries.{frame_order}
+use Rattle.smp_flight.specs.States.{AreFirst, IsFlight, Tracked, Units}
+use Rattle.smp_flight.specs.Moves.{IsNext}
+use Rattle.smp_flight.specs.Steps.{next}
+use Rattle.smp_flight.specs.Answers.{Allows, IsFirstMove, IsMoveOf, answer_of, IsPaddedIn}
+use Rattle.smp_flight.specs.Kept.States.{IsFound}
+use Rattle.smp_flight.specs.declared.steps.Next.{Next as Answer}
+use Rattle.smp_flight.specs.declared.steps.Next.TheVariants as answers
+use Rattle.smp_flight.proofs.Nexts.{next_is, next_on_front}
+use Rattle.smp_flight.proofs.Searched.{allowed, allowed_first, front_searched}
+
+pub padded_of : (units : Units) (s : Tracked) (result : Answer) → Allows (IsMoveOf units s) units s result → IsPaddedIn result
+padded_of units s (answers.Move m) made = made.padded
+padded_of units s answers.Independent made = tt
+padded_of units s answers.Wide made = tt
+
+module _ (units : Units) (s : Tracked) (is_flight : IsFlight units s.flight) (result : Answer) (found : IsFound s result) where
+  pub found_next : answer_of result ≡ next units s.flight
+  found_next = found.is ∙ ap (λ (u : Units). next u s.flight) is_flight.fixed_is
+
+  pub found_exact : IsNext units s.flight (fractional_units s.flight.values) (answer_of result)
+  found_exact = subst (IsNext units s.flight (fractional_units s.flight.values)) (sym found_next) (next_is units s.flight (fractional_units s.flight.values) is_flight (frame_order s.flight.values))
+
+  pub found_allows : AreFirst s.flight s.window → Allows (IsFirstMove units s) units s result
+  found_allows first =
+      allowed_first s first units is_flight result found_next
+      (allowed units s (take (s.flight.rows + 1) (fractional_units s.flight.values)) (front_searched s first) result (found_next ∙ sym (next_on_front units s.flight (fractional_units s.flight.values))) found.padded)

@@ -1,0 +1,38 @@
+use Rattle.std.proofs.Common.{refl, max, ◌<◌, ℕ, get_or, length, set, length-set, get_or-set_same, get_or-set_other, arith, ap, sym, ◌∙◌, subst, inl, inr}
+use Rattle.std.proofs.lemmas.Bool.{cases_eq}
+use Rattle.smp_kernel.specs.Minors.{minor_limit}
+use Rattle.smp_flight.specs.Kept.Narrow.{IsRowBound}
+use Rattle.smp_flight.specs.States.{row_count}
+use Rattle.smp_flight.proofs.RowBounds.{narrow_by}
+use Rattle.smp_flight.proofs.bounds.is_narrow.Goals as goal
+
+pub loop-row-init : goal.loop-row-init
+loop-row-init c = record { size = refl; so_far = λ r l. absurd (omega (arith, l)) }
+
+pub bounds-bounds-row : goal.bounds-bounds-row
+bounds-bounds-row c = omega (arith, c.loop-row-test.true, c.rows-rows.ensures.is, c.rows-rows.ensures.are.few_rows)
+
+pub loop-row-preserved : goal.loop-row-preserved
+loop-row-preserved c =
+    let here : c.loop-row.row < length c.loop-row.bounds = omega (arith, c.loop-row-test.true, c.rows-rows.ensures.is, c.rows-rows.ensures.are.few_rows, c.loop-row.invariant.size) in
+    record {
+      size = length-set c.loop-row.bounds c.loop-row.row c.in-Some.bound ∙ c.loop-row.invariant.size;
+      so_far = λ r l. elim (cases_eq r c.loop-row.row) [
+        | inl e ↦
+            subst (λ (x : ℕ). IsRowBound c.args.shape.now x (get_or (set c.loop-row.bounds c.loop-row.row c.in-Some.bound) x 0)) (sym e)
+            (subst (IsRowBound c.args.shape.now c.loop-row.row) (sym (get_or-set_same c.loop-row.bounds c.loop-row.row c.in-Some.bound 0 here)) c.in-Some.ensures)
+        | inr ne ↦
+            subst (IsRowBound c.args.shape.now r) (sym (get_or-set_other c.loop-row.bounds c.loop-row.row r c.in-Some.bound 0 ne)) (c.loop-row.invariant.so_far r (omega (arith, l, ne)))
+      ];
+    }
+
+pub limit_of-requires : goal.limit_of-requires
+limit_of-requires c = omega (arith, c.rows-rows.ensures.is, c.rows-rows.ensures.are.few_rows)
+
+pub returns-then-fits : goal.returns-then-fits
+returns-then-fits c = λ fit.
+    (let all : (r : ℕ) → r < row_count c.args.shape.now → IsRowBound c.args.shape.now r (get_or c.loop-row.bounds r 0) =
+    λ r l. c.loop-row.invariant.so_far r (omega (arith, l, c.loop-row-test.false, c.rows-rows.ensures.is)) in
+    narrow_by c.args.shape.now c.rows-rows.ensures.are c.loop-row.bounds all c.in-Some-Some.limit c.in-Some-Some.multiple
+    (c.in-Some-Some.ensures ∙ ap (minor_limit (λ r. max 1 (get_or c.loop-row.bounds r 0))) c.rows-rows.ensures.is) c.in-Some-Some.ensures'
+    (c.fits.ensures c.if-fits.true) (c.fits-then-fits.ensures fit))

@@ -1,0 +1,20 @@
+use Rattle.std.proofs.Common.{◌≡◌, ◌+◌, ◌*◌, ◌<◌, ◌≤◌, ℕ, suc, max, get_or, arith, ap, ap₂, sym, ◌∙◌}
+use Rattle.smp_kernel.specs.Minors.{minor_limit}
+use Rattle.smp_flight.proofs.RowBounds.{next_limit}
+use Rattle.smp_flight.proofs.bounds.limit_of.Goals as goal
+use Rattle.smp_flight.proofs.bounds.limit_of.Goals.{then-row-lt2, else-row-lt2}
+
+pub loop-row-preserved : goal.loop-row-preserved
+loop-row-preserved c =
+    let m : ℕ → ℕ = λ row. max 1 (get_or c.args.bounds.now row 0) in
+    let few : c.loop-row.row < 2 → c.if-row-lt2.places ≡ 1 = λ l. elim c.if-row-lt2.branch [ then-row-lt2 w ↦ w.places-is | else-row-lt2 w ↦ absurd (omega (arith, l, w.if-row-lt2.false)) ] in
+    let many : 2 ≤ c.loop-row.row → c.if-row-lt2.places ≡ c.loop-row.row + 1 = λ l. elim c.if-row-lt2.branch [ then-row-lt2 w ↦ absurd (omega (arith, l, w.if-row-lt2.true)) | else-row-lt2 w ↦ w.places-is ] in
+    let bound : c.max.result ≡ max 1 (get_or c.args.bounds.now c.loop-row.row 0) = omega (arith, c.max.ensures) in
+    let next : minor_limit (λ row. max 1 (get_or c.args.bounds.now row 0)) (suc c.loop-row.row) ≡
+    minor_limit (λ row. max 1 (get_or c.args.bounds.now row 0)) c.loop-row.row * max 1 (get_or c.args.bounds.now c.loop-row.row 0) * c.if-row-lt2.places =
+    next_limit (λ row. max 1 (get_or c.args.bounds.now row 0)) c.loop-row.row c.if-row-lt2.places few many in
+    let plus : suc c.loop-row.row ≡ c.loop-row.row + 1 = omega arith in
+    record {
+      so_far = c.in_ok-limit.ensures.1 ∙ ap (λ x. x * c.if-row-lt2.places) (c.in_ok-checked_mul.ensures.1 ∙ ap₂ (λ x y. x * y) c.loop-row.invariant.so_far bound)
+          ∙ sym next ∙ ap (minor_limit (λ row. max 1 (get_or c.args.bounds.now row 0))) plus;
+    }

@@ -1,0 +1,20 @@
+use Rattle.smp_kernel.proofs.Minors.{entry_bound}
+use Rattle.smp_kernel.proofs.MinorSizes.{minor_bound}
+use Rattle.smp_kernel.proofs.TableSizes.{table_fits}
+use Rattle.smp_kernel.proofs.CircuitSizes.{circuits_within, denominator_of}
+use Rattle.smp_kernel.proofs.SearchSizes.{not_too_wide}
+use Rattle.smp_kernel.proofs.OneRelation.{fewer_rows, without_one}
+use Rattle.smp_kernel.proofs.laws.minors_bound.Goals as goal
+
+pub returns : goal.returns
+returns c = record {
+  entries = λ q before after column e rows prim short ob oa below off some xs ys x s.
+      entry_bound q before after column e rows prim short ob oa below off some xs ys x s;
+  small = minor_bound;
+  tables = table_fits;
+  circuits = circuits_within;
+  searches = not_too_wide;
+  denominators = denominator_of;
+  one_relation = without_one;
+  fewer_rows = fewer_rows;
+}

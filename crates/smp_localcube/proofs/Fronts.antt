@@ -1,0 +1,140 @@
+-- The search of the local cube begins with the touched units.
+use Rattle.std.proofs.Common.{◌≡◌, ◌≢◌, ℕ, Bool, true, false, not, nat_eq, ◌||◌, ◌⊎◌, ℤ, List, [], ◌∷◌, ◌++◌, pos, Option, Some, None, length, arith, refl, sym, ap, ◌∙◌, subst, inl, inr}
+use Rattle.std.specs.Int.RustNames.{unsigned_abs}
+use Rattle.std.specs.List.{filter}
+use Rattle.std.proofs.lemmas.Bool.{cases_Bool, ne_eqb, or_left, or_right, true≢false}
+use Rattle.std.proofs.lemmas.List.Elements.{All-filter}
+use Rattle.std.proofs.lemmas.List.Kept.{AllPairs-filter}
+use Rattle.smp_near.specs.Nearest.{neighbours}
+use Rattle.smp_kernel.proofs.Ring.{abs_zero}
+use Rattle.smp_prob.specs.Shares.{Shares}
+use Rattle.smp_split.specs.Parts.{moved}
+use Rattle.smp_split.specs.Trees.{Part, EachPart}
+use Rattle.smp_split.specs.declared.kind.Kind.TheVariants as kind
+use Rattle.smp_split.proofs.Parts.{each_equal}
+use Rattle.smp_values.specs.Steps.{kind_on}
+use Rattle.smp_values.specs.Values.{fractional_at, fractional_count, fractional_units, is_fractional}
+use Rattle.smp_moves.specs.Cubes.{flying, pairing, flight_kind, flight_parts, values_in}
+use Rattle.smp_moves.specs.Moves.{IsLine, Move, Next, entry_of, independent, move, wide}
+use Rattle.smp_moves.proofs.Entries.{frame_order, off_line, place_or}
+use Rattle.smp_flight.specs.Kept.Windows.{is_in}
+use Rattle.smp_flight.specs.Selections.{Balancing, IsBalancing, shares_cube}
+use Rattle.smp_flight.specs.States.{Flight, IsFlight, Units}
+use Rattle.smp_flight.specs.Steps.{chosen, next_on}
+use Rattle.smp_flight.proofs.ByOrder.{knows}
+use Rattle.smp_flight.proofs.Firsts.{fractional_in}
+use Rattle.smp_flight.proofs.NeverWide.{IsNextFront, KeepsFront}
+use Rattle.smp_flight.proofs.Windowed.{in_at}
+use Rattle.smp_localcube.specs.Local.{AreCarried, IsCarried, IsLocal, Local, after, choosing, head_of, is_one_of, local_of, next_around, order_around, order_from, order_with, kind_around, kind_from, parts_around, parts_from, untouched}
+use Rattle.smp_localcube.specs.Laws.Orders.{filter_in, in_filter}
+use Rattle.smp_localcube.specs.Laws.Splits.{order_whole}
+
+abbrev pub IsFront : Local → List ℕ → Type 0
+IsFront s held = held ≡ s.touched
+
+-- ---- where a search begins
+
+begins_with : (coords : List (List ℤ)) (at : Balancing) (touched : List ℕ) (chosen : Option ℕ) (values : Shares) →
+    (rest : List ℕ) × (order_with (record { coords = coords; at = at; touched = touched; chosen = chosen }) values (head_of touched chosen) ≡ touched ++ rest)
+begins_with coords at [] chosen values = (order_with (record { coords = coords; at = at; touched = []; chosen = chosen }) values chosen, refl)
+begins_with coords at (u ∷ touched) chosen values = (neighbours (untouched coords values (u ∷ touched)) u, refl)
+
+-- ---- the kinds
+
+pairs_not : (order : List ℕ) → kind_on order ≢ kind.Choose
+pairs_not [] e = cc
+pairs_not (i ∷ []) e = cc
+pairs_not (i ∷ j ∷ order) e = cc
+
+flies_not : (a : Next) → flight_kind a ≢ kind.Choose
+flies_not (move m) e = cc
+flies_not independent e = cc
+flies_not wide e = cc
+
+module _ (units : Units) (s : Local) where
+  abbrev Stays : List (Part Local) → Type 0
+  Stays parts = EachPart (λ p. s.touched ≡ p.state.touched) parts
+
+  -- ---- a choice touches nothing
+  module _ (f : Flight) (left : ℕ) where
+    choice_stays : (head : Option ℕ) → kind_around units s f head ≡ kind.Choose → Stays (parts_around units s f left head)
+    choice_stays None k = each_equal (λ place. choosing s (fractional_at f.values place)) (λ p. s.touched ≡ p.state.touched) (fractional_count f.values) (λ place _. refl)
+    choice_stays (Some head) k = absurd (flies_not (next_around units s f head) k)
+
+    -- ---- nor does a dropped row
+    drop_stays : (head : Option ℕ) → kind_around units s f head ≡ kind.Drop → next_on units (order_with s f.values head) f ≡ independent → Stays (parts_around units s f left head)
+    drop_stays None k is = absurd (let z : kind.Choose ≡ kind.Drop = k in cc)
+    drop_stays (Some head) k is = subst (λ (a : Next). Stays (moved (after s a) (flight_parts (shares_cube units) f left a))) (sym is) (refl, tt)
+
+    -- ---- a move touches what it changes
+    module _ (m : Move) (line : IsLine f.values m.direction) where
+      abbrev is_carried : ℕ → Bool
+      is_carried k = is_one_of s.touched k || not (nat_eq (unsigned_abs (entry_of m.direction k)) 0)
+
+      changed_units : (k : ℕ) → entry_of m.direction k ≢ pos 0 → is_in m.direction.units k ≡ true
+      changed_units k ne =
+          elim (place_or m.direction.units k) [
+            | inl i ↦ subst (λ (x : ℕ). is_in m.direction.units x ≡ true) i.2 (in_at m.direction.units i.0 i.1)
+            | inr out ↦ absurd (ne (off_line f.values m.direction line k out))
+          ]
+
+      changed : (k : ℕ) → not (nat_eq (unsigned_abs (entry_of m.direction k)) 0) ≡ true → entry_of m.direction k ≢ pos 0
+      changed k h z = true≢false (sym h ∙ ap (λ e. not (nat_eq (unsigned_abs e) 0)) z)
+
+      carried_or : (k : ℕ) → is_carried k ≡ true → (is_in s.touched k ≡ true) ⊎ (is_in m.direction.units k ≡ true)
+      carried_or k h =
+          elim (cases_Bool (is_one_of s.touched k)) [
+            | inl t ↦ inl t
+            | inr n ↦ inr (changed_units k (changed k (rw n at h)))
+          ]
+
+      carried_by : (k : ℕ) → (is_in s.touched k ≡ true) ⊎ (entry_of m.direction k ≢ pos 0) → is_carried k ≡ true
+      carried_by k (inl t) = or_left (is_one_of s.touched k) (not (nat_eq (unsigned_abs (entry_of m.direction k)) 0)) t
+      carried_by k (inr ne) =
+          or_right (is_one_of s.touched k) (not (nat_eq (unsigned_abs (entry_of m.direction k)) 0))
+          (ap not (ne_eqb (unsigned_abs (entry_of m.direction k)) 0 (λ z. ne (abs_zero (entry_of m.direction k) z))))
+
+      next_front : (t : Balancing) → IsNextFront (local_of units) IsFront s.touched m (after s (move m) t)
+      next_front t =
+          let v : Shares = values_in t in
+          record {
+            list = filter is_carried (fractional_units (values_in t));
+            is_front = refl;
+            order = record {
+              going = All-filter is_carried (λ k. is_fractional (values_in t) k ≡ true) (fractional_units (values_in t)) (frame_order (values_in t)).going;
+              distinct = AllPairs-filter (λ k l. k ≢ l) is_carried (fractional_units (values_in t)) (frame_order (values_in t)).distinct;
+            };
+            alone = λ k h. carried_or k (filter_in is_carried (fractional_units (values_in t)) k h).1;
+            all = λ k e h. in_filter is_carried (fractional_units (values_in t)) k (fractional_in (values_in t) k e) (carried_by k h);
+          }
+
+    move_touches : IsFlight units f → IsCarried f.values s.touched s.chosen → (m : Move) → (head : Option ℕ) → head_of s.touched s.chosen ≡ head → kind_around units s f head ≡ kind.Flight →
+        next_on units (order_with s f.values head) f ≡ move m → EachPart (λ p. IsNextFront (local_of units) IsFront s.touched m p.state) (parts_around units s f left head)
+    move_touches ok carried m None e k is = absurd (let z : kind.Choose ≡ kind.Flight = k in cc)
+    move_touches ok carried m (Some head) e k is =
+        let line : IsLine f.values m.direction = (knows units f left (order_around s.coords f.values s.touched head) ok (order_whole s f head carried e).is_order m is).line in
+        subst (λ (a : Next). EachPart (λ p. IsNextFront (local_of units) IsFront s.touched m p.state) (moved (after s a) (flight_parts (shares_cube units) f left a))) (sym is)
+        (next_front m line (flying (chosen units f m true) left), (next_front m line (flying (chosen units f m false) left), tt))
+
+  choice_at : (at : Balancing) → kind_from units s at ≡ kind.Choose → Stays (parts_from units s at)
+  choice_at (flying f left) k = choice_stays f left (head_of s.touched s.chosen) k
+  choice_at (pairing t left) k = absurd (pairs_not (fractional_units t) k)
+
+-- so its searches begin with what moves have changed
+pub keeps_front : (units : Units) → KeepsFront (local_of units) IsFront (IsLocal units)
+keeps_front units = record {
+  begins = λ s held ok front f left e.
+      (let b = begins_with s.coords s.at s.touched s.chosen f.values in (b.0, ap (order_from s) e ∙ b.1 ∙ ap (λ us. us ++ b.0) (sym front)));
+  chosen = λ s held ok front k. subst (λ (us : List ℕ). EachPart (λ p. us ≡ p.state.touched) (parts_from units s s.at)) (sym front) (choice_at units s s.at k);
+  dropped = λ s held ok front f left e is k.
+      subst (λ (us : List ℕ). EachPart (λ p. us ≡ p.state.touched) (parts_from units s s.at)) (sym front)
+      (subst (λ (b : Balancing). EachPart (λ p. s.touched ≡ p.state.touched) (parts_from units s b)) (sym e)
+      (drop_stays units s f left (head_of s.touched s.chosen) (subst (λ (b : Balancing). kind_from units s b ≡ kind.Drop) e k)
+      (subst (λ (b : Balancing). next_on units (order_from s b) f ≡ independent) e is)));
+  moved = λ s held ok front f left e m is k.
+      subst (λ (us : List ℕ). EachPart (λ p. IsNextFront (local_of units) IsFront us m p.state) (parts_from units s s.at)) (sym front)
+      (subst (λ (b : Balancing). EachPart (λ p. IsNextFront (local_of units) IsFront s.touched m p.state) (parts_from units s b)) (sym e)
+      (move_touches units s f left (subst (IsBalancing units) e ok.state) (subst (λ (b : Balancing). AreCarried b s.touched s.chosen) e ok.carried) m (head_of s.touched s.chosen) refl
+      (subst (λ (b : Balancing). kind_from units s b ≡ kind.Flight) e k)
+      (subst (λ (b : Balancing). next_on units (order_from s b) f ≡ move m) e is)));
+}
