@@ -7,28 +7,33 @@ use Rattle.std.proofs.lemmas.List.{length-map}
 use Rattle.std.proofs.lemmas.List.FromFn.{fill_by_all}
 use Rattle.std.proofs.lemmas.Simd.{map-map}
 use Rattle.smp_split.specs.Paths.{Entry}
-use Rattle.smp_moves.specs.Cubes.{values_in}
+use Rattle.smp_moves.specs.Cubes.{left_in, values_in}
 use Rattle.smp_values.specs.Values.{is_one}
 use Rattle.smp_prob.specs.Inclusions.{asked_fraction, inclusion, is_taken}
 use Rattle.smp_frac.specs.LowestTerms.{lowest_terms}
-use Rattle.smp_balance.specs.Strata.{AreStratumUnits, values_of}
+use Rattle.smp_balance.specs.Strata.{AreStratumUnits, column_count, free_values, values_of}
 use Rattle.smp_balance.specs.Reports.{TellsColumn, TellsOf}
 use Rattle.smp_balance.proofs.Balances.{each_is_balanced}
 use Rattle.smp_balance.proofs.Reports.{each_line_tells}
 use Rattle.smp_balance.specs.Totals.{IsBalancedFrame}
 use Rattle.smp_design.specs.Words.{balances, draws_together}
 use Rattle.smp_methods.specs.declared.any.AnyState.{AnyState}
+use Rattle.smp_methods.specs.declared.any.AnyState.TheVariants as states
+use Rattle.smp_methods.specs.Designs.{design_by, left_at}
+use Rattle.smp_stages.specs.declared.places.Stage.{Stage}
 use Rattle.smp_stages.specs.Paths.{GoesByStages}
 use Rattle.smp_stages.specs.Stages.{Progress}
 use Rattle.smp_strata.specs.Plans.{Parts}
 use Rattle.smp_strata.specs.declared.strata.Stratum.{Stratum}
-use Rattle.smp_twostage.specs.Cubes.{IsDrawnByCube, IsDrawnTogether, balancing, frame_of, leaf_of}
-use Rattle.smp_twostage.specs.Selections.{all_of, balance_count, covered_stages, covered_states, first_number, tree_of as stage_tree, units_at}
+use Rattle.smp_twostage.specs.Covered.{covered_left}
+use Rattle.smp_twostage.specs.Laws.Numbering.{first_there}
+use Rattle.smp_twostage.specs.Cubes.{IsDrawnByCube, IsDrawnTogether, balancing, by_cube, by_local_cube, frame_of, leaf_of}
+use Rattle.smp_twostage.specs.Selections.{Selecting, all_of, balance_count, covered_stages, covered_states, first_number, first_stage, place_together, stage_of_strata, stages_of, tree_of as stage_tree, units_at, valued}
 use Rattle.smp_strata.specs.Seats.{first_fraction, unit_fraction}
 use Rattle.smp_strata.specs.declared.strata.Seat.{Seat}
 use Rattle.smp_twostage.specs.Lines.{seat_values, told, told_seats}
 use Rattle.smp_twostage.specs.Plans.{CanBeDrawn}
-use Rattle.smp_twostage.specs.Starts.{StartsWhole, covered_first}
+use Rattle.smp_twostage.specs.Starts.{StartsWhole, covered_first, left_by}
 use Rattle.smp_twostage.proofs.Cubes.{cube_selected}
 use Rattle.smp_twostage.proofs.StartsBy.{first_so}
 use Rattle.smp_twostage.proofs.Told.{is_stratum as cube_stratum}
@@ -95,8 +100,30 @@ module _ (plan : FramePlan) (planned : IsPlanned plan) (balance : balances plan.
           ∙ ap (λ n. map (λ k. is_taken (is_one (values_in (leaf_of drawn))) (inclusion s.request k)) (range_with_len 0 n)) (sym long);
     }
 
+    -- how many units were fractional where its landing began
+    left_by_cube : (d : IsDrawnByCube all h s part to.states) → left_by (Some (first_stage all s)) (slice_get to.states (first_number all h)) ≡ left_in (leaf_of d)
+    left_by_cube (by_cube m d) =
+        ap (left_by (Some (first_stage all s))) d.leaf_is
+        ∙ ap (λ way. left_at (design_by way all.order all.near (column_count (valued s)) s.request (free_values (valued s))) (states.Cube d.leaf)) m
+    left_by_cube (by_local_cube m d) =
+        ap (left_by (Some (first_stage all s))) d.leaf_is
+        ∙ ap (λ way. left_at (design_by way all.order all.near (column_count (valued s)) s.request (free_values (valued s))) (states.LocalCube d.leaf)) m
+
+    pub left_is : (told (covered here) to.states h).left ≡ left_in (leaf_of drawn)
+    left_is =
+        let one : covered_left (covered here) to.states h ≡ left_by (slice_get (stages_of all) (first_number all h)) (slice_get to.states (first_number all h)) = rw apart refl in
+        one
+        ∙ ap (λ (o : Option (Stage Selecting)). left_by o (slice_get to.states (first_number all h))) (first_there all h s is)
+        ∙ left_by_cube drawn
+
     pub tells : (column : ℕ) → TellsColumn (told (covered here) to.states h) (balancing all s ∷ []) (is_one (values_in (leaf_of drawn))) column
     tells = each_line_tells (balancing all s) is_stratum (is_one (values_in (leaf_of drawn))) (told (covered here) to.states h) tells_of
+
+left_together : (plan : Parts) → draws_together plan.method ≡ true → (part : List Entry) (ends : List AnyState) (drawn : IsDrawnTogether plan part ends)
+    → (told (all_of plan) ends 0).left ≡ left_in drawn.leaf
+left_together plan together part ends drawn =
+    let one : covered_left (all_of plan) ends 0 ≡ left_by (slice_get (stage_of_strata plan ∷ []) (place_together plan.strata 0 0).stage) (slice_get ends 0) = rw together refl in
+    one ∙ ap (left_by (Some (stage_of_strata plan))) drawn.leaf_is
 
 -- ---- the balance of what is drawn
 
@@ -127,6 +154,7 @@ module _ (plan : FramePlan) (planned : IsPlanned plan) (path : List Entry) (to :
               drawn_so = drawn_so;
               balanced = each_is_balanced (balancing (parts (plan_view plan)) s) (is_stratum plan planned balance apart h s is);
               tells = tells plan planned balance apart h s is path (has.goes.part (first_number (parts (plan_view plan)) h)) to drawn_so;
+              left = left_is plan planned balance apart h s is path (has.goes.part (first_number (parts (plan_view plan)) h)) to drawn_so;
             });
         together = λ all.
             (let drawn_so = has.together all in
@@ -134,5 +162,6 @@ module _ (plan : FramePlan) (planned : IsPlanned plan) (path : List Entry) (to :
               drawn_so = drawn_so;
               balanced = has.balanced all;
               tells = tells_together (plan_view plan) (subst CanBeDrawn planned.parts_are planned.drawable) all (has.goes.part 0) to.states drawn_so;
+              left = left_together (parts (plan_view plan)) all (has.goes.part 0) to.states drawn_so;
             });
       }

@@ -19,7 +19,7 @@ use Rattle.smp_plan.specs.Reads.{IsErrorOf, IsCaused, ReadCause}
 use Rattle.smp_status.specs.Reports.{IsOfInputs, Put, PutsLine, Whole, Cut, OutOfMemory, Reports}
 use Rattle.smp_app.specs.Kept.Stages.{Refusing, WorkSays}
 use Rattle.smp_app.specs.Deliveries.{Outputs, SomeRose, names_of, with_files, StopsAt, FailsAt}
-use Rattle.smp_app.specs.Answers.{Outside, Untouched, Done, RefusesBy, Refusal, Stopped, WriteFault, NoMemory, Says, Undisturbed, IsVerdict, UsageOnly, IsAnswer}
+use Rattle.smp_app.specs.Answers.{Outside, Untouched, Done, RefusesBy, Refusal, Stopped, StoppedBy, NoMemory, Says, Undisturbed, IsVerdict, UsageOnly, IsAnswer}
 use Rattle.smp_plan.proofs.Steps.{rose_since}
 use Rattle.smp_app.proofs.Deliveries.{place_since, place_rose}
 
@@ -51,21 +51,21 @@ job_is told command job is asked = let one : ◌≡◌ {A = Option Job} (Some (j
 module _ (words : List (List ℕ)) (job : Job) (before now : Outside) (asked : job_for words ≡ Some job) where
   -- a status to which the inputs led
   pub error_says :
-      (class : Class) (error : Status)
+      (asked_before asked_now : Option (List (List ℕ))) (class : Class) (error : Status)
       → IsOfInputs class error
       → ((fs : Files) → before.files ≡ Some fs → IsErrorOf class error (outputs_stage job fs))
-      → IsCaused class (ReadCause (inputs_of job) (outputs_stage job) (record { files = before.files; read_faults = before.read_faults; write_faults = before.write_faults }) (record { files = now.files; read_faults = now.read_faults; write_faults = now.write_faults }))
+      → IsCaused class (ReadCause (inputs_of job) (outputs_stage job) (record { files = before.files; read_faults = before.read_faults; write_faults = before.write_faults; write_shortages = before.write_shortages; asked = asked_before }) (record { files = now.files; read_faults = now.read_faults; write_faults = now.write_faults; write_shortages = now.write_shortages; asked = asked_now }))
       → ((fs : Files) → before.files ≡ Some fs → IsExactRefusal job error fs)
       → Untouched before now
       → WorkSays class error words before now
-  error_says IsDone error kind follows cause exact same = absurd kind
-  error_says IsUsage error kind follows cause exact same = absurd kind
-  error_says IsWriteFault error kind follows cause exact same = absurd kind
-  error_says IsNoMemory error kind follows cause exact same = inl same
-  error_says IsRefusal error kind follows cause exact same =
+  error_says asked_before asked_now IsDone error kind follows cause exact same = absurd kind
+  error_says asked_before asked_now IsUsage error kind follows cause exact same = absurd kind
+  error_says asked_before asked_now IsWriteFault error kind follows cause exact same = absurd kind
+  error_says asked_before asked_now IsNoMemory error kind follows cause exact same = inl same
+  error_says asked_before asked_now IsRefusal error kind follows cause exact same =
       let by = commanded (command_of words) job asked in
       record { refused = record { command = by.command; asked = by.is; verdict_is = λ fs told. verdict_of words job asked fs ∙ follows fs told; exact = λ fs told. subst (λ (j : Job). IsExactRefusal j error fs) (sym (job_is (command_of words) by.command job by.is asked)) (exact fs told) }; lined = kind; same = same }
-  error_says IsReadFault error kind follows cause exact same = record {
+  error_says asked_before asked_now IsReadFault error kind follows cause exact same = record {
     job = job;
     asked = asked;
     cause = record { name = cause.name; is_one = cause.is_input; rose = cause.rose };
@@ -75,7 +75,7 @@ module _ (words : List (List ℕ)) (job : Job) (before now : Outside) (asked : j
 
   -- the outputs, where the files between the work and the writes are those before it
   module _ (mid : Option Files) (same : mid ≡ before.files) (outputs : Outputs) (stage : (fs : Files) → before.files ≡ Some fs → outputs_stage job fs ≡ Ok outputs) where
-    pub all_done : ((fs : Files) → before.files ≡ Some fs → IsExact job fs) → now.files ≡ option_map (with_files outputs.files) mid → now.written ≡ with_bytes outputs.put before.written → Done words before now
+    pub all_done : ((fs : Files) → before.files ≡ Some fs → IsExact job fs) → now.files ≡ option_map (with_files outputs.files) mid → now.put ≡ with_bytes outputs.put before.put → Done words before now
     all_done exact wrote put = record {
       job = job;
       asked = asked;
@@ -84,25 +84,16 @@ module _ (words : List (List ℕ)) (job : Job) (before now : Outside) (asked : j
         accepted = verdict_of words job asked fs ∙ stage fs told;
         exact = exact fs told;
         files = wrote ∙ ap (option_map (with_files outputs.files)) (same ∙ told);
-        written = put;
+        put = put;
       };
     }
 
-    pub stopped : names_of outputs.files ≡ outputs_of job → StopsAt outputs mid now.files before.written now.written → Stopped words before now
-    stopped named stops = record {
-      job = job;
-      asked = asked;
-      outputs = outputs;
-      named = named;
-      accepted = λ fs told. verdict_of words job asked fs ∙ stage fs told;
-      stops = subst (λ (held : Option Files). StopsAt outputs held now.files before.written now.written) same stops;
-    }
-
-    pub write_fault :
-        (counts : List ℕ → ℕ) → NeverFalls before.write_faults counts → names_of outputs.files ≡ outputs_of job
-        → FailsAt outputs mid now.files before.written now.written (λ name. Rose (counts name) (now.write_faults name)) (Rose before.put_faults now.put_faults) → WriteFault words before now
-    write_fault counts rises named fails =
-        let Fails : Option Files → Type 0 = λ held. FailsAt outputs held now.files before.written now.written (λ name. Rose (counts name) (now.write_faults name)) (Rose before.put_faults now.put_faults) in
+    -- by a write or a put whose count rose
+    pub stopped_by :
+        (first counts counts_now : List ℕ → ℕ) (put : Type 0) → NeverFalls first counts → names_of outputs.files ≡ outputs_of job
+        → FailsAt outputs mid now.files before.put now.put (λ name. Rose (counts name) (counts_now name)) put → StoppedBy words before now (λ name. Rose (first name) (counts_now name)) put
+    stopped_by first counts counts_now put rises named fails =
+        let Fails : Option Files → Type 0 = λ held. FailsAt outputs held now.files before.put now.put (λ name. Rose (counts name) (counts_now name)) put in
         let here : Fails before.files = subst Fails same fails in
         record {
           stopped = record {
@@ -113,17 +104,17 @@ module _ (words : List (List ℕ)) (job : Job) (before now : Outside) (asked : j
             accepted = λ fs told. verdict_of words job asked fs ∙ stage fs told;
             stops = here.stops;
           };
-          cause = place_since outputs before.files now.files before.written now.written (Rose before.put_faults now.put_faults) before.write_faults counts now.write_faults rises here.stops here.cause;
+          cause = place_since outputs before.files now.files before.put now.put put first counts counts_now rises here.stops here.cause;
         }
 
 -- ---- the line of a refusal
 
-module _ (ended answer : Status) (words : List (List ℕ)) (before now : Outside) (put : Put) (le : before.put_faults ≤ put.faults) where
+module _ (ended answer : Status) (words : List (List ℕ)) (before now : Outside) (put : Put) (le : before.put_faults ≤ put.faults) (few : before.put_shortages ≤ put.shortages) where
   abbrev pub worked : Outside
-  worked = record now { written = put.written; put_faults = put.faults }
+  worked = record now { put = put.written; put_faults = put.faults; put_shortages = put.shortages }
 
   abbrev pub put_now : Put
-  put_now = record { written = now.written; faults = now.put_faults }
+  put_now = record { written = now.put; faults = now.put_faults; shortages = now.put_shortages }
 
   -- what is said of the answer, if it is as the work ended or memory ran out
   said : (class : Class) → class_of ended ≡ class → (answer ≡ ended) × Says class ended words before now → Says (class_of answer) answer words before now
@@ -136,15 +127,15 @@ module _ (ended answer : Status) (words : List (List ℕ)) (before now : Outside
   silent : (class : Class) → class_of ended ≡ class → WorkSays class ended words before worked → (WorkSays class ended words before now → Says class ended words before now)
       → Reports None ended answer put put_now → Says (class_of answer) answer words before now
   silent class is work same_says reports =
-      let ends : ◌≡◌ {A = Outside} worked now = ap (λ (p : Put). record now { written = p.written; put_faults = p.faults }) (sym reports.1) in
+      let ends : ◌≡◌ {A = Outside} worked now = ap (λ (p : Put). record now { put = p.written; put_faults = p.faults; put_shortages = p.shortages }) (sym reports.1) in
       said class is (reports.0, same_says (subst (λ (o : Outside). WorkSays class ended words before o) ends work))
 
   -- how a refusal ends, whose line was put after its work
   line_put : (class : Class) → class_of ended ≡ class → (Refusal class ended words before now → Says class ended words before now)
       → Refusing class ended words before worked → (line : List ℕ) → fault_line ended ≡ Some line → PutsLine ended answer line put put_now → Says (class_of answer) answer words before now
   line_put class is says work line line_is puts = elim puts [
-    | Whole same whole ↦ said class is (same, says (record { refused = work.refused; files = work.same.files; line = line; line_is = line_is; put = inl (whole ∙ ap (with_bytes line) work.same.written) }))
-    | Cut same rose front ↦ said class is (same, says (record { refused = work.refused; files = work.same.files; line = line; line_is = line_is; put = inr (rose_since _ _ _ le rose, subst (λ w. AppendsFront line w now.written) work.same.written front) }))
+    | Whole same whole ↦ said class is (same, says (record { refused = work.refused; files = work.same.files; line = line; line_is = line_is; put = inl (whole ∙ ap (with_bytes line) work.same.put) }))
+    | Cut same rose front ↦ said class is (same, says (record { refused = work.refused; files = work.same.files; line = line; line_is = line_is; put = inr (rose_since _ _ _ le rose, subst (λ w. AppendsFront line w now.put) work.same.put front) }))
     | OutOfMemory same uncounted some ↦ out_of_memory same (elim some [
       | inl front ↦ inr (inl (record {
         refusal = ended;
@@ -152,9 +143,10 @@ module _ (ended answer : Status) (words : List (List ℕ)) (before now : Outside
         line = line;
         line_is = line_is;
         files = work.same.files;
-        put = subst (λ w. AppendsFront line w now.written) work.same.written front;
+        cause = rose_since _ _ _ few front.0;
+        put = subst (λ w. AppendsFront line w now.put) work.same.put front.1;
       }))
-      | inr none ↦ inl (record { files = work.same.files; written = none ∙ work.same.written })
+      | inr none ↦ inl (record { files = work.same.files; put = none ∙ work.same.put })
     ])
   ]
 
@@ -202,7 +194,7 @@ module _ (answer : Status) (words : List (List ℕ)) (before now : Outside) wher
   complete IsWriteFault is said fs told calm =
       let stopped = said.stopped in
       let quiet = calm stopped.job stopped.asked in
-      elim (place_rose stopped.outputs before.files now.files before.written now.written (Rose before.put_faults now.put_faults) before.write_faults now.write_faults stopped.stops said.cause) [
+      elim (place_rose stopped.outputs before.files now.files before.put now.put (Rose before.put_faults now.put_faults) before.write_faults now.write_faults stopped.stops said.cause) [
         | inl write ↦ quiet.writes (subst (λ names. SomeRose names before.write_faults now.write_faults) stopped.named write)
         | inr put ↦ quiet.put put
       ]

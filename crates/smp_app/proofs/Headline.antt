@@ -1,6 +1,6 @@
 -- A call that ended well has drawn by the design, the frame and the draws that were read, and a log that was refused differs at its line.
 use Rattle.std.proofs.Common.{◌≡◌, ℕ, zero, suc, ◌+◌, ◌-◌, ◌^◌, ◌<◌, ◌≤◌, Bool, true, false, ◌&&◌, List, [], ◌∷◌, ◌++◌, map, length, Option, Some, None, Result, Ok, Err, refl, sym, ap, subst, ◌∙◌, inl, inr, arith, length-append}
-use Rattle.std.specs.Prelude.{◌==◌, option_map}
+use Rattle.std.specs.Prelude.{◌==◌, is_ok, option_map}
 use Rattle.std.specs.List.{filter, flat_map, range_with_len}
 use Rattle.std.proofs.lemmas.Bool.{cases_Bool, eqb-true}
 use Rattle.smp_io.specs.Sink.{with_bytes}
@@ -12,15 +12,23 @@ use Rattle.smp_tape.specs.TapeSources.{tape_source}
 use Rattle.smp_sieve.specs.Keys.{words_of_seed}
 use Rattle.smp_sieve.specs.SieveSources.{key_stream, sieve_source}
 use Rattle.smp_split.specs.Counts.{selected_units}
-use Rattle.smp_split.specs.Paths.{Entry, IsFull}
+use Rattle.smp_split.specs.Paths.{Entry, IsFull, IsReached}
+use Rattle.smp_split.specs.Sectioning.{IsSectioned}
+use Rattle.smp_split.proofs.Sectioned.{sectioned_within}
+use Rattle.smp_split.proofs.Steps.{reached_lawful}
 use Rattle.smp_split.specs.Runs.{Outcome, IsLeaf, IsOutcome, leaf, stopped, run}
 use Rattle.smp_split.proofs.Runs.{run_is}
 use Rattle.smp_split.proofs.Tapes.{runs_full}
 use Rattle.smp_stages.specs.Stages.{Progress}
-use Rattle.smp_twostage.specs.Covered.{StartsAlone, state_alone}
+use Rattle.smp_twostage.specs.Covered.{state_alone}
+use Rattle.smp_twostage.specs.Plans.{CanBeDrawn}
+use Rattle.smp_twostage.proofs.AloneBy.{reached_own}
+use Rattle.smp_twostage.proofs.Firsts.{start_belongs}
+use Rattle.smp_twostage.proofs.SectionStarts.{IsSectionStart, section_start}
 use Rattle.smp_twostage.specs.Selections.{BelongsToCovered, BelongsToWhole, Coverage, all_of, covered_start, covered_tree, is_of_section, section_count, strata_sections}
 use Rattle.smp_twostage.specs.Laws.Wholes.{covered_lawful, strata_sectioned, whole_lawful}
 use Rattle.smp_methods.specs.declared.any.AnyState.{AnyState}
+use Rattle.smp_words.specs.declared.command.DesignArguments.{DesignArguments}
 use Rattle.smp_words.specs.declared.command.DrawArguments.{DrawArguments}
 use Rattle.smp_words.specs.declared.command.MigrateArguments.{MigrateArguments}
 use Rattle.smp_words.specs.declared.command.QuickArguments.{QuickArguments}
@@ -52,9 +60,9 @@ use Rattle.smp_status.specs.declared.status.Status.TheVariants.{TapeLong}
 use Rattle.smp_status.specs.Codes.{class_of, tape_status}
 use Rattle.smp_plan.specs.Plans.{Plan, parts, quick_design}
 use Rattle.smp_app.specs.Drawn.{Drawn, tree_of, start_of, sections_of, covered, drawn_rows}
-use Rattle.smp_app.specs.Texts.{log_text, report_text, sample_text}
+use Rattle.smp_app.specs.Texts.{accepted_text, log_text, probabilities_text, report_text, sample_text}
 use Rattle.smp_plan.specs.Inputs.{Given, Held, FrameHeld, ReadDesign, design_stage, frame_stage, plan_stage}
-use Rattle.smp_app.specs.Commands.{DrawnFile, ByLog, ByOldLog, BySection, Draws, Job, source_of, log_source, held_job, job_of, job_for, outputs_by, written_by}
+use Rattle.smp_app.specs.Commands.{DrawnFile, ByLog, ByOldLog, BySection, Draws, Lists, Job, source_of, log_source, held_job, job_of, job_for, outputs_by, written_by}
 use Rattle.smp_app.specs.Commands as drawing
 use Rattle.smp_faults.specs.Steps.{◌>>=◌}
 use Rattle.smp_plan.specs.Stops.{Stop, Refused, content, or_fault}
@@ -62,7 +70,7 @@ use Rattle.smp_app.specs.Verdict.{values_taken, values_left, no_words, drawn_at,
 use Rattle.smp_app.specs.Deliveries.{Outputs, with_files}
 use Rattle.smp_app.specs.Draws.{IsDrawFrom, IsDrawnAlone, IsDrawnBy, IsDrawnOf, IsDrawnWhole, IsExactFrom, IsExactRefusal, IsRefused, IsRefusedFrom, OldDiffers, RefusesLog, StratumDiffers, WholeDiffers}
 use Rattle.smp_app.specs.Answers.{Outside, Says, IsWork, Done, Refuses}
-use Rattle.smp_app.specs.Headline.{IsDrawnBySeed, IsDrawnByChance, IsReadFrame, IsReadPlan, IsExactDraw, IsReplayed, IsExactQuick, IsExactReplay, IsExactSection, IsExactMigration, IsRefusedLog, Ends, Headline}
+use Rattle.smp_app.specs.Headline.{IsDrawnBySeed, IsDrawnByChance, IsReadFrame, IsReadPlan, IsExactDraw, IsReplayed, IsExactQuick, IsExactReplay, IsExactSection, IsExactList, IsExactMigration, IsRefusedLog, Ends, Headline}
 use Rattle.smp_app.proofs.Alone.{seats_long}
 use Rattle.smp_app.proofs.Ends.{verdict_of}
 use Rattle.smp_app.proofs.Refusals.{stratum_is}
@@ -272,19 +280,30 @@ log_long head count steps =
     let body : List ℕ = flat_map (section_text steps) (range_with_len 0 count) in
     omega (arith, sections_long steps 0 count, length-append body (end_text (length steps)), length-append (sectioned_head head) (body ++ end_text (length steps)))
 
-module _ (plan : Plan) (is_head : IsHead plan.head) (h : ℕ) (within : h < section_count (all_of (parts plan))) (starts : StartsAlone (parts plan) h (covered_start (alone plan h))) (log : List ℕ) where
+module _ (plan : Plan) (is_head : IsHead plan.head) (drawable : CanBeDrawn (parts plan)) (h : ℕ) (within : h < section_count (all_of (parts plan))) (log : List ℕ) where
   abbrev own : Coverage
   own = alone plan h
 
+  starts : IsSectionStart (parts plan) h
+  starts = section_start (parts plan) drawable h within
+
+  member : BelongsToWhole (parts plan) (start_of plan)
+  member = start_belongs (parts plan) drawable
+
+  abbrev Reached : Progress AnyState → Type 0
+  Reached = IsReached (tree_of plan) (start_of plan)
+
   -- the leaf of the section where the whole log is genuine
-  module _ (member : BelongsToWhole (parts plan) (start_of plan)) (leaf : Progress AnyState) (short : length log < 2 ^ 64) (genuine : IsSectionedGenuine (tree_of plan) (sections_of plan) (start_of plan) plan.head log leaf) where
+  module _ (leaf : Progress AnyState) (short : length log < 2 ^ 64) (genuine : IsSectionedGenuine (tree_of plan) (sections_of plan) (start_of plan) plan.head log leaf) where
     replays : IsReplayedAlone (tree_of plan) (start_of plan) plan.head log h (covered_tree own) (state_alone (parts plan) h) (is_of_section (parts plan) h) leaf
     replays =
         let steps : List (ℕ × Entry) = placed (tree_of plan) (sections_of plan) (start_of plan) genuine.path in
         let long : (sections_of plan).count ≤ length (sections_text plan.head (sections_of plan).count steps) = log_long plan.head (sections_of plan).count steps in
         let size : length log ≡ length (sections_text plan.head (sections_of plan).count steps) = ap length genuine.text in
-        replayed_alone (tree_of plan) (BelongsToWhole (parts plan)) (whole_lawful (parts plan)) (sections_of plan) (strata_sectioned (all_of (parts plan))) h within (covered_tree own) (state_alone (parts plan) h) (is_of_section (parts plan) h) starts.part
-        (BelongsToCovered own) (covered_lawful own) (start_of plan) member (subst (BelongsToCovered own) starts.state starts.member) plan.head is_head log leaf genuine (omega (arith, long, size, short)) short
+        let sectioned : IsSectioned (tree_of plan) Reached (sections_of plan) =
+        sectioned_within (tree_of plan) (BelongsToWhole (parts plan)) Reached (reached_own (parts plan) member) (sections_of plan) (strata_sectioned (all_of (parts plan))) in
+        replayed_alone (tree_of plan) Reached (reached_lawful (tree_of plan) (BelongsToWhole (parts plan)) (whole_lawful (parts plan)) (start_of plan) member) (sections_of plan) sectioned h within (covered_tree own) (state_alone (parts plan) h) (is_of_section (parts plan) h) starts.part
+        (BelongsToCovered own) (covered_lawful own) (start_of plan) (record { path = []; leads = refl }) (subst (BelongsToCovered own) starts.state starts.member) plan.head is_head log leaf genuine (omega (arith, long, size, short)) short
 
     section_there : HasSection (covered_tree own) (covered_start own) plan.head (h + 1) log (state_alone (parts plan) h leaf)
     section_there = subst (λ (s : Progress AnyState). HasSection (covered_tree own) s plan.head (h + 1) log (state_alone (parts plan) h leaf)) (sym starts.state) replays.section
@@ -295,13 +314,20 @@ module _ (plan : Plan) (is_head : IsHead plan.head) (h : ℕ) (within : h < sect
         ap (λ n. filter ((covered_tree own).selected (state_alone (parts plan) h leaf)) (range_with_len 0 n)) units
         ∙ filter_both ((covered_tree own).selected (state_alone (parts plan) h leaf)) (is_of_section (parts plan) h) ((tree_of plan).selected leaf) 0 (tree_of plan).units (λ k l. replays.selected k (omega (arith, l)))
 
+    reads_there : section_reading (covered_tree own) (covered_start own) plan.head (h + 1) log ≡ Ok (state_alone (parts plan) h leaf)
+    reads_there = has_reading (covered_tree own) (BelongsToCovered own) (covered_lawful own) (covered_start own) starts.member plan.head (h + 1) log is_head (state_alone (parts plan) h leaf) section_there
+
+    -- so it is accepted
+    is_accepted : is_ok (drawn_by_section plan h log) ≡ true
+    is_accepted = ap (λ reading. is_ok (told_by plan (Some h) (section_told (covered_tree own) (covered_start own) (h + 1) log) reading)) reads_there
+
   module _ (drawn : Drawn) where
     -- the section of what is drawn
     record SectionLog : Type 0 where
       same : Same plan (Some h) drawn
       section : HasSection (covered_tree own) (covered_start own) plan.head (h + 1) log drawn.leaf
       path_is : drawn.path ≡ section.genuine.path
-      rows : BelongsToWhole (parts plan) (start_of plan) → (leaf : Progress AnyState) → length log < 2 ^ 64 → IsSectionedGenuine (tree_of plan) (sections_of plan) (start_of plan) plan.head log leaf
+      rows : (leaf : Progress AnyState) → length log < 2 ^ 64 → IsSectionedGenuine (tree_of plan) (sections_of plan) (start_of plan) plan.head log leaf
           → selected_units (covered_tree own) drawn.leaf ≡ filter (is_of_section (parts plan) h) (selected_units (tree_of plan) leaf)
 
     section_log : drawn_by_section plan h log ≡ Ok drawn → SectionLog
@@ -313,11 +339,10 @@ module _ (plan : Plan) (is_head : IsHead plan.head) (h : ℕ) (within : h < sect
           same = told.same;
           section = section;
           path_is = told.path_so ∙ has_told (covered_tree own) (BelongsToCovered own) (covered_lawful own) (covered_start own) starts.member plan.head (h + 1) log drawn.leaf section;
-          rows = λ member leaf short genuine.
-              (let there = has_reading (covered_tree own) (BelongsToCovered own) (covered_lawful own) (covered_start own) starts.member plan.head (h + 1) log is_head (state_alone (parts plan) h leaf) (section_there member leaf short genuine) in
-              let one : ◌≡◌ {A = Result (Progress AnyState) ℕ} (Ok drawn.leaf) (Ok (state_alone (parts plan) h leaf)) = sym told.reads ∙ there in
+          rows = λ leaf short genuine.
+              (let one : ◌≡◌ {A = Result (Progress AnyState) ℕ} (Ok drawn.leaf) (Ok (state_alone (parts plan) h leaf)) = sym told.reads ∙ reads_there leaf short genuine in
               let same : drawn.leaf ≡ state_alone (parts plan) h leaf = cc in
-              ap (selected_units (covered_tree own)) same ∙ rows_same member leaf short genuine);
+              ap (selected_units (covered_tree own)) same ∙ rows_same leaf short genuine);
         }
 
 -- ---- a draw that ended well
@@ -337,7 +362,7 @@ record Drew (job : Job) (source : drawing.Source) (files : List DrawnFile) (put 
   staged : drawn_stage plan source fs ≡ Ok drawn
   by_plan : IsDrawnOf drawn.only plan drawn
   written : now.files ≡ Some (with_files (map (written_by drawn) files) fs)
-  shown : now.written ≡ with_bytes (put drawn) before.written
+  shown : now.put ≡ with_bytes (put drawn) before.put
 
 drew : (words : List (List ℕ)) (job : Job) (fs : Files) (before now : Outside) {source : drawing.Source} {files : List DrawnFile} {put : Drawn → List ℕ}
     → job_for words ≡ Some job → job.work ≡ Draws source files put → Done words before now → before.files ≡ Some fs → Drew job source files put fs before now
@@ -355,7 +380,7 @@ drew words job fs before now {source = source} {files = files} {put = put} asked
       staged = from.is_drawn;
       by_plan = from.by_plan;
       written = work.files ∙ ap (λ (o : Outputs). Some (with_files o.files fs)) outputs;
-      shown = work.written ∙ ap (λ (o : Outputs). with_bytes o.put before.written) outputs;
+      shown = work.put ∙ ap (λ (o : Outputs). with_bytes o.put before.put) outputs;
     }
 
 -- what is drawn of all strata
@@ -363,47 +388,33 @@ by_whole : (plan : Plan) (drawn : Drawn) → drawn.only ≡ None → IsDrawnOf d
 by_whole plan drawn all by = subst (λ (o : Option ℕ). IsDrawnOf o plan drawn) all by
 
 -- the log that is written of it is genuine, of version 2
-module _ (plan : Plan) (whole : Drawn) (by : IsDrawnBy plan whole) where
-  abbrev text_by : Plan → Option ℕ → List ℕ
-  text_by p only =
-      let c : Coverage = record { plan = parts p; only = only } in
-      sectioned_log_text (covered_tree c) (strata_sections c) (covered_start c) p.head whole.path
+module _ (drawn : Drawn) (by : IsDrawnBy drawn) where
+  abbrev text_by : Option ℕ → List ℕ
+  text_by only =
+      let c : Coverage = record { plan = parts drawn.plan; only = only } in
+      sectioned_log_text (covered_tree c) (strata_sections c) (covered_start c) drawn.plan.head drawn.path
 
-  whole_seen : covered whole ≡ all_of (parts plan)
-  whole_seen = ap (λ (p : Plan). record { plan = parts p; only = whole.only }) by.plan_is ∙ ap (λ (o : Option ℕ). record { plan = parts plan; only = o }) by.all
+  log_genuine : IsSectionedGenuine (tree_of drawn.plan) (sections_of drawn.plan) (start_of drawn.plan) drawn.plan.head (log_text drawn) drawn.leaf
+  log_genuine = record { path = drawn.path; full = by.full; text = ap text_by by.all }
 
-  log_genuine : (log : List ℕ) → log ≡ log_text whole → IsSectionedGenuine (tree_of plan) (sections_of plan) (start_of plan) plan.head log whole.leaf
-  log_genuine log is = record {
-    path = whole.path;
-    full = by.full;
-    text = is ∙ ap (λ (p : Plan). text_by p whole.only) by.plan_is ∙ ap (text_by plan) by.all;
-  }
-
--- by its own plan
-written_genuine : (plan : Plan) (drawn : Drawn) → IsDrawnBy plan drawn → (genuine : IsSectionedGenuine (tree_of drawn.plan) (sections_of drawn.plan) (start_of drawn.plan) drawn.plan.head (log_text drawn) drawn.leaf) × (genuine.path ≡ drawn.path)
-unfolding log_genuine
-written_genuine plan drawn by =
-    let own : IsDrawnBy drawn.plan drawn = subst (λ (p : Plan). IsDrawnBy p drawn) (sym by.plan_is) by in
-    (log_genuine drawn.plan drawn own (log_text drawn) refl, refl)
+  log_path : log_genuine.path ≡ drawn.path
+  unfolding log_genuine
+  log_path = refl
 
 -- the head of the plan that was read
 head_so : (design frame : List ℕ) (fs : Files) (plan : Plan) → IsReadPlan design frame fs plan → IsHead plan.head
 head_so design frame fs plan from = subst IsHead (sym from.frame_is.head) (head_of-is from.design_bytes from.frame_is.frame_bytes)
 
--- what is drawn by its own plan
-own_plan : (plan : Plan) (drawn : Drawn) → IsDrawnBy plan drawn → IsDrawnBy drawn.plan drawn
-own_plan plan drawn by = subst (λ (p : Plan). IsDrawnBy p drawn) (sym by.plan_is) by
-
 abbrev ok_drawn : Drawn → Result Drawn Stop
 ok_drawn drawn = Ok drawn
 
 -- the log that is written of it tells it again
-module _ (drawn : Drawn) (by : IsDrawnBy drawn.plan drawn) (is_head : IsHead drawn.plan.head) (member : BelongsToWhole (parts drawn.plan) (start_of drawn.plan)) where
+module _ (drawn : Drawn) (by : IsDrawnBy drawn) (is_head : IsHead drawn.plan.head) (member : BelongsToWhole (parts drawn.plan) (start_of drawn.plan)) where
   abbrev own_log : List ℕ
   own_log = log_text drawn
 
   own_genuine : IsSectionedGenuine (tree_of drawn.plan) (sections_of drawn.plan) (start_of drawn.plan) drawn.plan.head own_log drawn.leaf
-  own_genuine = log_genuine drawn.plan drawn by own_log refl
+  own_genuine = log_genuine drawn by
 
   own_any : IsAnyGenuine (tree_of drawn.plan) (sections_of drawn.plan) (start_of drawn.plan) drawn.plan.head own_log drawn.leaf
   own_any = record { path = own_genuine.path; full = own_genuine.full; text = inr own_genuine.text }
@@ -430,7 +441,7 @@ module _ (a : DrawArguments) (fs : Files) (before now : Outside) (words : List (
       record {
         drawn = d.drawn;
         is_drawn = by_chance d.plan whole.member a.chance fs d.drawn d.staged;
-        by_plan = own_plan d.plan d.drawn whole.by_plan;
+        by_plan = whole.by_plan;
         written = d.written;
         put = d.shown;
         read = subst (IsReadPlan a.design a.frame fs) (sym same.by_plan) (read_plan a.design a.frame fs d.plan (read a.design a.frame fs d.plan d.planned));
@@ -443,7 +454,34 @@ module _ (a : DrawArguments) (fs : Files) (before now : Outside) (words : List (
       let same = chance_same d.plan a.chance fs d.drawn d.staged in
       let whole = by_whole d.plan d.drawn same.only_so d.by_plan in
       let one : d.plan ≡ exact.drawn.plan = read_once a.design a.frame fs d.plan exact.drawn.plan (read_plan a.design a.frame fs d.plan (read a.design a.frame fs d.plan d.planned)) exact.read in
-      record { same = read_again exact.drawn exact.by_plan (head_so a.design a.frame fs exact.drawn.plan exact.read) (subst (λ (p : Plan). BelongsToWhole (parts p) (start_of p)) one whole.member) }
+      let member : BelongsToWhole (parts exact.drawn.plan) (start_of exact.drawn.plan) = subst (λ (p : Plan). BelongsToWhole (parts p) (start_of p)) one whole.member in
+      record {
+        start = member;
+        same = read_again exact.drawn exact.by_plan (head_so a.design a.frame fs exact.drawn.plan exact.read) member;
+        sections = λ h within short.
+            is_accepted exact.drawn.plan (head_so a.design a.frame fs exact.drawn.plan exact.read) member.drawable h within (log_text exact.drawn) exact.drawn.leaf short (log_genuine exact.drawn exact.by_plan);
+      }
+
+-- ---- a list that ended well
+
+module _ (text : Plan → List ℕ) (a : DesignArguments) (fs : Files) (before now : Outside) (words : List (List ℕ)) (asked : job_for words ≡ Some (held_job a.design a.frame (Lists text))) where
+  abbrev list_job : Job
+  list_job = held_job a.design a.frame (Lists text)
+
+  pub exact_list : Done words before now → before.files ≡ Some fs → IsExactList text a fs before now
+  exact_list done told =
+      let same : done.job ≡ list_job = some_same _ _ (sym done.asked ∙ asked) in
+      let work : IsWork words list_job fs before now = subst (λ (j : Job). IsWork words j fs before now) same (done.done fs told) in
+      let plan = work.exact.plan in
+      let staged : outputs_stage list_job fs ≡ Ok (record { files = []; put = text plan }) = rw work.exact.planned refl in
+      let outputs : work.outputs ≡ record { files = []; put = text plan } = ok_same _ _ (sym work.accepted ∙ verdict_of words list_job asked fs ∙ staged) in
+      record {
+        plan = plan;
+        read = read_plan a.design a.frame fs plan (read a.design a.frame fs plan work.exact.planned);
+        probabilities = work.exact.from_plan.probabilities;
+        put = work.put ∙ ap (λ (o : Outputs). with_bytes o.put before.put) outputs;
+        same = work.files ∙ ap (λ (o : Outputs). Some (with_files o.files fs)) outputs;
+      }
 
 -- ---- a quick draw that ended well
 
@@ -464,7 +502,7 @@ module _ (a : QuickArguments) (fs : Files) (before now : Outside) (words : List 
       record {
         drawn = d.drawn;
         is_drawn = by_chance d.plan whole.member (Tape a.tape) fs d.drawn d.staged;
-        by_plan = own_plan d.plan d.drawn whole.by_plan;
+        by_plan = whole.by_plan;
         written = d.written;
         put = d.shown;
         design = ap (λ (p : Plan). p.design) same.by_plan ∙ from.0;
@@ -507,7 +545,7 @@ module _ (a : ReplayArguments) (fs : Files) (before now : Outside) (words : List
           text = subst (λ (p : Plan). IsAnyText (tree_of p) (sections_of p) (start_of p) p.head any.genuine.path logged.log) (sym any.same.by_plan) any.genuine.text;
         };
         path_is = any.path_is;
-        by_plan = own_plan plan drawn whole.by_plan;
+        by_plan = whole.by_plan;
         written = d.written;
         put = d.shown;
         read = subst (IsReadPlan a.design a.frame fs) (sym any.same.by_plan) from;
@@ -520,7 +558,7 @@ module _ (a : ReplayArguments) (fs : Files) (before now : Outside) (words : List
     record Sectioned (drawn : Drawn) (plan : Plan) (log : List ℕ) : Type 0 where
       section : HasSection (covered_tree (alone plan h)) (covered_start (alone plan h)) plan.head (h + 1) log drawn.leaf
       path_is : drawn.path ≡ section.genuine.path
-      rows : BelongsToWhole (parts plan) (start_of plan) → (leaf : Progress AnyState) → IsSectionedGenuine (tree_of plan) (sections_of plan) (start_of plan) plan.head log leaf → length log < 2 ^ 64
+      rows : (leaf : Progress AnyState) → IsSectionedGenuine (tree_of plan) (sections_of plan) (start_of plan) plan.head log leaf → length log < 2 ^ 64
           → drawn_rows drawn ≡ filter (is_of_section (parts plan) h) (selected_units (tree_of plan) leaf)
 
     pub exact_section_replay : a.stratum ≡ Some (h + 1) → Done words before now → before.files ≡ Some fs → IsExactSection a h fs before now
@@ -533,12 +571,12 @@ module _ (a : ReplayArguments) (fs : Files) (before now : Outside) (words : List
         let own = alone plan h in
         let told = told_so plan (Some h) (section_told (covered_tree own) (covered_start own) (h + 1) logged.log) (section_reading (covered_tree own) (covered_start own) plan.head (h + 1) logged.log) drawn logged.tells in
         let by : IsDrawnAlone plan h drawn = subst (λ (o : Option ℕ). IsDrawnOf o plan drawn) told.same.only_so d.by_plan in
-        let lone = section_log plan (head_so a.design a.frame fs plan from) h by.there by.starts logged.log drawn logged.tells in
+        let lone = section_log plan (head_so a.design a.frame fs plan from) by.starts.member.drawable h by.there logged.log drawn logged.tells in
         let seen : covered drawn ≡ own = ap (λ (p : Plan). record { plan = parts p; only = drawn.only }) lone.same.by_plan ∙ ap (λ (o : Option ℕ). record { plan = parts plan; only = o }) lone.same.only_so in
         let of_plan : Sectioned drawn plan logged.log = record {
           section = lone.section;
           path_is = lone.path_is;
-          rows = λ member leaf genuine short. (ap (λ (c : Coverage). selected_units (covered_tree c) drawn.leaf) seen ∙ lone.rows member leaf short genuine);
+          rows = λ leaf genuine short. (ap (λ (c : Coverage). selected_units (covered_tree c) drawn.leaf) seen ∙ lone.rows leaf short genuine);
         } in
         let of_drawn : Sectioned drawn drawn.plan logged.log = subst (λ (p : Plan). Sectioned drawn p logged.log) (sym lone.same.by_plan) of_plan in
         record {
@@ -577,10 +615,10 @@ module _ (a : MigrateArguments) (fs : Files) (before now : Outside) (words : Lis
           text = old.genuine.text ∙ ap (λ (p : Plan). logs.log_text p.head old.genuine.path) (sym old.same.by_plan);
         };
         path_is = old.path_is;
-        by_plan = own_plan plan drawn whole.by_plan;
+        by_plan = whole.by_plan;
         written = d.written;
-        genuine = (written_genuine plan drawn whole.by_plan).0;
-        same_path = (written_genuine plan drawn whole.by_plan).1 ∙ old.path_is;
+        genuine = log_genuine drawn whole.by_plan;
+        same_path = log_path drawn whole.by_plan ∙ old.path_is;
         put = d.shown;
         read = subst (IsReadPlan a.design a.frame fs) (sym old.same.by_plan) from;
       }
@@ -639,6 +677,8 @@ headline answer words before now says = record {
   replay = λ a fs ends none. exact_replay a fs before now words ends.asked none (done ends.answered) ends.told;
   section = λ a h fs ends number. exact_section_replay a fs before now words ends.asked h number (done ends.answered) ends.told;
   migrate = λ a fs ends. exact_migration a fs before now words ends.asked (done ends.answered) ends.told;
+  probs = λ a fs ends. exact_list probabilities_text a fs before now words (ap (option_map job_of) ends.asked) (done ends.answered) ends.told;
+  check = λ a fs ends. exact_list accepted_text a fs before now words (ap (option_map job_of) ends.asked) (done ends.answered) ends.told;
   joint = λ a fs ends. exact_joint a fs before now words ends.asked (done ends.answered) ends.told;
   replay_differs = λ a fs line ends none. replay_line answer words before now fs line says a ends none;
   section_differs = λ a h fs line ends number. section_line answer words before now fs line says a h ends number;

@@ -112,7 +112,7 @@ module _ (a : DesignArguments) (fs : Files) (before now : Outside) (words : List
   joint_asked = ap (option_map job_of) asked
 
   -- the plan of what was read, and what it lists
-  joint_of_plan : (plan : Plan) → plan_stage (HeldForJoint a.design) (FrameForJoint a.frame) fs ≡ Ok plan → CanBeDrawn (parts plan) → now.written ≡ with_bytes (joints_text plan) before.written → now.files ≡ Some fs
+  joint_of_plan : (plan : Plan) → plan_stage (HeldForJoint a.design) (FrameForJoint a.frame) fs ≡ Ok plan → CanBeDrawn (parts plan) → now.put ≡ with_bytes (joints_text plan) before.put → now.files ≡ Some fs
       → IsExactJoint a fs before now
   joint_of_plan plan planned_is drawable put same =
       let design = step (design_stage (HeldForJoint a.design) fs) (λ d. frame_stage d (FrameForJoint a.frame) fs) plan planned_is in
@@ -138,6 +138,6 @@ module _ (a : DesignArguments) (fs : Files) (before now : Outside) (words : List
       let plan = work.exact.plan in
       let staged : outputs_stage joint_job fs ≡ Ok (record { files = []; put = joints_text plan }) = rw work.exact.planned refl in
       let outputs : work.outputs ≡ record { files = []; put = joints_text plan } = ok_same _ _ (sym work.accepted ∙ verdict_of words joint_job joint_asked fs ∙ staged) in
-      joint_of_plan plan work.exact.planned work.exact.from_plan
-      (work.written ∙ ap (λ (o : Outputs). with_bytes o.put before.written) outputs)
+      joint_of_plan plan work.exact.planned work.exact.from_plan.drawable
+      (work.put ∙ ap (λ (o : Outputs). with_bytes o.put before.put) outputs)
       (work.files ∙ ap (λ (o : Outputs). Some (with_files o.files fs)) outputs)

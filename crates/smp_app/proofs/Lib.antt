@@ -2,6 +2,7 @@ pub mod Alone
 pub mod Cubes
 pub mod Deliveries
 pub mod Ends
+pub mod Four
 pub mod Headline
 pub mod Joints
 pub mod PlansRead

@@ -39,6 +39,8 @@ use Rattle.smp_twostage.specs.Selections as selections
 use Rattle.smp_twostage.specs.Selections.{BelongsToCovered, BelongsToWhole, Coverage, all_of, covered_start, covered_tree, one_of, place_of, section_count, strata_sections, whole_tree}
 use Rattle.smp_twostage.specs.Sides.{section_count_by}
 use Rattle.smp_twostage.specs.Covered.{StartsAlone}
+use Rattle.smp_twostage.specs.Plans.{CanBeDrawn}
+use Rattle.smp_twostage.proofs.Wholes.{whole_starts}
 use Rattle.smp_twostage.specs.Starts.{StartsWhole, covered_first, known, row_fraction, second_selected, weighted}
 use Rattle.smp_twostage.specs.Laws.Places.{place_is_seat}
 use Rattle.smp_twostage.specs.Laws.Staged.{seconds_in}
@@ -49,7 +51,7 @@ use Rattle.smp_twostage.specs.declared.whole.StartedWhole.{StartedWhole}
 use Rattle.smp_app.specs.declared.selection.Taken.{Taken}
 use Rattle.smp_app.specs.declared.selection.Taken.TheVariants as takes
 use Rattle.smp_app.specs.Kept.Stages.{EndsAsTold, HasStratum, IsStart, IsWalked, RefusedAt, StartsOf, drawn_by_taken, end_told, only_of, path_by, reading_by}
-use Rattle.smp_app.specs.Draws.{IsDrawnBy, IsDrawnOf, IsDrawnWhole, HasProbabilities}
+use Rattle.smp_app.specs.Draws.{IsDrawnBy, IsDrawnOf, IsDrawnWhole, IsListed, HasProbabilities}
 use Rattle.smp_plan.specs.Plans.{Plan, parts, row_probability}
 use Rattle.smp_app.specs.Drawn.{tree_of, start_of, Drawn, covered}
 use Rattle.smp_app.specs.Texts.{log_text}
@@ -206,7 +208,7 @@ module _ (plan : FramePlan) (planned : IsPlanned plan) where
     start_member : BelongsToWhole (parts (plan_view plan)) (start_of (plan_view plan))
     start_member = subst (λ (s : Progress AnyState). BelongsToWhole (parts (plan_view plan)) s) state_is (subst (λ (c : Coverage). BelongsToCovered c state) (own_is (all_of plan.plan) refl) starts.member)
 
-    probabilities_own : HasProbabilities (plan_view plan)
+    pub probabilities_own : HasProbabilities (plan_view plan)
     probabilities_own = record {
       probability = λ row l.
           subst (λ (t : Tree (Progress AnyState)). Same (inclusion_probability t (start_of (plan_view plan)) row) (row_probability (plan_view plan) row)) (tree_is (all_of plan.plan) refl)
@@ -271,9 +273,8 @@ module _ (plan : FramePlan) (planned : IsPlanned plan) where
           seconds_by h k s u asked is_s is_u u.second refl (seconds_in plan.plan planned.drawable asked.method method h s is_s k u is_u)
           (subst (λ (o : Option second.Second). SecondDraws o (length u.rows) u.second) is_second draws) first
 
-      drawn_so : IsDrawnBy (plan_view plan) here
+      drawn_so : IsDrawnBy here
       drawn_so = record {
-        plan_is = refl;
         all = refl;
         lawful = reached_lawful (tree_of (plan_view plan)) (BelongsToWhole all) (whole_lawful all) (start_of (plan_view plan)) start_member;
         full = subst (λ (s : Progress AnyState). IsFullPath (tree_of (plan_view plan)) s path to) state_is
@@ -287,7 +288,14 @@ module _ (plan : FramePlan) (planned : IsPlanned plan) where
       }
 
       drawn_by : IsDrawnWhole (plan_view plan) here
-      drawn_by = record { member = start_member; by_plan = drawn_so }
+      drawn_by = record { plan_is = refl; member = start_member; by_plan = drawn_so }
+
+  -- what is listed of a plan, of which nothing is drawn
+  pub is_listed : IsListed (plan_view plan)
+  is_listed = record {
+    drawable = subst CanBeDrawn planned.parts_are planned.drawable;
+    probabilities = probabilities_own (selections.start_of plan.plan) (whole_starts plan.plan planned.drawable) (start_is (selections.start_of plan.plan) refl);
+  }
 
   abbrev view : Plan
   view = plan_view plan

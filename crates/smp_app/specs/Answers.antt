@@ -15,30 +15,37 @@ use Rattle.smp_app.specs.Verdict.{verdict}
 use Rattle.smp_app.specs.Draws.{IsExact, IsExactRefusal}
 use Rattle.smp_app.specs.Deliveries.{Outputs, SomeRose, names_of, with_files, StopsAt, AtPlace}
 
--- What can be told of the outside: the files, and for each name the counts of failed reads and writes; what was put, and the count of
--- failed puts. `None` where the files, or what was put, aren't told.
+-- What can be told of the outside: the files, and for each name the counts of failed reads, of failed writes and of writes that ended
+-- for want of memory; what was put, and the counts of failed puts and of puts that ended for want of memory. `None` where the files, or
+-- what was put, aren't told.
 pub record Outside : Type 0 where
   pub files : Option Files
   pub read_faults : List ℕ → ℕ
   pub write_faults : List ℕ → ℕ
-  pub written : Option (List ℕ)
+  pub write_shortages : List ℕ → ℕ
+  pub put : Option (List ℕ)
   pub put_faults : ℕ
+  pub put_shortages : ℕ
 
 -- what a store and a sink tell
-abbrev pub outside : {K S : Type 0} → (K → Option Files) → (K → List ℕ → ℕ) → (K → List ℕ → ℕ)
-    → (S → Option (List ℕ)) → (S → ℕ) → K → S → Outside
-outside files read_faults write_faults written put_faults store out = record {
-  files = files store;
-  read_faults = read_faults store;
-  write_faults = write_faults store;
-  written = written out;
-  put_faults = put_faults out;
-}
+abbrev pub outside : {K S : Type 0} → (K → Option Files)
+    → (K → List ℕ → ℕ) → (K → List ℕ → ℕ) → (K → List ℕ → ℕ)
+    → (S → Option (List ℕ)) → (S → ℕ) → (S → ℕ) → K → S → Outside
+outside files read_faults write_faults write_shortages written put_faults put_shortages store out =
+    record {
+      files = files store;
+      read_faults = read_faults store;
+      write_faults = write_faults store;
+      write_shortages = write_shortages store;
+      put = written out;
+      put_faults = put_faults out;
+      put_shortages = put_shortages out;
+    }
 
 -- nothing but counts changed
 pub record Untouched (before now : Outside) : Type 0 where
   pub files : now.files ≡ before.files
-  pub written : now.written ≡ before.written
+  pub put : now.put ≡ before.put
 
 -- ---- all was done
 
@@ -49,7 +56,7 @@ pub record IsWork (words : List (List ℕ)) (job : Job) (fs : Files) (before now
   pub accepted : verdict words fs ≡ Ok outputs
   pub exact : IsExact job fs
   pub files : now.files ≡ Some (with_files outputs.files fs)
-  pub written : now.written ≡ with_bytes outputs.put before.written
+  pub put : now.put ≡ with_bytes outputs.put before.put
 
 pub record Done (words : List (List ℕ)) (before now : Outside) : Type 0 where
   pub job : Job
@@ -77,8 +84,8 @@ pub record Refusal (class : Class) (refusal : Status) (words : List (List ℕ))
   pub files : now.files ≡ before.files
   pub line : List ℕ
   pub line_is : fault_line refusal ≡ Some line
-  pub put : (now.written ≡ with_bytes line before.written)
-      ⊎ (Rose before.put_faults now.put_faults × AppendsFront line before.written now.written)
+  pub put : (now.put ≡ with_bytes line before.put)
+      ⊎ (Rose before.put_faults now.put_faults × AppendsFront line before.put now.put)
 
 -- ---- faults of the outside
 
@@ -99,28 +106,42 @@ pub record Stopped (words : List (List ℕ)) (before now : Outside) : Type 0 whe
   pub outputs : Outputs
   pub named : names_of outputs.files ≡ outputs_of job
   pub accepted : (fs : Files) → before.files ≡ Some fs → verdict words fs ≡ Ok outputs
-  pub stops : StopsAt outputs before.files now.files before.written now.written
+  pub stops : StopsAt outputs before.files now.files before.put now.put
+
+-- The outputs stopped, and this holds of the name of the file whose write stopped them, or of the put.
+pub record StoppedBy (words : List (List ℕ)) (before now : Outside) (of_file : List ℕ → Type 0)
+    (of_put : Type 0) : Type 0 where
+  pub stopped : Stopped words before now
+  pub cause : AtPlace stopped.stops of_file of_put
 
 -- The outputs stopped because the write of that file, or the put, failed: the place where they stopped is the call whose count rose.
-pub record WriteFault (words : List (List ℕ)) (before now : Outside) : Type 0 where
-  pub stopped : Stopped words before now
-  pub cause : AtPlace stopped.stops
-      (λ name. Rose (before.write_faults name) (now.write_faults name))
-      (Rose before.put_faults now.put_faults)
+abbrev pub WriteFault : List (List ℕ) → Outside → Outside → Type 0
+WriteFault words before now =
+    StoppedBy words before now (λ name. Rose (before.write_faults name) (now.write_faults name))
+    (Rose before.put_faults now.put_faults)
 
--- At the line of a refusal, of which a front may have been put, no file was touched.
+-- They stopped because that write, or the put, ended for want of memory.
+abbrev pub Shortage : List (List ℕ) → Outside → Outside → Type 0
+Shortage words before now =
+    StoppedBy words before now
+    (λ name. Rose (before.write_shortages name) (now.write_shortages name))
+    (Rose before.put_shortages now.put_shortages)
+
+-- The put of a refusal's line ended for want of memory, of which a front may have been put; no file was touched.
 pub record AtLine (words : List (List ℕ)) (before now : Outside) : Type 0 where
   pub refusal : Status
   pub refused : RefusesBy (class_of refusal) refusal words before.files
   pub line : List ℕ
   pub line_is : fault_line refusal ≡ Some line
   pub files : now.files ≡ before.files
-  pub put : AppendsFront line before.written now.written
+  pub cause : Rose before.put_shortages now.put_shortages
+  pub put : AppendsFront line before.put now.put
 
--- Memory ran out: before anything was touched, at the line of a refusal, or at the outputs.
+-- Memory ran out: before anything was touched, in the put of a refusal's line, or in a write or the put of the outputs. So once a file
+-- is written it is a call of the store or the sink that ended for want of memory.
 abbrev pub NoMemory : List (List ℕ) → Outside → Outside → Type 0
 NoMemory words before now =
-    Untouched before now ⊎ (AtLine words before now ⊎ Stopped words before now)
+    Untouched before now ⊎ (AtLine words before now ⊎ Shortage words before now)
 
 -- ---- the answer
 

@@ -111,6 +111,14 @@ written_names (Draws source files put) = map (λ file. file.name) files
 abbrev pub outputs_of : Job → List (List ℕ)
 outputs_of job = written_names job.work
 
+-- those that some words have read
+abbrev pub inputs_by : Option Job → List (List ℕ)
+inputs_by None = []
+inputs_by (Some job) = inputs_of job
+
+abbrev pub inputs_named : List (List ℕ) → List (List ℕ)
+inputs_named words = inputs_by (job_for words)
+
 -- all files that a job names, and those that some words name: none for `demo`, and none for words that are those of no command
 abbrev pub files_of : Job → List (List ℕ)
 files_of job = inputs_of job ++ outputs_of job

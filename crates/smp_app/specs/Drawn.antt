@@ -10,14 +10,16 @@ use Rattle.smp_stages.specs.Stages.{Progress}
 use Rattle.smp_twostage.specs.Selections.{Coverage, all_of, covered_start, covered_tree, is_of_section, strata_sections}
 use Rattle.smp_plan.specs.Plans.{Plan, parts}
 
--- the draw tree, whose units are the rows of the frame, and the state from which a draw starts
+-- the draw tree, of the plan alone, whose units are the rows of the frame
 abbrev pub tree_of : Plan → Tree (Progress AnyState)
 tree_of plan = covered_tree (all_of (parts plan))
 
+-- the state from which a draw starts, of the plan alone
+-- e.g. (1,2,3,4)/5, in the only stage
 abbrev pub start_of : Plan → Progress AnyState
 start_of plan = covered_start (all_of (parts plan))
 
--- its sections: the strata, or all of them where they are drawn together
+-- the sections of a plan's draw: the strata, or all of them where they are drawn together
 abbrev pub sections_of : Plan → Sectioning (Progress AnyState)
 sections_of plan = strata_sections (all_of (parts plan))
 
@@ -39,5 +41,6 @@ rows_by plan (Some h) =
     count_by (is_of_section (parts plan) h) (range_with_len 0 (length plan.units))
 
 -- the rows that are drawn, in frame order
+-- e.g. 2, 3
 abbrev pub drawn_rows : Drawn → List ℕ
 drawn_rows drawn = selected_units (covered_tree (covered drawn)) drawn.leaf

@@ -9,7 +9,7 @@ use Rattle.smp_fractions.specs.Fractions.{Same, integer, sum_below}
 use Rattle.smp_prob.specs.Given.{expected_size}
 use Rattle.smp_split.specs.Means.{mean, inclusion_probability}
 use Rattle.smp_values.specs.Values.{is_one}
-use Rattle.smp_moves.specs.Cubes.{values_in}
+use Rattle.smp_moves.specs.Cubes.{left_in, values_in}
 use Rattle.smp_stratcube.specs.Values as together
 use Rattle.smp_balance.specs.Totals.{AreBalanced, IsBalancedFrame}
 use Rattle.smp_balance.specs.Reports.{TellsColumn}
@@ -41,6 +41,7 @@ use Rattle.smp_app.specs.Verdict.{alone, drawn_stage}
 use Rattle.smp_plan.specs.Inputs.{plan_stage}
 
 -- how many of the first stage units of stratum h are drawn
+-- e.g. 2
 abbrev pub firsts_drawn : Drawn → ℕ → Stratum → ℕ
 firsts_drawn drawn h s =
     let selected = covered_first (all_of (parts drawn.plan)) drawn.leaf.states h in
@@ -66,6 +67,8 @@ pub record IsCubeDraw (drawn : Drawn) (goes : Goes drawn) (h : ℕ) (s : Stratum
   -- The report tells the estimates at that leaf and the known totals.
   pub tells : (column : ℕ) → TellsColumn (told (covered drawn) drawn.leaf.states h)
       (balancing (parts drawn.plan) s ∷ []) (is_one (values_in (leaf_of drawn_so))) column
+  -- and how many units were fractional where the landing began
+  pub left : (told (covered drawn) drawn.leaf.states h).left ≡ left_in (leaf_of drawn_so)
 
 -- What is drawn of all strata together. The path leads through the method's tree, from the requested probabilities to a leaf. On it, as on
 -- every path of the method from there, each flight step keeps every balancing total in force exactly, over all strata, and the landing
@@ -76,6 +79,7 @@ pub record IsTogetherDraw (drawn : Drawn) (goes : Goes drawn) : Type 0 where
   -- The report tells the estimates at that leaf and the known totals.
   pub tells : (column : ℕ) → TellsColumn (told (covered drawn) drawn.leaf.states 0)
       (frame_of (parts drawn.plan)) (together.is_one (values_in drawn_so.leaf)) column
+  pub left : (told (covered drawn) drawn.leaf.states 0).left ≡ left_in drawn_so.leaf
 
 -- The path is made of the stages' own paths; and where the method balances, each stratum is drawn so, or all strata together.
 pub record KeepsBalance (drawn : Drawn) : Type 0 where
@@ -87,8 +91,10 @@ pub record KeepsBalance (drawn : Drawn) : Type 0 where
 
 -- ---- what is drawn by a plan
 
--- In the draw tree each row's probability of selection, over draws that are uniform below each asked bound, is exactly the one that is
--- asked for it; and the mean of the weighted total of any values is their sum over the rows that can be selected.
+-- In the draw tree each row's probability of selection, over draws that are uniform below each bound and independent of those before, is
+-- exactly the one that is asked for it; and the mean of the weighted total of any values is their sum over the rows that can be selected.
+-- = P(k) = π(k), and E Σ xₖ/πₖ = Σ xₖ
+-- e.g. P(c) = 3/5; for xₖ = 1 the mean is 4
 pub record HasProbabilities (plan : Plan) : Type 0 where
   pub probability : (row : ℕ) → row < length plan.units
       → Same (inclusion_probability (tree_of plan) (start_of plan) row) (row_probability plan row)
@@ -98,19 +104,18 @@ pub record HasProbabilities (plan : Plan) : Type 0 where
       → Same (mean (tree_of plan) (λ row. weighted (row_probability plan row) (x row)) (start_of plan))
       (sum_below (length plan.units) (λ row. integer (known (row_probability plan row) (x row))))
 
--- What holds of what is drawn of all strata by a plan.
-pub record IsDrawnBy (plan : Plan) (drawn : Drawn) : Type 0 where
-  -- It is drawn by this plan, of all strata.
-  pub plan_is : drawn.plan ≡ plan
+-- What holds of what is drawn of all strata by its plan.
+pub record IsDrawnBy (drawn : Drawn) : Type 0 where
   pub all : drawn.only ≡ None
   -- The draw tree splits lawfully in each state to which a path leads from the start: where it isn't done the weights are at least 1,
   -- each part's rank is lower, and each row's value is the weighted mean of its values in the parts; where it is done, that is 1 for
   -- the rows that are selected, and 0 for the others.
-  pub lawful : Lawful (tree_of plan) (IsReached (tree_of plan) (start_of plan))
+  pub lawful : Lawful (tree_of drawn.plan)
+      (IsReached (tree_of drawn.plan) (start_of drawn.plan))
   -- The path of the draw leads from the start to a leaf, which is done.
-  pub full : IsFullPath (tree_of plan) (start_of plan) drawn.path drawn.leaf
+  pub full : IsFullPath (tree_of drawn.plan) (start_of drawn.plan) drawn.path drawn.leaf
   -- Each row is selected with exactly the probability that is asked for it, and the weighted total has no bias.
-  pub probabilities : HasProbabilities plan
+  pub probabilities : HasProbabilities drawn.plan
   -- As many first stage units of each stratum are drawn as the design asks for: its sample size, or with given probabilities what they
   -- add up to, where that is a whole number.
   pub firsts : (h n : ℕ) (s : Stratum) → slice_get (parts drawn.plan).strata h ≡ Some s
@@ -145,10 +150,11 @@ pub record IsDrawnAlone (plan : Plan) (h : ℕ) (drawn : Drawn) : Type 0 where
   pub full : IsFullPath (covered_tree (alone plan h)) (covered_start (alone plan h)) drawn.path
       drawn.leaf
 
--- what is drawn of all strata, from a state of the selection by the plan
+-- what is drawn of all strata by this plan, from a state of the selection
 pub record IsDrawnWhole (plan : Plan) (drawn : Drawn) : Type 0 where
+  pub plan_is : drawn.plan ≡ plan
   pub member : BelongsToWhole (parts plan) (start_of plan)
-  pub by_plan : IsDrawnBy plan drawn
+  pub by_plan : IsDrawnBy drawn
 
 abbrev pub IsDrawnOf : Option ℕ → Plan → Drawn → Type 0
 IsDrawnOf None plan drawn = IsDrawnWhole plan drawn
@@ -160,9 +166,13 @@ pub record IsDrawFrom (plan : Plan) (source : Source) (fs : Files) : Type 0 wher
   pub is_drawn : drawn_stage plan source fs ≡ Ok drawn
   pub by_plan : IsDrawnOf drawn.only plan drawn
 
--- what a job lists is of a plan that can be drawn
+-- What holds of a plan of which a job lists: it can be drawn, and by its draw tree each row has its probability.
+pub record IsListed (plan : Plan) : Type 0 where
+  pub drawable : CanBeDrawn (parts plan)
+  pub probabilities : HasProbabilities plan
+
 abbrev pub IsExactFrom : Plan → Work → Files → Type 0
-IsExactFrom plan (Lists text) fs = CanBeDrawn (parts plan)
+IsExactFrom plan (Lists text) fs = IsListed plan
 IsExactFrom plan (Draws source files put) fs = IsDrawFrom plan source fs
 
 -- what a job draws by its plan is drawn with the requested probabilities
@@ -173,11 +183,12 @@ pub record IsExact (job : Job) (fs : Files) : Type 0 where
 
 -- ---- a log that is refused
 
--- The line of a log behind the most whole lines with which some genuine log of the plan begins: of either version, or of version 1 alone.
+-- the line of a log behind the most whole lines with which some genuine log of the plan begins, of either version
 abbrev pub WholeDiffers : Plan → List ℕ → ℕ → Type 0
 WholeDiffers plan log line =
     DiffersAt (IsAnyGenuine (tree_of plan) (sections_of plan) (start_of plan) plan.head) log line
 
+-- the line of a log behind the most whole lines with which some genuine log of version 1 begins
 abbrev pub OldDiffers : Plan → List ℕ → ℕ → Type 0
 OldDiffers plan log line = DiffersAt (IsGenuine (tree_of plan) (start_of plan) plan.head) log line
 
@@ -187,7 +198,7 @@ StratumDiffers h plan log line =
     SectionDiffers (covered_tree (alone plan h)) (covered_start (alone plan h)) plan.head (h + 1)
     log line
 
--- so it is for the bytes of the log in its file
+-- what differs is said of the bytes of the log in its file
 pub record RefusesLog (Differs : List ℕ → Type 0) (log : List ℕ) (fs : Files) : Type 0 where
   pub bytes : List ℕ
   pub held : fs log ≡ Some bytes

@@ -1,5 +1,5 @@
 -- The main statement: what a call that ended well has done, and where the log differs that a call has refused.
-use Rattle.std.specs.Prelude.{◌≡◌, ℕ, ◌+◌, ◌<◌, ◌≤◌, ◌^◌, List, [], ◌∷◌, length, Some, None, option_map, Ok}
+use Rattle.std.specs.Prelude.{◌≡◌, ℕ, ◌+◌, ◌<◌, ◌≤◌, ◌^◌, List, [], ◌∷◌, length, Some, None, option_map, Ok, is_ok, true}
 use Rattle.std.specs.List.{filter}
 use Rattle.smp_io.specs.Sink.{with_bytes}
 use Rattle.smp_io.specs.Store.{Files}
@@ -28,16 +28,17 @@ use Rattle.smp_log.specs.Genuine.{IsGenuine}
 use Rattle.smp_log.specs.Heads.{head_of}
 use Rattle.smp_log.specs.LoneSections.{HasSection}
 use Rattle.smp_log.specs.SectionLogs.{IsAnyGenuine, IsSectionedGenuine}
-use Rattle.smp_twostage.specs.Selections.{BelongsToWhole, covered_start, covered_tree, is_of_section}
+use Rattle.smp_twostage.specs.Selections.{BelongsToWhole, all_of, covered_start, covered_tree, is_of_section, section_count}
 use Rattle.smp_joint.specs.JointRows.{HasJoints, IsSystematicPlan}
 use Rattle.smp_status.specs.declared.status.Status.{Status}
 use Rattle.smp_status.specs.declared.status.Status.TheVariants as status
 use Rattle.smp_plan.specs.Inputs.{most_joint_rows}
 use Rattle.smp_plan.specs.Plans.{Plan, parts, quick_design}
 use Rattle.smp_app.specs.Drawn.{Drawn, tree_of, start_of, sections_of, drawn_rows}
-use Rattle.smp_app.specs.Draws.{IsDrawnAlone, IsDrawnBy, OldDiffers, RefusesLog, StratumDiffers, WholeDiffers}
-use Rattle.smp_app.specs.Texts.{ids_text, joints_text, log_text, migrated_text, report_text, sample_text, steps_text}
-use Rattle.smp_app.specs.Verdict.{alone, drawn_by_log}
+use Rattle.smp_app.specs.Draws.{HasProbabilities, IsDrawnAlone, IsDrawnBy, OldDiffers, RefusesLog, StratumDiffers, WholeDiffers}
+use Rattle.smp_app.specs.Texts.{accepted_text, ids_text, joints_text, log_text, migrated_text, probabilities_text}
+use Rattle.smp_app.specs.Texts.{report_text, sample_text, steps_text}
+use Rattle.smp_app.specs.Verdict.{alone, drawn_by_log, drawn_by_section}
 use Rattle.smp_app.specs.Deliveries.{with_files}
 use Rattle.smp_app.specs.Answers.{Outside}
 
@@ -79,29 +80,36 @@ pub record IsReadPlan (design frame : List ℕ) (fs : Files) (plan : Plan) : Typ
 
 -- ---- a draw
 
--- What a `draw` that ended well has done.
+-- What a `draw` that ended well has done, by the arguments `a` that its words say: `fs` are the files before it, and `before` and `now`
+-- what is told of the outside before and after it.
 pub record IsExactDraw (a : DrawArguments) (fs : Files) (before now : Outside) : Type 0 where
-  -- What is drawn is the leaf, of all strata, to which the values of the tape, or the words of the seed, lead in the draw tree of the plan.
+  -- What is drawn, of all strata, with the values of the tape or the words of the seed; that these lead to its leaf is `full` of `by_plan`.
   pub drawn : Drawn
   pub is_drawn : IsDrawnByChance a.chance fs drawn
-  -- Over draws that are uniform below each bound that is asked for, the probability that a row is selected is exactly the one that is
-  -- requested of it; as many are drawn as the design asks for; and in each stratum that is drawn by the cube or the local cube, or in
-  -- all strata together, each flight step keeps every balancing total in force exactly, and landing starts only where no direction is
+  -- Over draws that are uniform below each bound and independent of those before, the probability that a row is selected is exactly the one
+  -- that is requested of it; as many are drawn as the design asks for; and in each stratum that is drawn by the cube or the local cube, or
+  -- in all strata together, each flight step keeps every balancing total in force exactly, and landing starts only where no direction is
   -- left or the next step doesn't fit.
-  pub by_plan : IsDrawnBy drawn.plan drawn
+  pub by_plan : IsDrawnBy drawn
   -- The log and the sample of that leaf are written, and no other file has changed. The log has the plan's head and, a stratum after the
   -- other, every step that leads to the leaf.
   pub written : now.files ≡ Some (with_files
       (record { name = a.log; bytes = log_text drawn }
       ∷ record { name = a.sample; bytes = sample_text drawn } ∷ []) fs)
   -- The report of that leaf was put.
-  pub put : now.written ≡ with_bytes (report_text drawn) before.written
+  pub put : now.put ≡ with_bytes (report_text drawn) before.put
   -- The plan is what was read.
   pub read : IsReadPlan a.design a.frame fs drawn.plan
 
--- What `draw` wrote, `replay` accepts: by the log that was written it draws the very same, leaf and path.
+-- What `draw` wrote, `replay` accepts: by the log that was written it draws the very same, leaf and path; and it accepts each section of
+-- that log alone, of which `IsExactSection` says what is drawn. A file has less than 2^64 bytes.
 pub record IsReplayed (drawn : Drawn) : Type 0 where
+  -- the draw starts from a state of the selection by the plan
+  pub start : BelongsToWhole (parts drawn.plan) (start_of drawn.plan)
   pub same : drawn_by_log drawn.plan (log_text drawn) ≡ Ok drawn
+  pub sections : (h : ℕ) → h < section_count (all_of (parts drawn.plan))
+      → length (log_text drawn) < 2 ^ 64
+      → is_ok (drawn_by_section drawn.plan h (log_text drawn)) ≡ true
 
 -- ---- a quick draw
 
@@ -111,11 +119,11 @@ pub record IsExactQuick (a : QuickArguments) (fs : Files) (before now : Outside)
   -- What is drawn is the leaf to which the values of the tape lead in the draw tree of the plan.
   pub drawn : Drawn
   pub is_drawn : IsDrawnByTape a.tape fs drawn
-  pub by_plan : IsDrawnBy drawn.plan drawn
+  pub by_plan : IsDrawnBy drawn
   -- The ids of that leaf are written, no other file has changed, and the lines of the steps were put.
   pub written : now.files
       ≡ Some (with_files (record { name = a.out; bytes = ids_text drawn } ∷ []) fs)
-  pub put : now.written ≡ with_bytes (steps_text drawn) before.written
+  pub put : now.put ≡ with_bytes (steps_text drawn) before.put
   -- The plan is of the design of `quick`, of which there are no bytes, and of the frame that was read.
   pub design : drawn.plan.design ≡ quick_design a.n
   pub read : IsReadFrame a.frame [] fs drawn.plan
@@ -132,11 +140,11 @@ pub record IsExactReplay (a : ReplayArguments) (fs : Files) (before now : Outsid
       drawn.plan.head log drawn.leaf
   pub path_is : drawn.path ≡ genuine.path
   -- Probabilities, numbers and balance are those of a draw.
-  pub by_plan : IsDrawnBy drawn.plan drawn
+  pub by_plan : IsDrawnBy drawn
   -- The sample of that leaf is written, no other file has changed, and the report of it was put.
   pub written : now.files
       ≡ Some (with_files (record { name = a.sample; bytes = sample_text drawn } ∷ []) fs)
-  pub put : now.written ≡ with_bytes (report_text drawn) before.written
+  pub put : now.put ≡ with_bytes (report_text drawn) before.put
   -- The plan is what was read.
   pub read : IsReadPlan a.design a.frame fs drawn.plan
 
@@ -144,7 +152,7 @@ pub record IsExactReplay (a : ReplayArguments) (fs : Files) (before now : Outsid
 -- than 2^64 bytes.
 abbrev pub IsAsInWhole : Drawn → ℕ → List ℕ → Type 0
 IsAsInWhole drawn h log =
-    BelongsToWhole (parts drawn.plan) (start_of drawn.plan) → (leaf : Progress AnyState)
+    (leaf : Progress AnyState)
     → IsSectionedGenuine (tree_of drawn.plan) (sections_of drawn.plan) (start_of drawn.plan)
     drawn.plan.head log leaf → length log < 2 ^ 64
     → drawn_rows drawn ≡ filter (is_of_section (parts drawn.plan) h)
@@ -167,7 +175,7 @@ pub record IsExactSection (a : ReplayArguments) (h : ℕ) (fs : Files) (before n
   -- The sample of that leaf is written, no other file has changed, and the report of it was put.
   pub written : now.files
       ≡ Some (with_files (record { name = a.sample; bytes = sample_text drawn } ∷ []) fs)
-  pub put : now.written ≡ with_bytes (report_text drawn) before.written
+  pub put : now.put ≡ with_bytes (report_text drawn) before.put
   -- The plan is what was read.
   pub read : IsReadPlan a.design a.frame fs drawn.plan
 
@@ -183,7 +191,7 @@ pub record IsExactMigration (a : MigrateArguments) (fs : Files) (before now : Ou
   pub old : IsGenuine (tree_of drawn.plan) (start_of drawn.plan) drawn.plan.head log drawn.leaf
   pub path_is : drawn.path ≡ old.path
   -- Probabilities, numbers and balance are those of a draw.
-  pub by_plan : IsDrawnBy drawn.plan drawn
+  pub by_plan : IsDrawnBy drawn
   -- The log of version 2 of this path, as a draw writes it, is written, and no other file has changed.
   pub written : now.files
       ≡ Some (with_files (record { name = a.to; bytes = log_text drawn } ∷ []) fs)
@@ -192,9 +200,23 @@ pub record IsExactMigration (a : MigrateArguments) (fs : Files) (before now : Ou
       (start_of drawn.plan) drawn.plan.head (log_text drawn) drawn.leaf
   pub same_path : genuine.path ≡ old.path
   -- The number of its steps was put.
-  pub put : now.written ≡ with_bytes (migrated_text drawn) before.written
+  pub put : now.put ≡ with_bytes (migrated_text drawn) before.put
   -- The plan is what was read.
   pub read : IsReadPlan a.design a.frame fs drawn.plan
+
+-- ---- probabilities
+
+-- What a `probs` or a `check` that ended well has done: it put this text of the plan.
+pub record IsExactList (text : Plan → List ℕ) (a : DesignArguments) (fs : Files)
+    (before now : Outside) : Type 0 where
+  pub plan : Plan
+  -- The plan is what was read.
+  pub read : IsReadPlan a.design a.frame fs plan
+  -- A draw by the plan selects each row with exactly the probability that is listed for it.
+  pub probabilities : HasProbabilities plan
+  -- The text was put, and no file has changed.
+  pub put : now.put ≡ with_bytes (text plan) before.put
+  pub same : now.files ≡ Some fs
 
 -- ---- joint probabilities
 
@@ -205,12 +227,12 @@ pub record IsExactJoint (a : DesignArguments) (fs : Files) (before now : Outside
   pub read : IsReadPlan a.design a.frame fs plan
   pub systematic : IsSystematicPlan (parts plan)
   pub few : length plan.units ≤ most_joint_rows
-  -- Over draws that are uniform below each bound, each two rows are both selected with exactly the joint probability that is listed
-  -- for them; and where the probabilities of a stratum's units add up to a whole number, those of a unit with all others of the stratum
-  -- add up to one less than it times the unit's own.
+  -- Over draws that are uniform below each bound and independent of those before, each two rows are both selected with exactly the joint
+  -- probability that is listed for them; and where the probabilities of a stratum's units add up to a whole number, those of a unit with
+  -- all others of the stratum add up to one less than it times the unit's own.
   pub joints : HasJoints (parts plan)
   -- They were put, and no file has changed.
-  pub put : now.written ≡ with_bytes (joints_text plan) before.written
+  pub put : now.put ≡ with_bytes (joints_text plan) before.put
   pub same : now.files ≡ Some fs
 
 -- ---- a log that is refused
@@ -232,9 +254,10 @@ pub record Ends (answer : Status) (words : List (List ℕ)) (before : Outside) (
   pub told : before.files ≡ Some fs
 
 -- A call that answers Done has done what its command asks for: such a draw, whose log `replay` accepts; such a quick draw; such a replay,
--- of all strata or of the section whose number the words have, counted from 1; such a migration; such a list of joint probabilities. Where
--- it answers that a log differs at a line, the lines before this one are the most whole lines with which some genuine log begins, of either
--- version for `replay`, of version 1 for `migrate`; with a section's number the line is the first with which no such section goes on.
+-- of all strata or of the section whose number the words have, counted from 1; such a migration; such a list of probabilities, or of joint
+-- ones. Where it answers that a log differs at a line, the lines before this one are the most whole lines with which some genuine log
+-- begins, of either version for `replay`, of version 1 for `migrate`; with a section's number the line is the first with which no such
+-- section goes on.
 pub record Headline (answer : Status) (words : List (List ℕ)) (before now : Outside) : Type 0 where
   pub draw : (a : DrawArguments) (fs : Files)
       → Ends answer words before status.Done (commands.Draw a) fs → IsExactDraw a fs before now
@@ -252,6 +275,12 @@ pub record Headline (answer : Status) (words : List (List ℕ)) (before now : Ou
   pub migrate : (a : MigrateArguments) (fs : Files)
       → Ends answer words before status.Done (commands.Migrate a) fs
       → IsExactMigration a fs before now
+  pub probs : (a : DesignArguments) (fs : Files)
+      → Ends answer words before status.Done (commands.Probs a) fs
+      → IsExactList probabilities_text a fs before now
+  pub check : (a : DesignArguments) (fs : Files)
+      → Ends answer words before status.Done (commands.Check a) fs
+      → IsExactList accepted_text a fs before now
   pub joint : (a : DesignArguments) (fs : Files)
       → Ends answer words before status.Done (commands.Joint a) fs → IsExactJoint a fs before now
   pub replay_differs : (a : ReplayArguments) (fs : Files) (line : ℕ)

@@ -3,6 +3,7 @@ pub mod Commands
 pub mod Deliveries
 pub mod Drawn
 pub mod Draws
+pub mod Four
 pub mod Headline
 pub mod Kept
 pub mod Texts

@@ -59,10 +59,13 @@ log_text drawn =
     drawn.plan.head drawn.path
 
 -- the id of a row and its probability, whose inverse is its weight
+-- = (id, π)
+-- e.g. (`c`, 6/10)
 abbrev pub weighted_row : Plan → ℕ → List ℕ × Fraction
 weighted_row plan r = (row_id plan r, row_probability plan r)
 
 -- the sample: the drawn units with their design weights
+-- e.g. `id,weight⏎c,5/3⏎d,5/4⏎`
 abbrev pub sample_text : Drawn → List ℕ
 sample_text drawn = sample_file (map (weighted_row drawn.plan) (drawn_rows drawn))
 
@@ -72,6 +75,7 @@ migrated_text drawn = codes "migrated " ++ (decimal (length drawn.path) ++ codes
 
 -- The report: how many units were drawn, of how many in the strata that are covered, and in how many steps; and where the
 -- method balances, what it kept and gave up in each stratum, or in all that are drawn together.
+-- e.g. `selected 2 of 4⏎steps 3⏎`
 abbrev pub report_text : Drawn → List ℕ
 report_text drawn =
     (codes "selected " ++ (decimal (length (drawn_rows drawn))

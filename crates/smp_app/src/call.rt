@@ -1,9 +1,10 @@
 ghost use Rattle.std.specs.Prelude.{◌≡◌, ◌≤◌, ℕ, List, [], Some, map, string_bytes};
+ghost use Rattle.smp_io.specs.Store.{AsksOnly};
 ghost use Rattle.smp_words.specs.Words.{IsAsked, command_of};
 ghost use Rattle.smp_app.specs.Answers.{IsAnswer, outside};
 ghost use Rattle.smp_app.specs.Headline.{Headline};
 ghost use Rattle.smp_status.specs.Codes.{class_of};
-ghost use Rattle.smp_app.specs.Commands.{files_named, files_of, job_for, job_of};
+ghost use Rattle.smp_app.specs.Commands.{files_named, files_of, inputs_named, inputs_of, job_for, job_of};
 ghost use Rattle.smp_app.specs.Kept.Stages.{IsJob, WorkSays, job_view};
 
 use crate::Status;
@@ -34,7 +35,8 @@ use std::alloc::Global;
 /// - `quick FRAME N TAPE OUT` needs no design: it draws N units by sequential pivotal steps, writes their ids to OUT and puts the lines of
 ///   the steps.
 ///
-/// After a refusal no file has changed, and a line was put that says what was wrong. Where the words name no file, the store isn't touched.
+/// After a refusal no file has changed, and a line was put that says what was wrong. No file is read that the words don't name as an input.
+/// Where they name no file, the store isn't touched.
 pub fn sampler<K: Store, S: Sink>(
     alloc: Global,
     words: &[String],
@@ -43,13 +45,21 @@ pub fn sampler<K: Store, S: Sink>(
 ) -> Status
     // The main statement: what a call that ended well has done, and where the log differs that it refused.
     ensures headline { Headline result (map string_bytes words.now)
-        (outside K.files K.read_faults K.write_faults S.written S.faults store.old out.old)
-        (outside K.files K.read_faults K.write_faults S.written S.faults store.new out.new) }
+        (outside K.files K.read_faults K.write_faults K.write_shortages
+        S.written S.faults S.shortages store.old out.old)
+        (outside K.files K.read_faults K.write_faults K.write_shortages
+        S.written S.faults S.shortages store.new out.new) }
 
     // What each answer says, of any words, store and sink.
     ensures answer { IsAnswer result (map string_bytes words.now)
-        (outside K.files K.read_faults K.write_faults S.written S.faults store.old out.old)
-        (outside K.files K.read_faults K.write_faults S.written S.faults store.new out.new) }
+        (outside K.files K.read_faults K.write_faults K.write_shortages
+        S.written S.faults S.shortages store.old out.old)
+        (outside K.files K.read_faults K.write_faults K.write_shortages
+        S.written S.faults S.shortages store.new out.new) }
+
+    // No file is asked for but the inputs of the command.
+    ensures asked { AsksOnly (inputs_named (map string_bytes words.now))
+        (K.asked store.old) (K.asked store.new) }
 
     // `demo` and words of no command touch no file.
     ensures idle { files_named (map string_bytes words.now) ≡ [] → store.new ≡ store.old }
@@ -59,11 +69,17 @@ pub fn sampler<K: Store, S: Sink>(
 }
 
 // All but the line of a refusal.
+#[tactic(auto, using(smp_io::proofs::Asked::only_none))]
 fn work<K: Store, S: Sink>(alloc: Global, words: &[String], store: &mut K, out: &mut S) -> Status
     ensures says { WorkSays (class_of result) result (map string_bytes words.now)
-        (outside K.files K.read_faults K.write_faults S.written S.faults store.old out.old)
-        (outside K.files K.read_faults K.write_faults S.written S.faults store.new out.new) }
+        (outside K.files K.read_faults K.write_faults K.write_shortages
+        S.written S.faults S.shortages store.old out.old)
+        (outside K.files K.read_faults K.write_faults K.write_shortages
+        S.written S.faults S.shortages store.new out.new) }
     ensures puts { S.faults out.old ≤ S.faults out.new }
+    ensures shortages { S.shortages out.old ≤ S.shortages out.new }
+    ensures asked { AsksOnly (inputs_named (map string_bytes words.now))
+        (K.asked store.old) (K.asked store.new) }
     ensures idle { files_named (map string_bytes words.now) ≡ [] → store.new ≡ store.old }
 {
     match command_from(alloc, words) {
@@ -74,6 +90,7 @@ fn work<K: Store, S: Sink>(alloc: Global, words: &[String], store: &mut K, out: 
 }
 
 // The work of a command, of any words that are this command.
+#[tactic(auto, using(smp_io::proofs::Asked::only_none))]
 fn carry_out<K: Store, S: Sink>(
     alloc: Global,
     command: &Command,
@@ -83,9 +100,14 @@ fn carry_out<K: Store, S: Sink>(
     requires { IsAsked command.now }
     ensures says { (words : List (List ℕ)) → command_of words ≡ Some command.now
         → WorkSays (class_of result) result words
-        (outside K.files K.read_faults K.write_faults S.written S.faults store.old out.old)
-        (outside K.files K.read_faults K.write_faults S.written S.faults store.new out.new) }
+        (outside K.files K.read_faults K.write_faults K.write_shortages
+        S.written S.faults S.shortages store.old out.old)
+        (outside K.files K.read_faults K.write_faults K.write_shortages
+        S.written S.faults S.shortages store.new out.new) }
     ensures puts { S.faults out.old ≤ S.faults out.new }
+    ensures shortages { S.shortages out.old ≤ S.shortages out.new }
+    ensures asked { AsksOnly (inputs_of (job_of command.now))
+        (K.asked store.old) (K.asked store.new) }
     ensures idle { files_of (job_of command.now) ≡ [] → store.new ≡ store.old }
 {
     match Job::of(alloc, command) {
@@ -99,9 +121,14 @@ fn do_job<K: Store, S: Sink>(alloc: Global, job: &Job, store: &mut K, out: &mut 
     requires { IsJob job.now }
     ensures says { (words : List (List ℕ)) → job_for words ≡ Some (job_view job.now)
         → WorkSays (class_of result) result words
-        (outside K.files K.read_faults K.write_faults S.written S.faults store.old out.old)
-        (outside K.files K.read_faults K.write_faults S.written S.faults store.new out.new) }
+        (outside K.files K.read_faults K.write_faults K.write_shortages
+        S.written S.faults S.shortages store.old out.old)
+        (outside K.files K.read_faults K.write_faults K.write_shortages
+        S.written S.faults S.shortages store.new out.new) }
     ensures puts { S.faults out.old ≤ S.faults out.new }
+    ensures shortages { S.shortages out.old ≤ S.shortages out.new }
+    ensures asked { AsksOnly (inputs_of (job_view job.now))
+        (K.asked store.old) (K.asked store.new) }
     ensures idle { files_of (job_view job.now) ≡ [] → store.new ≡ store.old }
 {
     let outputs = match outputs_from(alloc, store, job) {

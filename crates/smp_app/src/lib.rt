@@ -5,11 +5,13 @@
 
 mod call;
 mod job;
+mod laws;
 mod outputs;
 mod selection;
 mod texts;
 mod work;
 
 pub use call::sampler;
+pub use laws::four_draw_law;
 pub use outputs::{OutputFile, Outputs};
 pub use smp_status::Status;

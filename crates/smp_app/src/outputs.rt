@@ -41,9 +41,17 @@ impl Outputs {
             (S.written out.old) (S.written out.new)
             (λ name. Rose (K.write_faults store.old name) (K.write_faults store.new name))
             (Rose (S.faults out.old) (S.faults out.new)) }
+        // It ends for want of memory where that call did.
+        ensures short { IsErrOf result StoreFault.NoMemory
+            → FailsAt (outputs_view self.now) (K.files store.old) (K.files store.new)
+            (S.written out.old) (S.written out.new)
+            (λ name. Rose (K.write_shortages store.old name) (K.write_shortages store.new name))
+            (Rose (S.shortages out.old) (S.shortages out.new)) }
         ensures reads { NeverFalls (K.read_faults store.old) (K.read_faults store.new) }
         ensures writes { NeverFalls (K.write_faults store.old) (K.write_faults store.new) }
         ensures puts { S.faults out.old ≤ S.faults out.new }
+        ensures shortages { S.shortages out.old ≤ S.shortages out.new }
+        ensures asked { K.asked store.new ≡ K.asked store.old }
         ensures idle { names_of (outputs_view self.now).files ≡ [] → store.new ≡ store.old }
     {
         write_files(self.files.as_slice(), store)?;
@@ -58,8 +66,12 @@ fn write_files<K: Store>(files: &[OutputFile], store: &mut K) -> Result<(), Stor
     ensures failed { IsErrOf result StoreFault.Failed
         → FailsAtFile files.now (K.files store.old) (K.files store.new)
         (λ name. Rose (K.write_faults store.old name) (K.write_faults store.new name)) }
+    ensures short { IsErrOf result StoreFault.NoMemory
+        → FailsAtFile files.now (K.files store.old) (K.files store.new)
+        (λ name. Rose (K.write_shortages store.old name) (K.write_shortages store.new name)) }
     ensures reads { NeverFalls (K.read_faults store.old) (K.read_faults store.new) }
     ensures writes { NeverFalls (K.write_faults store.old) (K.write_faults store.new) }
+    ensures asked { K.asked store.new ≡ K.asked store.old }
     ensures idle { files.now ≡ [] → store.new ≡ store.old }
 {
     for file in files {

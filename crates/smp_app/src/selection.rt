@@ -368,7 +368,7 @@ fn select_by_log<'a>(
 
 /// Selects by a plan, with the values of a tape or by the steps of a log, which is read first, or with the words of a
 /// seed. Where one section of a log is asked for that the plan hasn't, that comes before the log is read.
-#[tactic(auto, unfolding(crate::specs::Verdict::drawn_stage))]
+#[tactic(auto, unfolding(crate::specs::Verdict::drawn_stage), using(smp_io::proofs::Asked::only_none))]
 pub fn selection_from<'a, K: Store>(
     alloc: Global,
     store: &mut K,
@@ -380,8 +380,8 @@ pub fn selection_from<'a, K: Store>(
     ensures reads { Reads (source_names (draw_view from.entry))
         (drawn_stage (plan_view plan.now) (draw_view from.entry))
         (result_view (selection_view (plan_view plan.now)) result)
-        (told K.files K.read_faults K.write_faults store.old)
-        (told K.files K.read_faults K.write_faults store.new) }
+        (told K.files K.read_faults K.write_faults K.write_shortages K.asked store.old)
+        (told K.files K.read_faults K.write_faults K.write_shortages K.asked store.new) }
     ensures selection { IfOk result (IsSelection (plan_view plan.now)) }
     ensures differs { (fs : Files) → K.files store.old ≡ Some fs
         → IfErr result (IsRefusedBy (plan_view plan.now) (draw_view from.entry) fs) }

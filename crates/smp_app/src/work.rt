@@ -21,8 +21,8 @@ pub fn outputs_from<K: Store>(alloc: Global, store: &mut K, job: &Job) -> Result
     requires { IsJob job.now }
     ensures reads { Reads (inputs_of (job_view job.now)) (outputs_stage (job_view job.now))
         (result_view outputs_view result)
-        (told K.files K.read_faults K.write_faults store.old)
-        (told K.files K.read_faults K.write_faults store.new) }
+        (told K.files K.read_faults K.write_faults K.write_shortages K.asked store.old)
+        (told K.files K.read_faults K.write_faults K.write_shortages K.asked store.new) }
     ensures exact { (fs : Files) → K.files store.old ≡ Some fs
         → EndsExact (job_view job.now) fs result }
     ensures named { IfOk result (λ outputs. names_of (outputs_view outputs).files
@@ -34,6 +34,7 @@ pub fn outputs_from<K: Store>(alloc: Global, store: &mut K, job: &Job) -> Result
 }
 
 // Goes on from the plan, which is only lent, so that it is let go in one place.
+#[tactic(auto, using(smp_io::proofs::Asked::only_none))]
 fn work_outputs<K: Store>(
     alloc: Global,
     store: &mut K,
@@ -44,8 +45,8 @@ fn work_outputs<K: Store>(
     requires ranges { IsWorkInRanges work.now }
     ensures reads { Reads (drawn_names (work_view work.now))
         (work_stage (work_view work.now) (plan_view plan.now)) (result_view outputs_view result)
-        (told K.files K.read_faults K.write_faults store.old)
-        (told K.files K.read_faults K.write_faults store.new) }
+        (told K.files K.read_faults K.write_faults K.write_shortages K.asked store.old)
+        (told K.files K.read_faults K.write_faults K.write_shortages K.asked store.new) }
     ensures exact { (fs : Files) → K.files store.old ≡ Some fs
         → EndsExactFrom (plan_view plan.now) (work_view work.now) fs result }
     ensures named { IfOk result (λ outputs. names_of (outputs_view outputs).files

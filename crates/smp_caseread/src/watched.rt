@@ -67,6 +67,10 @@ impl<K: Store + Drop> Store for WatchedStore<K> {
 
     ghost write_faults = { λ s. K.write_faults s.store };
 
+    ghost write_shortages = { λ s. K.write_shortages s.store };
+
+    ghost asked = { λ s. K.asked s.store };
+
     fn read(&mut self, alloc: Global, name: &str) -> Result<Bytes, StoreFault> {
         self.store.read(alloc, name)
     }
@@ -80,8 +84,14 @@ impl<K: Store + Drop> Store for WatchedStore<K> {
         ensures reads { NeverFalls (K.read_faults self.old.store) (K.read_faults self.new.store) }
         ensures writes { NeverFalls
             (K.write_faults self.old.store) (K.write_faults self.new.store) }
+        ensures shortages { NeverFalls
+            (K.write_shortages self.old.store) (K.write_shortages self.new.store) }
+        ensures asked { K.asked self.new.store ≡ K.asked self.old.store }
         ensures cause { IsErrOf result StoreFault.Failed → Rose
             (K.write_faults self.old.store name.now) (K.write_faults self.new.store name.now) }
+        ensures short { IsErrOf result StoreFault.NoMemory → Rose
+            (K.write_shortages self.old.store name.now)
+            (K.write_shortages self.new.store name.now) }
 
         // The name stands behind the others, unless there was no memory for one.
         ensures name { self.new.is_whole ≡ true → map string_bytes self.new.names.items

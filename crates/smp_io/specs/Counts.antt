@@ -3,10 +3,16 @@ use Rattle.std.specs.Prelude.{ℕ, ◌+◌, ◌-◌, ◌^◌, ◌≤◌, min, Li
 use Rattle.smp_io.specs.declared.fault.StoreFault.{StoreFault}
 use Rattle.smp_io.specs.declared.fault.StoreFault.TheVariants.{Failed, NoMemory}
 
--- how many reads failed, and how many writes
+-- how many reads failed, how many writes, and how many writes ended for want of memory
 pub record FaultCounts : Type 0 where
   pub failed_reads : ℕ
   pub failed_writes : ℕ
+  pub short_writes : ℕ
+
+-- how many puts failed, and how many ended for want of memory
+pub record PutCounts : Type 0 where
+  pub failed : ℕ
+  pub short : ℕ
 
 -- one more, where the count isn't at its end
 abbrev pub one_more : ℕ → ℕ
@@ -22,6 +28,12 @@ abbrev pub failures_after : {A : Type 0} → Result A StoreFault → ℕ → ℕ
 failures_after (Ok answer) count = count
 failures_after (Err NoMemory) count = count
 failures_after (Err Failed) count = one_more count
+
+-- the count of calls that ended for want of memory: one more exactly where this one did
+abbrev pub shortages_after : {A : Type 0} → Result A StoreFault → ℕ → ℕ
+shortages_after (Ok answer) count = count
+shortages_after (Err Failed) count = count
+shortages_after (Err NoMemory) count = one_more count
 
 -- The count rose, or stands at its end.
 abbrev pub Rose : ℕ → ℕ → Type 0

@@ -1,5 +1,5 @@
 ghost use Rattle.std.specs.Prelude.{◌≡◌, ◌≤◌, None, length, option_map, IfSome, SomeIff, IfOk, OnOk, OnErr, IsErrOf};
-ghost use Rattle.smp_io.specs.Counts.{Rose, count_after};
+ghost use Rattle.smp_io.specs.Counts.{Rose, count_after, shortages_after};
 ghost use Rattle.smp_io.specs.Store.{Holds, OthersStay, with_file};
 
 use crate::replacing::write_file;
@@ -14,7 +14,7 @@ use std::{fs, io};
 /// The longest file that is read, in bytes.
 pub const MAX_FILE_LEN: u32 = 2_147_483_648;
 
-/// The files of the present folder. It tells no content, and a file longer than `MAX_FILE_LEN` can't be read.
+/// The files of the present folder. It tells no content and no name, and a file longer than `MAX_FILE_LEN` can't be read.
 ///
 /// A write leaves under its name the old file or the whole new one, where the system renames at once. It makes a new
 /// file in the same folder, whose name is the wanted one, `.partial` and the first free number from 1 to 100, with the
@@ -29,15 +29,16 @@ pub struct FolderStore<'a, R: Files + AllocGlobal> {
     rt: &'a R,
     failed_reads: u64,
     failed_writes: u64,
+    short_writes: u64,
 }
 
-// Callers see how many of its reads and of its writes failed.
+// Callers see how many of its reads and of its writes failed, and how many writes ended for want of memory.
 impl<'a, R: Files + AllocGlobal> Model for FolderStore<'a, R> {
     ghost use Rattle.smp_io.specs.Counts.{FaultCounts};
 
     ghost Value = { FaultCounts };
 
-    ghost view = { λ s. record { failed_reads = s.failed_reads; failed_writes = s.failed_writes } };
+    ghost view = { λ s. record { failed_reads = s.failed_reads; failed_writes = s.failed_writes; short_writes = s.short_writes } };
 }
 
 impl<'a, R: Files + AllocGlobal> FolderStore<'a, R> {
@@ -45,11 +46,13 @@ impl<'a, R: Files + AllocGlobal> FolderStore<'a, R> {
     pub fn new(rt: &'a R) -> FolderStore<'a, R>
         ensures reads { result.failed_reads ≡ 0 }
         ensures writes { result.failed_writes ≡ 0 }
+        ensures short { result.short_writes ≡ 0 }
     {
         FolderStore {
             rt,
             failed_reads: 0,
             failed_writes: 0,
+            short_writes: 0,
         }
     }
 }
@@ -90,6 +93,10 @@ impl<'a, R: Files + AllocGlobal> Store for FolderStore<'a, R> {
 
     ghost write_faults = { λ s _. s.failed_writes };
 
+    ghost write_shortages = { λ s _. s.short_writes };
+
+    ghost asked = { λ _. None };
+
     fn read(&mut self, alloc: Global, name: &str) -> Result<Bytes, StoreFault>
         ensures content { IfOk result (λ bytes. Holds None name.now bytes) }
         ensures reads { self.old.failed_reads ≤ self.new.failed_reads }
@@ -98,6 +105,8 @@ impl<'a, R: Files + AllocGlobal> Store for FolderStore<'a, R> {
             Rose self.old.failed_reads self.new.failed_reads }
         ensures counted { self.new.failed_reads ≡ count_after result self.old.failed_reads }
         ensures not_a_write { self.new.failed_writes ≡ self.old.failed_writes }
+        ensures shortages { self.old.short_writes ≤ self.new.short_writes }
+        ensures not_short { self.new.short_writes ≡ self.old.short_writes }
         ensures within { IfOk result (λ bytes. length bytes ≤ MAX_FILE_LEN) }
     {
         let outcome = read_file(self.rt, alloc, name);
@@ -116,10 +125,18 @@ impl<'a, R: Files + AllocGlobal> Store for FolderStore<'a, R> {
             Rose self.old.failed_writes self.new.failed_writes }
         ensures counted { self.new.failed_writes ≡ count_after result self.old.failed_writes }
         ensures not_a_read { self.new.failed_reads ≡ self.old.failed_reads }
+        ensures shortages { self.old.short_writes ≤ self.new.short_writes }
+        ensures short { IsErrOf result StoreFault.NoMemory →
+            Rose self.old.short_writes self.new.short_writes }
+        ensures counted_short { self.new.short_writes
+            ≡ shortages_after result self.old.short_writes }
     {
         let outcome = write_file(self.rt, name, bytes);
         if outcome.is_err() {
             self.failed_writes = self.failed_writes.saturating_add(1);
+        }
+        if let Err(StoreFault::NoMemory) = outcome {
+            self.short_writes = self.short_writes.saturating_add(1);
         }
         outcome
     }

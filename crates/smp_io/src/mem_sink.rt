@@ -1,5 +1,5 @@
 ghost use Rattle.std.specs.Prelude.{◌≡◌, ◌++◌, ◌≤◌, ◌↔◌, Some, OnOk, OnErr, IsErrOf};
-ghost use Rattle.smp_io.specs.Counts.{Rose, failures_after};
+ghost use Rattle.smp_io.specs.Counts.{Rose, failures_after, shortages_after};
 ghost use Rattle.smp_io.specs.Calls.{after_call, IsDueToFail};
 ghost use Rattle.smp_io.specs.Sink.{AppendsFront};
 ghost use Rattle.smp_io.specs.Memory.{empty_sink};
@@ -16,6 +16,7 @@ pub struct MemSink {
     bytes: Bytes,
     puts: FailingCalls,
     failed: u64,
+    short: u64,
 }
 
 impl Model for MemSink {
@@ -23,7 +24,7 @@ impl Model for MemSink {
 
     ghost Value = { SinkState };
 
-    ghost view = { λ s. record { written = s.bytes; puts = s.puts; failed = s.failed } };
+    ghost view = { λ s. record { written = s.bytes; puts = s.puts; failed = s.failed; short = s.short } };
 }
 
 impl MemSink {
@@ -35,6 +36,7 @@ impl MemSink {
             bytes: Bytes::new(alloc),
             puts: FailingCalls::new(failing),
             failed: 0,
+            short: 0,
         }
     }
 
@@ -51,6 +53,8 @@ impl Sink for MemSink {
 
     ghost faults = { λ s. s.failed };
 
+    ghost shortages = { λ s. s.short };
+
     #[tactic(auto, using(crate::proofs::Fronts::nothing_is_a_front))]
     fn put(&mut self, bytes: &[u8]) -> Result<(), StoreFault>
         ensures ok { OnOk result (self.new.written ≡ self.old.written ++ bytes.now) }
@@ -59,16 +63,22 @@ impl Sink for MemSink {
         ensures same { OnErr result (self.new.written ≡ self.old.written) }
         ensures puts { self.new.puts ≡ after_call self.old.puts }
         ensures never_falls { self.old.failed ≤ self.new.failed }
+        ensures never_fall { self.old.short ≤ self.new.short }
         ensures counted { self.new.failed ≡ failures_after result self.old.failed }
         ensures cause { IsErrOf result StoreFault.Failed → Rose self.old.failed self.new.failed }
         ensures uncounted { IsErrOf result StoreFault.NoMemory → self.new.failed ≡ self.old.failed }
         ensures failed { IsErrOf result StoreFault.Failed ↔ IsDueToFail self.old.puts }
+        ensures short { IsErrOf result StoreFault.NoMemory → Rose self.old.short self.new.short }
+        ensures counted_short { self.new.short ≡ shortages_after result self.old.short }
     {
         if self.puts.next_fails() {
             self.failed = self.failed.saturating_add(1);
             return Err(StoreFault::Failed);
         }
-        self.bytes.push_all(bytes)?;
+        if self.bytes.push_all(bytes).is_err() {
+            self.short = self.short.saturating_add(1);
+            return Err(StoreFault::NoMemory);
+        }
         Ok(())
     }
 }

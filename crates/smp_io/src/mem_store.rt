@@ -1,8 +1,8 @@
-ghost use Rattle.std.specs.Prelude.{◌≡◌, ◌⊎◌, ◌≤◌, ◌↔◌, Some, None, IfOk, OnOk, OnErr, IsErrOf, option_map};
-ghost use Rattle.smp_io.specs.Counts.{Rose, failures_after};
+ghost use Rattle.std.specs.Prelude.{◌≡◌, ◌⊎◌, ◌≤◌, ◌↔◌, ◌∷◌, ◌++◌, [], Some, None, IfOk, OnOk, OnErr, IsErrOf, option_map};
+ghost use Rattle.smp_io.specs.Counts.{Rose, failures_after, shortages_after};
 ghost use Rattle.smp_io.specs.Calls.{after_call, IsDueToFail};
-ghost use Rattle.smp_io.specs.Store.{OthersStay, with_file};
-ghost use Rattle.smp_io.specs.Memory.{held, files_of, store_of};
+ghost use Rattle.smp_io.specs.Store.{Asks, OthersStay, with_file};
+ghost use Rattle.smp_io.specs.Memory.{held, files_of, store_of, told_where};
 
 use crate::calls::FailingCalls;
 use crate::{Store, StoreFault};
@@ -18,14 +18,25 @@ pub struct MemStore {
     calls: FailingCalls,
     failed_reads: u64,
     failed_writes: u64,
+    short_writes: u64,
+    // The names of which a read was asked, and whether there was memory for each.
+    asked: Vec<Text>,
+    all_asked: bool,
 }
 
 impl Model for MemStore {
-    ghost use Rattle.smp_io.specs.Memory.{StoreState};
+    ghost use Rattle.smp_io.specs.Memory.{StoreState, told_where};
 
     ghost Value = { StoreState };
 
-    ghost view = { λ s. record { entries = s.files.items; calls = s.calls; failed_reads = s.failed_reads; failed_writes = s.failed_writes } };
+    ghost view = { λ s. record {
+      entries = s.files.items;
+      calls = s.calls;
+      failed_reads = s.failed_reads;
+      failed_writes = s.failed_writes;
+      short_writes = s.short_writes;
+      asked = told_where s.all_asked s.asked.items;
+    } };
 }
 
 impl MemStore {
@@ -35,11 +46,15 @@ impl MemStore {
     pub fn new(files: Vec<(Text, Bytes)>, failing: Vec<u64>) -> MemStore
         ensures { result ≡ store_of files.items failing.items }
     {
+        let asked = Vec::new(*files.allocator());
         MemStore {
             files,
             calls: FailingCalls::new(failing),
             failed_reads: 0,
             failed_writes: 0,
+            short_writes: 0,
+            asked,
+            all_asked: true,
         }
     }
 }
@@ -63,6 +78,27 @@ fn copy_of(alloc: Global, bytes: &[u8]) -> Result<Bytes, NoMemory>
     Ok(copy)
 }
 
+// Keeps a name behind the others.
+fn keep(names: &mut Vec<Text>, name: &str) -> Result<(), NoMemory>
+    ensures { OnOk result (names.new.items ≡ names.old.items ++ name.now ∷ []) }
+{
+    let name = Text::from_str(*names.allocator(), name)?;
+    names.push(name)?;
+    Ok(())
+}
+
+// Keeps a name of which a read was asked, and answers whether all are there.
+#[tactic(auto, using(crate::proofs::Asked::keeps_name))]
+fn note(names: &mut Vec<Text>, all: bool, name: &str) -> bool
+    ensures { Asks (name.now ∷ []) (told_where all names.old.items)
+        (told_where result names.new.items) }
+{
+    if keep(names, name).is_err() {
+        return false;
+    }
+    all
+}
+
 // Adds a file at the end.
 fn add(files: &mut Vec<(Text, Bytes)>, name: &str, bytes: &[u8]) -> Result<(), NoMemory>
     ensures ok { OnOk result
@@ -83,6 +119,10 @@ impl Store for MemStore {
 
     ghost write_faults = { λ s _. s.failed_writes };
 
+    ghost write_shortages = { λ s _. s.short_writes };
+
+    ghost asked = { λ s. s.asked };
+
     fn read(&mut self, alloc: Global, name: &str) -> Result<Bytes, StoreFault>
         ensures content { IfOk result (λ bytes. files_of self.old name.now ≡ Some bytes) }
         ensures same { files_of self.new ≡ files_of self.old }
@@ -90,11 +130,14 @@ impl Store for MemStore {
         ensures reads { self.old.failed_reads ≤ self.new.failed_reads }
         ensures counted { self.new.failed_reads ≡ failures_after result self.old.failed_reads }
         ensures writes { self.new.failed_writes ≡ self.old.failed_writes }
+        ensures not_short { self.new.short_writes ≡ self.old.short_writes }
+        ensures asked { Asks (name.now ∷ []) self.old.asked self.new.asked }
         ensures cause { IsErrOf result StoreFault.Failed →
             Rose self.old.failed_reads self.new.failed_reads }
         ensures failed { IsErrOf result StoreFault.Failed ↔
             (IsDueToFail self.old.calls ⊎ (files_of self.old name.now ≡ None)) }
     {
+        self.all_asked = note(&mut self.asked, self.all_asked, name);
         let fails = self.calls.next_fails();
         match content_of(&self.files, name) {
             Some(content) if !fails => Ok(copy_of(alloc, content.as_slice())?),
@@ -118,12 +161,21 @@ impl Store for MemStore {
         ensures cause { IsErrOf result StoreFault.Failed →
             Rose self.old.failed_writes self.new.failed_writes }
         ensures failed { IsErrOf result StoreFault.Failed ↔ IsDueToFail self.old.calls }
+        ensures asked { self.new.asked ≡ self.old.asked }
+        ensures shortages { self.old.short_writes ≤ self.new.short_writes }
+        ensures short { IsErrOf result StoreFault.NoMemory →
+            Rose self.old.short_writes self.new.short_writes }
+        ensures counted_short { self.new.short_writes
+            ≡ shortages_after result self.old.short_writes }
     {
         if self.calls.next_fails() {
             self.failed_writes = self.failed_writes.saturating_add(1);
             return Err(StoreFault::Failed);
         }
-        add(&mut self.files, name, bytes)?;
+        if add(&mut self.files, name, bytes).is_err() {
+            self.short_writes = self.short_writes.saturating_add(1);
+            return Err(StoreFault::NoMemory);
+        }
         Ok(())
     }
 }

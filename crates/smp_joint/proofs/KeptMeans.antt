@@ -40,7 +40,7 @@ module _ {State : Type 0} (tree : Tree State) (belongs : State → Type 0) (lawf
           | inr e ↦
               (let split = lawful.split s b e in
               let parts = weighted_same (IsPart tree belongs s) (mean_of tree f) h (λ p is. (let l : tree.rank p.state < tree.rank s = is.falls in kept_within steps p.state is.member (omega arith))) (tree.parts s) split.each in
-              rw (mean_of_step tree belongs lawful f s b e)
+              same_trans (mean_of_step tree belongs lawful f s b e)
               (same_trans (divided_same (weight_sum (tree.parts s)) (same_trans parts (keeps s b e))) (divided-times (weight_sum (tree.parts s)) (h s) split.some)))
         ]
 

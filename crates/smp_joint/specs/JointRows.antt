@@ -18,14 +18,14 @@ abbrev pub joint_in : Option stratum.Stratum → ℕ → ℕ → Fraction
 joint_in (Some s) j k = joint_of s.request j k
 joint_in None j k = whole 0
 
--- that of the rows at two seats: of one stratum, or of two strata, which are drawn apart
+-- the joint probability of the rows at two seats: of one stratum, or of two strata, which are drawn apart
 abbrev pub joint_at_seats : List stratum.Stratum → seat.Seat → seat.Seat → Fraction
 joint_at_seats strata a b =
     if nat_eq a.stratum b.stratum
     then joint_in (slice_get strata a.stratum) a.unit b.unit
     else times (first_fraction strata a.stratum a.unit) (first_fraction strata b.stratum b.unit)
 
--- that of two rows
+-- the joint probability of two rows
 abbrev pub joint_fraction : Parts → ℕ → ℕ → Fraction
 joint_fraction plan j k =
     joint_at_seats plan.strata (place_of plan.strata j) (place_of plan.strata k)
@@ -42,8 +42,8 @@ with_other s unit other = cond (nat_eq other unit) (whole 0) (joint_of s.request
 
 -- what holds of the joint probabilities of a plan
 pub record HasJoints (plan : Parts) : Type 0 where
-  -- Over draws that are uniform below each bound, two rows are both selected with exactly their joint fraction: that is the mean over the
-  -- whole draw tree of the number that is 1 where both are selected, and 0 elsewhere.
+  -- Over draws that are uniform below each bound and independent of those before, two rows are both selected with exactly their joint
+  -- fraction: that is the mean over the whole draw tree of the number that is 1 where both are selected, and 0 elsewhere.
   pub joint : (j k : ℕ) → j < plan.rows → k < plan.rows
       → Same (joint_probability (whole_tree plan) (start_of plan) j k) (joint_fraction plan j k)
   -- Where the probabilities of a stratum's units add up to n, the joint probabilities of a unit with all others of the stratum add up to

@@ -1,4 +1,5 @@
 pub mod Starts
+pub mod Firsts
 pub mod Moved
 pub mod Columns
 pub mod Wholes

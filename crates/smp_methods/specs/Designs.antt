@@ -108,10 +108,11 @@ module _ {Inner Outer : Type 0} (into : Inner → Outer) (out : Outer → Option
     lawful = embedded_lawful into out inner.tree back inner.belongs inner.lawful;
   }
 
--- the method, and the design's first state, among those of all methods
+-- the method among those of all methods
 abbrev pub method_among : Variant → Method AnyState
 method_among (variant name method design into out back) = embedded_method into out back method
 
+-- the design's first state among the states of all methods
 abbrev pub state_among : Variant → AnyState
 state_among (variant name method design into out back) = into design
 

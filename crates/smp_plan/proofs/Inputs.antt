@@ -1,6 +1,7 @@
 -- What was read of a design and a frame.
 use Rattle.std.proofs.Common.{◌≡◌, ℕ, true, false, length, List, [], Some, Result, Ok, Err, refl, ap, ◌∙◌, arith}
 use Rattle.smp_io.specs.Store.{Files}
+use Rattle.smp_io.proofs.Asked.{only_none}
 use Rattle.smp_log.specs.Heads.{head_of}
 use Rattle.smp_design.specs.Designs.{design_of}
 use Rattle.smp_design.specs.Faults.{is_memory}
@@ -65,6 +66,8 @@ module _ (design : ReadDesign) (frame : FrameSource) (bytes : List ℕ) (units :
     same = read.same;
     reads = read.reads;
     writes = read.writes;
+    shortages = read.shortages;
+    asked = read.asked;
   }
 
   abbrev pub refusal_of : Misfit → Result Plan Status
@@ -79,6 +82,8 @@ module _ (design : ReadDesign) (frame : FrameSource) (bytes : List ℕ) (units :
     same = read.same;
     reads = read.reads;
     writes = read.writes;
+    shortages = read.shortages;
+    asked = read.asked;
   }
 
   pub misfit_read : (misfit : Misfit) → GivesPlan (Err misfit) (plan_of made) → Reads (frame_names frame) (frame_stage design frame) (refusal_of misfit) before now
@@ -99,7 +104,16 @@ module _ (design : ReadDesign) (frame : FrameSource) (bytes : List ℕ) (units :
   large_staged fs told = rw (read.follows fs told, framed, large) refl
 
   pub large_read : Reads {A = Plan} (frame_names frame) (frame_stage design frame) (Err (status.JointLarge (length units))) before now
-  large_read = record { follows = large_staged; kinds = refl; cause = tt; same = read.same; reads = read.reads; writes = read.writes }
+  large_read = record {
+    follows = large_staged;
+    kinds = refl;
+    cause = tt;
+    same = read.same;
+    reads = read.reads;
+    writes = read.writes;
+    shortages = read.shortages;
+    asked = read.asked;
+  }
 
 -- ---- a design that is made of bytes with the command
 
@@ -113,6 +127,8 @@ module _ (bytes : List ℕ) (now : Told) where
     same = refl;
     reads = λ name. omega arith;
     writes = λ name. omega arith;
+    shortages = λ name. omega arith;
+    asked = only_none [] now.asked now.asked refl;
   }
 
   refusing : (error : Status) (class : Class) → class_of error ≡ class → IsOfInputs class error → ((fs : Files) → IsErrorOf class error (design_stage (Made bytes) fs)) → IsCaused class (ReadCause [] (design_stage (Made bytes)) now now)
@@ -124,6 +140,8 @@ module _ (bytes : List ℕ) (now : Told) where
     same = refl;
     reads = λ name. omega arith;
     writes = λ name. omega arith;
+    shortages = λ name. omega arith;
+    asked = only_none [] now.asked now.asked refl;
   }
 
   staged_fault : (fault : DesignFault) → design_of bytes ≡ Err fault → (fs : Files) → design_stage (Made bytes) fs ≡ Err (Refused (design_status fault))

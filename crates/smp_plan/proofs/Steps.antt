@@ -2,6 +2,7 @@
 use Rattle.std.proofs.Common.{◌≡◌, ◌≤◌, ℕ, List, ◌++◌, Result, Ok, Err, refl, ap, ◌∙◌, arith, true, IfErr}
 use Rattle.smp_io.specs.Counts.{Rose}
 use Rattle.smp_io.specs.Store.{Files}
+use Rattle.smp_io.proofs.Asked.{only_both, only_first}
 use Rattle.smp_words.specs.Words.{all_distinct}
 use Rattle.smp_status.specs.declared.status.Status.{Status}
 use Rattle.smp_faults.specs.Steps.{◌>>=◌}
@@ -61,6 +62,8 @@ module _ {A B : Type 0} (inputs others : List (List ℕ)) (stage : Files → Res
     same = reads.same;
     reads = reads.reads;
     writes = reads.writes;
+    shortages = reads.shortages;
+    asked = only_first inputs others before.asked mid.asked reads.asked;
   }
 
   pub goes_on : (now : Told) (x : A) (answer : Result B Status) → Reads inputs stage (Ok x) before mid → Reads others (next x) answer mid now → all_distinct (inputs ++ others) ≡ true → Ignores stage inputs
@@ -77,4 +80,6 @@ module _ {A B : Type 0} (inputs others : List (List ℕ)) (stage : Files → Res
     same = second.same ∙ first.same;
     reads = λ name. omega (arith, first.reads name, second.reads name);
     writes = λ name. omega (arith, first.writes name, second.writes name);
+    shortages = λ name. omega (arith, first.shortages name, second.shortages name);
+    asked = only_both inputs others before.asked mid.asked now.asked first.asked second.asked;
   }

@@ -47,9 +47,12 @@ abbrev pub parts : Plan → Parts
 parts plan = parts_of plan.design plan.units
 
 -- the probability that is asked for a row (Tillé 2006)
+-- = π(row)
+-- e.g. of c 3/5
 abbrev pub row_probability : Plan → ℕ → Fraction
 row_probability plan row = row_fraction plan.design plan.units row
 
 -- the id of a row
+-- e.g. of row 2: `c`
 abbrev pub row_id : Plan → ℕ → List ℕ
 row_id plan row = slice_index_or (map (λ u. u.id) plan.units) row []

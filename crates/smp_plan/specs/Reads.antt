@@ -1,7 +1,7 @@
 -- What a function owes that reads inputs: it hands on a result that is a stage of the work.
 use Rattle.std.specs.Prelude.{◌≡◌, ℕ, List, Contains, Option, Some, Result, Ok, Err, IfErr}
 use Rattle.smp_io.specs.Counts.{Rose, NeverFalls}
-use Rattle.smp_io.specs.Store.{Files}
+use Rattle.smp_io.specs.Store.{Files, AsksOnly}
 use Rattle.smp_status.specs.declared.status.Status.{Status}
 use Rattle.smp_status.specs.Codes.{Class, IsReadFault, IsNoMemory, class_of}
 use Rattle.smp_plan.specs.Stops.{Stop, Refused, Missing, without}
@@ -16,12 +16,17 @@ pub record Told : Type 0 where
   pub files : Option Files
   pub read_faults : List ℕ → ℕ
   pub write_faults : List ℕ → ℕ
+  pub write_shortages : List ℕ → ℕ
+  pub asked : Option (List (List ℕ))
 
-abbrev pub told : {K : Type 0} → (K → Option Files) → (K → List ℕ → ℕ) → (K → List ℕ → ℕ) → K → Told
-told files read_faults write_faults store = record {
+abbrev pub told : {K : Type 0} → (K → Option Files) → (K → List ℕ → ℕ) → (K → List ℕ → ℕ)
+    → (K → List ℕ → ℕ) → (K → Option (List (List ℕ))) → K → Told
+told files read_faults write_faults write_shortages asked store = record {
   files = files store;
   read_faults = read_faults store;
   write_faults = write_faults store;
+  write_shortages = write_shortages store;
+  asked = asked store;
 }
 
 -- an error is the stage's refusal, unless a read failed or memory ran out
@@ -48,8 +53,8 @@ abbrev pub IsCaused : Class → Type 0 → Type 0
 IsCaused IsReadFault cause = cause
 IsCaused other cause = Unit {0}
 
--- What a function answers that reads these inputs: a stage of the verdict. It changes no file. ReadFault comes where a read of one of
--- the inputs failed.
+-- What a function answers that reads these inputs: a stage of the verdict. It changes no file and asks for no other. ReadFault comes
+-- where a read of one of the inputs failed.
 pub record Reads {A : Type 0} (inputs : List (List ℕ)) (stage : Files → Result A Stop)
     (answer : Result A Status) (before now : Told) : Type 0 where
   pub follows : (fs : Files) → before.files ≡ Some fs → Follows answer (stage fs)
@@ -58,3 +63,5 @@ pub record Reads {A : Type 0} (inputs : List (List ℕ)) (stage : Files → Resu
   pub same : now.files ≡ before.files
   pub reads : NeverFalls before.read_faults now.read_faults
   pub writes : NeverFalls before.write_faults now.write_faults
+  pub shortages : NeverFalls before.write_shortages now.write_shortages
+  pub asked : AsksOnly inputs before.asked now.asked

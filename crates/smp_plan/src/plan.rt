@@ -45,11 +45,12 @@ pub struct FramePlan {
     pub head: Head,
 }
 
-/// Reads the file of this name. A failed read is `ReadFault`. No file changes.
+/// Reads the file of this name, and asks for no other. A failed read is `ReadFault`. No file changes.
+#[tactic(auto, using(smp_io::proofs::Asked::only_one))]
 pub fn read_input<K: Store>(alloc: Global, store: &mut K, name: &str) -> Result<Bytes, Status>
     ensures { Reads (name.now ∷ []) (content_of name.now) result
-        (told K.files K.read_faults K.write_faults store.old)
-        (told K.files K.read_faults K.write_faults store.new) }
+        (told K.files K.read_faults K.write_faults K.write_shortages K.asked store.old)
+        (told K.files K.read_faults K.write_faults K.write_shortages K.asked store.new) }
 {
     match store.read(alloc, name) {
         Ok(bytes) => Ok(bytes),
@@ -59,7 +60,7 @@ pub fn read_input<K: Store>(alloc: Global, store: &mut K, name: &str) -> Result<
 }
 
 // Reads a design from its file, or makes the one of the command.
-#[tactic(auto, unfolding(crate::specs::Inputs::design_stage))]
+#[tactic(auto, unfolding(crate::specs::Inputs::design_stage), using(smp_io::proofs::Asked::only_none))]
 fn design_from<K: Store>(
     alloc: Global,
     store: &mut K,
@@ -68,8 +69,8 @@ fn design_from<K: Store>(
     requires { IsInRanges source.now }
     ensures reads { Reads (design_names (source_view source.now))
         (design_stage (source_view source.now)) (result_view read_view result)
-        (told K.files K.read_faults K.write_faults store.old)
-        (told K.files K.read_faults K.write_faults store.new) }
+        (told K.files K.read_faults K.write_faults K.write_shortages K.asked store.old)
+        (told K.files K.read_faults K.write_faults K.write_shortages K.asked store.new) }
     ensures design { IfOk result (λ read. IsDesign read.design) }
     ensures idle { design_names (source_view source.now) ≡ [] → store.new ≡ store.old }
 {
@@ -138,12 +139,13 @@ fn plan_for(alloc: Global, design: Design, frame: Frame, head: Head) -> Result<F
 }
 
 // The bytes of a frame, from its file or from the command.
+#[tactic(auto, using(smp_io::proofs::Asked::only_none))]
 fn frame_bytes<K: Store>(alloc: Global, store: &mut K, source: FrameSource) -> Result<Bytes, Status>
     requires { IsFrameInRanges source }
     ensures reads { Reads (frame_names (frame_view source.entry))
         (frame_content (frame_view source.entry)) result
-        (told K.files K.read_faults K.write_faults store.old)
-        (told K.files K.read_faults K.write_faults store.new) }
+        (told K.files K.read_faults K.write_faults K.write_shortages K.asked store.old)
+        (told K.files K.read_faults K.write_faults K.write_shortages K.asked store.new) }
     ensures idle { frame_names (frame_view source.entry) ≡ [] → store.new ≡ store.old }
 {
     match source {
@@ -167,8 +169,8 @@ fn frame_plan<K: Store>(
     ensures reads { Reads (frame_names (frame_view source.entry))
         (frame_stage (read_view read) (frame_view source.entry))
         (result_view plan_view result)
-        (told K.files K.read_faults K.write_faults store.old)
-        (told K.files K.read_faults K.write_faults store.new) }
+        (told K.files K.read_faults K.write_faults K.write_shortages K.asked store.old)
+        (told K.files K.read_faults K.write_faults K.write_shortages K.asked store.new) }
     ensures planned { IfOk result IsPlanned }
     ensures idle { frame_names (frame_view source.entry) ≡ [] → store.new ≡ store.old }
 {
@@ -186,7 +188,7 @@ fn frame_plan<K: Store>(
 /// Reads the design and then the frame, and plans what the design asks of the frame. Their files have different names.
 ///
 /// The first fault of the design, the first of the frame or the first misfit of both is refused, in this order, and a failed read of one of
-/// them is `ReadFault`. No file changes. Where both stand with the command, the store isn't touched.
+/// them is `ReadFault`. No file changes, and no other file is asked for. Where both stand with the command, the store isn't touched.
 pub fn plan_from<K: Store>(
     alloc: Global,
     store: &mut K,
@@ -200,8 +202,8 @@ pub fn plan_from<K: Store>(
     ensures reads { Reads (input_names (source_view design.now) (frame_view frame.entry))
         (plan_stage (source_view design.now) (frame_view frame.entry))
         (result_view plan_view result)
-        (told K.files K.read_faults K.write_faults store.old)
-        (told K.files K.read_faults K.write_faults store.new) }
+        (told K.files K.read_faults K.write_faults K.write_shortages K.asked store.old)
+        (told K.files K.read_faults K.write_faults K.write_shortages K.asked store.new) }
     ensures planned { IfOk result IsPlanned }
     ensures idle { input_names (source_view design.now) (frame_view frame.entry) ≡ []
         → store.new ≡ store.old }

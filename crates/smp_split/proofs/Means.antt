@@ -3,8 +3,9 @@ use Rattle.std.proofs.Common.{◌≡◌, ℕ, zero, suc, ◌<◌, ◌≤◌, Boo
 use Rattle.std.proofs.lemmas.Bool.{cases_Bool, cases_eq, eq-eqb, ne_eqb}
 use Rattle.smp_fractions.specs.Fractions.{Fraction, Same, whole, plus, times, divided, sum_below}
 use Rattle.smp_split.specs.Trees.{Part, Tree, EachPart, IsPart, LawfulSplit, LawfulEnd, Lawful, weight_sum, weighted}
-use Rattle.smp_split.specs.Means.{only, selected_sum, value_sum, mean_of_within, mean, inclusion_probability}
+use Rattle.smp_split.specs.Means.{only, sum_over_draws, selected_sum, value_sum, mean_of_within, mean, inclusion_probability}
 use Rattle.smp_fractions.proofs.Fractions.{same_refl, same_sym, same_trans, plus_same, times_same, times-plus, times_left_comm, times-zero, times-one, divided_same, divided-times, sum_same, sum-plus, sum-times, sum-zero, zero-plus-zero, zero-plus, plus-zero, zero-times, one-times}
+use Rattle.smp_split.proofs.Numbers.{draws_are_weights}
 
 selected_is_value : (c a : Fraction) (b : Bool) → Same a (whole (cond b 1 0)) → Same (cond b c (whole 0)) (times c a)
 selected_is_value c a true h = same_trans (same_sym (times-one c)) (times_same (same_refl c) (same_sym h))
@@ -67,7 +68,7 @@ module _ {State : Type 0} where
 
   module _ (tree : Tree State) (belongs : State → Type 0) (lawful : Lawful tree belongs) (c : ℕ → Fraction) where
     -- one split keeps the value
-    split_keeps : (s : State) → LawfulSplit tree belongs s → (f : State → Fraction) → ((p : Part State) → IsPart tree belongs s p → Same (f p.state) (value_sum tree c p.state)) → Same (divided (weighted f (tree.parts s)) (weight_sum (tree.parts s))) (value_sum tree c s)
+    split_keeps : (s : State) → LawfulSplit tree belongs s → (f : State → Fraction) → ((p : Part State) → IsPart tree belongs s p → Same (f p.state) (value_sum tree c p.state)) → Same (divided (sum_over_draws f s (tree.parts s)) (weight_sum (tree.parts s))) (value_sum tree c s)
     split_keeps s split f h =
         let total : ℕ = weight_sum (tree.parts s) in
         let exchanged : Same (weighted f (tree.parts s)) (sum_below tree.units (λ k. times (c k) (weighted (λ t. tree.value t k) (tree.parts s)))) =
@@ -77,7 +78,7 @@ module _ {State : Type 0} where
         (λ k p. same_trans (times_same (same_refl (c k)) (split.even k p)) (times_left_comm (c k) (whole total) (tree.value s k))) in
         let out : Same (sum_below tree.units (λ k. times (whole total) (times (c k) (tree.value s k)))) (times (whole total) (value_sum tree c s)) =
         sum-times tree.units (whole total) (λ k. times (c k) (tree.value s k)) in
-        same_trans (divided_same total (same_trans exchanged (same_trans even out))) (divided-times total (value_sum tree c s) split.some)
+        same_trans (divided_same total (same_trans (draws_are_weights f s (tree.parts s)) (same_trans exchanged (same_trans even out)))) (divided-times total (value_sum tree c s) split.some)
 
     -- no state of rank 0 is split
     pub no_parts : (s : State) (ps : List (Part State)) → tree.rank s ≤ 0 → 1 ≤ weight_sum ps → EachPart (IsPart tree belongs s) ps → ⊥

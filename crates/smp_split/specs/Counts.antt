@@ -7,7 +7,8 @@ use Rattle.smp_split.specs.Trees.{Tree, weight_sum, picked}
 use Rattle.smp_split.specs.Means.{value_sum}
 use Rattle.smp_split.specs.Paths.{AtEachLeaf}
 
--- the units that are selected, in order, and their number
+-- the units that are selected, in order
+-- e.g. 2, 3
 abbrev pub selected_units : {State : Type 0} → Tree State → State → List ℕ
 selected_units tree state = filter (tree.selected state) (range_with_len 0 tree.units)
 

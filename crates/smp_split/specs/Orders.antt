@@ -20,7 +20,7 @@ pub record Placing : Type 0 where
 abbrev pub frame_order : ℕ → Placing
 frame_order units = record { places = range_with_len 0 units; left = 0 }
 
--- the same before an order is drawn, by one step less than there are units
+-- the units as they stand in the frame, before an order is drawn by one step less than there are units
 abbrev pub undrawn_order : ℕ → Placing
 undrawn_order units = record { places = range_with_len 0 units; left = units - 1 }
 
@@ -28,7 +28,7 @@ undrawn_order units = record { places = range_with_len 0 units; left = units - 1
 abbrev pub next_place : Placing → ℕ
 next_place order = length order.places - 1 - order.left
 
--- one step less, and the units at two places exchanged
+-- an order with one step less, and the units at two places exchanged
 abbrev pub exchanged_order : Placing → ℕ → ℕ → Placing
 exchanged_order order i j =
     record { places = map (exchange i j) order.places; left = order.left - 1 }

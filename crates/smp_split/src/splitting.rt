@@ -1,9 +1,9 @@
 ghost use Rattle.std.specs.Prelude.{◌≡◌, ℕ, ◌<◌, true, false, IfOk};
 ghost use Rattle.smp_fractions.specs.Fractions.{Fraction, Same};
-ghost use Rattle.smp_split.specs.Trees.{weight_sum, picked};
+ghost use Rattle.smp_split.specs.Trees.{weight_sum, picked, weighted};
 ghost use Rattle.smp_split.specs.Methods.{Method};
 ghost use Rattle.smp_split.specs.Counts.{selected_units};
-ghost use Rattle.smp_split.specs.Means.{mean, value_sum, inclusion_probability};
+ghost use Rattle.smp_split.specs.Means.{sum_over_draws, mean, value_sum, inclusion_probability};
 
 use crate::{Kind, NoMemory};
 use std::alloc::Global;
@@ -53,7 +53,16 @@ pub trait Splitting {
         ensures { result ≡ (method self.now).tree.selected state.now unit };
 }
 
-/// From a state of a lawful design, the mean over all draws is the value. It runs nothing: its contract is the theorem.
+/// Of the numbers below the bound of a step, each part gets as many as its weight: the sum of `f` over the states to which the numbers lead
+/// is the sum of weight times `f` over the parts. It runs nothing: its contract is the theorem.
+pub fn draws_are_weights<S: Splitting>(design: &S, state: &S::State)
+    ensures { (f : S.State → Fraction)
+        → Same (sum_over_draws f state.now ((S.method design.now).tree.parts state.now))
+        (weighted f ((S.method design.now).tree.parts state.now)) }
+{}
+
+/// From a state of a lawful design, the mean over all draws is the value: each number below the bound of a step counts the same, whatever
+/// numbers came before. It runs nothing: its contract is the theorem.
 pub fn mean_is_value<S: Splitting>(design: &S, state: &S::State)
     requires { (S.method design.now).belongs state.now }
     ensures mean { (c : ℕ → Fraction)

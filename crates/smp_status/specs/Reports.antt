@@ -33,19 +33,25 @@ IsOfContent other status = ⊥
 pub record Put : Type 0 where
   pub written : Option (List ℕ)
   pub faults : ℕ
+  pub shortages : ℕ
 
-abbrev pub put_by : {S : Type 0} → (S → Option (List ℕ)) → (S → ℕ) → S → Put
-put_by written faults out = record { written = written out; faults = faults out }
+abbrev pub put_by : {S : Type 0} → (S → Option (List ℕ)) → (S → ℕ) → (S → ℕ) → S → Put
+put_by written faults shortages out = record {
+  written = written out;
+  faults = faults out;
+  shortages = shortages out;
+}
 
 -- How a line was put for a refusal, and what is answered then: the whole line, or a front of it where the sink failed; or memory ran
--- out, where no put failed, with a front of the line put, or with nothing.
+-- out, where no put failed, with a front of the line put where the put itself ended so, or with nothing.
 pub data PutsLine (refusal answer : Status) (line : List ℕ) (before now : Put) : Type 0 where
   Whole : answer ≡ refusal → now.written ≡ with_bytes line before.written
       → PutsLine refusal answer line before now
   Cut : answer ≡ refusal → Rose before.faults now.faults
       → AppendsFront line before.written now.written → PutsLine refusal answer line before now
   OutOfMemory : answer ≡ status.NoMemory → now.faults ≡ before.faults
-      → AppendsFront line before.written now.written ⊎ (now.written ≡ before.written)
+      → (Rose before.shortages now.shortages × AppendsFront line before.written now.written)
+      ⊎ (now.written ≡ before.written)
       → PutsLine refusal answer line before now
 
 -- the line of a refusal, or nothing for a status that has none

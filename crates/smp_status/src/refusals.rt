@@ -14,7 +14,8 @@ use std::alloc::{AllocError, Global};
 /// Puts the line of a refusal, and answers how the call ended: as it did before, unless there is no memory for the line.
 pub fn report<S: Sink>(alloc: Global, status: Status, out: &mut S) -> Status
     ensures line { Reports (fault_line status) status result
-        (put_by S.written S.faults out.old) (put_by S.written S.faults out.new) }
+        (put_by S.written S.faults S.shortages out.old)
+        (put_by S.written S.faults S.shortages out.new) }
     ensures puts { S.faults out.old ≤ S.faults out.new }
 {
     match put_line(alloc, &status, out) {
@@ -26,7 +27,8 @@ pub fn report<S: Sink>(alloc: Global, status: Status, out: &mut S) -> Status
 // Puts the line of a refusal, where it has one. The refusal stands where the put fails.
 fn put_line<S: Sink>(alloc: Global, status: &Status, out: &mut S) -> Result<(), NoMemory>
     ensures line { Reports (fault_line status.now) status.now (kept_status status.now result)
-        (put_by S.written S.faults out.old) (put_by S.written S.faults out.new) }
+        (put_by S.written S.faults S.shortages out.old)
+        (put_by S.written S.faults S.shortages out.new) }
     ensures puts { S.faults out.old ≤ S.faults out.new }
 {
     match line_for(alloc, status)? {

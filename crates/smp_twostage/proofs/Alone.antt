@@ -32,6 +32,7 @@ use Rattle.smp_twostage.specs.Sides.{section_count_by, stages_before_by, stages_
 use Rattle.smp_twostage.specs.Laws.Covered.{alone_staged, length_alone, made_at, strata_are}
 use Rattle.smp_twostage.specs.Laws.Numbering.{less_or_same}
 use Rattle.smp_twostage.specs.Laws.Staged.{length_seats, seat_at}
+use Rattle.smp_twostage.proofs.Firsts.{start_belongs}
 use Rattle.smp_twostage.proofs.AloneBy.{AloneBy, own_fraction, own_state, starts_alone_by, tree_alone}
 use Rattle.smp_twostage.proofs.StartsBy.{tree_so}
 use Rattle.smp_twostage.proofs.Values.{alone_value_is}
@@ -164,7 +165,7 @@ module _ (plan : Parts) (drawable : CanBeDrawn plan) (h : ℕ) (s : Stratum) (is
     others = λ row l other. no_seat row (omega (arith, l, length_seats plan drawable)) other;
   }
 
-  alone_part : draws_together plan.method ≡ false → IsPartOf (tree_so false plan) (BelongsToWhole plan) (sections_by (stages_before_by false (all_of plan)) (section_count_by false (all_of plan))) h (tree_alone false plan h) (own_state false plan h) (is_of_stratum plan h)
+  pub alone_part : draws_together plan.method ≡ false → IsPartOf (tree_so false plan) (BelongsToWhole plan) (sections_by (stages_before_by false (all_of plan)) (section_count_by false (all_of plan))) h (tree_alone false plan h) (own_state false plan h) (is_of_stratum plan h)
   alone_part apart =
       let size : first_number plan (suc h) ≡ number + length part = omega (arith, length-append (stages_below plan h) (stages_in plan number (slice_get plan.strata h)), part_length) in
       is_part tree_of belongs_to (stages_of plan) (seats_of plan) (BelongsToWhole plan) (λ state here. subst (λ b. IsUnderWay tree_of belongs_to (stages_by b (all_of plan)) state) apart here.member) (first_number plan) (length plan.strata) (strata_are plan None) h within
@@ -176,7 +177,7 @@ module _ (plan : Parts) (drawable : CanBeDrawn plan) (h : ℕ) (s : Stratum) (is
   states_later [] = refl
   states_later (stage ∷ stages) = ap (λ (states : List AnyState). first_state stage.design.design ∷ states) (states_later stages)
 
-  states_run : run_of number (length part) (states_of plan) ≡ states_of (parts_by plan (Some h))
+  pub states_run : run_of number (length part) (states_of plan) ≡ states_of (parts_by plan (Some h))
   states_run =
       ap (take (length part)) (drop-map (λ stage. first_state stage.design.design) number (stages_of plan))
       ∙ take-map (λ stage. first_state stage.design.design) (length part) (drop number (stages_of plan))
@@ -206,6 +207,6 @@ module _ (plan : Parts) (drawable : CanBeDrawn plan) (h : ℕ) (s : Stratum) (is
 
     pub starts_alone : (start : Progress AnyState) → start ≡ progress tree_of part (states_of (parts_by plan (Some h))) → StartsInStages tree_of belongs_to part (seats_by plan (Some h)) (states_of (parts_by plan (Some h))) start → draws_together plan.method ≡ false → StartsAlone plan h start
     starts_alone start at starts apart =
-        starts_alone_by plan drawable h start
+        starts_alone_by plan (start_belongs plan drawable) h start
         (subst (λ b. AloneBy b plan h start) (sym apart)
         (subst (AloneBy false plan h) (sym at) (starts_at (subst (StartsInStages tree_of belongs_to part (seats_by plan (Some h)) (states_of (parts_by plan (Some h)))) at starts) apart)))

@@ -4,14 +4,17 @@ use Rattle.std.specs.Prelude.{if◌then◌else◌}
 use Rattle.smp_fractions.specs.Fractions.{Fraction, Same, whole}
 use Rattle.smp_split.specs.Means.{inclusion_probability}
 use Rattle.smp_split.specs.Sectioning.{IsPartOf}
+use Rattle.smp_split.specs.Paths.{IsReached}
 use Rattle.smp_split.specs.Trees.{Tree}
+use Rattle.smp_split.proofs.Sectioned.{part_within}
+use Rattle.smp_split.proofs.Steps.{leads_belong}
 use Rattle.smp_methods.specs.declared.any.AnyState.{AnyState}
 use Rattle.smp_stages.specs.OwnStages.{own_progress, sections_by}
 use Rattle.smp_stages.specs.Stages.{IsUnderWay, Progress, progress, staged_tree}
 use Rattle.smp_strata.specs.Plans.{Parts}
-use Rattle.smp_twostage.specs.Covered.{StartsAlone}
-use Rattle.smp_twostage.specs.Plans.{CanBeDrawn}
-use Rattle.smp_twostage.specs.Selections.{BelongsToWhole, all_of, belongs_to, is_together, one_of}
+use Rattle.smp_twostage.specs.Covered.{StartsAlone, state_alone}
+use Rattle.smp_twostage.specs.Laws.Wholes.{whole_lawful}
+use Rattle.smp_twostage.specs.Selections.{BelongsToWhole, all_of, belongs_to, covered_tree, is_of_section, is_together, one_of, start_of, strata_sections, whole_tree}
 use Rattle.smp_twostage.specs.Selections.{tree_of}
 use Rattle.smp_twostage.specs.Sides.{is_in_section, seats_in, section_count_by, stages_before_by, stages_by}
 use Rattle.smp_twostage.specs.Starts.{row_fraction}
@@ -36,13 +39,23 @@ module _ (together : Bool) (plan : Parts) (h : ℕ) where
     pub part : IsPartOf (tree_so together plan) (BelongsToWhole plan) (sections_by (stages_before_by together (all_of plan)) (section_count_by together (all_of plan))) h tree_alone own_state (is_in_section together plan h)
     pub state : start ≡ own_state (progress tree_of (stages_so together plan) (states_so together plan))
 
+-- a state to which a path leads from the whole start is one of the whole selection
+pub reached_own : (plan : Parts) → BelongsToWhole plan (start_of plan) → (s : Progress AnyState) → IsReached (whole_tree plan) (start_of plan) s → BelongsToWhole plan s
+reached_own plan own s reached = leads_belong (whole_tree plan) (BelongsToWhole plan) (whole_lawful plan) reached.path (start_of plan) s reached.leads own
+
+pub reached_part : (plan : Parts) → BelongsToWhole plan (start_of plan) → (h : ℕ)
+    → IsPartOf (whole_tree plan) (BelongsToWhole plan) (strata_sections (all_of plan)) h (covered_tree (one_of plan h)) (state_alone plan h) (is_of_section plan h)
+    → IsPartOf (whole_tree plan) (IsReached (whole_tree plan) (start_of plan)) (strata_sections (all_of plan)) h (covered_tree (one_of plan h)) (state_alone plan h) (is_of_section plan h)
+reached_part plan own h is =
+    part_within (whole_tree plan) (BelongsToWhole plan) (IsReached (whole_tree plan) (start_of plan)) (reached_own plan own) (strata_sections (all_of plan)) h (covered_tree (one_of plan h)) (state_alone plan h) (is_of_section plan h) is
+
 -- as it is by the plan's method
-pub starts_alone_by : (plan : Parts) → CanBeDrawn plan → (h : ℕ) (start : Progress AnyState) → AloneBy (is_together (all_of plan)) plan h start → StartsAlone plan h start
-starts_alone_by plan drawable h start starts = record {
-  member = record { drawable = drawable; member = starts.member };
+pub starts_alone_by : (plan : Parts) → BelongsToWhole plan (start_of plan) → (h : ℕ) (start : Progress AnyState) → AloneBy (is_together (all_of plan)) plan h start → StartsAlone plan h start
+starts_alone_by plan own h start starts = record {
+  member = record { drawable = own.drawable; member = starts.member };
   values = starts.values;
   probability = starts.probability;
   others = starts.others;
-  part = starts.part;
+  part = reached_part plan own h starts.part;
   state = starts.state;
 }

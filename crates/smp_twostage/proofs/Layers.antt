@@ -111,7 +111,7 @@ module _ (plan : Parts) (drawable : CanBeDrawn plan) (together : draws_together 
         let all : planned.columns ≤ balance_count plan s = omega (arith, columns_are plan s planned, none_near) in
         ap (λ vs. record { request = s.request; values = vs }) (cut planned.columns (balance_count plan s) s.units planned.counted all)
 
-    numbers : AreNumbers (free_values (valued s))
+    pub numbers : AreNumbers (free_values (valued s))
     numbers =
         let few : planned.columns ≤ 15 = omega (arith, few_columns, planned_columns plan drawable h s is) in
         are_numbers (free_values (valued s)) (are_values planned.columns (free_values (valued s)) (free_counted plan s planned) (free_near plan s planned) few)

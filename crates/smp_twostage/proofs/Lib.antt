@@ -10,6 +10,9 @@ pub mod Positive
 pub mod Found
 pub mod Alone
 pub mod Starts
+pub mod Firsts
+pub mod SectionStarts
+pub mod Wholes
 pub mod Numbers
 pub mod Told
 pub mod OverAll

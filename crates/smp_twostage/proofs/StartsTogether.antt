@@ -27,6 +27,7 @@ use Rattle.smp_twostage.specs.Laws.Covered.{length_together}
 use Rattle.smp_twostage.specs.Laws.Staged.{none_in}
 use Rattle.smp_twostage.proofs.AloneBy.{AloneBy, starts_alone_by}
 use Rattle.smp_twostage.proofs.DrawnTogether.{chosen, drawn_together, selected_count_is}
+use Rattle.smp_twostage.proofs.Firsts.{start_belongs}
 use Rattle.smp_twostage.proofs.Frames.{is_balanced_frame}
 use Rattle.smp_twostage.proofs.Starts.{weighs_row}
 use Rattle.smp_twostage.proofs.StartsBy.{FirstSelectsSo, StartsBy, starts_whole_by}
@@ -49,7 +50,7 @@ module _ (plan : Parts) (drawable : CanBeDrawn plan) (yes : draws_together plan.
   firsts : (h n : ℕ) (s : Stratum) → slice_get plan.strata h ≡ Some s → IsFor s.request (length s.units) n → FirstSelectsSo true plan start h s n
   firsts h n s is fills path leaf leads done =
       let goes = starts.paths path leaf leads done in
-      let drawn = drawn_together plan path leaf.states goes (stage_member plan drawable started.requested started.means).paired in
+      let drawn = drawn_together plan path leaf.states goes (stage_member plan drawable started.means).paired in
       let inside : h < length (units_together plan).firsts = omega (arith, slice_get_within plan.strata h s is, length-map plan.strata (layer_in plan), length-map (layers_of plan) first_of) in
       let adds = target_adds plan drawable started.requested h s is started.means.member.are fills.whole in
       let number : selected_in (units_together plan) h drawn.leaf ≡ s.request.r = started.counts h s.request.r inside adds (goes.part 0) drawn.leaf drawn.leads drawn.ended in
@@ -79,7 +80,7 @@ module _ (plan : Parts) (drawable : CanBeDrawn plan) (yes : draws_together plan.
     around = λ other. absurd (true≢false (sym (together_balances plan.method yes) ∙ other));
     paths = starts.paths;
     cubes = λ balance apart. absurd (true≢false (sym yes ∙ apart));
-    drawn = λ _ path ends goes. drawn_together plan path ends goes (stage_member plan drawable started.requested started.means).paired;
+    drawn = λ _ path ends goes. drawn_together plan path ends goes (stage_member plan drawable started.means).paired;
     balanced = λ _. is_balanced_frame plan drawable yes;
   }
 
@@ -101,4 +102,4 @@ module _ (plan : Parts) (drawable : CanBeDrawn plan) (yes : draws_together plan.
   pub alone_together : (h : ℕ) → h ≡ 0 → StartsAlone plan h start
   alone_together h first =
       subst (λ n. StartsAlone plan n start) (sym first)
-      (starts_alone_by plan drawable 0 start (subst (λ b. AloneBy b plan 0 start) (sym yes) alone_by))
+      (starts_alone_by plan (start_belongs plan drawable) 0 start (subst (λ b. AloneBy b plan 0 start) (sym yes) alone_by))

@@ -223,28 +223,28 @@ module _ (plan : Parts) (drawable : CanBeDrawn plan) (asked : AreRequested (laye
         rw (made_at (seat_together plan) plan.rows row l, asks)
         (same_trans value (same_sym (times-one (asked_fraction here.stratum.request p.unit))))
 
-  -- ---- the stage
+-- ---- the stage
 
-  module _ (means : HasMeans (method_of (design_of_strata (layers_of plan))) (first_state (design_of_strata (layers_of plan)))) where
-    -- the state from which it starts is one of its own
-    pub stage_member : belongs_to (stage_of_strata plan).design (first_state (stage_of_strata plan).design.design)
-    stage_member = record {
-      member = means.member;
-      ordered = over_rises plan.strata (are_over plan drawable);
-      paired = free_count plan plan.strata (are_over plan drawable) 0 (length (layers_of plan)) 0;
-    }
+module _ (plan : Parts) (drawable : CanBeDrawn plan) (means : HasMeans (method_of (design_of_strata (layers_of plan))) (first_state (design_of_strata (layers_of plan)))) where
+  -- the state from which it starts is one of its own
+  pub stage_member : belongs_to (stage_of_strata plan).design (first_state (stage_of_strata plan).design.design)
+  stage_member = record {
+    member = means.member;
+    ordered = over_rises plan.strata (are_over plan drawable);
+    paired = free_count plan plan.strata (are_over plan drawable) 0 (length (layers_of plan)) 0;
+  }
 
-    pub stage_first : EachFirst (stage_of_strata plan ∷ []) (first_state (stage_of_strata plan).design.design ∷ [])
-    stage_first = record { are = refl; belong = record { paired = refl; each = own_member } }
-      where
-        own_member : (i : ℕ) (stage : Stage Selecting) (state : AnyState) → slice_get (stage_of_strata plan ∷ []) i ≡ Some stage
-            → slice_get (first_state (stage_of_strata plan).design.design ∷ []) i ≡ Some state → belongs_to stage.design state
-        own_member zero stage state is_stage is_state =
-            let stage_is : stage_of_strata plan ≡ stage = same_Some (stage_of_strata plan) stage is_stage in
-            let state_is : first_state (stage_of_strata plan).design.design ≡ state = same_Some (first_state (stage_of_strata plan).design.design) state is_state in
-            subst (λ (t : Stage Selecting). belongs_to t.design state) stage_is
-            (subst (belongs_to (stage_of_strata plan).design) state_is stage_member)
-        own_member (suc i) stage state is_stage is_state = absurd (cc)
+  pub stage_first : EachFirst (stage_of_strata plan ∷ []) (first_state (stage_of_strata plan).design.design ∷ [])
+  stage_first = record { are = refl; belong = record { paired = refl; each = own_member } }
+    where
+      own_member : (i : ℕ) (stage : Stage Selecting) (state : AnyState) → slice_get (stage_of_strata plan ∷ []) i ≡ Some stage
+          → slice_get (first_state (stage_of_strata plan).design.design ∷ []) i ≡ Some state → belongs_to stage.design state
+      own_member zero stage state is_stage is_state =
+          let stage_is : stage_of_strata plan ≡ stage = same_Some (stage_of_strata plan) stage is_stage in
+          let state_is : first_state (stage_of_strata plan).design.design ≡ state = same_Some (first_state (stage_of_strata plan).design.design) state is_state in
+          subst (λ (t : Stage Selecting). belongs_to t.design state) stage_is
+          (subst (belongs_to (stage_of_strata plan).design) state_is stage_member)
+      own_member (suc i) stage state is_stage is_state = absurd (cc)
 
 -- ---- the one section is the whole
 

@@ -1,14 +1,15 @@
 -- The strata that a selection covers: what is read of each, and what the selection of one stratum alone starts with.
-use Rattle.std.specs.Prelude.{◌≡◌, ℕ, ◌<◌, Bool, false, if◌then◌else◌, List}
+use Rattle.std.specs.Prelude.{◌≡◌, ℕ, ◌<◌, false, if◌then◌else◌, List}
 use Rattle.std.specs.List.{slice_get}
 use Rattle.smp_fractions.specs.Fractions.{Fraction, Same, whole}
 use Rattle.smp_split.specs.Means.{inclusion_probability}
+use Rattle.smp_split.specs.Paths.{IsReached}
 use Rattle.smp_split.specs.Sectioning.{IsPartOf}
 use Rattle.smp_methods.specs.declared.any.AnyState.{AnyState}
 use Rattle.smp_stages.specs.OwnStages.{own_progress}
-use Rattle.smp_stages.specs.Stages.{Progress, selected_in}
+use Rattle.smp_stages.specs.Stages.{Progress}
 use Rattle.smp_strata.specs.Plans.{Parts}
-use Rattle.smp_twostage.specs.Selections.{Coverage, BelongsToCovered, BelongsToWhole, all_of, covered_stages, covered_tree, first_place}
+use Rattle.smp_twostage.specs.Selections.{Coverage, BelongsToCovered, all_of, covered_stages, covered_tree, first_place}
 use Rattle.smp_twostage.specs.Selections.{is_of_section, one_of, stages_before, start_of, strata_sections, tree_of, whole_tree}
 use Rattle.smp_twostage.specs.Starts.{left_by, row_fraction}
 
@@ -43,7 +44,9 @@ pub record StartsAlone (plan : Parts) (h : ℕ) (start : Progress AnyState) : Ty
   -- No row of another section is selected.
   pub others : (row : ℕ) → row < plan.rows → is_of_section plan h row ≡ false
       → (s : Progress AnyState) → (covered_tree (one_of plan h)).selected s row ≡ false
-  -- It is a part of the whole selection: in the section both make the same steps, from the state that the start has of it.
-  pub part : IsPartOf (whole_tree plan) (BelongsToWhole plan) (strata_sections (all_of plan)) h
+  -- It is a part of the whole selection: in each state to which a path leads from the whole start, both make the same step in the section,
+  -- from the state that the start has of it.
+  pub part : IsPartOf (whole_tree plan) (IsReached (whole_tree plan) (start_of plan))
+      (strata_sections (all_of plan)) h
       (covered_tree (one_of plan h)) (state_alone plan h) (is_of_section plan h)
   pub state : start ≡ state_alone plan h (start_of plan)

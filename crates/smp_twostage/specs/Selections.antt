@@ -91,7 +91,7 @@ stage_by (Some method) (Some request) rows at k = second_stage method request ro
 stage_by (Some method) None rows at k = []
 stage_by None request rows at k = []
 
--- the same within a first stage unit, where there is one
+-- the stage within a first stage unit, where there is one
 abbrev pub stage_within : Option Method → ℕ → ℕ → Option unit.FirstUnit → List (Stage Selecting)
 stage_within method at k (Some u) = stage_by method u.second (length u.rows) at k
 stage_within method at k None = []
@@ -115,21 +115,23 @@ stages_below plan (suc n) =
     stages_below plan n
     ++ stages_in plan (length (stages_below plan n)) (slice_get plan.strata n)
 
--- all stages, and the number of a stratum's first stage
+-- all stages
 abbrev pub stages_of : Parts → List (Stage Selecting)
 stages_of plan = stages_below plan (length plan.strata)
 
+-- the number of a stratum's first stage
 abbrev pub first_number : Parts → ℕ → ℕ
 first_number plan h = length (stages_below plan h)
 
 -- ---- strata that are drawn together
 
--- how many first stage units the first h strata have, and all
+-- how many first stage units the first h strata have
 abbrev pub units_before : List stratum.Stratum → ℕ → ℕ
 units_before [] h = 0
 units_before (s ∷ strata) zero = 0
 units_before (s ∷ strata) (suc h) = length s.units + units_before strata h
 
+-- how many first stage units all strata have
 abbrev pub unit_count : List stratum.Stratum → ℕ
 unit_count strata = units_before strata (length strata)
 
@@ -175,14 +177,15 @@ seat_by (Some method) at p =
     Second (record { stage = at; unit = p.unit })
     (record { stage = suc (at + p.unit); unit = p.place })
 
--- the same, with the number that the stratum's first stage has
+-- the seat of a row, with the number that the stratum's first stage has
 abbrev pub seat_of : Parts → place.Seat → Seat
 seat_of plan p = seat_by plan.second (first_number plan p.stratum) p
 
--- whether a row is one of a first stage unit, and whether it is one of a stratum
+-- whether a row is one of a first stage unit
 abbrev pub unit_has : ℕ → unit.FirstUnit → Bool
 unit_has row u = list_any (nat_eq row) u.rows
 
+-- whether a row is one of a stratum
 abbrev pub stratum_has : ℕ → stratum.Stratum → Bool
 stratum_has row s = list_any (unit_has row) s.units
 
@@ -208,15 +211,17 @@ place_of strata row =
 abbrev pub seats_of : Parts → List Seat
 seats_of plan = map (λ row. seat_of plan (place_of plan.strata row)) (range_with_len 0 plan.rows)
 
--- where unit k of stratum h stands where all strata are drawn together, in the one stage; the seat of a row then, and those of all rows
+-- where unit k of stratum h stands where all strata are drawn together, in the one stage
 abbrev pub place_together : List stratum.Stratum → ℕ → ℕ → Place
 place_together strata h k = record { stage = 0; unit = units_before strata h + k }
 
+-- the seat of a row where all strata are drawn together
 abbrev pub seat_together : Parts → ℕ → Seat
 seat_together plan row =
     let p = place_of plan.strata row in
     First (place_together plan.strata p.stratum p.unit)
 
+-- the seats of all rows where all strata are drawn together
 abbrev pub seats_together : Parts → List Seat
 seats_together plan = map (seat_together plan) (range_with_len 0 plan.rows)
 
@@ -257,6 +262,7 @@ abbrev pub count_by : Option ℕ → ℕ → ℕ
 count_by None n = n
 count_by (Some h) n = 1
 
+-- how many of the covered strata are drawn one by one
 abbrev pub strata_count : Coverage → ℕ
 strata_count c = count_by c.only (length c.plan.strata)
 
@@ -265,6 +271,7 @@ abbrev pub parts_by : Parts → Option ℕ → Parts
 parts_by plan None = plan
 parts_by plan (Some h) = record plan { strata = take 1 (drop h plan.strata) }
 
+-- the plan of the strata that are covered
 abbrev pub covered_parts : Coverage → Parts
 covered_parts c = parts_by c.plan c.only
 
@@ -273,10 +280,11 @@ abbrev pub covered_stages : Coverage → List (Stage Selecting)
 covered_stages c =
     if is_together c then stage_of_strata c.plan ∷ [] else stages_of (covered_parts c)
 
--- the states from which they start, and the state before the first step
+-- the states from which the covered stages start
 abbrev pub covered_states : Coverage → List AnyState
 covered_states c = map (λ stage. first_state stage.design.design) (covered_stages c)
 
+-- the state of all covered stages before the first step
 abbrev pub covered_start : Coverage → Progress AnyState
 covered_start c = progress tree_of (covered_stages c) (covered_states c)
 
@@ -285,6 +293,7 @@ abbrev pub number_by : Option ℕ → ℕ → ℕ
 number_by None h = h
 number_by (Some only) h = 0
 
+-- the number of a stratum among those that are covered
 abbrev pub covered_number : Coverage → ℕ → ℕ
 covered_number c h = number_by c.only h
 
@@ -313,7 +322,7 @@ abbrev pub seats_by : Parts → Option ℕ → List Seat
 seats_by plan None = seats_of plan
 seats_by plan (Some h) = map (seat_alone plan h) (range_with_len 0 plan.rows)
 
--- the same, or those in the one stage where all strata are drawn together
+-- the seats of the rows that are covered, or those in the one stage where all strata are drawn together
 abbrev pub covered_seats : Coverage → List Seat
 covered_seats c = if is_together c then seats_together c.plan else seats_by c.plan c.only
 
@@ -326,13 +335,15 @@ pub record BelongsToCovered (c : Coverage) (state : Progress AnyState) : Type 0 
   pub drawable : CanBeDrawn c.plan
   pub member : IsUnderWay tree_of belongs_to (covered_stages c) state
 
--- Each stratum that is drawn is a section, or all strata are one: how many sections there are, and how many stages stand before one.
+-- how many sections there are: each stratum that is drawn is one, or all strata together
 abbrev pub section_count : Coverage → ℕ
 section_count c = if is_together c then 1 else strata_count c
 
+-- how many stages stand before a section
 abbrev pub stages_before : Coverage → ℕ → ℕ
 stages_before c h = if is_together c then h else first_number (covered_parts c) h
 
+-- the sections of what is covered
 abbrev pub strata_sections : Coverage → Sectioning (Progress AnyState)
 strata_sections c = sections_by (stages_before c) (section_count c)
 

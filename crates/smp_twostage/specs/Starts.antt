@@ -30,16 +30,20 @@ row_fraction plan row = seat_fraction plan.strata (place_of plan.strata row)
 -- ---- weighted totals
 
 -- whether a whole number is 1 or more
+-- = z > 0
 abbrev pub is_positive : ℤ → Bool
 is_positive (pos zero) = false
 is_positive (pos (suc n)) = true
 is_positive (negsuc n) = false
 
 -- the value x of a row that can be selected, and 0 of one whose probability is 0
+-- = x where π > 0, else 0
 abbrev pub known : Fraction → ℤ → ℤ
 known asked x = cond (is_positive asked.num) x (pos 0)
 
 -- what a row counts for: its value over its probability, and 0 where its probability is 0 (Horvitz and Thompson 1952)
+-- = x/π, 0 where π = 0
+-- e.g. for x = 1 of c: 5/3
 abbrev pub weighted : Fraction → ℤ → Fraction
 weighted asked x = times (integer (known asked x)) (inverse asked)
 
@@ -87,7 +91,8 @@ pub record StartsWhole (plan : Parts) (start : Progress AnyState) : Type 0 where
   -- Each row's value is the probability that the plan gives it.
   pub values : (row : ℕ) → row < plan.rows
       → Same ((whole_tree plan).value start row) (row_fraction plan row)
-  -- Each row's probability of selection, over draws that are uniform below each bound, is exactly the one that the plan gives it.
+  -- Each row's probability of selection, over draws that are uniform below each bound and independent of those before, is exactly the one
+  -- that the plan gives it.
   pub probability : (row : ℕ) → row < plan.rows
       → Same (inclusion_probability (whole_tree plan) start row) (row_fraction plan row)
   -- The estimator of Horvitz and Thompson has no bias: over those draws the mean of the weighted total of any values, one for each row, is

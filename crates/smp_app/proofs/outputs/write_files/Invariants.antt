@@ -8,5 +8,7 @@ invariant-loop-file g l = record {
   written : g.K.Store.files l.store ≡ option_map (with_files (take l.file-index l.files)) (g.K.Store.files l.fn.store);
   reads : NeverFalls (g.K.Store.read_faults l.fn.store) (g.K.Store.read_faults l.store);
   writes : NeverFalls (g.K.Store.write_faults l.fn.store) (g.K.Store.write_faults l.store);
+  shortages : NeverFalls (g.K.Store.write_shortages l.fn.store) (g.K.Store.write_shortages l.store);
+  asked : g.K.Store.asked l.store ≡ g.K.Store.asked l.fn.store;
   idle : l.files ≡ [] → l.store ≡ l.fn.store;
 }

@@ -3,7 +3,7 @@ use Rattle.smp_plan.specs.Inputs.{input_names, plan_stage}
 use Rattle.smp_plan.specs.Planned.{plan_view}
 use Rattle.smp_plan.proofs.Inputs.{plan_ignores}
 use Rattle.smp_plan.proofs.Names.{first_distinct, no_first, no_second}
-use Rattle.smp_plan.proofs.Steps.{goes_on}
+use Rattle.smp_plan.proofs.Steps.{goes_on, stops}
 use Rattle.smp_app.specs.Commands.{drawn_names}
 use Rattle.smp_app.specs.Kept.Stages.{job_view}
 use Rattle.smp_app.specs.Verdict.{work_stage}
@@ -20,6 +20,13 @@ returns-clause-reads g c =
     let job = job_view c.args.job.now in
     goes_on (input_names job.design job.frame) (drawn_names job.work) (plan_stage job.design job.frame) (work_stage job.work) _ _ _ (plan_view c.in_ok-plan.plan) _
     c.in_ok-plan.ensures.reads c.work_outputs.ensures.reads c.requires.distinct (plan_ignores job.design job.frame)
+
+pub returns-in_err-plan-clause-reads : goal.returns-in_err-plan-clause-reads
+returns-in_err-plan-clause-reads g c =
+    let job = job_view c.args.job.now in
+    let error = c.in_err-plan.field-0.0 in
+    let ends : c.from_residual.result ≡ Err error = search (rules, c.from_residual.ensures) in
+    rw ends (stops (input_names job.design job.frame) (drawn_names job.work) (plan_stage job.design job.frame) (work_stage job.work) _ _ error c.in_err-plan.ensures.reads)
 
 pub returns-clause-exact : goal.returns-clause-exact
 returns-clause-exact g c fs held =

@@ -7,8 +7,8 @@ use Rattle.smp_app.specs.Deliveries.{Outputs, names_of}
 use Rattle.smp_plan.specs.Reads.{Reads, told}
 use Rattle.smp_app.specs.Kept.Stages.{draw_view, drawn_text, file_view, selection_view}
 use Rattle.smp_plan.specs.Planned.{plan_view}
-use Rattle.smp_twostage.specs.Plans.{CanBeDrawn}
 use Rattle.smp_plan.proofs.Steps.{stops}
+use Rattle.smp_app.proofs.Selections.{is_listed}
 use Rattle.smp_app.proofs.Stages.{names_written}
 use Rattle.smp_app.proofs.work.work_outputs.Goals as goal
 
@@ -21,7 +21,7 @@ returns-in_err-selection-in-Draws-clause-reads g c =
     let files = map file_view c.in-Draws.files.items in
     let put = drawn_text c.in-Draws.put in
     rw (ends, c.in-Draws.is)
-    (subst (λ (names : List (List ℕ)). Reads names (work_stage (Draws source files put) plan) (Err error) (told g.K.Store.files g.K.Store.read_faults g.K.Store.write_faults c.args.store.now) (told g.K.Store.files g.K.Store.read_faults g.K.Store.write_faults c.selection_from.new.store))
+    (subst (λ (names : List (List ℕ)). Reads names (work_stage (Draws source files put) plan) (Err error) (told g.K.Store.files g.K.Store.read_faults g.K.Store.write_faults g.K.Store.write_shortages g.K.Store.asked c.args.store.now) (told g.K.Store.files g.K.Store.read_faults g.K.Store.write_faults g.K.Store.write_shortages g.K.Store.asked c.selection_from.new.store))
     (append-nil (source_names source))
     (stops (source_names source) [] (drawn_stage plan source) (λ drawn fs. Ok (outputs_by files put drawn)) _ _ error c.in_err-selection-in-Draws.ensures.reads))
 
@@ -29,13 +29,15 @@ pub returns-in_err-drawn_outputs-in-Draws-clause-reads : goal.returns-in_err-dra
 returns-in_err-drawn_outputs-in-Draws-clause-reads g c =
     let ends : c.from_residual-in_err-drawn_outputs-in-Draws.result ≡ Err NoMemory = search (rules, c.from_residual-in_err-drawn_outputs-in-Draws.ensures) in
     let reads = c.in_ok-selection-in-Draws.ensures.reads in
-    rw ends (record {
+    rw (ends, c.in-Draws.is) (record {
       follows = λ fs told. tt;
       kinds = tt;
       cause = tt;
       same = reads.same;
       reads = reads.reads;
       writes = reads.writes;
+      shortages = reads.shortages;
+      asked = reads.asked;
     })
 
 pub returns-in_ok-drawn_outputs-in-Draws-clause-named : goal.returns-in_ok-drawn_outputs-in-Draws-clause-named
@@ -54,4 +56,4 @@ returns-in_ok-drawn_outputs-in-Draws-clause-exact g c fs held =
     })
 
 pub returns-in_ok-bytes-in-Lists-clause-exact : goal.returns-in_ok-bytes-in-Lists-clause-exact
-returns-in_ok-bytes-in-Lists-clause-exact g c fs held = rw c.in-Lists.is (subst CanBeDrawn c.requires.planned.parts_are c.requires.planned.drawable)
+returns-in_ok-bytes-in-Lists-clause-exact g c fs held = rw c.in-Lists.is (is_listed c.args.plan.now c.requires.planned)

@@ -59,7 +59,7 @@ returns-clause-each c =
     let design = design_made plan c.in_ok-layers.layers c.in_ok-design.field-0 c.in_ok-layers.ensures c.in_ok-design.ensures in
     let state = state_made plan c.in_ok-layers.layers c.in_ok-design.field-0 c.in_ok-layers.ensures c.in_ok-design.ensures in
     let starts = are_made plan c.in_ok-layers.layers c.in_ok-design.field-0 c.in_ok-layers.ensures c.in_ok-design.ensures in
-    let first = stage_first plan c.requires.plan starts.requested starts.means in
+    let first = stage_first plan c.requires.plan starts.means in
     let stages : c.push-kept.new.self.items ≡ stage_of_strata plan ∷ [] =
     c.in_ok-kept.ensures.items
     ∙ ap (λ (stages : List (Stage Selecting)). stages ++ record { design = c.of_strata-design.result; within = None } ∷ []) c.requires.none

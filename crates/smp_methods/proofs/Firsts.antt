@@ -1,0 +1,171 @@
+-- A design starts so, whoever starts it: as a lemma, without a call.
+use Rattle.std.proofs.Common.{◌≡◌, ℕ, zero, suc, ◌-◌, ◌^◌, ◌<◌, true≢false, ℤ, List, [], ◌∷◌, length, get_or, arith, refl, ◌∙◌}
+use Rattle.std.proofs.lemmas.List.{length-map}
+use Rattle.smp_fractions.specs.Fractions.{Same}
+use Rattle.smp_fractions.proofs.Fractions.{same_refl}
+use Rattle.smp_prob.specs.declared.orders.Order.{Order}
+use Rattle.smp_prob.specs.declared.requests.Request.{Request}
+use Rattle.smp_prob.specs.Requests.{IsRequest}
+use Rattle.smp_prob.specs.Shares.{Shares, draws_of, numerators, shares_of}
+use Rattle.smp_values.specs.InOrder.{places_tree}
+use Rattle.smp_values.specs.Values.{IsValues, value_at}
+use Rattle.smp_values.proofs.InOrder.{placed_around, placed_starts}
+use Rattle.smp_values.proofs.Requests.{few_shares, requested_in_order, requested_values, shares_in_range, wider}
+use Rattle.smp_design.specs.declared.method.Method.{Method}
+use Rattle.smp_design.specs.declared.method.Method.TheVariants as method
+use Rattle.smp_design.specs.Words.{row}
+use Rattle.smp_flight.specs.Requests.{AreValues, units_of}
+use Rattle.smp_flight.specs.Selections.{IsBalancing, starting}
+use Rattle.smp_flight.proofs.Making.{units_are}
+use Rattle.smp_flight.proofs.Nexts.{started_flight}
+use Rattle.smp_landing.proofs.Starts.{cube_starts, starts_requested as cube_requested}
+use Rattle.smp_localcube.proofs.Starts.{local_starts as local_cube_starts, starts_requested as local_cube_requested}
+use Rattle.smp_localpiv.specs.Coordinates.{points_from}
+use Rattle.smp_localpiv.proofs.Starts.{local_around, local_starts, starts_open, starts_requested as local_requested}
+use Rattle.smp_stratcube.specs.Layers.{IsLayer, Layer, layer_of, no_layer}
+use Rattle.smp_stratcube.specs.Units as strata
+use Rattle.smp_stratcube.proofs.BySteps.{counts_so, is_balanced}
+use Rattle.smp_stratcube.proofs.Layered.{units_are as layers_units}
+use Rattle.smp_stratcube.proofs.Starting.{are_requested, strat_means}
+use Rattle.smp_stratcube.proofs.Stored.{layer_is}
+use Rattle.smp_pivotal.specs.Pivotal.{pivotal_rule}
+use Rattle.smp_pivotal.specs.Laws.Splits.{pivotal_law}
+use Rattle.smp_systematic.specs.Systematic.{systematic_rule}
+use Rattle.smp_systematic.specs.Laws.Splits.{systematic_law}
+use Rattle.smp_minsup.specs.Support.{support_tree}
+use Rattle.smp_minsup.proofs.FewLeaves.{support_starts}
+use Rattle.smp_minsup.proofs.Requests.{belongs_requested}
+use Rattle.smp_brewer.proofs.First.{first_offers}
+use Rattle.smp_brewer.proofs.Starts.{brewing_starts, starts_requested as brewing_requested}
+use Rattle.smp_elim.proofs.Starting.{are_sizes, begun_at, drawn_within, starts_requested as elimination_requested}
+use Rattle.smp_methods.specs.declared.any.AnyDesign.{AnyDesign}
+use Rattle.smp_methods.specs.declared.procedure.Procedure.{Procedure}
+use Rattle.smp_methods.specs.Designs.{design_by, first_state}
+use Rattle.smp_methods.specs.Procedures.{NeedsWhole, TakesValues, balancing_values, procedure}
+use Rattle.smp_methods.specs.Starts.{IsStarted}
+use Rattle.smp_methods.proofs.Columns.{few_points}
+use Rattle.smp_methods.proofs.OneStratum.{are_layers, are_numbers, one_requested}
+use Rattle.smp_methods.proofs.Starts.{is_started}
+
+module _ (order : Order) (near columns : ℕ) (request : Request) (values : List (List ℤ)) (is : IsRequest request) (one_each : length values ≡ length request.free) where
+  abbrev so : Method → AnyDesign
+  so m = design_by m order near columns request values
+
+  abbrev way : Method → Procedure
+  way m = procedure m order near columns
+
+  abbrev First : Method → Type 0
+  First m = NeedsWhole (way m) request → TakesValues (way m) values → IsStarted (way m) request values (record { design = so m; state = first_state (so m) })
+
+  abbrev shares : Shares
+  shares = shares_of request
+
+  abbrev units : ℕ
+  units = length (numerators request)
+
+  abbrev balanced : List (List ℤ)
+  balanced = balancing_values near columns values
+
+  balanced_each : length balanced ≡ length request.free
+  balanced_each = length-map values _ ∙ one_each
+
+  flies : AreValues balanced → IsBalancing (units_of request balanced) (starting (units_of request balanced))
+  flies are = started_flight (units_of request balanced) (units_are request is balanced balanced_each are)
+
+  own_value : (k : ℕ) → Same (value_at shares k) (value_at shares k)
+  own_value k = same_refl (value_at shares k)
+
+  by_pivotal : First method.Pivotal
+  by_pivotal whole takes =
+      let ok : IsValues units pivotal_rule.most shares = wider units (2 ^ 80) pivotal_rule.most shares (omega arith) (shares_in_range request is) in
+      let starts = placed_starts pivotal_rule pivotal_law order shares (few_shares request is) ok in
+      is_started (way method.Pivotal) request values (so method.Pivotal) (first_state (so method.Pivotal)) whole refl
+      (requested_in_order request is (places_tree pivotal_rule units) order refl own_value) refl
+      starts.means (λ _. starts.count) tt (λ _ _. placed_around pivotal_rule pivotal_law order shares (few_shares request is) ok)
+
+  by_systematic : First method.Systematic
+  by_systematic whole takes =
+      let ok : IsValues units systematic_rule.most shares = wider units (2 ^ 80) systematic_rule.most shares (omega arith) (shares_in_range request is) in
+      let starts = placed_starts systematic_rule systematic_law order shares (few_shares request is) ok in
+      is_started (way method.Systematic) request values (so method.Systematic) (first_state (so method.Systematic)) whole refl
+      (requested_in_order request is (places_tree systematic_rule units) order refl own_value) refl
+      starts.means (λ _. starts.count) tt (λ _ _. placed_around systematic_rule systematic_law order shares (few_shares request is) ok)
+
+  by_support : First method.MinimumSupport
+  unfolding row
+  by_support whole takes =
+      let starts = support_starts shares (belongs_requested request is whole.total) in
+      is_started (way method.MinimumSupport) request values (so method.MinimumSupport) (first_state (so method.MinimumSupport)) whole refl
+      (requested_values request is (support_tree units) shares refl (λ k _. own_value k)) refl
+      starts.means (λ _. starts.count) tt (λ any _. absurd (true≢false any))
+
+  by_brewer : First method.Brewer
+  unfolding row
+  by_brewer whole takes =
+      let starts = brewing_starts (record { sizes = request.shape; draws = draws_of request; refused = 0 }) (first_offers request is whole.total) in
+      is_started (way method.Brewer) request values (so method.Brewer) (first_state (so method.Brewer)) whole refl
+      (brewing_requested request is whole.total) refl
+      starts.means (λ _. starts.count) tt (λ any _. absurd (true≢false any))
+
+  by_elimination : First method.Elimination
+  unfolding row
+  by_elimination whole takes =
+      let few = drawn_within request is whole.total in
+      let starts = (begun_at request.shape (draws_of request) (are_sizes request is whole.total (draws_of request) (omega arith)) few).starts in
+      is_started (way method.Elimination) request values (so method.Elimination) (first_state (so method.Elimination)) whole refl
+      (elimination_requested request is whole.total few) refl
+      starts.means (λ _. starts.count) tt (λ any _. absurd (true≢false any))
+
+  by_local : First method.LocalPivotal
+  unfolding row
+  by_local whole takes =
+      let coords : List (List ℤ) = points_from columns 0 values in
+      let opens = starts_open request is coords columns (few_points columns takes.columns) (length-map values _ ∙ one_each) in
+      let starts = local_starts columns coords shares opens in
+      is_started (way method.LocalPivotal) request values (so method.LocalPivotal) (first_state (so method.LocalPivotal)) whole refl
+      (local_requested request is coords) refl
+      starts.means (λ _. starts.count) tt (λ _ _. local_around columns coords shares opens)
+
+  by_cube : First method.Cube
+  unfolding row
+  by_cube whole takes =
+      let starts = cube_starts (units_of request balanced) (flies takes.balancing) in
+      is_started (way method.Cube) request values (so method.Cube) (first_state (so method.Cube)) whole refl
+      (cube_requested request balanced is) refl
+      starts.means (λ _. starts.count) tt (λ _ balances. absurd (true≢false balances))
+
+  by_local_cube : First method.LocalCube
+  unfolding row
+  by_local_cube whole takes =
+      let coords : List (List ℤ) = points_from near (columns - near) values in
+      let starts = local_cube_starts (record { units = units_of request balanced; coords = coords }) (flies takes.balancing) in
+      is_started (way method.LocalCube) request values (so method.LocalCube) (first_state (so method.LocalCube)) whole refl
+      (local_cube_requested request balanced coords is) refl
+      starts.means (λ _. starts.count) tt (λ _ balances. absurd (true≢false balances))
+
+  by_strata : First method.StratifiedCube
+  unfolding row
+  by_strata whole takes =
+      let layers : List Layer = layer_of request balanced ∷ [] in
+      let all = are_layers request balanced is balanced_each takes.balancing in
+      let each : (h : ℕ) → h < 1 → IsLayer (get_or layers h no_layer) = λ h l. one_layer balanced_each takes.balancing h l in
+      let are = layers_units layers all each in
+      is_started (way method.StratifiedCube) request values (so method.StratifiedCube) (first_state (so method.StratifiedCube)) whole refl
+      (one_requested request balanced is (are_requested layers all each)) refl
+      (strat_means (strata.units_of layers) are) (λ apart. absurd (true≢false apart)) (counts_so (strata.units_of layers) are, is_balanced (strata.units_of layers) are)
+      (λ _ balances. absurd (true≢false balances))
+    where
+      one_layer : length balanced ≡ length request.free → AreValues balanced → (h : ℕ) → h < 1 → IsLayer (get_or (layer_of request balanced ∷ []) h no_layer)
+      one_layer count are zero l = layer_is request is balanced count (are_numbers balanced are)
+      one_layer count are (suc h) l = absurd (omega (arith, l))
+
+  pub is_first : (m : Method) → First m
+  is_first method.Pivotal = by_pivotal
+  is_first method.Systematic = by_systematic
+  is_first method.MinimumSupport = by_support
+  is_first method.Brewer = by_brewer
+  is_first method.LocalPivotal = by_local
+  is_first method.Cube = by_cube
+  is_first method.Elimination = by_elimination
+  is_first method.LocalCube = by_local_cube
+  is_first method.StratifiedCube = by_strata
