@@ -25,8 +25,8 @@ pub fn draw(alloc: Global, sizes: &[u32], n: u32, tape: &[u128]) -> Result<Vec<u
     requires few { length sizes.now ≤ most_rows }
     requires small { EachIndex sizes.now (λ i. slice_index sizes.now i < number_limit) }
     requires some { 1 ≤ n }
-    // Over draws that are uniform below each asked bound, each row is selected with exactly the probability that is
-    // requested of its size.
+    // Over draws that are uniform below each bound and independent of those before, each row is selected with exactly
+    // the probability that is requested of its size.
     ensures probability { OnOk result ((row : ℕ) → row < length sizes.now → Same
         (inclusion_probability (tree_of sizes.now n) (start_of sizes.now n) row)
         (requested_fraction n sizes.now (slice_index sizes.now row))) }

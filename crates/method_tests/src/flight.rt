@@ -1,6 +1,6 @@
 //! The first move of a flight, worked by hand from the definitions. Whole flights are cases of `crates/cases`.
 
-ghost use Rattle.std.specs.Prelude.{◌≡◌, ◌+◌, ◌≤◌, IfOk, length};
+ghost use Rattle.std.specs.Prelude.{◌≡◌, ◌+◌, ◌≤◌, ◌≤ℤ◌, IfOk, length, pos};
 ghost use Rattle.smp_prob.specs.Requests.{IsRequest};
 ghost use Rattle.smp_flight.specs.States.{AreFirst, IsFlight};
 ghost use Rattle.smp_flight.specs.Requests.{AreValues};
@@ -124,5 +124,38 @@ fn moves_on_a_line(alloc: Global, request: &Request) -> Result<bool, NoMemory>
 fn a_first_move_writes_three_numerators_at_most(rt: HostRuntime) -> Result<(), Fail> {
     let halves = Request::all_free(rt.alloc(), &[1; 4], 2, 4)?;
     assert!(rt; moves_on_a_line(rt.alloc(), &halves)?);
+    Ok(())
+}
+
+/// Four times the same two balancing values.
+fn twice_each(alloc: Global, most: i32) -> Result<Vec<Numbers>, NoMemory>
+    requires { pos 0 ≤ℤ most }
+    ensures are { IfOk result (λ xs. AreValues xs.items) }
+    ensures one_each { IfOk result (λ xs. length xs.items ≡ 4) }
+{
+    let mut xs = Vec::new(alloc);
+    for i in 0..4usize {
+        xs.push(Numbers::from_slice(alloc, &[most, most])?)?;
+    }
+    Ok(xs)
+}
+
+/// Whether four units of equal sizes with two balancing values up to this are narrow.
+fn is_narrow_up_to(alloc: Global, request: &Request, most: i32) -> Result<bool, NoMemory>
+    requires request { IsRequest request.now }
+    requires four { length request.now.free ≡ 4 }
+    requires most { pos 0 ≤ℤ most }
+{
+    let xs = twice_each(alloc, most)?;
+    let shape = Shape::new(alloc, request, xs.as_slice())?;
+    Ok(is_narrow(&shape))
+}
+
+// 3 times the square of the first is below 2^44, and of the second above it.
+#[test]
+fn equal_sizes_are_narrow_up_to_the_bound(rt: HostRuntime) -> Result<(), Fail> {
+    let halves = Request::all_free(rt.alloc(), &[1; 4], 2, 4)?;
+    assert!(rt; is_narrow_up_to(rt.alloc(), &halves, 2_421_582)?);
+    assert!(rt; !is_narrow_up_to(rt.alloc(), &halves, 2_421_583)?);
     Ok(())
 }
