@@ -10,6 +10,8 @@ HEAD = re.compile(r"(?:(?:pub|abbrev|unfoldable|record|data)\s+)*(?P<name>[^\s:(
 FIXITY = re.compile(r"infix[lr]?\s")
 IMPORT = re.compile(r"(?P<again>pub )?(?:ghost )?use Rattle\.(?P<module>[^\s{;]+?)(?:\.\{(?P<names>[^}]*)\}|(?: as (?P<alias>\S+?))?);?$")
 WORD = re.compile(r"[^\s(){}\[\];,]+")
+# A line of a comment with the formula of a definition in ordinary notation, or with its value in the draw that is worked by hand.
+MARK = re.compile(r"\s*-- (?P<mark>=|e\.g\.) (?P<told>.*)")
 STARTS = ("abbrev ", "unfoldable ", "record ", "data ", "pub record ", "pub data ", "pub abbrev ", "pub ")
 
 
@@ -29,6 +31,17 @@ class Definition:
     def path(self):
         return path_of(self.module)
 
+    def words(self):
+        """The words of its comment, or of that of the module around it, without its marks, in one line."""
+        lines = self.comment or [line for above in self.around[-1:] for line in above if line.strip().startswith("--")]
+        told = [line.strip().lstrip("-").strip() for line in lines if not MARK.match(line)]
+        return " ".join(filter(None, told))
+
+    def marked(self, mark):
+        """What its comment has behind a mark, `=` or `e.g.`, in one line."""
+        found = [MARK.match(line) for line in self.comment]
+        return "; ".join(one["told"] for one in found if one and one["mark"] == mark)
+
     def head(self):
         """The lines of its type; of a record or a `data` those up to its fields or forms."""
         if self.kind in ("record", "data"):
@@ -36,12 +49,6 @@ class Definition:
         else:
             end = next((i for i, line in enumerate(self.lines) if i and len(line) - len(line.lstrip()) <= self.indent), len(self.lines))
         return self.lines[:end]
-
-    def in_short(self):
-        """Its comment and its type; of a record that is no statement, whose type stands alone, all of it."""
-        if self.kind in ("record", "data") and len(self.head()) == 1 and "(" not in self.lines[0]:
-            return self.shown()
-        return self.comment + self.head()
 
     def shown(self):
         """Its comment and its lines, without what is for the prover alone; of a law that says what a name is, without its proof."""
@@ -53,7 +60,7 @@ class Module:
     """A file: its definitions by name, in their order, and where the other names in it come from."""
 
     def __init__(self, name):
-        self.name, self.definitions, self.imports, self.aliases, self.makers = name, {}, {}, {}, {}
+        self.name, self.definitions, self.imports, self.aliases, self.makers, self.about = name, {}, {}, {}, {}, ""
 
 
 def path_of(module):
@@ -105,62 +112,80 @@ def starts(text):
 
 
 def says_something(definition):
-    """Whether the type of a name is a statement, so that what stands behind the name is its proof: an equation, an order, or what is said of something."""
+    """Whether the type of a name is a statement, so that what stands behind the name is its proof: an equation, an order, or what is said of
+    something."""
     told = " ".join(line.strip() for line in definition.head()).split(" : ", 1)[-1].split("→")[-1].strip()
     parts = told.split()
     return any(part in ("≡", "≢", "≤", "<", "≤ℤ", "<ℤ", "∣", "×", "⊎") for part in parts) or (
         len(parts) > 1 and parts[0][:1].isupper() and parts[0] != "List")
 
 
+class Reader:
+    """Reads the lines of a file into its module, one after the other. A comment belongs to what follows it without an empty line between; that of
+    the file to its first definition, if it has none."""
+
+    def __init__(self, module, of_file):
+        self.module, self.of_file = module, of_file
+        self.current, self.comment, self.around, self.header = None, [], [], None
+
+    def take(self, number, line):
+        text, indent = line.strip(), len(line) - len(line.lstrip())
+        if self.header is not None:
+            self.header.append(line)
+            self.header = None if text.endswith("where") else self.header
+        elif not text or take_import(self.module, line) or text.startswith("-- ----"):
+            self.current, self.comment = None, []
+        elif self.current is not None and indent > self.current.indent:
+            self.current.lines.append(line)
+        elif text.startswith("--"):
+            self.comment.append(line)
+        elif text.startswith("module "):
+            self.open(line, text, indent)
+        elif starts(text):
+            self.start(number, line, text, indent)
+        elif self.current is not None and not FIXITY.match(text):
+            self.current.lines += self.comment + [line]
+            self.comment = []
+        else:
+            self.comment = []
+
+    def open(self, line, text, indent):
+        """A module with parameters for what stands deeper."""
+        self.around = [(at, above) for at, above in self.around if at < indent]
+        above = self.comment + [line]
+        self.around.append((indent, above))
+        self.header, self.current, self.comment = (None if text.endswith("where") else above), None, []
+
+    def start(self, number, line, text, indent):
+        """A definition, with its comment."""
+        self.around = [(at, above) for at, above in self.around if at < indent]
+        is_first = not self.comment and not self.module.definitions and not self.around
+        comment = self.of_file if is_first else self.comment
+        self.current = Definition(self.module.name, starts(text), kind_of(text), number, comment, [tuple(above) for _, above in self.around])
+        self.current.indent, self.current.lines, self.comment = indent, [line], []
+        self.module.definitions[self.current.name] = self.current
+
+
+def makers_of(definition):
+    """The names of a `data`'s forms."""
+    found = [re.match(r"\s+(\S+)\s*:", line) for line in definition.lines[1:] if not line.strip().startswith("--")]
+    return [maker[1] for maker in found if maker]
+
+
 def read_module(path, name):
-    """A file's module. A comment belongs to what follows it without an empty line between; that of the file to its first definition, if it has none."""
+    """A file's module."""
     module = Module(name)
     with open(path, encoding="utf-8") as file:
         lines = joined(file.read().split("\n"))
-    current, comment, around, header, of_file = None, [], [], None, []
-    for line in lines:
-        if not line.startswith("--"):
-            break
-        of_file.append(line)
+    of_file = lines[:next((number for number, line in enumerate(lines) if not line.startswith("--")), len(lines))]
+    module.about = " ".join(line.lstrip("-").strip() for line in of_file)
+    reader = Reader(module, of_file)
     for number, line in enumerate(lines, 1):
-        text, indent = line.strip(), len(line) - len(line.lstrip())
-        if header is not None:
-            header.append(line)
-            header = None if text.endswith("where") else header
-        elif not text:
-            current, comment = None, []
-        elif take_import(module, line):
-            current, comment = None, []
-        elif text.startswith("-- ----"):
-            current, comment = None, []
-        elif current is not None and indent > current.indent:
-            current.lines.append(line)
-        elif text.startswith("--"):
-            comment.append(line)
-        elif text.startswith("module "):
-            around = [(at, above) for at, above in around if at < indent]
-            above = comment + [line]
-            around.append((indent, above))
-            header, current, comment = (None if text.endswith("where") else above), None, []
-        elif starts(text):
-            around = [(at, above) for at, above in around if at < indent]
-            kind = kind_of(text)
-            comment = comment if comment or module.definitions or around else of_file
-            current = Definition(name, starts(text), kind, number, comment, [tuple(above) for _, above in around])
-            current.indent, current.lines, comment = indent, [line], []
-            module.definitions[current.name] = current
-        elif current is not None and not FIXITY.match(text):
-            current.lines += comment + [line]
-            comment = []
-        else:
-            comment = []
+        reader.take(number, line)
     for definition in module.definitions.values():
         definition.is_proof = definition.kind == "said" and says_something(definition) and not definition.name.endswith("_is")
         if definition.kind == "data":
-            for line in definition.lines[1:]:
-                maker = re.match(r"\s+(\S+)\s*:", line)
-                if maker and not line.strip().startswith("--"):
-                    module.makers[maker[1]] = definition.name
+            module.makers.update((maker, definition.name) for maker in makers_of(definition))
     return module
 
 
