@@ -6,7 +6,7 @@
 A tenth of the rows is drawn systematically in ten strata, in proportion to size, and by the cube on four columns with equal sizes. The frame is in memory, a list
 of dicts or a data frame. It prints what is drawn, the client, the seconds of the call, those of the program alone on the same files, and the difference, and
 then the same in seconds of a processor, which say more where other programs run beside. Each is the median of five. With the name of a program in SAMPLER it
-is that one. R is left out where it isn't there.
+is that one. R is left out where it isn't there, or hasn't the package (`R CMD INSTALL clients/r`).
 """
 import os
 import shutil
@@ -18,15 +18,16 @@ import tempfile
 sys.dont_write_bytecode = True
 from draw import TOP, made_up_sizes
 
-sys.path.insert(0, os.path.join(TOP, "clients"))
+sys.path.insert(0, os.path.join(TOP, "clients", "python"))
 import sampler
+from sampler.folder import INPUTS
 
 SEED = "0" * 64
 TIMES = 5
 R = """
-source(commandArgs(TRUE)[1])
-frame <- read.csv(commandArgs(TRUE)[2])
-times <- vapply(seq_len(%d), function(time) unclass(system.time(sampler$draw(commandArgs(TRUE)[3], frame, seed = strrep("0", 64)))), numeric(5))
+library(sampler)
+frame <- read.csv(commandArgs(TRUE)[1])
+times <- vapply(seq_len(%d), function(time) unclass(system.time(draw(commandArgs(TRUE)[2], frame, seed = strrep("0", 64)))), numeric(5))
 cat(median(times[3, ]), median(colSums(times[-3, ])))
 """ % TIMES
 
@@ -59,11 +60,11 @@ def main():
         with tempfile.TemporaryDirectory() as work:
             record = os.path.join(work, "record")
             sampler.draw(design, frame, seed=SEED, record=record)
-            words = [os.path.abspath(os.environ["SAMPLER"]), "draw", *sampler.INPUTS, "--seed", SEED, "--log", "log", "--sample", "sample"]
+            words = [os.path.abspath(os.environ["SAMPLER"]), "draw", *INPUTS, "--seed", SEED, "--log", "log", "--sample", "sample"]
             alone = median(lambda: subprocess.run(words, cwd=record, stdout=subprocess.DEVNULL, check=True))
             seconds = {"Python": median(lambda: sampler.draw(design, frame, seed=SEED))}
-            if shutil.which("Rscript"):
-                given = [os.path.join(TOP, "clients", "sampler.R"), os.path.join(record, "frame.csv"), os.path.join(record, "design.toml")]
+            if shutil.which("Rscript") and subprocess.run(["Rscript", "-e", "library(sampler)"], capture_output=True).returncode == 0:
+                given = [os.path.join(record, "frame.csv"), os.path.join(record, "design.toml")]
                 seconds["R"] = map(float, subprocess.run(["Rscript", "-e", R, *given], check=True, capture_output=True, text=True).stdout.split())
             for client, of_client in seconds.items():
                 print(f"{name}, {client}", *(f"{one:.2f}, {other:.2f}, {one - other:.2f}" for one, other in zip(of_client, alone)), sep=", ")

@@ -1,109 +1,19 @@
-"""Tests of clients/sampler.py, on the shipped examples and on frames of their own.
+"""Tests of the Python package, on the shipped examples and on frames of their own.
 
-    python3 -B clients/tests/test_sampler.py
-
-The program is that of the environment's SAMPLER, or else the one at the top of the repository, or of the archive. The codes 12 and 13 are those of the
-program, whose frame is taken away and whose output is full; 10 and 14, which can't be brought about by what a client gives, come from a script in its
-place.
+    python3 -B clients/python/tests/test_sampler.py
+    cd clients/python && python3 -B -m unittest             these and the others
 """
+import collections
 import contextlib
 import csv
 import hashlib
 import os
 import pickle
-import re
-import stat
-import sys
-import tempfile
 import tomllib
 import unittest
 from fractions import Fraction
 
-HERE = os.path.dirname(os.path.abspath(__file__))
-ROOT = os.path.dirname(os.path.dirname(HERE))
-sys.dont_write_bytecode = True
-sys.path.insert(0, os.path.dirname(HERE))
-import sampler
-
-os.environ["SAMPLER"] = os.path.abspath(os.environ.get("SAMPLER") or os.path.join(ROOT, "sampler"))
-PROGRAM = os.environ["SAMPLER"]
-try:
-    import pandas
-except ImportError:
-    pandas = None
-
-DRAWN = ["farms", "businesses", "plots", "shops", "mills", "harbours", "parishes", "woods", "schools", "villages", "panel", "bridges"]
-# Texts that a spreadsheet, a shell or a program may trip over.
-ODD = ["", " ", " a", "a ", "a,b", 'a"b', '"', '""', '"a"', "a\nb", "a\rb", "a\r\nb", "\n", "\r", "\t", "\ufeff", "\ufeffa", "é", "Ωмβ 漢字", "🐄", "a\u0301",
-       "\u2028", "\x85", "\x01", "\x7f", "#a", "=1+1", "'", "`id`", "$(id)", "; rm x", "\\", "\\n", "NA", "NaN", "null", "TRUE", "1e5", "012", "-", "--", "x" * 200000]
-
-
-def example(name, file):
-    return os.path.join(ROOT, "examples", name, file)
-
-
-def content(path):
-    with open(path, "rb") as file:
-        return file.read()
-
-
-def rows_of(name):
-    with open(example(name, "frame.csv"), encoding="utf-8-sig", newline="") as file:
-        return list(csv.DictReader(file))
-
-
-def design_of(name, file="design.toml"):
-    return tomllib.loads(content(example(name, file)).decode())
-
-
-def fraction(value):
-    return f"{value.numerator}/{value.denominator}"
-
-
-def texts(rows):
-    """Rows of texts as the program writes them."""
-    plain = [[fraction(value) if isinstance(value, Fraction) else value for value in row] for row in rows]
-    return "".join(",".join('"' + value.replace('"', '""') + '"' if re.search('[",\r\n]', value) else value for value in row) + "\n" for row in plain).encode()
-
-
-class Case(unittest.TestCase):
-    """Each test has a folder of its own, and one for passing files, in which nothing may be left."""
-
-    def setUp(self):
-        self.folder = self.enterContext(tempfile.TemporaryDirectory())
-        self.passing = os.path.join(self.folder, "passing files")
-        os.mkdir(self.passing)
-        before, tempfile.tempdir = tempfile.tempdir, self.passing
-        self.addCleanup(setattr, tempfile, "tempdir", before)
-
-    def tearDown(self):
-        self.assertEqual(os.listdir(self.passing), [])
-
-    def path(self, name, text=None):
-        path = os.path.join(self.folder, name)
-        if text is not None:
-            with open(path, "wb") as file:
-                file.write(text.encode())
-        return path
-
-    @contextlib.contextmanager
-    def program(self, script):
-        """A script in the place of the program, whose path PROGRAM stands for."""
-        path = self.path("it's $HOME; `a` program", "#!/bin/sh\n" + script.replace("PROGRAM", "'" + PROGRAM.replace("'", "'\\''") + "'"))
-        os.chmod(path, stat.S_IRWXU)
-        os.environ["SAMPLER"] = path
-        try:
-            yield
-        finally:
-            os.environ["SAMPLER"] = PROGRAM
-
-    def refused(self, code, line, command, *given, row=None, column=None, **named):
-        with self.assertRaises(sampler.Refusal) as caught:
-            command(*given, **named)
-        refusal = caught.exception
-        self.assertEqual((refusal.code, refusal.line, refusal.row, refusal.column), (code, line, row, column))
-        self.assertTrue(str(refusal))
-        return refusal
+from support import DRAWN, ODD, PROGRAM, RECORD, ROOT, Case, content, design_of, example, fraction, pandas, rows_of, sampler, texts
 
 
 class Examples(Case):
@@ -122,18 +32,19 @@ class Examples(Case):
         rows = {row[design_of(name)["id"]]: row for row in rows_of(name)}
         with open(example(name, sample), encoding="utf-8", newline="") as file:
             self.assertEqual(self.plain(drawn.sample), [{**rows[row["id"]], "weight": Fraction(row["weight"])} for row in csv.DictReader(file)])
-        self.assertEqual(sorted(os.listdir(record)), sorted(["design.toml", "frame.csv", source.removeprefix("seeded_"), "log.txt", "sample.csv", "report.txt"]))
+        self.assertEqual(set(os.listdir(record)), {source.removeprefix("seeded_"), *RECORD})
         put = f"selected {drawn.selected} of {drawn.units}\nsteps {drawn.steps}\n"
-        for stratum, number in drawn.left.items():
+        for stratum, _, number in drawn.left:
             put += f"left {stratum} {number}\n"
             for line in drawn.balance:
                 if line.stratum == stratum:
+                    self.assertEqual(line.column_name, design_of(name)["balance"][line.column - 1])
                     put += f"balance {stratum} {line.column} {'wide' if line.estimate is None else fraction(line.estimate)} {line.total}\n"
         self.assertEqual(put.encode(), content(example(name, report)))
 
     @staticmethod
     def plain(sample):
-        return sample if isinstance(sample, list) else sample.to_dict("records")
+        return sample if isinstance(sample, list) else sample.drop(columns="weight_float").to_dict("records")
 
     def test_files_go_byte_for_byte(self):
         for name in DRAWN:
@@ -162,9 +73,11 @@ class Examples(Case):
                 self.drawn(name, drawn, record)
         frame = pandas.read_csv(example("bridges", "frame.csv"))
         listed = sampler.joint(design_of("bridges"), frame)
+        self.assertEqual(list(listed["probability_float"]), list(map(float, listed["probability"])))
+        listed = listed.drop(columns="probability_float")
         self.assertEqual(texts([listed.columns, *listed.values.tolist()]), content(example("bridges", "joint.csv")))
         listed = sampler.probs(design_of("bridges"), frame)
-        self.assertEqual((list(listed.columns), sum(listed["probability"])), (["id", "probability"], 5))
+        self.assertEqual((list(listed.columns), sum(listed["probability"])), (["id", "probability", "probability_float"], 5))
 
     def test_a_seed(self):
         record = self.path("record")
@@ -216,8 +129,12 @@ class Examples(Case):
 
     def test_check(self):
         for given in (example("businesses", "design.toml"), example("businesses", "frame.csv")), (design_of("businesses"), rows_of("businesses")):
-            self.assertEqual(sampler.check(*given), (12, 1))
-        self.assertEqual(sampler.check(design_of("schools"), rows_of("schools")), sampler.Accepted(units=48, strata=4))
+            self.assertEqual(sampler.check(*given), (12, 1, [(1, None, 12)]))
+        for given in (example("schools", "design.toml"), example("schools", "frame.csv")), (design_of("schools"), rows_of("schools")):
+            accepted = sampler.check(*given)
+            districts = collections.Counter(row["district"] for row in rows_of("schools"))
+            self.assertEqual(accepted, (48, 4, [(number, name, districts[name]) for number, name in enumerate(districts, 1)]))
+            self.assertIn("2 'Restormel': 12 units", repr(accepted))
 
 
 class Seeds(Case):
@@ -371,7 +288,7 @@ class Texts(Case):
         self.assertEqual(sampler.draw({"version": 1, "method": "systematic", "id": "\0", "n": 1}, [{"\0": "a\0"}]).sample, [{"\0": "a\0", "weight": 1}])
 
     def test_the_bytes(self):
-        """The same as those that sampler.R writes."""
+        """The same as those that the R package writes."""
         record = self.path("record")
         sampler.draw({"version": 1.0, "method": "cube", "id": "id", "size": "size", "balance": ["x"], "n": 1, "second": {"psu": "p \"\\\t", "method": "pivotal", "n": 1}},
                      [{"x": -5, "more": 1, "id": "a \"b\"", "size": 12.0, "p \"\\\t": "é"}], record=record)
@@ -440,7 +357,7 @@ class Values(Case):
 
     def test_a_column_weight(self):
         for frame in [{"id": 1, "size": 1, "weight": 5}], self.path("frame.csv", "id,size,weight\na,1,5\n"):
-            self.assertEqual(sampler.check(self.DESIGN, frame), (1, 1))
+            self.assertEqual(sampler.check(self.DESIGN, frame)[:2], (1, 1))
             with self.assertRaises(sampler.BadValue):
                 sampler.draw(self.DESIGN, frame)
 
@@ -448,13 +365,13 @@ class Values(Case):
     def test_pandas(self):
         frame = pandas.DataFrame({"id": ["a", "b", "c"], "size": [1.0, 2.0, 3.0], "else": [0.5, None, 1]}, index=[7, 7, 8])
         drawn = sampler.draw({**self.DESIGN, "n": 2}, frame)
-        self.assertEqual([drawn.sample.index.isin([7, 8]).all(), list(drawn.sample.columns)], [True, ["id", "size", "else", "weight"]])
+        self.assertEqual([drawn.sample.index.isin([7, 8]).all(), list(drawn.sample.columns)], [True, ["id", "size", "else", "weight", "weight_float"]])
         for values, kind in (([1, None, 3], "Int64"), ([1, None, 3], "category"), ([1, None, 3], float), ([1, pandas.NaT, 3], object), ([1, 2.5, 3], float),
                              ([1, True, 3], object)):
             with self.assertRaises(sampler.BadValue) as caught:
                 sampler.draw(self.DESIGN, frame.assign(size=pandas.Series(values, dtype=kind, index=frame.index)))
             self.assertEqual((caught.exception.column, caught.exception.row), ("size", 2))
-        self.assertEqual(sampler.check(self.DESIGN, frame.assign(id=pandas.Categorical(["a", "b", "c"]), size=pandas.array([1, 2, 3], dtype="Int64"))), (3, 1))
+        self.assertEqual(sampler.check(self.DESIGN, frame.assign(id=pandas.Categorical(["a", "b", "c"]), size=pandas.array([1, 2, 3], dtype="Int64")))[:2], (3, 1))
 
 
 if __name__ == "__main__":

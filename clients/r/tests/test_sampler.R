@@ -1,53 +1,13 @@
-# Tests of clients/sampler.R, on the shipped examples and on frames of their own.
+# Tests of the R package, on the shipped examples and on frames of their own.
 #
-#     Rscript clients/tests/test_sampler.R
+#     R CMD INSTALL clients/r && Rscript clients/r/tests/test_sampler.R
 #
-# The program is that of the environment's SAMPLER, or else the one at the top of the repository, or of the archive. The codes 12 and 13 are those of the
-# program, whose frame is taken away and whose output is full; 10 and 14, which can't be brought about by what a client gives, come from a script in its
-# place.
-here <- dirname(normalizePath(sub("^--file=", "", grep("^--file=", commandArgs(), value = TRUE)[1])))
-root <- dirname(dirname(here))
-if (!nzchar(Sys.getenv("SAMPLER"))) Sys.setenv(SAMPLER = file.path(root, "sampler"))
-real <- normalizePath(Sys.getenv("SAMPLER"))
-Sys.setenv(SAMPLER = real)
-source(file.path(root, "clients", "sampler.R"), local = (loaded <- new.env()))
-sampler <- loaded$sampler
-
-failed <- 0
-expect <- function(what, holds) {
-  if (!isTRUE(holds)) {
-    failed <<- failed + 1
-    message("test_sampler.R: ", what)
-  }
-}
-
-work <- tempfile("work")
-dir.create(work)
-at <- function(name) file.path(work, name)
-example <- function(name, file) file.path(root, "examples", name, file)
-content <- function(path) readBin(path, "raw", file.size(path))
-text_of <- function(path) { text <- rawToChar(content(path)); Encoding(text) <- "UTF-8"; text }
-put <- function(name, text) { writeBin(charToRaw(enc2utf8(text)), at(name)); at(name) }
-rows_of <- function(name) read.csv(example(name, "frame.csv"), check.names = FALSE, fileEncoding = "UTF-8-BOM", encoding = "UTF-8")
-same <- function(one, other) identical(content(one), content(other))
-
-# What the call refuses with, or NULL.
-caught <- function(call) tryCatch({ call; NULL }, error = identity)
-
-refused <- function(code, line, call, row = NA_integer_, column = NA_character_) {
-  found <- caught(call)
-  expect(paste("refusal", code, line, "and not", conditionMessage(found)), inherits(found, "sampler_refusal") && identical(found$line, line) && found$code == code &&
-    identical(found$row, row) && identical(found$column, column) && nzchar(conditionMessage(found)))
-}
-
-# Runs a call with a script in the place of the program, whose path PROGRAM stands for.
-with_program <- function(script, call) {
-  path <- put("it's $HOME; `a` program", paste0("#!/bin/sh\n", gsub("PROGRAM", shQuote(real), script, fixed = TRUE)))
-  Sys.chmod(path, "700")
-  Sys.setenv(SAMPLER = path)
-  on.exit(Sys.setenv(SAMPLER = real))
-  force(call)
-}
+# The codes 12 and 13 are those of the program, whose frame is taken away and whose output is full; 10 and 14, which can't be brought about by what a client
+# gives, come from a script in its place.
+found <- sub("^--file=", "", grep("^--file=", commandArgs(), value = TRUE)[1])
+source(file.path(if (is.na(found)) "." else dirname(found), "support.R"))
+if (!has_program) leave_out("no program was found")
+if (is.na(root)) leave_out("the shipped examples aren't beside it")
 
 # Texts that a spreadsheet, a shell or a program may trip over.
 odd <- c("", " ", " a", "a ", "a,b", "a\"b", "\"", "\"\"", "\"a\"", "a\nb", "a\rb", "a\r\nb", "\n", "\r", "\t", "\ufeff", "\ufeffa", "\u00e9", "\u03a9\u043c\u6f22",
@@ -56,8 +16,8 @@ odd <- c("", " ", " a", "a ", "a,b", "a\"b", "\"", "\"\"", "\"a\"", "a\nb", "a\r
 farms <- data.frame(id = c("a", "b", "c", "d"), size = 1:4)
 two <- list(version = 1, method = "pivotal", id = "id", size = "size", n = 2)
 
-# The defined name masks nothing.
-expect("more names than sampler", identical(ls(loaded, all.names = TRUE), "sampler"))
+# The names that the package defines mask none of those that are there.
+expect("a name is masked", !length(intersect(getNamespaceExports("sampler"), unlist(lapply(setdiff(search(), c(".GlobalEnv", "package:sampler")), ls)))))
 
 # ---------------------------------------------------------------------------------------------------------------------------------------------
 # The examples
@@ -139,7 +99,12 @@ sizes <- c(lists$schools[c("version", "method", "id", "stratum", "size")], list(
 expect("sizes have other probabilities", identical(written(sampler$probs(sizes, rows_of("schools"))), text_of(example("schools", "sizes_probabilities.csv"))))
 joint <- sampler$joint(example("bridges", "design.toml"), rows_of("bridges"))
 expect("bridges has other joint probabilities", identical(written(joint), text_of(example("bridges", "joint.csv"))) && joint$probability[1] == 1 / 8)
-expect("check", identical(sampler$check(lists$schools, rows_of("schools")), list(units = 48, strata = 4)) && sampler$check(files[[1]], files[[2]])$units == 48)
+for (given in list(list(lists$schools, rows_of("schools")), files)) {
+  accepted <- sampler$check(given[[1]], given[[2]])
+  districts <- rows_of("schools")$district
+  expect("check", accepted$units == 48 && accepted$strata == 4 && identical(accepted$of_strata$name, unique(districts)) &&
+    identical(accepted$of_strata$units, as.vector(table(districts)[unique(districts)])))
+}
 
 # ---------------------------------------------------------------------------------------------------------------------------------------------
 # Seeds, refusals
@@ -215,7 +180,7 @@ for (text in odd) {
   expect(paste("a column", text), sampler$check(design, setNames(data.frame(1L, 2L), c(text, "id")))$units == 1)
 }
 
-# The same bytes as those that sampler.py writes.
+# The same bytes as those that the Python package writes.
 ignored <- sampler$draw(list(version = 1, method = "cube", id = "id", size = "size", balance = "x", n = 1, second = list(psu = "p \"\\\t", method = "pivotal", n = 1)),
   setNames(data.frame(-5, 1, "a \"b\"", 12, "\u00e9"), c("x", "more", "id", "size", "p \"\\\t")), record = at("bytes"))
 expect("other bytes of a frame", identical(text_of(file.path(at("bytes"), "frame.csv")), "\"id\",\"p \"\"\\\t\",\"size\",\"x\"\n\"a \"\"b\"\"\",\"\u00e9\",12,-5\n"))
@@ -277,5 +242,4 @@ expect("a quote in a field", grepl("quote", conditionMessage(inner)))
 
 expect("something is left in the temporary folder", length(list.files(tempdir(), "^sampler-")) == 0)
 expect("something is written beside a record", !any(c("x", "y") %in% c(list.files(), list.files(work))))
-unlink(work, recursive = TRUE)
-if (failed) quit(status = 1)
+tell_and_end()
