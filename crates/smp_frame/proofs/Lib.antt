@@ -3,6 +3,7 @@ pub mod Front
 pub mod Ids
 pub mod Machine
 pub mod Marks
+pub mod Named
 pub mod NextUnit
 pub mod Places
 pub mod RecordFields

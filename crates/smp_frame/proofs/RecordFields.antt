@@ -1,11 +1,11 @@
 -- The fields of a record, by their places, and as texts.
-use Rattle.std.proofs.Common.{◌≡◌, ℕ, zero, suc, ◌+◌, ◌<◌, true, false, List, [], ◌∷◌, Option, Some, None, length, nat_lt, drop, drop-cons, refl, sym, ap, ◌∙◌, inl, inr, arith}
+use Rattle.std.proofs.Common.{◌≡◌, ℕ, zero, suc, ◌+◌, ◌-◌, ◌<◌, true, false, List, [], ◌∷◌, Option, Some, None, length, take, drop, drop-cons, get_or-drop, refl, sym, ap, ◌∙◌, inl, inr, arith}
 use Rattle.std.specs.List.{list_all}
-use Rattle.std.specs.Str.{IsUtf8, is_utf8}
-use Rattle.std.proofs.lemmas.Bool.{cases_Bool, ltb-true}
-use Rattle.std.proofs.lemmas.Str.{IsUtf8-nil, IsUtf8-from_is_utf8, is_utf8-from_IsUtf8}
-use Rattle.smp_lines.proofs.Ascii.{IsUtf8-from_test, both}
-use Rattle.csv.specs.Records.{field_at}
+use Rattle.std.specs.Str.{IsAscii, IsUtf8, is_utf8}
+use Rattle.std.proofs.lemmas.Bool.{cases_Bool}
+use Rattle.std.proofs.lemmas.Str.{IsUtf8-nil, IsUtf8-from_ascii, IsUtf8-from_is_utf8, is_utf8-from_IsUtf8}
+use Rattle.smp_lines.proofs.Ascii.{both}
+use Rattle.csv.specs.Records.{cut_from, field_at}
 use Rattle.smp_frame.specs.Records.{field}
 
 abbrev or_empty : Option (List ℕ) → List ℕ
@@ -30,15 +30,30 @@ field_is_text [] place all = IsUtf8-nil
 field_is_text (text ∷ row) zero all = IsUtf8-from_is_utf8 text (both (is_utf8 text) (list_all is_utf8 row) all).0
 field_is_text (text ∷ row) (suc place) all = field_is_text row place (both (is_utf8 text) (list_all is_utf8 row) all).1
 
+-- what is text, and what isn't
+pub is_text : (text : List ℕ) → IsUtf8 text → true ≡ is_utf8 text
+is_text text h = sym (is_utf8-from_IsUtf8 text h)
+
 -- ASCII is text
-pub ascii_is_text : (text : List ℕ) → list_all (λ byte. nat_lt byte 128) text ≡ true → IsUtf8 text
-ascii_is_text text h = IsUtf8-from_test (λ byte. nat_lt byte 128) (λ b below. ltb-true b 128 below) text h
+pub ascii_is_text : (text : List ℕ) → IsAscii text → true ≡ is_utf8 text
+ascii_is_text text h = is_text text (IsUtf8-from_ascii text h)
+
+ascii_front : (n : ℕ) (text : List ℕ) → IsAscii text → IsAscii (take n text)
+ascii_front zero text h i = omega arith
+ascii_front (suc n) [] h i = omega arith
+ascii_front (suc n) (byte ∷ text) h zero = h 0
+ascii_front (suc n) (byte ∷ text) h (suc i) = ascii_front n text (λ j. h (suc j)) i
+
+-- so each field of a record of ASCII is text
+pub ascii_fields : (start : ℕ) (ends bytes : List ℕ) → IsAscii bytes → true ≡ list_all is_utf8 (cut_from start ends bytes)
+unfolding cut_from
+ascii_fields start [] bytes h = refl
+ascii_fields start (end ∷ ends) bytes h =
+    let rest : IsAscii (drop start bytes) = λ i. rw (get_or-drop start bytes i 0) (h (start + i)) in
+    rw (← ascii_is_text (take (end - start) (drop start bytes)) (ascii_front (end - start) (drop start bytes) rest)) (ascii_fields end ends bytes h)
 
 pub not_text : (text : List ℕ) → ¬ (IsUtf8 text) → false ≡ is_utf8 text
 not_text text h = elim (cases_Bool (is_utf8 text)) [ inl is ↦ absurd (h (IsUtf8-from_is_utf8 text is)) | inr not ↦ sym not ]
-
-pub is_text : (text : List ℕ) → IsUtf8 text → true ≡ is_utf8 text
-is_text text h = sym (is_utf8-from_IsUtf8 text h)
 
 -- the fields from a place on are the one at that place and those behind it
 pub drop_field : (row : List (List ℕ)) (place : ℕ) → place < length row → drop place row ≡ field row place ∷ drop (place + 1) row

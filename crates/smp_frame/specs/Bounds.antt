@@ -4,18 +4,6 @@ use Rattle.smp_fractions.specs.Limits.{most_rows, number_limit}
 use Rattle.smp_frac.specs.declared.fractions.Frac.{Frac}
 use Rattle.smp_frame.specs.declared.frame.Unit as unit
 
--- the sizes of the units
-abbrev pub sizes_of : List unit.Unit → List ℕ
-sizes_of units = map (λ u. u.size) units
-
--- the sizes of the units in the second stage
-abbrev pub second_sizes_of : List unit.Unit → List ℕ
-second_sizes_of units = map (λ u. u.second_size) units
-
--- the probabilities of the units
-abbrev pub probs_of : List unit.Unit → List Frac
-probs_of units = map (λ u. u.prob) units
-
 -- a fraction from 0 to 1, of numbers up to 2,147,483,647
 pub record IsProbability (f : Frac) : Type 0 where
   pub at_most_one : f.num ≤ f.den
@@ -32,9 +20,10 @@ AreNear values = All (λ value. nat_abs value < number_limit) values
 pub record IsFrame (units : List unit.Unit) : Type 0 where
   pub some : 1 ≤ length units
   pub few : length units ≤ most_rows
-  pub small : (i : ℕ) → i < length units → slice_index (sizes_of units) i < number_limit
-  pub second_small : (i : ℕ) → i < length units → slice_index (second_sizes_of units) i < number_limit
-  pub probabilities : AreProbabilities (probs_of units)
+  pub small : (i : ℕ) → i < length units → slice_index (map (λ u. u.size) units) i < number_limit
+  pub second_small : (i : ℕ) → i < length units → slice_index (map (λ u. u.second_size) units) i
+      < number_limit
+  pub probabilities : AreProbabilities (map (λ u. u.prob) units)
   pub near : All (λ u. AreNear u.values) units
 
 -- so many values for each unit

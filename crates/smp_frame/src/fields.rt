@@ -30,7 +30,7 @@ pub(crate) fn text_in(
     ensures { IfOk result (λ text. text ≡ Fields.text_in (fields_of row.now) column.now) }
 {
     match column {
-        Some(column) => text(alloc, row, column.place),
+        Some(column) => Ok(Text::from_str(alloc, text(row, column.place))?),
         None => Ok(Text::empty(alloc)),
     }
 }

@@ -1,6 +1,6 @@
 //! The records of a text, one after another, and their fields.
 
-ghost use Rattle.std.specs.Prelude.{◌≡◌, IfOk, nat_lt, true};
+ghost use Rattle.std.specs.Prelude.{◌≡◌, IfOk, true};
 ghost use Rattle.std.specs.List.{list_all};
 ghost use Rattle.std.specs.Str;
 ghost use Rattle.std.specs.Str.{is_utf8};
@@ -10,7 +10,7 @@ ghost use Rattle.smp_frame.specs.Records;
 ghost use Rattle.smp_frame.specs.Kept.Readers.{IsReading, Takes, rows_left};
 
 use csv::{ByteRecord, ErrorKind, Reader, ReaderBuilder};
-use smp_frac::{NoMemory, Text};
+use smp_frac::NoMemory;
 use std::alloc::Global;
 
 /// A reader of the records of a text.
@@ -65,11 +65,14 @@ pub(crate) fn field(row: &ByteRecord, place: usize) -> &[u8]
     }
 }
 
-/// Whether each field is UTF-8.
+/// Whether each field is UTF-8. Most records are of ASCII, which takes less than to look at characters.
 #[tactic(auto, using(crate::proofs::RecordFields::drop_field))]
 pub(crate) fn is_text(row: &ByteRecord) -> bool
     ensures { result ≡ list_all is_utf8 (fields_of row.now) }
 {
+    if row.as_slice().is_ascii() {
+        return true;
+    }
     for place in 0..row.len() {
         if !is_utf8(field(row, place)) {
             return false;
@@ -78,11 +81,10 @@ pub(crate) fn is_text(row: &ByteRecord) -> bool
     true
 }
 
-// Most fields are short and of ASCII, which takes less than to look at characters.
 fn is_utf8(text: &[u8]) -> bool
     ensures { result ≡ Str.is_utf8 text.now }
 {
-    if is_ascii(text) {
+    if text.is_ascii() {
         return true;
     }
     match str::from_utf8(text) {
@@ -91,23 +93,11 @@ fn is_utf8(text: &[u8]) -> bool
     }
 }
 
-fn is_ascii(text: &[u8]) -> bool
-    ensures { result ≡ list_all (λ byte. nat_lt byte 128) text.now }
-{
-    for &byte in text {
-        if byte >= 128 {
-            return false;
-        }
-    }
-    true
-}
-
-/// A copy of the field at a place of a record of text.
-pub(crate) fn text(alloc: Global, row: &ByteRecord, place: usize) -> Result<Text, NoMemory>
+/// The field at a place of a record of text.
+pub(crate) fn text(row: &ByteRecord, place: usize) -> &str
     requires { list_all is_utf8 (fields_of row.now) ≡ true }
-    ensures { IfOk result (λ text. text ≡ Records.field (fields_of row.now) place) }
+    ensures { result.now ≡ Records.field (fields_of row.now) place }
 {
     // The fields were looked at, and aren't looked at again.
-    let text = unsafe { str::from_utf8_unchecked(field(row, place)) };
-    Text::from_str(alloc, text)
+    unsafe { str::from_utf8_unchecked(field(row, place)) }
 }

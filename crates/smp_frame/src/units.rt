@@ -1,13 +1,15 @@
 //! The units of the rows of a frame.
 
-ghost use Rattle.std.specs.Prelude.{◌≡◌, ◌++◌, ◌∷◌, [], ◌<◌, ◌≤◌, IfOk, map, not, true, string_bytes};
+ghost use Rattle.std.specs.Prelude.{◌≡◌, ◌++◌, ◌∷◌, [], ◌<◌, ◌≤◌, IfOk, length, map, not, true, string_bytes};
 ghost use Rattle.std.specs.List.{list_any};
 ghost use Rattle.std.specs.Str.{bytes_eq};
 ghost use Rattle.csv.specs.Records.{fields_of};
 ghost use Rattle.smp_frame.specs.Frames;
 ghost use Rattle.smp_frame.specs.Frames.{units_from};
 ghost use Rattle.smp_frame.specs.Kept.Readers.{IsReading, rows_left};
-ghost use Rattle.smp_faults.specs.Memory.{Gives, Reads};
+ghost use Rattle.smp_frame.specs.Kept.Ids.{named, with_id};
+ghost use Rattle.smp_frame.specs.Records;
+ghost use Rattle.smp_faults.specs.Memory.{Gives};
 ghost use Rattle.smp_frame.specs.Faults.{is_memory};
 
 use crate::fields::{prob_in, size_in, text_in, values_in};
@@ -35,10 +37,11 @@ pub(crate) fn units_left(
     let mut seen = IndexSet::new(alloc);
     let mut units = Vec::new(alloc);
     add_units(alloc, layout, reader, &mut row, &mut seen, &mut units)?;
+    name_units(&mut units, seen);
     Ok(units)
 }
 
-// Adds the unit of each row that a reader has left.
+// Adds the unit of each row that a reader has left, without its id, which is among those that were seen.
 fn add_units(
     alloc: Global,
     layout: &Layout,
@@ -50,8 +53,11 @@ fn add_units(
     requires reading { IsReading reader.old }
     requires unseen { seen.old.keys ≡ [] }
     requires none { units.old.items ≡ [] }
-    ensures { Gives is_memory (λ _. units.new.items) result
+    ensures gives { Gives is_memory
+        (λ _. named units.new.items (map string_bytes seen.new.keys)) result
         (units_from layout.now 1 [] (rows_left reader.old)) }
+    ensures paired { IfOk result
+        (λ _. length units.new.items ≡ length (map string_bytes seen.new.keys)) }
 {
     for number in 1..=MAX_ROWS {
         if !next_record(reader, row)? {
@@ -66,7 +72,7 @@ fn add_units(
     Ok(())
 }
 
-// The unit of a row with this number. Its id is then among those that were seen.
+// The unit of a row with this number, without its id, which is then the last of those that were seen.
 #[tactic(auto, unfolding(crate::specs::Frames::unit_of))]
 fn unit_of(
     alloc: Global,
@@ -75,10 +81,12 @@ fn unit_of(
     seen: &mut IndexSet<String>,
     row: &ByteRecord,
 ) -> Result<Unit, FrameFault>
-    ensures reads { Reads is_memory result
+    ensures reads { Gives is_memory
+        (with_id (Records.field (fields_of row.now) layout.now.id.place)) result
         (Frames.unit_of layout.now number (map string_bytes seen.old.keys) (fields_of row.now)) }
-    ensures seen { IfOk result (λ unit.
-        map string_bytes seen.new.keys ≡ map string_bytes seen.old.keys ++ unit.id ∷ []) }
+    ensures seen { IfOk result
+        (λ _. map string_bytes seen.new.keys ≡ map string_bytes seen.old.keys
+        ++ Records.field (fields_of row.now) layout.now.id.place ∷ []) }
 {
     if row.len() != layout.width {
         return Err(FrameFault::RowLength { row: number });
@@ -86,8 +94,7 @@ fn unit_of(
     if !is_text(row) {
         return Err(FrameFault::NotText { row: number });
     }
-    let id = text(alloc, row, layout.id.place)?;
-    if !is_new(alloc, seen, id.as_str())? {
+    if !is_new(alloc, seen, text(row, layout.id.place))? {
         return Err(FrameFault::RepeatedId { row: number });
     }
     let size = size_in(alloc, number, row, &layout.size)?;
@@ -95,7 +102,7 @@ fn unit_of(
     let prob = prob_in(alloc, number, row, &layout.prob)?;
     let values = values_in(alloc, number, row, layout.values.as_slice())?;
     Ok(Unit {
-        id,
+        id: Text::empty(alloc),
         stratum: text_in(alloc, row, &layout.stratum)?,
         psu: text_in(alloc, row, &layout.psu)?,
         size,
@@ -114,4 +121,16 @@ fn is_new(alloc: Global, seen: &mut IndexSet<String>, id: &str) -> Result<bool, 
 {
     let id = String::from_str(alloc, id)?;
     Ok(seen.insert(id)?)
+}
+
+// Gives each unit its id: the ids that were seen are moved, and not copied.
+fn name_units(units: &mut Vec<Unit>, seen: IndexSet<String>)
+    requires { length units.old.items ≡ length (map string_bytes seen.keys) }
+    ensures { units.new.items ≡ named units.old.items (map string_bytes seen.keys) }
+{
+    let mut place = 0;
+    for id in seen {
+        units[place].id = Text::from_string(id);
+        place += 1;
+    }
 }

@@ -17,7 +17,8 @@ use Rattle.smp_methods.specs.declared.any.AnyState.{AnyState}
 use Rattle.smp_values.proofs.Requests.{adds_to_draws}
 use Rattle.smp_values.specs.InOrder.{started}
 use Rattle.smp_methods.specs.declared.any.AnyDesign.TheVariants as designs
-use Rattle.smp_methods.specs.Designs.{first_state, method_of}
+use Rattle.smp_methods.specs.Designs.{first_state}
+use Rattle.smp_methods.specs.Methods.{method_of}
 use Rattle.smp_stages.specs.declared.places.Place.{Place}
 use Rattle.smp_stages.specs.declared.places.Seat.TheVariants as seat
 use Rattle.smp_stages.specs.declared.places.Stage.{Stage}
@@ -29,9 +30,10 @@ use Rattle.smp_prob.specs.Inclusions.{asked_fraction}
 use Rattle.smp_strata.specs.declared.strata.FirstUnit.{FirstUnit}
 use Rattle.smp_strata.specs.declared.strata.Seat.{Seat}
 use Rattle.smp_strata.specs.declared.strata.Stratum.{Stratum}
-use Rattle.smp_twostage.specs.Kept.{EachStarts, IsPlanned, StageStarts}
+use Rattle.smp_twostage.specs.Kept.Stages.{EachStarts, IsPlanned, StageStarts}
 use Rattle.smp_twostage.specs.Plans.{CanBeDrawn}
-use Rattle.smp_twostage.specs.Selections.{Selecting, belongs_to, first_number, first_stage, place_of, seat_by, seats_of, stage_within, stages_below, stages_in, stages_of, stages_within, states_of, tree_of}
+use Rattle.smp_twostage.specs.Selections.{Selecting, belongs_to, first_number, first_stage, place_of, seat_by, seats_of, stage_within, stages_below, stages_in, stages_of, stages_within, tree_of}
+use Rattle.smp_twostage.specs.Kept.Sides.{states_of}
 use Rattle.smp_twostage.specs.Laws.Numbering.{first_there}
 use Rattle.smp_twostage.specs.Laws.Places.{StandsIn}
 use Rattle.smp_twostage.specs.Laws.Staged.{place_stands, seat_at, whole_staged}

@@ -32,7 +32,8 @@ use Rattle.smp_methods.specs.declared.any.AnyDesign.{AnyDesign}
 use Rattle.smp_methods.specs.declared.any.AnyDesign.TheVariants as designs
 use Rattle.smp_methods.specs.declared.any.AnyState.{AnyState}
 use Rattle.smp_methods.specs.declared.any.AnyState.TheVariants as states
-use Rattle.smp_methods.specs.Designs.{first_state, method_of}
+use Rattle.smp_methods.specs.Designs.{first_state}
+use Rattle.smp_methods.specs.Methods.{method_of}
 use Rattle.smp_joint.specs.Joints.{joint_at, joint_of}
 use Rattle.smp_joint.proofs.Draws.{joint_draws}
 use Rattle.smp_joint.proofs.Inside.{joint_embedded, joint_rows}

@@ -40,9 +40,9 @@ pub fn joint_bytes(alloc: Global, ids: &[Text], plan: &Plan) -> Result<Bytes, No
     let mut rows = CsvRows::new(alloc);
     rows.push(&[b"first", b"second", b"probability"])?;
     for first in 0..ids.len() {
-        push_pairs(alloc, &mut rows, ids, plan, arcs.as_slice(), first)?;
+        push_pairs(&mut rows, ids, plan, arcs.as_slice(), first)?;
     }
-    rows.into_bytes(alloc)
+    rows.into_bytes()
 }
 
 // The arcs of each stratum.
@@ -58,7 +58,6 @@ fn arcs_of(alloc: Global, plan: &Plan) -> Result<Vec<Arcs>, NoMemory>
 
 // Writes the rows of a row of the frame with each later one.
 fn push_pairs(
-    alloc: Global,
     rows: &mut CsvRows,
     ids: &[Text],
     plan: &Plan,
@@ -73,28 +72,21 @@ fn push_pairs(
 {
     for second in first + 1..ids.len() {
         let joint = joint_of_rows(plan, arcs, first, second);
-        push_pair(alloc, rows, &ids[first], &ids[second], joint)?;
+        push_pair(rows, &ids[first], &ids[second], joint)?;
     }
     Ok(())
 }
 
 // Writes the row of two rows of the frame.
-fn push_pair(
-    alloc: Global,
-    rows: &mut CsvRows,
-    first: &Text,
-    second: &Text,
-    joint: Frac,
-) -> Result<(), NoMemory>
+fn push_pair(rows: &mut CsvRows, first: &Text, second: &Text, joint: Frac) -> Result<(), NoMemory>
     ensures { OnOk result (AddsRow rows.old rows.new
         (joint_row first.now second.now (fraction joint))) }
 {
-    let mut text = Bytes::new(alloc);
-    joint.write(&mut text)?;
+    let probability = joint.text();
     rows.push(&[
         first.as_str().as_bytes(),
         second.as_str().as_bytes(),
-        text.as_slice(),
+        probability.as_slice(),
     ])
 }
 

@@ -1,7 +1,7 @@
 //! The order in which a tree has its points.
 #![tactic(auto)]
 
-ghost use Rattle.std.specs.Prelude.{◌≡◌, length, IfOk};
+ghost use Rattle.std.specs.Prelude.{◌≡◌, ◌<◌, length, ◌∷◌, ◌++◌, IfOk};
 ghost use Rattle.std.specs.List.Sorted.{IsPermutation};
 ghost use Rattle.smp_near.specs.Kept.Trees.{IsOrder};
 
@@ -42,17 +42,40 @@ fn widest_axis<const K: usize>(coords: &[[i32; K]], order: &[usize]) -> usize {
     widest
 }
 
-// Puts points in the order of a tree: what lies before a root along an axis, the root, and what lies behind it.
-fn arrange<const K: usize>(coords: &[[i32; K]], order: &mut [usize])
-    ensures { IsPermutation order.old order.new }
+// The root of a tree of these points, with those before it along the widest axis and those behind it, in no order of their own.
+fn parted<'a, const K: usize>(
+    coords: &[[i32; K]],
+    points: &'a mut [usize],
+) -> (&'a mut [usize], usize, &'a mut [usize])
+    requires some { 0 < length points.old }
+    ensures permutation { IsPermutation points.old (result.0.now ++ result.1 ∷ result.2.now) }
+    ensures before { length result.0.now < length points.old }
+    ensures behind { length result.2.now < length points.old }
 {
-    if order.len() > 1 {
-        let axis = widest_axis(coords, order);
-        order.sort_unstable_by_key(|&unit| (coordinate(coords, unit, axis), unit));
-        let root = order.len() / 2;
-        arrange(coords, &mut order[..root]);
-        arrange(coords, &mut order[root + 1..]);
+    let axis = widest_axis(coords, points);
+    let middle = points.len() / 2;
+    let (before, root, behind) = points.select_nth_unstable_by_key(
+        middle,
+        |&unit| (coordinate(coords, unit, axis), unit),
+    );
+    (before, *root, behind)
+}
+
+// Adds points in the order of a tree to those before: what lies before the root, the root, and what lies behind it.
+fn arrange<const K: usize>(
+    coords: &[[i32; K]],
+    points: &mut [usize],
+    order: &mut Vec<usize>,
+) -> Result<(), AllocError>
+    ensures { IfOk result (λ _. IsPermutation (order.old.items ++ points.old) order.new.items) }
+{
+    if !points.is_empty() {
+        let (before, root, behind) = parted(coords, points);
+        arrange(coords, before, order)?;
+        order.push(root)?;
+        arrange(coords, behind, order)?;
     }
+    Ok(())
 }
 
 /// The numbers of the points, in the order of a tree.
@@ -62,7 +85,8 @@ pub(crate) fn order_of<const K: usize>(
 ) -> Result<Vec<usize>, AllocError>
     ensures { IfOk result (λ order. IsOrder (length coords.now) order.items) }
 {
-    let mut order = numbers_below(alloc, coords.len())?;
-    arrange(coords, order.as_mut_slice());
+    let mut points = numbers_below(alloc, coords.len())?;
+    let mut order = Vec::with_capacity(alloc, coords.len())?;
+    arrange(coords, points.as_mut_slice(), &mut order)?;
     Ok(order)
 }

@@ -1,14 +1,11 @@
 -- Where the units of a request stand, and how many of them a draw selects.
-use Rattle.std.proofs.Common.{◌≡◌, ◌≢◌, ℕ, zero, suc, ◌+◌, ◌-◌, ◌*◌, ◌<◌, ◌≤◌, Bool, true, false, cond, not, nat_lt, nat_eq, List, [], ◌∷◌, length, get_or, take, Some, None, Ok, Err, arith, refl, sym, ap, ◌∙◌, inl, inr, add-one, true≢false}
+use Rattle.std.proofs.Common.{◌≡◌, ◌≢◌, ℕ, zero, suc, ◌+◌, ◌-◌, ◌*◌, ◌<◌, ◌≤◌, Bool, true, false, cond, not, nat_lt, nat_eq, List, [], ◌∷◌, length, get_or, take, Some, None, arith, refl, sym, ap, ◌∙◌, inl, inr, add-one, true≢false}
 use Rattle.std.specs.Prelude.{count_by, filter, position}
 use Rattle.std.specs.List.{position_or_len, range_with_len}
 use Rattle.std.proofs.Math.Seq.{take-length}
 use Rattle.std.proofs.lemmas.List.{get_or_past}
-use Rattle.std.proofs.lemmas.Bool.{cases_Bool, cases_eq, cases_lt, and_parts, and_right, and_cases, lt-ltb, le-ltb, eq-eqb, ne_eqb}
+use Rattle.std.proofs.lemmas.Bool.{cases_Bool, cases_lt, and_parts, and_right, and_cases, lt-ltb, le-ltb, eq-eqb, ne_eqb}
 use Rattle.std.proofs.lemmas.List.Elements.{All-get_or, filter_passes}
-use Rattle.std.specs.List.Sorted.{IsBinarySearchResult}
-use Rattle.std.specs.Ordering.{nat_cmp}
-use Rattle.std.proofs.lemmas.List.Sorted.{searched}
 use Rattle.std.proofs.lemmas.List.Sums.{length-filter, sum_by-cons, position_or_len_is, count_by_more_yes, count_by_more_no}
 use Rattle.smp_fractions.specs.Fractions.{Same, whole}
 use Rattle.smp_fractions.proofs.Fractions.{same_refl}
@@ -40,27 +37,22 @@ position-none xs x none =
     let past : nat_lt (length xs) (length xs) ≡ false = le-ltb (length xs) (length xs) (omega arith) in
     rw (at, past) refl
 
-not_falling : (xs : List ℕ) → Rises xs → (i j : ℕ) → i ≤ j → j < length xs → get_or xs i 0 ≤ get_or xs j 0
-not_falling xs up i j le within =
-    elim (cases_eq i j) [
-      | inl e ↦ rw e (omega arith)
-      | inr other ↦ omega (arith, up i j (omega arith) within)
-    ]
+-- each place further on has a number that is greater by one or more
+pub rises_by : (xs : List ℕ) → Rises xs → (i k : ℕ) → i + k < length xs → get_or xs i 0 + k ≤ get_or xs (i + k) 0
+rises_by xs up i zero within = (let same : i + 0 ≡ i = omega arith in rw same (omega arith))
+rises_by xs up i (suc k) within =
+    let before = rises_by xs up i k (omega (arith, within)) in
+    let step = up (i + k) (i + suc k) (omega arith) within in
+    omega (arith, before, step)
 
--- what a binary search finds is the position
-module _ (xs : List ℕ) (x : ℕ) (up : Rises xs) where
-  pub found_is_position : (i : ℕ) → IsBinarySearchResult (λ y. nat_cmp y x) xs (Ok i) → Some i ≡ position (nat_eq x) xs
-  found_is_position i h =
-      let found = searched xs x (Ok i) h (not_falling xs up) in
-      sym (position-found xs i x up found.0 found.1)
-
-  pub missing_has_no_position : (i : ℕ) → IsBinarySearchResult (λ y. nat_cmp y x) xs (Err i) → None ≡ position (nat_eq x) xs
-  missing_has_no_position i h =
-      let found = searched xs x (Err i) h (not_falling xs up) in
-      sym (position-none xs x (λ k here e. elim (cases_lt k i) [
-        | inl below ↦ omega (arith, found.1 k below, e)
-        | inr above ↦ omega (arith, found.2 k above here, e)
-      ]))
+-- where a unit stands in a list that rises to its last one
+pub near_place : (xs : List ℕ) → Rises xs → (last : ℕ) → length xs ≡ suc last → (place : ℕ) → place < length xs → (get_or xs place 0 - (get_or xs last 0 - last) ≤ place) × (place ≤ get_or xs place 0)
+near_place xs up last is place within =
+    let from = rises_by xs up 0 place (omega (arith, within)) in
+    let to = rises_by xs up place (last - place) (omega (arith, is, within)) in
+    let end : place + (last - place) ≡ last = omega (arith, is, within) in
+    let start : 0 + place ≡ place = omega arith in
+    (omega (arith, rw end at to), omega (arith, rw start at from))
 
 -- ---- the places that a test picks
 

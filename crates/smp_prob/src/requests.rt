@@ -1,4 +1,4 @@
-ghost use Rattle.std.specs.Prelude.{◌≡◌, ◌≤◌, position, nat_eq, IfOk};
+ghost use Rattle.std.specs.Prelude.{◌≡◌, ℕ, ◌≤◌, ◌<◌, length, slice_index, position, nat_eq, IfOk};
 ghost use Rattle.smp_frac.specs.Fractions.{fraction};
 ghost use Rattle.smp_fractions.specs.Fractions.{Same, over};
 ghost use Rattle.smp_prob.specs.Inclusions.{Rises};
@@ -123,17 +123,41 @@ impl Request {
     }
 }
 
-// The place of a unit in a list of units that rises.
+// The place of a unit in a list of units that rises. It takes time logarithmic in how many units the list passes over.
 fn place_of(units: &[usize], unit: usize) -> Option<usize>
     requires { Rises units.now }
     ensures { result ≡ position (nat_eq unit) units.now }
 {
-    // Where each unit is in the list, it stands at its own place.
-    if unit < units.len() && units[unit] == unit {
-        return Some(unit);
+    let (mut low, mut high) = places_near(units, unit);
+    while low < high {
+        let middle = low + (high - low) / 2;
+        let found = units[middle];
+        if found == unit {
+            return Some(middle);
+        }
+        if found < unit {
+            low = middle + 1;
+        } else {
+            high = middle;
+        }
     }
-    match units.binary_search(&unit) {
-        Ok(place) => Some(place),
-        Err(_) => None,
+    None
+}
+
+// The first place where a unit of a list that rises may stand, and the place behind the last: it stands at its own number, or before
+// that by one place for each unit that the list passes over.
+fn places_near(units: &[usize], unit: usize) -> (usize, usize)
+    requires { Rises units.now }
+    ensures within { result.1 ≤ length units.now }
+    ensures all { (place : ℕ) → place < length units.now → slice_index units.now place ≡ unit
+        → (result.0 ≤ place) × (place < result.1) }
+{
+    match units.last() {
+        Some(last) => {
+            let passed = last.saturating_sub(units.len() - 1);
+            let behind = unit.saturating_add(1);
+            (unit.saturating_sub(passed), units.len().min(behind))
+        }
+        None => (0, 0),
     }
 }

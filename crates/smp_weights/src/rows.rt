@@ -61,8 +61,8 @@ impl CsvRows {
         }
     }
 
-    /// The text of the rows.
-    pub fn into_bytes(self, alloc: Global) -> Result<Bytes, NoMemory>
+    /// The text of the rows, without a copy.
+    pub fn into_bytes(self) -> Result<Bytes, NoMemory>
         ensures { IfOk result (λ bytes. self ≡ Some bytes) }
     {
         let CsvRows { writer, failed } = self;
@@ -70,16 +70,8 @@ impl CsvRows {
             return Err(NoMemory);
         }
         match writer.into_inner() {
-            Ok(text) => bytes_of(alloc, text.as_slice()),
+            Ok(text) => Ok(Bytes::from_vec(text)),
             Err(_) => Err(NoMemory),
         }
     }
-}
-
-fn bytes_of(alloc: Global, text: &[u8]) -> Result<Bytes, NoMemory>
-    ensures { IfOk result (λ bytes. bytes ≡ text.now) }
-{
-    let mut bytes = Bytes::new(alloc);
-    bytes.push_all(text)?;
-    Ok(bytes)
 }

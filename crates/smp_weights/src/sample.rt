@@ -50,5 +50,5 @@ pub fn sample_bytes(
             push_sample_row(&mut rows, id, asked[place])?;
         }
     }
-    rows.into_bytes(alloc)
+    rows.into_bytes()
 }

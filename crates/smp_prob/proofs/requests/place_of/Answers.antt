@@ -1,12 +1,14 @@
-use Rattle.std.proofs.Common.{sym}
-use Rattle.smp_prob.proofs.Positions.{found_is_position, missing_has_no_position, position-found}
+use Rattle.std.proofs.Common.{◌<◌, ◌+◌, ◌-◌, ◌/◌, length, sym, arith}
+use Rattle.smp_prob.proofs.Positions.{position-found, position-none}
 use Rattle.smp_prob.proofs.requests.place_of.Goals as goal
 
-pub returns-then-units-unit : goal.returns-then-units-unit
-returns-then-units-unit c = sym (position-found c.args.units.now c.args.unit c.args.unit c.requires c.if-unit-units.true c.if-units-unit.true)
+pub returns-then-found-unit : goal.returns-then-found-unit
+returns-then-found-unit c =
+    let middle = c.loop-low.low + (c.loop-low.high - c.loop-low.low) / 2 in
+    let within : middle < length c.args.units.now = omega (arith, c.loop-low.invariant.within, c.loop-low-test.true) in
+    sym (position-found c.args.units.now middle c.args.unit c.requires within c.if-found-unit.true)
 
-pub returns-in-Ok : goal.returns-in-Ok
-returns-in-Ok c = found_is_position c.args.units.now c.args.unit c.requires c.in-Ok.place c.in-Ok.ensures.position
-
-pub returns-in-Err : goal.returns-in-Err
-returns-in-Err c = missing_has_no_position c.args.units.now c.args.unit c.requires c.in-Err.field-0 c.in-Err.ensures.position
+pub returns : goal.returns
+returns c =
+    sym (position-none c.args.units.now c.args.unit (λ place within here.
+    (let between = c.loop-low.invariant.all place within here in omega (arith, between.0, between.1, c.loop-low-test.false))))
