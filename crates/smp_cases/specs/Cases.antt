@@ -12,7 +12,8 @@ use Rattle.smp_rows.specs.Rows.{rows_tree}
 use Rattle.smp_design.specs.declared.method.Method.{Method}
 use Rattle.smp_methods.specs.declared.any.AnyDesign.{AnyDesign}
 use Rattle.smp_methods.specs.declared.any.AnyState.{AnyState}
-use Rattle.smp_methods.specs.Designs.{design_of, first_state, method_of}
+use Rattle.smp_methods.specs.Designs.{design_of, first_state}
+use Rattle.smp_methods.specs.Methods.{method_of}
 use Rattle.smp_methods.specs.Procedures.{procedure}
 use Rattle.smp_cases.specs.declared.fault.CaseFault.{CaseFault}
 use Rattle.smp_cases.specs.declared.fault.CaseFault.TheVariants.{TooMany, Draw, Long, NoMemory}

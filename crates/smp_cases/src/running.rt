@@ -5,7 +5,7 @@ ghost use Rattle.smp_fractions.specs.Limits.{number_limit};
 ghost use Rattle.smp_cases.specs.Cases.{drawn, is_memory, mask, verdict};
 ghost use Rattle.smp_design.specs.Words.{needs_columns};
 ghost use Rattle.smp_faults.specs.Memory.{Reads};
-ghost use Rattle.smp_methods.specs.Designs.{method_of};
+ghost use Rattle.smp_methods.specs.Methods.{method_of};
 ghost use Rattle.smp_methods.specs.Procedures.{procedure};
 ghost use Rattle.smp_methods.specs.Starts.{IsStarted};
 ghost use Rattle.smp_prob.specs.declared.orders.Order.TheVariants.{Frame};

@@ -18,7 +18,7 @@ use Rattle.smp_log.proofs.Numbers.{decimal_lacks}
 use Rattle.smp_log.proofs.StepLines.{end_line_lacks}
 use Rattle.smp_log.proofs.LineTexts.{steps_lines, end_text_line, step_lines_are}
 use Rattle.smp_log.proofs.Described.{Describes, path_log, text_accepted}
-use Rattle.smp_log.proofs.SectionLines.{section_lines, open_lines, open_accepted, accepted_opening, Good, good_before, keeps, each_ends, head_accepted, accepted_head}
+use Rattle.smp_log.proofs.SectionScripts.{section_lines, open_lines, open_accepted, accepted_opening, Good, good_before, keeps, each_ends, head_accepted, accepted_head}
 
 -- ---- the texts of sections by their lines
 

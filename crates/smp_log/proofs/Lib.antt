@@ -23,9 +23,10 @@ pub mod Telling
 pub mod Replied
 pub mod NumberedLines
 pub mod OpeningLines
-pub mod SectionLines
+pub mod SectionScripts
 pub mod KeptSections
 pub mod SectionReplays
+pub mod Placed
 pub mod SectionWrites
 pub mod SectionTelling
 pub mod AnsweredSections
@@ -37,4 +38,3 @@ pub mod LoneTelling
 pub mod SectionCounts
 pub mod PartSections
 pub mod LoneExact
-pub mod OneSection

@@ -24,7 +24,7 @@ use Rattle.smp_log.specs.LoneSections.{opening_words, opens, NoneOpens, HasSecti
 use Rattle.smp_log.proofs.Texts.{cut_behind, behind-append, AreLines-append, lines_text-append}
 use Rattle.smp_log.proofs.Numbers.{decimal_lacks, written-decimal}
 use Rattle.smp_log.proofs.LineTexts.{step_lines_are}
-use Rattle.smp_log.proofs.SectionLines.{section_lines}
+use Rattle.smp_log.proofs.SectionScripts.{section_lines}
 use Rattle.smp_log.proofs.KeptSections.{numbered_lacks, section_text_lines}
 use Rattle.smp_log.proofs.OpeningLines.{other_word, other_number, NoneOpens-append}
 use Rattle.smp_log.proofs.LoneReplays as LoneReplays

@@ -14,7 +14,7 @@ use Rattle.smp_log.specs.SectionLogs.{placed, tape_place, sections_text}
 use Rattle.smp_log.proofs.StepsIn.{steps_before, steps_in}
 use Rattle.smp_log.proofs.Described.{whole_text}
 use Rattle.smp_log.proofs.OpeningLines.{lines_long}
-use Rattle.smp_log.proofs.SectionLines.{section_lines, open_lines, tape_place-step}
+use Rattle.smp_log.proofs.SectionScripts.{section_lines, open_lines, tape_place-step}
 use Rattle.smp_log.proofs.KeptSections.{sectioned_head_lines, log_lines, log_lines_are}
 
 -- ---- the steps in k sections from h on

@@ -16,7 +16,7 @@ use Rattle.smp_log.specs.SectionReading.{stratum_line, done_line, SectionPlace, 
 use Rattle.smp_log.proofs.FirstLines.{first_is, first_stuck, step_stuck, first_step, first_within, shorter_by}
 use Rattle.smp_log.proofs.Reached.{LeadsAlong, Reached, reached_more}
 use Rattle.smp_log.proofs.Described.{Describes, whole_text, differs, differs_behind, genuine}
-use Rattle.smp_log.proofs.SectionLines.{later_section, going_here, done_here}
+use Rattle.smp_log.proofs.SectionScripts.{later_section, going_here, done_here}
 use Rattle.smp_log.proofs.KeptSections.{sectioned_head_lines, sectioned_head_lines_are, sectioned_head-text, described}
 
 -- ---- where a replay stands

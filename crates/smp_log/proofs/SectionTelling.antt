@@ -21,7 +21,7 @@ use Rattle.smp_log.proofs.Described.{whole_text}
 use Rattle.smp_log.proofs.OnePath.{entry_is, value_read}
 use Rattle.smp_log.proofs.Reached.{Reached}
 use Rattle.smp_log.proofs.Telling.{none_along, step_along, told_over}
-use Rattle.smp_log.proofs.SectionLines.{open_lines, inside_lines, open_lines-enter, inside_lines-step, inside_lines-leave, placed_from, later_section, done_here}
+use Rattle.smp_log.proofs.SectionScripts.{open_lines, inside_lines, open_lines-enter, inside_lines-step, inside_lines-leave, placed_from, later_section, done_here}
 use Rattle.smp_log.proofs.KeptSections.{sectioned_head_lines, log_lines, log_lines_are}
 
 -- ---- lines that are no steps

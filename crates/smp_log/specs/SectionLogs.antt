@@ -1,11 +1,12 @@
 -- The log of version 2, which has a part for each section of a design.
-use Rattle.std.specs.Prelude.{◌≡◌, ◌⊎◌, ℕ, ◌+◌, ◌==◌, nat_lt, if◌then◌else◌, Bool, List}
+use Rattle.std.specs.Prelude.{◌≡◌, ◌⊎◌, ℕ, ◌+◌, ◌==◌, ◌<◌, ◌≤◌, nat_lt, if◌then◌else◌, Bool, List}
 use Rattle.std.specs.Prelude.{[], ◌∷◌, ◌++◌}
-use Rattle.std.specs.Prelude.{length, drop, codes}
+use Rattle.std.specs.Prelude.{length, map, drop, codes}
 use Rattle.std.specs.List.{flat_map, range_with_len}
 use Rattle.std.specs.Fmt.{decimal}
 use Rattle.smp_split.specs.Trees.{Tree, picked}
-use Rattle.smp_split.specs.Paths.{Entry, values_of}
+use Rattle.smp_split.specs.declared.kind.Kind.{Kind}
+use Rattle.smp_split.specs.Paths.{Entry, Leads, values_of}
 use Rattle.smp_split.specs.Runs.{Outcome, run}
 use Rattle.smp_split.specs.Sectioning.{Sectioning}
 use Rattle.smp_tape.specs.Sources.{Source}
@@ -19,6 +20,27 @@ abbrev pub placed : {State : Type 0} → Tree State → Sectioning State → Sta
 placed tree sections s [] = []
 placed tree sections s (entry ∷ path) =
     (sections.of s, entry) ∷ placed tree sections (picked s (tree.parts s) entry.2) path
+
+-- a line as it is kept, as a step with its section
+abbrev pub section_line : ℕ × Kind × ℕ × ℕ → ℕ × Entry
+section_line line = (line.0, (line.1, line.2, line.3))
+
+-- the steps without their sections
+abbrev pub steps_of : List (ℕ × Entry) → List Entry
+steps_of steps = map (λ step. step.1) steps
+
+-- the steps are those of a path from a state to another, each with its section
+pub record ArePlaced {State : Type 0} (tree : Tree State) (sections : Sectioning State)
+    (from to : State) (steps : List (ℕ × Entry)) : Type 0 where
+  pub path : List Entry
+  pub leads : Leads tree from path to
+  pub steps_are : steps ≡ placed tree sections from path
+
+-- the sections of the steps are below this number, and rise from this one on
+abbrev pub RiseFrom : (count low : ℕ) → List (ℕ × Entry) → Type 0
+RiseFrom count low [] = Unit {0}
+RiseFrom count low (step ∷ steps) =
+    (low ≤ step.0) × (step.0 < count) × RiseFrom count step.0 steps
 
 -- the steps of the sections that pass a test
 abbrev pub steps_where : (ℕ → Bool) → List (ℕ × Entry) → List Entry
@@ -65,11 +87,6 @@ abbrev pub sectioned_log_text : {State : Type 0} → Tree State → Sectioning S
     → List Entry → List ℕ
 sectioned_log_text tree sections from head path =
     sections_text head sections.count (placed tree sections from path)
-
--- the log of version 2 of a path whose steps are all of one section
-abbrev pub one_section_text : List ℕ → List Entry → List ℕ
-one_section_text head path =
-    sectioned_head head ++ (lone_text 1 0 path ++ end_text (length path))
 
 -- the path of a full tape from a state to some leaf
 pub record HasLeaf {State : Type 0} (tree : Tree State) (from : State) (path : List Entry)

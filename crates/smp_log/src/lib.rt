@@ -15,6 +15,7 @@ mod lone_section;
 mod migrating;
 mod replaying;
 mod section_laws;
+mod section_lines;
 mod section_replaying;
 mod section_writing;
 mod versions;
@@ -29,6 +30,7 @@ pub use replaying::{old_replay, old_replay_into};
 pub use section_laws::{
     logs_are_unambiguous, runs_are_genuine, section_answers_are_exact, sections_are_replayed_alone,
 };
-pub use section_writing::{log_bytes, one_section_log_bytes};
+pub use section_lines::SectionLines;
+pub use section_writing::log_bytes;
 pub use versions::{replay, replay_into};
 pub use writing::{old_log_bytes, step_lines};

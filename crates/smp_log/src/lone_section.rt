@@ -1,5 +1,6 @@
-ghost use Rattle.std.specs.Prelude.{◌≡◌, ◌+◌, ◌<◌, ◌^◌, length, option_map};
+ghost use Rattle.std.specs.Prelude.{◌≡◌, ◌+◌, ◌<◌, ◌^◌, length, option_map, OnOk};
 ghost use Rattle.std.specs.Prelude.{IfErr, IfOk};
+ghost use Rattle.smp_split.specs.Runs.{KeepsOn};
 ghost use Rattle.smp_log.specs.Lines.{whole_lines};
 ghost use Rattle.smp_log.specs.LoneSections as LoneSections;
 ghost use Rattle.smp_log.specs.LoneSections.{IsOpened, NoneOpens, opening_words};
@@ -44,7 +45,7 @@ pub fn replay_section<S: Sections>(
 ///
 /// Want of memory comes only where the trace may refuse a line. After an error the steps that lead to the state were told,
 /// and no more: after [`ReplayFault::Differs`] those of the lines from the opening line to the one that it names.
-pub fn replay_section_into<S: Sections, T: Trace>(
+pub fn replay_section_into<S: Sections, T: Trace<S>>(
     run: &S,
     state: &mut S::State,
     head: &Head,
@@ -54,9 +55,10 @@ pub fn replay_section_into<S: Sections, T: Trace>(
 ) -> Result<(), ReplayFault>
     requires state { (S.method run.now).belongs state.old }
     requires one { (S.sectioning run.now).count ≡ 1 }
-    ensures { Replays (S.method run.now).tree (S.method run.now).belongs
+    ensures replays { Replays (S.method run.now).tree (S.method run.now).belongs
         (section_form (S.method run.now).tree state.old head.now number log.now)
         state.old state.new (T.lines trace.old) (T.lines trace.new) T.may_refuse result }
+    ensures kept { OnOk result (KeepsOn (T.keeps run.now) state.old state.new trace.old trace.new) }
 {
     let sections = match after_front(log, &head.sectioned()) {
         Ok(rest) => rest,
@@ -76,7 +78,7 @@ pub fn replay_section_into<S: Sections, T: Trace>(
         let Some((value, after)) = step_first(rest, kind, bound) else {
             return Err(ReplayFault::Differs { line: at + own + 1 });
         };
-        trace.line(kind, bound, value)?;
+        trace.line(run, state, kind, bound, value)?;
         run.advance(state, value);
         rest = after;
         own += 1;

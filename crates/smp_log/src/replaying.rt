@@ -1,4 +1,5 @@
-ghost use Rattle.std.specs.Prelude.{◌≡◌, ◌++◌, IfErr, IfOk};
+ghost use Rattle.std.specs.Prelude.{◌≡◌, ◌++◌, IfErr, IfOk, OnOk};
+ghost use Rattle.smp_split.specs.Runs.{KeepsOn};
 ghost use Rattle.smp_log.specs.Fronts.{IsWhole, StopsAt};
 ghost use Rattle.smp_log.specs.Replayed.{Replays, ReplaysUntold, old_form};
 
@@ -36,7 +37,7 @@ pub fn old_replay<S: Splitting>(
 ///
 /// Want of memory comes only where the trace may refuse a line. After an error the steps that lead to the state were told,
 /// and no more: after [`ReplayFault::Differs`] those of the lines before the one that it names.
-pub fn old_replay_into<S: Splitting, T: Trace>(
+pub fn old_replay_into<S: Splitting, T: Trace<S>>(
     run: &S,
     state: &mut S::State,
     head: &Head,
@@ -44,9 +45,10 @@ pub fn old_replay_into<S: Splitting, T: Trace>(
     trace: &mut T,
 ) -> Result<(), ReplayFault>
     requires { (S.method run.now).belongs state.old }
-    ensures { Replays (S.method run.now).tree (S.method run.now).belongs
+    ensures replays { Replays (S.method run.now).tree (S.method run.now).belongs
         (old_form (S.method run.now).tree state.old head.now log.now)
         state.old state.new (T.lines trace.old) (T.lines trace.new) T.may_refuse result }
+    ensures kept { OnOk result (KeepsOn (T.keeps run.now) state.old state.new trace.old trace.new) }
 {
     let mut rest = match after_front(log, head.as_slice()) {
         Ok(rest) => rest,
@@ -59,7 +61,7 @@ pub fn old_replay_into<S: Splitting, T: Trace>(
         let Some((value, after)) = step_first(rest, kind, bound) else {
             return Err(ReplayFault::Differs { line: steps + 4 });
         };
-        trace.line(kind, bound, value)?;
+        trace.line(run, state, kind, bound, value)?;
         run.advance(state, value);
         steps += 1;
         rest = after;

@@ -1,3 +1,5 @@
+ghost use Rattle.std.specs.Prelude.{OnOk};
+ghost use Rattle.smp_split.specs.Runs.{KeepsOn};
 ghost use Rattle.smp_log.specs.Replayed.{Replays, sectioned_form};
 
 use crate::lines::{after_end, after_numbers, step_first};
@@ -6,7 +8,7 @@ use crate::{Head, ReplayFault};
 use smp_split::{Sections, Trace};
 
 // Replays a log of version 2 from the state in which it began, and tells each of its steps to a trace, in their order.
-pub(crate) fn replay_sections_into<S: Sections, T: Trace>(
+pub(crate) fn replay_sections_into<S: Sections, T: Trace<S>>(
     run: &S,
     state: &mut S::State,
     head: &Head,
@@ -14,9 +16,10 @@ pub(crate) fn replay_sections_into<S: Sections, T: Trace>(
     trace: &mut T,
 ) -> Result<(), ReplayFault>
     requires { (S.method run.now).belongs state.old }
-    ensures { Replays (S.method run.now).tree (S.method run.now).belongs
+    ensures replays { Replays (S.method run.now).tree (S.method run.now).belongs
         (sectioned_form (S.method run.now).tree (S.sectioning run.now) state.old head.now log.now)
         state.old state.new (T.lines trace.old) (T.lines trace.new) T.may_refuse result }
+    ensures kept { OnOk result (KeepsOn (T.keeps run.now) state.old state.new trace.old trace.new) }
 {
     let mut rest = match after_front(log, &head.sectioned()) {
         Ok(rest) => rest,
@@ -39,7 +42,7 @@ pub(crate) fn replay_sections_into<S: Sections, T: Trace>(
             let Some((value, after)) = step_first(rest, kind, bound) else {
                 return Err(ReplayFault::Differs { line: lines + 1 });
             };
-            trace.line(kind, bound, value)?;
+            trace.line(run, state, kind, bound, value)?;
             run.advance(state, value);
             rest = after;
             lines += 1;

@@ -1,4 +1,5 @@
-ghost use Rattle.std.specs.Prelude.{◌≡◌};
+ghost use Rattle.std.specs.Prelude.{◌≡◌, OnOk};
+ghost use Rattle.smp_split.specs.Runs.{KeepsOn};
 ghost use Rattle.smp_log.specs.Replayed.{Replays, ReplaysUntold, any_form};
 ghost use Rattle.smp_log.specs.SectionReading as SectionReading;
 
@@ -35,7 +36,7 @@ pub fn replay<S: Sections>(
 ///
 /// Want of memory comes only where the trace may refuse a line. After an error the steps that lead to the state were told,
 /// and no more: after [`ReplayFault::Differs`] those of the lines before the one that it names.
-pub fn replay_into<S: Sections, T: Trace>(
+pub fn replay_into<S: Sections, T: Trace<S>>(
     run: &S,
     state: &mut S::State,
     head: &Head,
@@ -43,9 +44,10 @@ pub fn replay_into<S: Sections, T: Trace>(
     trace: &mut T,
 ) -> Result<(), ReplayFault>
     requires { (S.method run.now).belongs state.old }
-    ensures { Replays (S.method run.now).tree (S.method run.now).belongs
+    ensures replays { Replays (S.method run.now).tree (S.method run.now).belongs
         (any_form (S.method run.now).tree (S.sectioning run.now) state.old head.now log.now)
         state.old state.new (T.lines trace.old) (T.lines trace.new) T.may_refuse result }
+    ensures kept { OnOk result (KeepsOn (T.keeps run.now) state.old state.new trace.old trace.new) }
 {
     // The head tells its lines.
     let _lines = head.as_slice();

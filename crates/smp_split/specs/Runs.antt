@@ -105,3 +105,16 @@ pub record Untold {State Rest : Type 0} (source : Source Rest) (tree : Tree Stat
   pub step : IsStep tree new.state (entry_at tree new.state value)
   pub gives : Gives source old.rest (path ++ entry_at tree new.state value ∷ []) new.rest
   pub told : new.told ≡ and_then old.told path
+
+-- ---- what is kept of a walk, whatever that is
+
+-- what is kept of a walk to one state is kept, from the old trace to the new one, of the walk that goes on to another
+abbrev pub KeepsOn : {State Trace : Type 0} → (State → State → Trace → Type 0) → (s t : State)
+    → (old new : Trace) → Type 0
+KeepsOn {State} Keeps s t old new = (from : State) → Keeps from s old → Keeps from t new
+
+-- so it is by a step
+abbrev pub KeepsStep : {State Trace : Type 0} → Tree State → (State → State → Trace → Type 0) → State
+    → Entry → (old new : Trace) → Type 0
+KeepsStep tree Keeps s entry old new =
+    IsStep tree s entry → KeepsOn Keeps s (picked s (tree.parts s) entry.2) old new

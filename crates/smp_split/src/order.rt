@@ -9,7 +9,8 @@ use std::marker::Model;
 /// The order in which units are taken. It may be drawn, by steps that exchange two units each: the first decides which
 /// unit stands at the first place, the next which one stands at the second, and so on.
 ///
-/// It keeps the place of each unit and the unit at each place, so a step and a look-up take constant time.
+/// It keeps the place of each unit and, where steps are left, the unit at each place, so a step and a look-up take constant
+/// time.
 #[derive(Drop)]
 pub struct UnitOrder {
     places: Vec<usize>,
@@ -22,7 +23,7 @@ impl Model for UnitOrder {
 
     ghost view = { λ a. record { places = a.places.items; left = a.left } };
 
-    ghost invariant = { λ a. IsMirrored a.places.items a.units.items a.left };
+    ghost invariant = { λ a. 1 ≤ a.left → IsMirrored a.places.items a.units.items a.left };
 }
 
 impl UnitOrder {
@@ -32,7 +33,7 @@ impl UnitOrder {
     {
         Ok(UnitOrder {
             places: numbers_below(alloc, units)?,
-            units: numbers_below(alloc, units)?,
+            units: Vec::new(alloc),
             left: 0,
         })
     }

@@ -1,8 +1,8 @@
-ghost use Rattle.std.specs.Prelude.{◌≡◌, Bool, true, false, List, [], ◌∷◌, Option, Some, None, OnOk, OnErr};
+ghost use Rattle.std.specs.Prelude.{◌≡◌, Bool, true, false, List, [], ◌∷◌, ◌++◌, Option, Some, None, OnOk, OnErr};
 ghost use Rattle.smp_split.specs.Paths.{Entry};
-ghost use Rattle.smp_split.specs.Runs.{and_then};
+ghost use Rattle.smp_split.specs.Runs.{KeepsStep, and_then};
 
-use crate::Kind;
+use crate::{Kind, Splitting};
 use std::alloc::{AllocError, AllocFailed, Global};
 use std::marker::Model;
 
@@ -22,32 +22,54 @@ impl<T: Drop> From<AllocFailed<T>> for NoMemory {
     }
 }
 
-/// What is told of each step of a walk.
-pub trait Trace {
+/// What is told of each step of a walk down a design of this type.
+pub trait Trace<S: Splitting> {
     /// The lines so far, where they are told.
     ghost lines: { Self → Option (List Entry) };
 
     /// Whether a line may be refused.
     ghost may_refuse: { Bool };
 
-    /// Takes note of a step: its kind, its bound and the value that was drawn.
-    fn line(&mut self, kind: Kind, bound: u128, value: u128) -> Result<(), NoMemory>
+    /// What it keeps of a walk down a design from a state to another.
+    ghost keeps: { S → S.State → S.State → Self → Type 0 };
+
+    /// Takes note of a step at a state of a design: its kind, its bound and the value that was drawn.
+    fn line(
+        &mut self,
+        design: &S,
+        state: &S::State,
+        kind: Kind,
+        bound: u128,
+        value: u128,
+    ) -> Result<(), NoMemory>
+        requires { (S.method design.now).belongs state.now }
         ensures ok { OnOk result
             (lines self.new ≡ and_then (lines self.old) ((kind, bound, value) ∷ [])) }
         ensures err { OnErr result (lines self.new ≡ lines self.old) }
-        ensures refused { OnErr result (may_refuse ≡ true) };
+        ensures refused { OnErr result (may_refuse ≡ true) }
+        ensures kept { OnOk result (KeepsStep (S.method design.now).tree (keeps design.now) state.now
+            (kind, bound, value) self.old self.new) };
 }
 
 /// Keeps nothing.
 #[derive(Drop)]
 pub struct NoTrace;
 
-impl Trace for NoTrace {
+impl<S: Splitting> Trace<S> for NoTrace {
     ghost lines = { λ _. None };
 
     ghost may_refuse = { false };
 
-    fn line(&mut self, _kind: Kind, _bound: u128, _value: u128) -> Result<(), NoMemory> {
+    ghost keeps = { λ _ _ _ _. Unit {0} };
+
+    fn line(
+        &mut self,
+        _design: &S,
+        _state: &S::State,
+        _kind: Kind,
+        _bound: u128,
+        _value: u128,
+    ) -> Result<(), NoMemory> {
         Ok(())
     }
 }
@@ -74,6 +96,15 @@ impl Lines {
         }
     }
 
+    /// Puts a line behind the others: kind, bound and value.
+    pub fn push(&mut self, kind: Kind, bound: u128, value: u128) -> Result<(), NoMemory>
+        ensures ok { OnOk result (self.new ≡ self.old ++ (kind, bound, value) ∷ []) }
+        ensures err { OnErr result (self.new ≡ self.old) }
+    {
+        self.lines.push((kind, bound, value))?;
+        Ok(())
+    }
+
     /// The lines in order: kind, bound and value.
     pub fn as_slice(&self) -> &[(Kind, u128, u128)]
         ensures { result.now ≡ self.now }
@@ -82,13 +113,21 @@ impl Lines {
     }
 }
 
-impl Trace for Lines {
+impl<S: Splitting> Trace<S> for Lines {
     ghost lines = { λ a. Some a };
 
     ghost may_refuse = { true };
 
-    fn line(&mut self, kind: Kind, bound: u128, value: u128) -> Result<(), NoMemory> {
-        self.lines.push((kind, bound, value))?;
-        Ok(())
+    ghost keeps = { λ _ _ _ _. Unit {0} };
+
+    fn line(
+        &mut self,
+        _design: &S,
+        _state: &S::State,
+        kind: Kind,
+        bound: u128,
+        value: u128,
+    ) -> Result<(), NoMemory> {
+        self.push(kind, bound, value)
     }
 }

@@ -2,7 +2,7 @@ ghost use Rattle.std.specs.Prelude.{◌≡◌, ℕ, ◌<◌, true, OnOk, Err};
 ghost use Rattle.smp_fractions.specs.Fractions.{Fraction, Same};
 ghost use Rattle.smp_tape.specs.declared.draws.DrawFault.{DrawFault};
 ghost use Rattle.smp_split.specs.Means.{mean, value_sum, inclusion_probability};
-ghost use Rattle.smp_split.specs.Runs.{position, Arrived, Refused, Untold};
+ghost use Rattle.smp_split.specs.Runs.{position, Arrived, KeepsOn, Refused, Untold};
 ghost use Rattle.smp_split.specs.declared.walking.WalkFault.TheVariants as fault;
 
 use crate::{NoMemory, Splitting, Trace, mean_is_value};
@@ -37,7 +37,7 @@ impl From<NoMemory> for WalkFault {
 ///
 /// After a refused draw the state is the one that asked, and so much is left of the draws as their source leaves: a value
 /// that a tape refuses stays on it. Where the trace was refused, the value of that step was taken.
-pub fn walk<S: Splitting, D: Draws, T: Trace>(
+pub fn walk<S: Splitting, D: Draws, T: Trace<S>>(
     design: &S,
     state: &mut S::State,
     draws: &mut D,
@@ -58,6 +58,8 @@ pub fn walk<S: Splitting, D: Draws, T: Trace>(
         (position state.old draws.old (T.lines trace.old))
         (position state.new draws.new (T.lines trace.new)) }
     ensures may_refuse { result ≡ Err WalkFault.NoMemory → T.may_refuse ≡ true }
+    ensures kept { OnOk result (KeepsOn (T.keeps design.now) state.old state.new
+        trace.old trace.new) }
     ensures belongs { (S.method design.now).belongs state.new }
 
     // What a uniform draw at each step would give on average, from where it began.
@@ -73,7 +75,7 @@ pub fn walk<S: Splitting, D: Draws, T: Trace>(
         let kind = design.kind(state);
         let bound = design.bound(state);
         let value = draws.below(bound)?;
-        trace.line(kind, bound, value)?;
+        trace.line(design, state, kind, bound, value)?;
         design.advance(state, value);
     }
     Ok(())

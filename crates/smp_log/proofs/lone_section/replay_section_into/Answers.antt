@@ -1,6 +1,7 @@
 use Rattle.std.proofs.Common.{◌≡◌, ℕ, ◌+◌, ◌<◌, ◌++◌, Bool, true, false, Option, Some, None, Err, option_map, length, take, rules, refl, sym, ap, ◌∙◌, subst, arith, length-append}
 use Rattle.std.specs.Prelude.{is_some, not}
 use Rattle.smp_fractions.specs.Limits.{wide_limit}
+use Rattle.smp_split.specs.Paths.{IsStep}
 use Rattle.smp_log.specs.Fronts.{IsWhole, StopsAt}
 use Rattle.smp_log.specs.Lines.{whole_lines}
 use Rattle.smp_log.specs.LoneSections.{from_opening, section_in_first_lines}
@@ -26,8 +27,8 @@ some_from (Some x) t is e = (x, refl)
 pub after_front-requires : goal.after_front-requires
 after_front-requires g c = subst IsWhole (sym c.sectioned.ensures.bytes) (whole_sectioned_head c.args.head.now c.sectioned.ensures.lines)
 
-pub returns-in-Err : goal.returns-in-Err
-returns-in-Err g c =
+pub returns-in-Err-clause-replays : goal.returns-in-Err-clause-replays
+returns-in-Err-clause-replays g c =
     let h = c.sectioned.ensures.lines in
     let at = subst (λ h. StopsAt h c.args.log.now c.in-Err.line) c.sectioned.ensures.bytes c.in-Err.ensures.stops in
     refused_unopened (stops (g.S.Splitting.method c.args.run.now).lawful c.requires.state _ _ _ c.in-Err.line h at) (length at.same) (sym at.counted) (none_in_head c.args.number c.args.log.now c.args.head.now h c.in-Err.line at)
@@ -44,15 +45,15 @@ opening-requires g c =
 
 -- ---- the opening line
 
-pub returns-in-Err-opening : goal.returns-in-Err-opening
-returns-in-Err-opening g c =
+pub returns-in-Err-opening-clause-replays : goal.returns-in-Err-opening-clause-replays
+returns-in-Err-opening-clause-replays g c =
     let h = c.sectioned.ensures.lines in
     let head_is = c.in-Ok.ensures.front ∙ ap (λ h. h ++ c.in-Ok.rest.now) c.sectioned.ensures.bytes in
     let nowhere = opens_nowhere c.args.head.now c.args.number c.args.log.now c.in-Ok.rest.now h head_is c.in-Err-opening.ensures.none.0 in
     refused_unopened (no_opening (g.S.Splitting.method c.args.run.now).lawful c.requires.state _ _ _ c.in-Ok.rest.now c.in-Err-opening.line h head_is c.in-Err-opening.ensures.none.0 c.in-Err-opening.ensures.none.1) (length (whole_lines c.args.log.now)) (omega (arith, nowhere.1, c.in-Err-opening.ensures.none.1)) (none_in_all c.args.number c.args.log.now nowhere.0)
 
-pub returns-in_default : goal.returns-in_default
-returns-in_default g c =
+pub returns-in_default-clause-replays : goal.returns-in_default-clause-replays
+returns-in_default-clause-replays g c =
     let h = c.sectioned.ensures.lines in
     let head_is = c.in-Ok.ensures.front ∙ ap (λ h. h ++ c.in-Ok.rest.now) c.sectioned.ensures.bytes in
     let op = opened (g.S.Splitting.method c.args.run.now).lawful c.requires.state _ _ _ c.in-Ok.rest.now c.in-Ok-opening.found.0.now c.in-Ok-opening.found.1 h head_is c.in-Ok-opening.ensures.found in
@@ -64,19 +65,19 @@ loop-state-init g c =
     let head_is = c.in-Ok.ensures.front ∙ ap (λ h. h ++ c.in-Ok.rest.now) c.sectioned.ensures.bytes in
     let op = opened (g.S.Splitting.method c.args.run.now).lawful c.requires.state _ _ _ c.in-Ok.rest.now c.in-Ok-opening.found.0.now c.in-Ok-opening.found.1 h head_is c.in-Ok-opening.ensures.found in
     let into = enters (g.S.Splitting.method c.args.run.now).lawful c.requires.state _ _ _ h c.in-Ok.rest.now head_is c.in-Ok-opening.found.0.now c.in-Ok-opening.found.1 op c.in-Some.rest.now (sym c.in-Some.ensures) in
-    (into.reads, none_told _ c.args.state.now _ (from_opening c.args.number (take (c.in-Ok-opening.found.1 + 0) (whole_lines c.args.log.now))).1 into.tells)
+    (into.reads, none_told _ c.args.state.now _ (from_opening c.args.number (take (c.in-Ok-opening.found.1 + 0) (whole_lines c.args.log.now))).1 into.tells, λ from so. so)
 
 -- ---- the steps
 
-pub returns-in_default-step_first : goal.returns-in_default-step_first
-returns-in_default-step_first g c =
+pub returns-in_default-step_first-clause-replays : goal.returns-in_default-step_first-clause-replays
+returns-in_default-step_first-clause-replays g c =
     let at = c.loop-state.invariant.0 in
     let going : (g.S.Splitting.method c.args.run.now).tree.done c.loop-state.state ≡ false = search rules in
     let none = rw (c.kind-kind.ensures, c.bound-bound.ensures) at (sym c.in_default-step_first.ensures) in
     refused_inside (step_none (g.S.Splitting.method c.args.run.now).lawful c.requires.state _ _ _ at going none) at c.loop-state.invariant.1 refl
 
-pub returns-in_err-line : goal.returns-in_err-line
-returns-in_err-line g c =
+pub returns-in_err-line-clause-replays : goal.returns-in_err-line-clause-replays
+returns-in_err-line-clause-replays g c =
     let tree = (g.S.Splitting.method c.args.run.now).tree in
     let at = c.loop-state.invariant.0 in
     let told = subst (λ now. IsToldAlong tree (section_in_first_lines tree c.args.state.now c.args.number (c.in-Ok-opening.found.1 + c.loop-state.own) c.args.log.now) c.args.state.now c.loop-state.state (g.T.Trace.lines c.args.trace.now) now) (sym c.in_err-line.ensures.err) c.loop-state.invariant.1 in
@@ -94,25 +95,31 @@ loop-state-preserved g c =
     let at = c.loop-state.invariant.0 in
     let going : (g.S.Splitting.method c.args.run.now).tree.done c.loop-state.state ≡ false = search rules in
     let found = rw (c.kind-kind.ensures, c.bound-bound.ensures) at (sym c.in-Some-step_first.ensures) in
+    let value = first_within c.kind-kind.result c.bound-bound.result _ c.loop-state.rest.now _ (sym c.in-Some-step_first.ensures) in
+    let step : IsStep (g.S.Splitting.method c.args.run.now).tree c.loop-state.state (c.kind-kind.result, c.bound-bound.result, c.in-Some-step_first.value) = record { going = going; kind = c.kind-kind.ensures; bound = c.bound-bound.ensures; value = value } in
     rw c.advance.ensures (
       step_some (g.S.Splitting.method c.args.run.now).lawful c.requires.state _ _ _ at c.in-Some-step_first.value c.in-Some-step_first.after.now going found,
       section_step _ _ _ c.args.number c.args.log.now at _ c.loop-state.invariant.1 c.in-Some-step_first.value c.in-Some-step_first.after.now _ going found (rw (c.kind-kind.ensures, c.bound-bound.ensures) at c.in_ok-line.ensures).ok,
+      λ from so. c.in_ok-line.ensures.kept step from (c.loop-state.invariant.2 from so),
     )
 
 -- ---- the last line
 
-pub returns-then-is_none : goal.returns-then-is_none
-returns-then-is_none g c =
+pub returns-then-is_none-clause-replays : goal.returns-then-is_none-clause-replays
+returns-then-is_none-clause-replays g c =
     let at = c.loop-state.invariant.0 in
     let done : (g.S.Splitting.method c.args.run.now).tree.done c.loop-state.state ≡ true = search rules in
     let none = sym c.after_numbers.ensures ∙ ap (option_map (λ r. r.now)) (none_from c.after_numbers.result c.is_none.result c.is_none.ensures c.if-is_none.true) in
     refused_inside (end_none (g.S.Splitting.method c.args.run.now).lawful c.requires.state _ _ _ at done none) at c.loop-state.invariant.1 refl
 
-pub returns : goal.returns
-returns g c =
+pub returns-clause-replays : goal.returns-clause-replays
+returns-clause-replays g c =
     let at = c.loop-state.invariant.0 in
     let done : (g.S.Splitting.method c.args.run.now).tree.done c.loop-state.state ≡ true = search rules in
     let some = some_from c.after_numbers.result c.is_none.result c.is_none.ensures c.if-is_none.false in
     let has = end_some (g.S.Splitting.method c.args.run.now).lawful c.requires.state _ _ _ at some.0.now done (sym c.after_numbers.ensures ∙ ap (option_map (λ r. r.now)) some.1) in
     taken _ _ _ _ _ _ _ _ _ (record { has = has; told = has_told _ _ (g.S.Splitting.method c.args.run.now).lawful _ c.requires.state _ _ _ _ has }) (section_all _ _ _ c.args.number c.args.log.now at _ c.loop-state.invariant.1 done)
     (has_reading _ _ (g.S.Splitting.method c.args.run.now).lawful _ c.requires.state _ _ _ at.is_head _ has) done at.member
+
+pub returns-clause-kept : goal.returns-clause-kept
+returns-clause-kept g c = c.loop-state.invariant.2

@@ -1,4 +1,5 @@
 use Rattle.std.proofs.Common.{◌≡◌, ◌+◌, ◌++◌, ◌∷◌, [], ◌<◌, true, false, length, Ok, Err, rules, sym, ap, ◌∙◌, subst, arith}
+use Rattle.smp_split.specs.Paths.{IsStep}
 use Rattle.smp_split.specs.Trees.{picked}
 use Rattle.smp_log.specs.Fronts.{IsWhole}
 use Rattle.smp_log.specs.Reading.{end_line}
@@ -14,27 +15,27 @@ use Rattle.smp_log.proofs.replaying.old_replay_into.Goals as goal
 pub after_front-requires : goal.after_front-requires
 after_front-requires g c = subst IsWhole (sym c.as_slice.ensures.bytes) (whole_head c.args.head.now c.as_slice.ensures.lines)
 
-pub returns-in-Err : goal.returns-in-Err
-returns-in-Err g c =
+pub returns-in-Err-clause-replays : goal.returns-in-Err-clause-replays
+returns-in-Err-clause-replays g c =
     let h = c.as_slice.ensures.lines in
     refused_head c.args.log.now (old_reads (g.S.Splitting.method c.args.run.now).lawful c.requires h c.args.log.now) c.requires c.as_slice.ensures.bytes (head_count c.args.head.now h) c.in-Err.ensures.stops (λ at. stops (g.S.Splitting.method c.args.run.now).lawful c.requires c.args.head.now c.args.log.now c.in-Err.line h at)
 
 pub loop-state-init : goal.loop-state-init
 loop-state-init g c =
     let front = c.in-Ok.ensures.front ∙ ap (λ h. h ++ c.in-Ok.rest.now) c.as_slice.ensures.bytes in
-    (first (g.S.Splitting.method c.args.run.now).lawful c.requires _ _ c.in-Ok.rest.now c.as_slice.ensures.lines front, few_told _ _ _ c.args.log.now 3 (omega arith))
+    (first (g.S.Splitting.method c.args.run.now).lawful c.requires _ _ c.in-Ok.rest.now c.as_slice.ensures.lines front, few_told _ _ _ c.args.log.now 3 (omega arith), λ from so. so)
 
 -- ---- at a state that goes on
 
-pub returns-in_default : goal.returns-in_default
-returns-in_default g c =
+pub returns-in_default-clause-replays : goal.returns-in_default-clause-replays
+returns-in_default-clause-replays g c =
     let at = c.loop-state.invariant.0 in
     let going : (g.S.Splitting.method c.args.run.now).tree.done c.loop-state.state ≡ false = search rules in
     let none = rw (c.kind-kind.ensures, c.bound-bound.ensures) at (sym c.in_default.ensures) in
     refused_behind c.args.log.now (old_reads (g.S.Splitting.method c.args.run.now).lawful c.requires at.is_head c.args.log.now) at.member at.reached (omega arith) c.loop-state.invariant.1 (c.loop-state.steps + 4) (omega arith) (no_step (g.S.Splitting.method c.args.run.now).lawful c.requires _ _ at going none)
 
-pub returns-in_err-line : goal.returns-in_err-line
-returns-in_err-line g c =
+pub returns-in_err-line-clause-replays : goal.returns-in_err-line-clause-replays
+returns-in_err-line-clause-replays g c =
     let at = c.loop-state.invariant.0 in
     let same : c.from_residual.result ≡ Err NoMemory = search rules in
     rw same (out_behind c.args.log.now (old_reads (g.S.Splitting.method c.args.run.now).lawful c.requires at.is_head c.args.log.now) at.member at.reached (omega arith) c.loop-state.invariant.1 c.in_err-line.ensures.err c.in_err-line.ensures.refused)
@@ -52,21 +53,24 @@ loop-state-preserved g c =
     let going : tree.done c.loop-state.state ≡ false = search rules in
     let found = rw (c.kind-kind.ensures, c.bound-bound.ensures) at (sym c.in-Some.ensures) in
     let count : c.loop-state.steps + 3 + 1 ≡ c.loop-state.steps + 1 + 3 = omega arith in
+    let value = first_within c.kind-kind.result c.bound-bound.result _ c.loop-state.rest.now _ (sym c.in-Some.ensures) in
+    let step : IsStep tree c.loop-state.state (c.kind-kind.result, c.bound-bound.result, c.in-Some.value) = record { going = going; kind = c.kind-kind.ensures; bound = c.bound-bound.ensures; value = value } in
     rw c.advance.ensures (
       more (g.S.Splitting.method c.args.run.now).lawful c.requires _ _ at c.in-Some.value c.in-Some.after.now found going,
       subst (λ n. IsToldAlong tree (path_in_first_lines tree c.args.state.now n c.args.log.now) c.args.state.now (picked c.loop-state.state (tree.parts c.loop-state.state) c.in-Some.value) (g.T.Trace.lines c.args.trace.now) (g.T.Trace.lines c.line.new.self)) count
           (told_step _ _ _ at.reached (omega arith) _ _ c.loop-state.invariant.1 c.in-Some.value c.in-Some.after.now _ going found (rw (c.kind-kind.ensures, c.bound-bound.ensures) at c.in_ok-line.ensures).ok),
+      λ from so. c.in_ok-line.ensures.kept step from (c.loop-state.invariant.2 from so),
     )
 
 -- ---- at a leaf
 
-pub returns-in_default-after_end : goal.returns-in_default-after_end
-returns-in_default-after_end g c =
+pub returns-in_default-after_end-clause-replays : goal.returns-in_default-after_end-clause-replays
+returns-in_default-after_end-clause-replays g c =
     let at = c.loop-state.invariant.0 in
     refused_behind c.args.log.now (old_reads (g.S.Splitting.method c.args.run.now).lawful c.requires at.is_head c.args.log.now) at.member at.reached (omega arith) c.loop-state.invariant.1 (c.loop-state.steps + 4) (omega arith) (no_end (g.S.Splitting.method c.args.run.now).lawful c.requires _ _ at (search rules) (sym c.in_default-after_end.ensures))
 
-pub returns-then-not-is_empty : goal.returns-then-not-is_empty
-returns-then-not-is_empty g c =
+pub returns-then-not-is_empty-clause-replays : goal.returns-then-not-is_empty-clause-replays
+returns-then-not-is_empty-clause-replays g c =
     let at = c.loop-state.invariant.0 in
     let done : (g.S.Splitting.method c.args.run.now).tree.done c.loop-state.state ≡ true = search rules in
     let something : 0 < length c.in-Some-after_end.after.now = search rules in
@@ -75,11 +79,14 @@ returns-then-not-is_empty g c =
     refused_at c.args.log.now (old_reads (g.S.Splitting.method c.args.run.now).lawful c.requires at.is_head c.args.log.now) at.member (c.loop-state.steps + 3 + 1) (c.loop-state.steps + 5) (omega arith) (something_behind (g.S.Splitting.method c.args.run.now).lawful c.requires _ _ at c.in-Some-after_end.after.now done (sym c.in-Some-after_end.ensures) something)
     (told_part _ _ _ at.reached (omega arith) _ _ c.loop-state.invariant.1) (told_over _ _ _ at.reached (omega arith) _ _ c.loop-state.invariant.1 (end_line c.loop-state.steps) c.in-Some-after_end.after.now cut none)
 
-pub returns : goal.returns
-returns g c =
+pub returns-clause-replays : goal.returns-clause-replays
+returns-clause-replays g c =
     let at = c.loop-state.invariant.0 in
     let done : (g.S.Splitting.method c.args.run.now).tree.done c.loop-state.state ≡ true = search rules in
     let none : length c.in-Some-after_end.after.now ≡ 0 = search rules in
     let genuine = replayed (g.S.Splitting.method c.args.run.now).lawful c.requires _ _ at c.in-Some-after_end.after.now done (sym c.in-Some-after_end.ensures) none in
     taken _ _ _ _ _ _ _ _ _ (record { genuine = genuine; told = genuine_told _ _ (g.S.Splitting.method c.args.run.now).lawful _ c.requires _ _ at.is_head _ genuine }) (told_all _ _ _ at.reached (omega arith) _ _ c.loop-state.invariant.1 done)
     (sym ((exact_reading _ _ (g.S.Splitting.method c.args.run.now).lawful _ c.requires _ at.is_head c.args.log.now).alone (Ok c.loop-state.state) genuine)) done at.member
+
+pub returns-clause-kept : goal.returns-clause-kept
+returns-clause-kept g c = c.loop-state.invariant.2

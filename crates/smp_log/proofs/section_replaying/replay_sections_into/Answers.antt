@@ -1,5 +1,6 @@
 use Rattle.std.proofs.Common.{◌≡◌, ◌+◌, ◌++◌, ◌∷◌, [], ◌<◌, ◌≤◌, Bool, true, false, cond, ltb, length, Ok, Err, rules, refl, sym, ap, ◌∙◌, subst, arith}
 use mir.Val.{bool_byte}
+use Rattle.smp_split.specs.Paths.{IsStep}
 use Rattle.smp_log.specs.Fronts.{IsWhole}
 use Rattle.smp_log.specs.Reading.{end_line}
 use Rattle.smp_log.specs.declared.fault.ReplayFault.TheVariants.{NoMemory}
@@ -18,20 +19,20 @@ bool_cond false = refl
 pub after_front-requires : goal.after_front-requires
 after_front-requires g c = subst IsWhole (sym c.sectioned.ensures.bytes) (whole_sectioned_head c.args.head.now c.sectioned.ensures.lines)
 
-pub returns-in-Err : goal.returns-in-Err
-returns-in-Err g c =
+pub returns-in-Err-clause-replays : goal.returns-in-Err-clause-replays
+returns-in-Err-clause-replays g c =
     let h = c.sectioned.ensures.lines in
     refused_head c.args.log.now (sectioned_reads (g.S.Splitting.method c.args.run.now).lawful (g.met.S.Sections.sectioned c.args.run.now) c.requires h c.args.log.now) c.requires c.sectioned.ensures.bytes (sectioned_head_count c.args.head.now h) c.in-Err.ensures.stops (λ at. stops (g.S.Splitting.method c.args.run.now).lawful (g.met.S.Sections.sectioned c.args.run.now) c.requires c.args.head.now c.args.log.now c.in-Err.line h at)
 
 pub loop-section-init : goal.loop-section-init
 loop-section-init g c =
     let front = c.in-Ok.ensures.front ∙ ap (λ h. h ++ c.in-Ok.rest.now) c.sectioned.ensures.bytes in
-    (first (g.S.Splitting.method c.args.run.now).lawful (g.met.S.Sections.sectioned c.args.run.now) c.requires _ _ c.in-Ok.rest.now c.sectioned.ensures.lines front, few_told _ _ _ c.args.log.now 3 (omega arith))
+    (first (g.S.Splitting.method c.args.run.now).lawful (g.met.S.Sections.sectioned c.args.run.now) c.requires _ _ c.in-Ok.rest.now c.sectioned.ensures.lines front, few_told _ _ _ c.args.log.now 3 (omega arith), λ from so. so)
 
 -- ---- before a section, and behind all of them
 
-pub returns-in_default : goal.returns-in_default
-returns-in_default g c =
+pub returns-in_default-clause-replays : goal.returns-in_default-clause-replays
+returns-in_default-clause-replays g c =
     let at = c.loop-section.invariant.0 in
     let less = subst (λ n. c.loop-section.section < n) c.sections-section-end.ensures c.loop-section-test.true in
     refused_behind c.args.log.now (sectioned_reads (g.S.Splitting.method c.args.run.now).lawful (g.met.S.Sections.sectioned c.args.run.now) c.requires at.is_head c.args.log.now) at.member at.reached at.behind c.loop-section.invariant.1 (c.loop-section.lines + 1) refl (enter_none (g.S.Splitting.method c.args.run.now).lawful (g.met.S.Sections.sectioned c.args.run.now) c.requires _ _ at less (sym c.in_default.ensures))
@@ -42,16 +43,17 @@ loop-state-init g c =
     let less = subst (λ n. c.loop-section.section < n) c.sections-section-end.ensures c.loop-section-test.true in (
       enter_some (g.S.Splitting.method c.args.run.now).lawful (g.met.S.Sections.sectioned c.args.run.now) c.requires _ _ at c.in-Some.after.now less (sym c.in-Some.ensures),
       told_passed _ _ _ at.reached at.behind _ _ c.loop-section.invariant.1 _ c.in-Some.after.now (sym c.in-Some.ensures) (stratum_is_no_step (c.loop-section.section + 1) c.loop-section.taken),
+      c.loop-section.invariant.2,
     )
 
-pub returns-in_default-after_end : goal.returns-in_default-after_end
-returns-in_default-after_end g c =
+pub returns-in_default-after_end-clause-replays : goal.returns-in_default-after_end-clause-replays
+returns-in_default-after_end-clause-replays g c =
     let at = c.loop-section.invariant.0 in
     let high = subst (λ n. n ≤ c.loop-section.section) c.sections-section-end.ensures c.loop-section-test.false in
     refused_behind c.args.log.now (sectioned_reads (g.S.Splitting.method c.args.run.now).lawful (g.met.S.Sections.sectioned c.args.run.now) c.requires at.is_head c.args.log.now) at.member at.reached at.behind c.loop-section.invariant.1 (c.loop-section.lines + 1) refl (end_none (g.S.Splitting.method c.args.run.now).lawful (g.met.S.Sections.sectioned c.args.run.now) c.requires _ _ at high (sym c.in_default-after_end.ensures))
 
-pub returns-then-not-is_empty : goal.returns-then-not-is_empty
-returns-then-not-is_empty g c =
+pub returns-then-not-is_empty-clause-replays : goal.returns-then-not-is_empty-clause-replays
+returns-then-not-is_empty-clause-replays g c =
     let at = c.loop-section.invariant.0 in
     let high = subst (λ n. n ≤ c.loop-section.section) c.sections-section-end.ensures c.loop-section-test.false in
     let something : 0 < length c.in-Some-after_end.after.now = search rules in
@@ -60,8 +62,8 @@ returns-then-not-is_empty g c =
     refused_at c.args.log.now (sectioned_reads (g.S.Splitting.method c.args.run.now).lawful (g.met.S.Sections.sectioned c.args.run.now) c.requires at.is_head c.args.log.now) at.member (c.loop-section.lines + 1) (c.loop-section.lines + 2) (omega arith) (something_behind (g.S.Splitting.method c.args.run.now).lawful (g.met.S.Sections.sectioned c.args.run.now) c.requires _ _ at c.in-Some-after_end.after.now high (sym c.in-Some-after_end.ensures) something)
     (told_part _ _ _ at.reached at.behind _ _ c.loop-section.invariant.1) (told_over _ _ _ at.reached at.behind _ _ c.loop-section.invariant.1 (end_line c.loop-section.steps) c.in-Some-after_end.after.now cut none)
 
-pub returns : goal.returns
-returns g c =
+pub returns-clause-replays : goal.returns-clause-replays
+returns-clause-replays g c =
     let at = c.loop-section.invariant.0 in
     let high = subst (λ n. n ≤ c.loop-section.section) c.sections-section-end.ensures c.loop-section-test.false in
     let none : length c.in-Some-after_end.after.now ≡ 0 = search rules in
@@ -72,14 +74,14 @@ returns g c =
 
 -- ---- in a section
 
-pub returns-in_default-step_first : goal.returns-in_default-step_first
-returns-in_default-step_first g c =
+pub returns-in_default-step_first-clause-replays : goal.returns-in_default-step_first-clause-replays
+returns-in_default-step_first-clause-replays g c =
     let at = c.loop-state.invariant.0 in
     let none = rw (c.kind-kind.ensures, c.bound-bound.ensures) at (sym c.in_default-step_first.ensures) in
     refused_behind c.args.log.now (sectioned_reads (g.S.Splitting.method c.args.run.now).lawful (g.met.S.Sections.sectioned c.args.run.now) c.requires at.is_head c.args.log.now) at.member at.reached at.behind c.loop-state.invariant.1 (c.loop-state.lines + 1) refl (step_none (g.S.Splitting.method c.args.run.now).lawful (g.met.S.Sections.sectioned c.args.run.now) c.requires _ _ at (sym c.section.ensures ∙ c.loop-state-test.true) none)
 
-pub returns-in_err-line : goal.returns-in_err-line
-returns-in_err-line g c =
+pub returns-in_err-line-clause-replays : goal.returns-in_err-line-clause-replays
+returns-in_err-line-clause-replays g c =
     let at = c.loop-state.invariant.0 in
     let same : c.from_residual.result ≡ Err NoMemory = search rules in
     rw same (out_behind c.args.log.now (sectioned_reads (g.S.Splitting.method c.args.run.now).lawful (g.met.S.Sections.sectioned c.args.run.now) c.requires at.is_head c.args.log.now) at.member at.reached at.behind c.loop-state.invariant.1 c.in_err-line.ensures.err c.in_err-line.ensures.refused)
@@ -95,13 +97,16 @@ loop-state-preserved g c =
     let at = c.loop-state.invariant.0 in
     let found = rw (c.kind-kind.ensures, c.bound-bound.ensures) at (sym c.in-Some-step_first.ensures) in
     let going : (g.S.Splitting.method c.args.run.now).tree.done c.loop-state.state ≡ false = search rules in
+    let value = first_within c.kind-kind.result c.bound-bound.result _ c.loop-state.rest.now _ (sym c.in-Some-step_first.ensures) in
+    let step : IsStep (g.S.Splitting.method c.args.run.now).tree c.loop-state.state (c.kind-kind.result, c.bound-bound.result, c.in-Some-step_first.value) = record { going = going; kind = c.kind-kind.ensures; bound = c.bound-bound.ensures; value = value } in
     rw (bool_cond (ltb 1 c.bound-bound.result), c.bound-bound.ensures, c.advance.ensures) (
       step_some (g.S.Splitting.method c.args.run.now).lawful (g.met.S.Sections.sectioned c.args.run.now) c.requires _ _ at c.in-Some-step_first.value c.in-Some-step_first.after.now (sym c.section.ensures ∙ c.loop-state-test.true) found,
       told_step _ _ _ at.reached at.behind _ _ c.loop-state.invariant.1 c.in-Some-step_first.value c.in-Some-step_first.after.now _ going found (rw (c.kind-kind.ensures, c.bound-bound.ensures) at c.in_ok-line.ensures).ok,
+      λ from so. c.in_ok-line.ensures.kept step from (c.loop-state.invariant.2 from so),
     )
 
-pub returns-in_default-after_numbers : goal.returns-in_default-after_numbers
-returns-in_default-after_numbers g c =
+pub returns-in_default-after_numbers-clause-replays : goal.returns-in_default-after_numbers-clause-replays
+returns-in_default-after_numbers-clause-replays g c =
     let at = c.loop-state.invariant.0 in
     refused_behind c.args.log.now (sectioned_reads (g.S.Splitting.method c.args.run.now).lawful (g.met.S.Sections.sectioned c.args.run.now) c.requires at.is_head c.args.log.now) at.member at.reached at.behind c.loop-state.invariant.1 (c.loop-state.lines + 1) refl (leave_none (g.S.Splitting.method c.args.run.now).lawful (g.met.S.Sections.sectioned c.args.run.now) c.requires _ _ at (λ e. c.loop-state-test.false (c.section.ensures ∙ e)) (sym c.in_default-after_numbers.ensures))
 
@@ -110,4 +115,8 @@ loop-section-preserved g c =
     let at = c.loop-state.invariant.0 in (
       leave_some (g.S.Splitting.method c.args.run.now).lawful (g.met.S.Sections.sectioned c.args.run.now) c.requires _ _ at c.in-Some-after_numbers.after.now (λ e. c.loop-state-test.false (c.section.ensures ∙ e)) (sym c.in-Some-after_numbers.ensures),
       told_passed _ _ _ at.reached at.behind _ _ c.loop-state.invariant.1 _ c.in-Some-after_numbers.after.now (sym c.in-Some-after_numbers.ensures) (done_is_no_step (c.loop-section.section + 1) c.loop-state.own),
+      c.loop-state.invariant.2,
     )
+
+pub returns-clause-kept : goal.returns-clause-kept
+returns-clause-kept g c = c.loop-section.invariant.2

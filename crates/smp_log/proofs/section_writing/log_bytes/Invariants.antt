@@ -1,14 +1,15 @@
-use Rattle.std.proofs.Common.{◌-◌, length}
+use Rattle.std.proofs.Common.{◌-◌, drop, length, map}
+use Rattle.smp_log.specs.SectionLogs.{section_line}
 use Rattle.smp_log.proofs.SectionWrites.{WritesOpening, WritesInside}
 use Rattle.smp_log.proofs.section_writing.log_bytes.Given as goal
 
 abbrev pub invariant-loop-section : goal.invariant-loop-section
-invariant-loop-section g l =
-    WritesOpening (g.S.Splitting.method l.run).tree (g.S.Splitting.method l.run).belongs (g.S.Sections.sectioning l.run) l.fn.state l.head l.lines l.section l.taken l.next l.state l.text
+invariant-loop-section l =
+    WritesOpening l.head l.sections l.lines l.section l.taken l.next (map section_line (drop l.next l.steps)) l.text
 
-abbrev pub invariant-loop-step : goal.invariant-loop-step
-invariant-loop-step g l =
-    WritesInside (g.S.Splitting.method l.run).tree (g.S.Splitting.method l.run).belongs (g.S.Sections.sectioning l.run) l.fn.state l.head l.lines l.section l.taken l.next l.own l.state l.text
+abbrev pub invariant-loop-next : goal.invariant-loop-next
+invariant-loop-next l =
+    WritesInside l.head l.sections l.lines l.section l.taken l.next l.own (map section_line (drop l.next l.steps)) l.text
 
-abbrev pub decreases-loop-step : goal.decreases-loop-step
-decreases-loop-step g l = length l.lines - l.next
+abbrev pub decreases-loop-next : goal.decreases-loop-next
+decreases-loop-next l = length l.steps - l.next

@@ -24,8 +24,8 @@ module _ {State : Type 0} {tree : Tree State} {belongs : State → Type 0} (sect
       (λ of. record { genuine = record { path = of.genuine.path; full = of.genuine.full; text = inl of.genuine.text }; told = of.told })
       (λ line d. old_differs tree sections from head log line is d) (sym (reading_of tree sections from head log false is)) r
 
-pub returns-then-is_sectioned : goal.returns-then-is_sectioned
-returns-then-is_sectioned g c = from_sectioned (g.S.Sections.sectioning c.args.run.now) c.args.head.now c.as_slice-lines.ensures.lines (sym c.is_sectioned.ensures ∙ c.if-is_sectioned.true) c.replay_sections_into.ensures
+pub returns-then-is_sectioned-clause-replays : goal.returns-then-is_sectioned-clause-replays
+returns-then-is_sectioned-clause-replays g c = from_sectioned (g.S.Sections.sectioning c.args.run.now) c.args.head.now c.as_slice-lines.ensures.lines (sym c.is_sectioned.ensures ∙ c.if-is_sectioned.true) c.replay_sections_into.ensures.replays
 
-pub returns-else-is_sectioned : goal.returns-else-is_sectioned
-returns-else-is_sectioned g c = from_old (g.S.Sections.sectioning c.args.run.now) c.args.head.now (sym c.is_sectioned.ensures ∙ c.if-is_sectioned.false) c.old_replay_into.ensures
+pub returns-else-is_sectioned-clause-replays : goal.returns-else-is_sectioned-clause-replays
+returns-else-is_sectioned-clause-replays g c = from_old (g.S.Sections.sectioning c.args.run.now) c.args.head.now (sym c.is_sectioned.ensures ∙ c.if-is_sectioned.false) c.old_replay_into.ensures.replays

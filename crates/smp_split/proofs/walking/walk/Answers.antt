@@ -1,6 +1,6 @@
 use Rattle.std.proofs.Common.{◌≡◌, ◌<◌, true, false, Ok, Err, refl, ap, sym, subst, ◌∙◌, rules}
 use Rattle.smp_split.specs.Trees.{weight_sum}
-use Rattle.smp_split.specs.Paths.{Entry, entry_at}
+use Rattle.smp_split.specs.Paths.{Entry, IsStep, entry_at}
 use Rattle.smp_split.specs.Runs.{position, Refused}
 use Rattle.smp_split.specs.declared.walking.WalkFault.TheVariants as faults
 use Rattle.smp_split.proofs.Runs.{run_to_leaf, run_to_stop}
@@ -12,7 +12,7 @@ loop-state-smaller g c =
     let design = c.args.design.now in
     let going : (g.S.Splitting.method design).tree.done c.loop-state.state ≡ false = search rules in
     let within : c.in_ok-value.value < weight_sum ((g.S.Splitting.method design).tree.parts c.loop-state.state) = search rules in
-    picked_falls (g.S.Splitting.method design).tree (g.S.Splitting.method design).belongs (g.S.Splitting.method design).lawful c.loop-state.state c.advance.new.state c.in_ok-value.value c.loop-state.invariant.member going within c.advance.ensures
+    picked_falls (g.S.Splitting.method design).tree (g.S.Splitting.method design).belongs (g.S.Splitting.method design).lawful c.loop-state.state c.advance.new.state c.in_ok-value.value c.loop-state.invariant.0.member going within c.advance.ensures
 
 pub loop-state-preserved : goal.loop-state-preserved
 loop-state-preserved g c =
@@ -20,15 +20,21 @@ loop-state-preserved g c =
     let lines = g.T.Trace.lines in
     let entry : Entry = (c.kind-kind.result, c.bound-bound.result, c.in_ok-value.value) in
     let going : tree.done c.loop-state.state ≡ false = search rules in
-    Walking-step tree (g.S.Splitting.method c.args.design.now).belongs (g.S.Splitting.method c.args.design.now).lawful g.D.Draws.source
-    (position c.args.state.now c.args.draws.now (lines c.args.trace.now)) (position c.loop-state.state c.loop-state.draws (lines c.loop-state.trace)) (position c.advance.new.state c.below.new.self (lines c.line.new.self)) entry
-    c.loop-state.invariant (record { going = going; kind = c.kind-kind.ensures; bound = c.bound-bound.ensures; value = c.in_ok-value.ensures.below })
-    (ap (λ d. d.answer) c.in_ok-value.ensures.drawn) (sym (ap (λ d. d.rest) c.in_ok-value.ensures.drawn)) c.in_ok-line.ensures.ok c.advance.ensures
+    let step : IsStep tree c.loop-state.state entry = record { going = going; kind = c.kind-kind.ensures; bound = c.bound-bound.ensures; value = c.in_ok-value.ensures.below } in (
+      Walking-step tree (g.S.Splitting.method c.args.design.now).belongs (g.S.Splitting.method c.args.design.now).lawful g.D.Draws.source
+          (position c.args.state.now c.args.draws.now (lines c.args.trace.now)) (position c.loop-state.state c.loop-state.draws (lines c.loop-state.trace)) (position c.advance.new.state c.below.new.self (lines c.line.new.self)) entry
+          c.loop-state.invariant.0 step
+          (ap (λ d. d.answer) c.in_ok-value.ensures.drawn) (sym (ap (λ d. d.rest) c.in_ok-value.ensures.drawn)) c.in_ok-line.ensures.ok c.advance.ensures,
+      λ from so. rw c.advance.ensures (c.in_ok-line.ensures.kept step from (c.loop-state.invariant.1 from so)),
+    )
+
+pub returns-clause-kept : goal.returns-clause-kept
+returns-clause-kept g c = c.loop-state.invariant.1
 
 pub returns-clause-arrived : goal.returns-clause-arrived
 returns-clause-arrived g c =
     let tree = (g.S.Splitting.method c.args.design.now).tree in
-    let walked = c.loop-state.invariant in
+    let walked = c.loop-state.invariant.0 in
     let done : tree.done c.loop-state.state ≡ true = search rules in
     record {
       path = walked.path;
@@ -42,7 +48,7 @@ returns-in_err-value-clause-refused g c refusal h =
     let source = g.D.Draws.source in
     let tree = (g.S.Splitting.method c.args.design.now).tree in
     let lines = g.T.Trace.lines in
-    let walked = c.loop-state.invariant in
+    let walked = c.loop-state.invariant.0 in
     let fault = c.in_err-value.field-0.0 in
     let going : tree.done c.loop-state.state ≡ false = search rules in
     let is : c.from_residual.result ≡ Err (faults.Draw fault) = search (rules, c.from_residual.ensures) in
@@ -62,7 +68,7 @@ returns-in_err-line-clause-untold g c h =
     let source = g.D.Draws.source in
     let tree = (g.S.Splitting.method c.args.design.now).tree in
     let lines = g.T.Trace.lines in
-    let walked = c.loop-state.invariant in
+    let walked = c.loop-state.invariant.0 in
     let value = c.in_ok-value.value in
     let state = c.loop-state.state in
     let going : tree.done state ≡ false = search rules in

@@ -1,4 +1,4 @@
-use Rattle.smp_split.specs.Runs.{position}
+use Rattle.smp_split.specs.Runs.{position, KeepsOn}
 use Rattle.smp_split.proofs.Steps.{Walking}
 use Rattle.smp_split.proofs.walking.walk.Given as goal
 
@@ -8,6 +8,7 @@ invariant-loop-state g l =
     let d = g.D.Draws in
     let t = g.T.Trace in
     Walking d.source (s.method l.design).tree (s.method l.design).belongs (position l.fn.state l.fn.draws (t.lines l.fn.trace)) (position l.state l.draws (t.lines l.trace))
+    × KeepsOn (t.keeps l.design) l.fn.state l.state l.fn.trace l.trace
 
 abbrev pub decreases-loop-state : goal.decreases-loop-state
 decreases-loop-state g l = (g.S.Splitting.method l.design).tree.rank l.state

@@ -74,7 +74,7 @@ abbrev pub AllFrom : ℕ → List (ℕ × Entry) → Type 0
 AllFrom m [] = Unit {0}
 AllFrom m (e ∷ steps) = (m ≤ e.0) × AllFrom m steps
 
-all_from_less : (m n : ℕ) (steps : List (ℕ × Entry)) → m ≤ n → AllFrom n steps → AllFrom m steps
+pub all_from_less : (m n : ℕ) (steps : List (ℕ × Entry)) → m ≤ n → AllFrom n steps → AllFrom m steps
 all_from_less m n [] le h = tt
 all_from_less m n (e ∷ steps) le h = (omega (arith, h.0), all_from_less m n steps le h.1)
 
