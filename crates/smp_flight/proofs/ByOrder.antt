@@ -1,11 +1,11 @@
 -- The steps of flight and landing, whichever order their search goes in: the parts are lawful, a move keeps the totals, and the landing begins only
 -- where no direction is left or a number is wide.
-use Rattle.std.proofs.Common.{◌≡◌, ◌≢◌, ℕ, ◌+◌, ◌<◌, ◌≤◌, ℤ, Bool, true, false, List, [], ◌∷◌, length, arith, refl, subst}
+use Rattle.std.proofs.Common.{◌≡◌, ◌≢◌, ℕ, ◌+◌, ◌<◌, ◌≤◌, ℤ, Bool, true, false, List, length, arith, refl, subst}
 use Rattle.std.proofs.lemmas.Bool.{eqb-false}
 use Rattle.std.proofs.lemmas.List.{length-map}
 use Rattle.smp_fractions.specs.Limits.{most_denominator}
 use Rattle.smp_fractions.specs.Fractions.{Same, whole, integer, plus, times}
-use Rattle.smp_fractions.proofs.Fractions.{same_refl, plus-zero}
+use Rattle.smp_fractions.proofs.Fractions.{same_refl}
 use Rattle.smp_kernel.proofs.SearchLaw.{none_is_few}
 use Rattle.smp_kernel.specs.Searches.{none}
 use Rattle.smp_prob.specs.Shares.{Shares}
@@ -16,12 +16,14 @@ use Rattle.smp_split.proofs.Lenses.{parts_through}
 use Rattle.smp_values.specs.Values.{IsValues, fractional_count, is_settled, value_at}
 use Rattle.smp_values.specs.Steps.{pivotal_parts, steps_tree}
 use Rattle.smp_values.proofs.Pivotal.{steps_lawful}
-use Rattle.smp_moves.specs.Cubes.{flying, pairing, values_in, dropped, flight_parts, landed, rank_in, tree_by}
+use Rattle.smp_moves.proofs.Flights.{lone_split}
+use Rattle.smp_moves.specs.Cubes.{flying, pairing, values_in, dropped, flight_parts, landed, tree_by}
 use Rattle.smp_flight.specs.States.{Units, Flight, IsFlight, columns_of, column}
 use Rattle.smp_moves.specs.Moves.{Move, IsOrder, fraction_of, entry_of, Next, move, independent, wide, chosen_line, chosen_extent}
 use Rattle.smp_flight.specs.Steps.{next_on, chosen}
 use Rattle.smp_flight.specs.Statements.{GoesBothWays}
-use Rattle.smp_flight.specs.Moves.{Finds, IsNext}
+use Rattle.smp_moves.specs.Steps.{Finds, IsNext}
+use Rattle.smp_flight.specs.Moves.{setting_of}
 use Rattle.smp_flight.specs.Totals.{row_total}
 use Rattle.smp_flight.specs.Selections.{Balancing, IsBalancing, IsWholeOrder, parts_by, shares_cube}
 use Rattle.smp_moves.proofs.Evens.{even_ends, entry_of_turned}
@@ -44,8 +46,7 @@ module _ (units : Units) (f : Flight) (left : ℕ) (order : List ℕ) (ok : IsFl
 
   pub both_ways : GoesBothWays m
   both_ways =
-      flown_both_ways units f order ok ordered m
-      (record { circuit = knows.circuit; finds = knows.finds; plus_end = _; minus_end = _; is = knows.is; fits = knows.fits })
+      flown_both_ways units f order ok ordered m (subst (IsNext (setting_of units) f order) is (next_is units f order ok ordered))
 
   flown_even : (k : ℕ) → Same (plus (times (whole m.plus_weight) (value_at (chosen units f m true).values k)) (plus (times (whole m.minus_weight) (value_at (chosen units f m false).values k)) (whole 0)))
       (times (whole (m.plus_weight + (m.minus_weight + 0))) (value_at f.values k))
@@ -69,21 +70,12 @@ module _ (units : Units) (f : Flight) (left : ℕ) (order : List ℕ) (ok : IsFl
   pub both_totals : (row : ℕ) → row < f.rows → EachPart (λ p. Same (row_total units (values_in p.state) row) (row_total units f.values row)) (flight_parts (shares_cube units) f left (move m))
   both_totals row l = (end_total units f order ok m knows true row l, (end_total units f order ok m knows false row l, tt))
 
--- ---- one part with the same values
-
-lone_split : (units : Units) (o : Flight → Next) (s t : Balancing) → values_in t ≡ values_in s → rank_in fractional_count t < rank_in fractional_count s → IsBalancing units t →
-    LawfulParts (tree_by (shares_cube units) o) (IsBalancing units) s (record { weight = 1; state = t } ∷ [])
-lone_split units o s t same falls member = record {
-  some = omega arith;
-  narrow = omega arith;
-  each = (record { heavy = omega arith; falls = falls; member = member }, tt);
-  even = λ k _. rw same (plus-zero (times (whole 1) (value_at (values_in s) k)));
-}
+-- ---- where no direction is left
 
 module _ (units : Units) (f : Flight) (left : ℕ) (order : List ℕ) (ok : IsFlight units f) (whole_order : IsWholeOrder f.values order) where
   -- where no direction is left, the search found none
-  pub finds_none : next_on units order f ≡ independent → Finds units f order none
-  finds_none is = subst (IsNext units f order) is (next_is units f order ok whole_order.is_order)
+  pub finds_none : next_on units order f ≡ independent → Finds (setting_of units) f order none
+  finds_none is = subst (IsNext (setting_of units) f order) is (next_is units f order ok whole_order.is_order)
 
   pub few_fractional : next_on units order f ≡ independent → fractional_count f.values ≤ f.rows
   few_fractional is =
@@ -103,8 +95,8 @@ module _ (units : Units) (f : Flight) (left : ℕ) (order : List ℕ) (ok : IsFl
   split_by o going (move m) is = move_split units f left order ok whole_order.is_order m is o
   split_by o going independent is =
       let some = some_row is going in
-      lone_split units o (flying f left) (flying (dropped f) (landed (fractional_count f.values) left)) refl (omega (arith, some)) dropped_flight
-  split_by o going wide is = lone_split units o (flying f left) (pairing f.values (landed (fractional_count f.values) left)) refl (omega arith) ok.values
+      lone_split (shares_cube units) o (IsBalancing units) (flying f left) (flying (dropped f) (landed (fractional_count f.values) left)) refl (omega (arith, some)) dropped_flight
+  split_by o going wide is = lone_split (shares_cube units) o (IsBalancing units) (flying f left) (pairing f.values (landed (fractional_count f.values) left)) refl (omega arith) ok.values
 
 -- ---- the pivotal steps
 

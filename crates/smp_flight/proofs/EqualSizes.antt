@@ -11,17 +11,17 @@ use Rattle.smp_kernel.proofs.TableSizes.{limit_upto}
 use Rattle.smp_flight.specs.Narrow.{AreEqualAndSmall, EqualAreNarrow, IsNarrow}
 use Rattle.smp_flight.specs.States.{Units, IsUnits, column, row_count, size}
 
--- the bound of each row: 1 of the sizes, and 10,000 of the values
+-- the bound of each row: 1 of the sizes, and 11,360 of the values
 abbrev equal_bound : ℕ → ℕ
 equal_bound zero = 1
-equal_bound (suc row) = 10000
+equal_bound (suc row) = 11360
 
 equal_some : (row : ℕ) → 1 ≤ equal_bound row
 equal_some zero = omega arith
 equal_some (suc row) = omega arith
 
 -- of 4 rows: half of 4! times the product
-four_rows : minor_limit equal_bound 4 ≡ 12000000000000
+four_rows : minor_limit equal_bound 4 ≡ 17592041472000
 four_rows = refl
 
 module _ (units : Units) (are : IsUnits units) (e : AreEqualAndSmall units) where
@@ -33,7 +33,7 @@ module _ (units : Units) (are : IsUnits units) (e : AreEqualAndSmall units) wher
         | inr past ↦ (0, get_or_past (column units k) (suc row) (pos 0) (omega (arith, past, are.lengths k l)), omega arith)
       ]
 
-  few : minor_limit equal_bound (row_count units) ≤ 12000000000000
+  few : minor_limit equal_bound (row_count units) ≤ 17592041472000
   few = (let m : minor_limit equal_bound (row_count units) ≤ minor_limit equal_bound 4 = limit_upto equal_bound equal_some (row_count units) 4 e.few_rows in omega (arith, m, four_rows))
 
   one_divides : (k : ℕ) → k < length units.sizes → size units k ∣ units.requested.den
@@ -52,7 +52,7 @@ module _ (units : Units) (are : IsUnits units) (e : AreEqualAndSmall units) wher
     some = are.requested.positive;
     of_denominator = dvd_refl units.requested.den;
     of_sizes = one_divides;
-    denominators = (let m : units.requested.den * minor_limit equal_bound (row_count units) ≤ 2 ^ 36 * 12000000000000 = mul-le-mul e.small_denominator few in omega (arith, m));
+    denominators = (let m : units.requested.den * minor_limit equal_bound (row_count units) ≤ 2 ^ 36 * 17592041472000 = mul-le-mul e.small_denominator few in omega (arith, m));
   }
 
 pub equal_narrow : EqualAreNarrow

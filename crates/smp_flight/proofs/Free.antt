@@ -22,7 +22,8 @@ use Rattle.smp_moves.proofs.Entries.{entry_at_none, entry_at_place, frame_order,
 use Rattle.smp_moves.proofs.LineEnds.{reached, settled_unit}
 use Rattle.smp_moves.proofs.Moved.{same_still}
 use Rattle.smp_flight.specs.Kept.Windows.{is_in}
-use Rattle.smp_flight.specs.Moves.{Finds}
+use Rattle.smp_moves.specs.Steps.{Finds}
+use Rattle.smp_flight.specs.Moves.{setting_of}
 use Rattle.smp_flight.specs.States.{Units, Flight, IsFlight, IsUnits, column, columns_of, size}
 use Rattle.smp_flight.specs.Laws.Nexts.{flight_over}
 use Rattle.smp_flight.proofs.Firsts.{fractional_in, in_range}
@@ -67,7 +68,7 @@ keep_is units q p (u ∷ us) =
 length_cut : (units : Units) (q : ℕ) (us : List ℕ) → length (cut q (columns_of units us)) ≡ length us
 length_cut units q us = length-map (columns_of units us) (take q) ∙ length-map us (column units)
 
-pub line_count : (units : Units) (f : Flight) (order : List ℕ) (w : List ℤ) → Finds units f order (found w) → (line : Line) → line.units ≡ take (length w) order → length line.units ≡ length w
+pub line_count : (units : Units) (f : Flight) (order : List ℕ) (w : List ℤ) → Finds (setting_of units) f order (found w) → (line : Line) → line.units ≡ take (length w) order → length line.units ≡ length w
 line_count units f order w finds line prefix =
     ap length prefix ∙ length-take-le (length w) order (omega (arith, cut_circuit_short f.rows (columns_of units order) w finds, length-map order (column units)))
 
@@ -77,7 +78,7 @@ scale_at g e y p z m h same =
     sym (*ℤ_assoc g (pos p) e) ∙ ap (λ x. x *ℤ e) (*ℤ_comm g (pos p)) ∙ *ℤ_assoc (pos p) g e ∙ ap (λ x. pos p *ℤ x) h ∙ sym (*ℤ_assoc (pos p) (pos z) y) ∙ ap (λ x. pos x *ℤ y) n
 
 -- ---- a move, along the line of a circuit or against it
-module _ (units : Units) (f : Flight) (is_flight : IsFlight units f) (order : List ℕ) (ordered : IsOrder f.values order) (w : List ℤ) (finds : Finds units f order (found w)) (line : Line) (prefix : line.units ≡ take (length w) order) (line_ok : IsLine f.values line)
+module _ (units : Units) (f : Flight) (is_flight : IsFlight units f) (order : List ℕ) (ordered : IsOrder f.values order) (w : List ℤ) (finds : Finds (setting_of units) f order (found w)) (line : Line) (prefix : line.units ≡ take (length w) order) (line_ok : IsLine f.values line)
     (g : ℤ) (some_g : g ≢ pos 0) (product : (j : ℕ) → j < length line.units → g *ℤ entry line.entries j ≡ pos (size units (get_or line.units j 0)) *ℤ entry w j) where
   abbrev t : Shares
   t = end_of units.requested.den f.values line

@@ -16,23 +16,28 @@ use Rattle.smp_kernel.proofs.Ring.{positive_some, zero_or}
 use Rattle.smp_kernel.proofs.TableSizes.{limit_upto}
 use Rattle.smp_prob.specs.Shares.{Shares}
 use Rattle.smp_values.specs.Values.{fractional_units, is_fractional}
-use Rattle.smp_moves.specs.Ends.{end_of, extent, move_along}
+use Rattle.smp_moves.specs.Ends.{end_of, extent}
 use Rattle.smp_moves.specs.Kept.Ends.{IsOver}
-use Rattle.smp_moves.specs.Moves.{IsLine, IsMoved, IsOrder, Line, entry_of, turned}
+use Rattle.smp_moves.specs.Moves.{IsGreatest, IsLine, IsMoved, IsOrder, Line, entry_of, turned}
 use Rattle.smp_moves.proofs.Entries.{entry_turned, frame_order, off_line, order_going, order_within, place_or, turned_line}
 use Rattle.smp_moves.proofs.LineEnds.{greatest, moved}
 use Rattle.smp_moves.proofs.Moved.{end_within, keeps_fractional, keeps_still}
 use Rattle.smp_flight.specs.Kept.Windows.{is_in}
-use Rattle.smp_flight.specs.Laws.Entries.{entry-sized}
-use Rattle.smp_flight.specs.Laws.Nexts.{direction_line, flight_over, is_move}
-use Rattle.smp_flight.specs.Moves.{Finds, IsDirection}
+use Rattle.smp_flight.specs.Laws.Entries.{entry-sized, sized_entries}
+use Rattle.smp_flight.specs.Kept.Steps.{sized}
+use Rattle.smp_kernel.specs.Reduced.{IsReduced}
+use Rattle.smp_flight.specs.Laws.Nexts.{direction_line, flight_over}
+use Rattle.smp_moves.specs.Steps.{Finds, IsDirection}
+use Rattle.smp_flight.specs.Moves.{setting_of, share}
 use Rattle.smp_flight.specs.Narrow.{IsNarrow, IsWideByDenominator}
 use Rattle.smp_flight.specs.States.{Units, Flight, IsFlight, IsUnits, columns_of, row_count, size}
 use Rattle.smp_flight.proofs.Denominators.{HasFree, IsTouched, small_denominator}
 use Rattle.smp_flight.proofs.Firsts.{fractional_in}
 use Rattle.smp_flight.proofs.Free.{all_free, factor_some, front_free, in_filter, line_count, parts_add_up, place, its_relation}
 use Rattle.smp_flight.proofs.Gained.{AddsUp, still_adds}
-use Rattle.smp_flight.proofs.OneMove.{one_move}
+use Rattle.smp_flight.proofs.OneMove.{one_end}
+use Rattle.smp_moves.proofs.Fixed.{one_greatest}
+use Rattle.smp_moves.specs.declared.lines.Ratio.{Ratio}
 use Rattle.smp_flight.proofs.Reordered.{independent_as}
 use Rattle.smp_flight.proofs.Windowed.{in_at, in_or}
 
@@ -51,22 +56,25 @@ both_turned g e =
 turned_some : (g : ℤ) → g ≢ pos 0 → neg_ℤ g ≢ pos 0
 turned_some g some e = some (omega (arith, ints))
 
-module _ (units : Units) (order : List ℕ) (w : List ℤ) (line : Line) (d : IsDirection units order w line) (count : length line.units ≡ length w) where
+module _ (units : Units) (order : List ℕ) (w : List ℤ) (line : Line) (d : IsDirection (share units) order w line) (count : length line.units ≡ length w) where
+  own : IsReduced (sized units line.units w) line.entries
+  own = sized_entries units order w line d
+
   pub along_it : IsAlong units order w line
   along_it = record {
     prefix = d.prefix;
-    factor = d.entries.divisor;
-    some = positive_some d.entries.divisor d.entries.positive;
-    product = λ j l. d.entries.product j ∙ entry-sized units line.units w j l (omega (arith, l, count));
+    factor = own.divisor;
+    some = positive_some own.divisor own.positive;
+    product = λ j l. own.product j ∙ entry-sized units line.units w j l (omega (arith, l, count));
   }
 
   pub against_it : IsAlong units order w (turned line)
   against_it = record {
     prefix = d.prefix;
-    factor = neg_ℤ d.entries.divisor;
-    some = turned_some d.entries.divisor (positive_some d.entries.divisor d.entries.positive);
-    product = λ j l. ap (λ x. neg_ℤ d.entries.divisor *ℤ x) (entry_turned line.entries j) ∙ both_turned d.entries.divisor (entry line.entries j)
-        ∙ d.entries.product j ∙ entry-sized units line.units w j l (omega (arith, l, count));
+    factor = neg_ℤ own.divisor;
+    some = turned_some own.divisor (positive_some own.divisor own.positive);
+    product = λ j l. ap (λ x. neg_ℤ own.divisor *ℤ x) (entry_turned line.entries j) ∙ both_turned own.divisor (entry line.entries j)
+        ∙ own.product j ∙ entry-sized units line.units w j l (omega (arith, l, count));
   }
 
 -- ---- the front of a list
@@ -106,7 +114,7 @@ module _ (units : Units) (are : IsUnits units) (n : IsNarrow units) where
 
   -- ---- the end of a move
   module _ (f : Flight) (is_flight : IsFlight units f) (order : List ℕ) (ordered : IsOrder f.values order) (held rest : List ℕ) (split : order ≡ held ++ rest) (h : IsHeld f held)
-      (w : List ℤ) (finds : Finds units f order (found w)) (line : Line) (a : IsAlong units order w line) (line_ok : IsLine f.values line) where
+      (w : List ℤ) (finds : Finds (setting_of units) f order (found w)) (line : Line) (a : IsAlong units order w line) (line_ok : IsLine f.values line) where
     abbrev t : Shares
     t = end_of units.requested.den f.values line
 
@@ -223,15 +231,23 @@ module _ (units : Units) (are : IsUnits units) (n : IsNarrow units) where
     }
 
   -- ---- no step is wide
+  -- the values so far along a line as it can be followed are those at its end
+  end_fixed : (s : Shares) → IsOver units.requested.den s → (line : Line) → IsLine s line → (r : Ratio) (t : Shares) → IsGreatest s line r → IsMoved units.requested.den s line r t → t ≡ end_of units.requested.den s line
+  end_fixed s over line ok r t greatest_is at =
+      let same : r ≡ extent s line = one_greatest s line r (extent s line) greatest_is (greatest units.requested.den s over line ok) in
+      one_end units.requested.den s line (extent s line) t (end_of units.requested.den s line) (subst (λ (x : Ratio). IsMoved units.requested.den s line x t) same at) (moved units.requested.den s over line ok)
+
   pub not_by_denominator : (f : Flight) → IsFlight units f → (order : List ℕ) → IsOrder f.values order → (held rest : List ℕ) → order ≡ held ++ rest → IsHeld f held → IsWideByDenominator units f order → ⊥
   not_by_denominator f is_flight order ordered held rest split h b =
       let over_it = flight_over units f is_flight in
       let ok : IsLine f.values b.m.direction = direction_line units f.values order ordered b.circuit b.m.direction b.is.direction in
       let back : IsLine f.values (turned b.m.direction) = turned_line f.values b.m.direction ok in
       let count : length b.m.direction.units ≡ length b.circuit = line_count units f order b.circuit b.finds b.m.direction b.is.direction.prefix in
-      let same = one_move units f.values over_it order ordered b.circuit b.m b.plus_end b.minus_end b.is (move_along f.values b.m.direction)
-      (end_of units.requested.den f.values b.m.direction) (end_of units.requested.den f.values (turned b.m.direction)) (is_move units f.values over_it order b.circuit b.m.direction ok b.is.direction) in
+      let plus : b.plus_end ≡ end_of units.requested.den f.values b.m.direction =
+      end_fixed f.values over_it b.m.direction ok b.m.up b.plus_end b.is.up b.is.plus_moved in
+      let minus : b.minus_end ≡ end_of units.requested.den f.values (turned b.m.direction) =
+      end_fixed f.values over_it (turned b.m.direction) back b.m.down b.minus_end b.is.down b.is.minus_moved in
       let P : Shares → Type 0 = λ x. x.den ≤ most_denominator in
       b.wide
-      (subst P (sym same.1) (small_end f is_flight order ordered held rest split h b.circuit b.finds b.m.direction (along_it units order b.circuit b.m.direction b.is.direction count) ok))
-      (subst P (sym same.2) (small_end f is_flight order ordered held rest split h b.circuit b.finds (turned b.m.direction) (against_it units order b.circuit b.m.direction b.is.direction count) back))
+      (subst P (sym plus) (small_end f is_flight order ordered held rest split h b.circuit b.finds b.m.direction (along_it units order b.circuit b.m.direction b.is.direction count) ok))
+      (subst P (sym minus) (small_end f is_flight order ordered held rest split h b.circuit b.finds (turned b.m.direction) (against_it units order b.circuit b.m.direction b.is.direction count) back))

@@ -3,7 +3,8 @@ use Rattle.std.proofs.Common.{◌≡◌, ◌+◌, take, sym, ap, ◌∙◌, subs
 use Rattle.smp_values.specs.Values.{fractional_units}
 use Rattle.smp_moves.proofs.Entries.{frame_order}
 use Rattle.smp_flight.specs.States.{AreFirst, IsFlight, Tracked, Units}
-use Rattle.smp_flight.specs.Moves.{IsNext}
+use Rattle.smp_moves.specs.Steps.{IsNext}
+use Rattle.smp_flight.specs.Moves.{setting_of}
 use Rattle.smp_flight.specs.Steps.{next}
 use Rattle.smp_flight.specs.Answers.{Allows, IsFirstMove, IsMoveOf, answer_of, IsPaddedIn}
 use Rattle.smp_flight.specs.Kept.States.{IsFound}
@@ -21,8 +22,8 @@ module _ (units : Units) (s : Tracked) (is_flight : IsFlight units s.flight) (re
   pub found_next : answer_of result ≡ next units s.flight
   found_next = found.is ∙ ap (λ (u : Units). next u s.flight) is_flight.fixed_is
 
-  pub found_exact : IsNext units s.flight (fractional_units s.flight.values) (answer_of result)
-  found_exact = subst (IsNext units s.flight (fractional_units s.flight.values)) (sym found_next) (next_is units s.flight (fractional_units s.flight.values) is_flight (frame_order s.flight.values))
+  pub found_exact : IsNext (setting_of units) s.flight (fractional_units s.flight.values) (answer_of result)
+  found_exact = subst (IsNext (setting_of units) s.flight (fractional_units s.flight.values)) (sym found_next) (next_is units s.flight (fractional_units s.flight.values) is_flight (frame_order s.flight.values))
 
   pub found_allows : AreFirst s.flight s.window → Allows (IsFirstMove units s) units s result
   found_allows first =

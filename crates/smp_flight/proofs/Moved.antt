@@ -31,10 +31,10 @@ module _ (units : Units) (s : Flight) (is_flight : IsFlight units s) where
       }
 
   pub chosen_is : (order : List ℕ) (m : Move) (plus : Bool) → IsKnown units s order m → IsChosen units s (chosen_line m plus) (chosen_extent m plus) (end_of units.requested.den s.values (chosen_line m plus))
-  chosen_is order m true k = chosen_on m.direction m.up k.line k.is.plus_moved k.fits.plus_den
-  chosen_is order m false k = chosen_on (turned m.direction) m.down (turned_line s.values m.direction k.line) k.is.minus_moved k.fits.minus_den
+  chosen_is order m true k = chosen_on m.direction m.up k.line k.is.plus_moved k.at_ends.plus
+  chosen_is order m false k = chosen_on (turned m.direction) m.down (turned_line s.values m.direction k.line) k.is.minus_moved k.at_ends.minus
 
   -- and of the state itself
   pub chosen_there : (order : List ℕ) (m : Move) (plus : Bool) → IsKnown units s order m → IsChosen units s (chosen_line m plus) (chosen_extent m plus) (chosen units s m plus).values
   chosen_there order m plus k =
-      subst (IsChosen units s (chosen_line m plus) (chosen_extent m plus)) (sym (end_at_is units.requested.den s.values (chosen_line m plus))) (chosen_is order m plus k)
+      subst (IsChosen units s (chosen_line m plus) (chosen_extent m plus)) (sym (end_at_is units s.values (chosen_line m plus))) (chosen_is order m plus k)

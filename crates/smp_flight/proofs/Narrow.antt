@@ -12,12 +12,13 @@ use Rattle.smp_kernel.specs.Minors.{IsFrom, AreFrom, minor_limit}
 use Rattle.smp_kernel.proofs.Limits.{entry_within, Within-from_entries}
 use Rattle.smp_kernel.proofs.TableSizes.{limit_upto}
 use Rattle.smp_kernel.proofs.SearchSizes.{found_within, not_too_wide}
-use Rattle.smp_prob.specs.Shares.{Shares}
-use Rattle.smp_moves.specs.Moves.{Line, Move, IsOrder}
+use Rattle.smp_moves.specs.Moves.{Line, IsOrder}
 use Rattle.smp_moves.proofs.Entries.{order_within}
 use Rattle.smp_flight.specs.States.{Units, Flight, IsFlight, IsUnits, column, columns_of, row_count, size}
-use Rattle.smp_flight.specs.Moves.{Finds, IsDirection, IsMove, IsWide}
-use Rattle.smp_flight.specs.Laws.Entries.{entry-sized}
+use Rattle.smp_moves.specs.Steps.{Finds, IsDirection, IsWide}
+use Rattle.smp_flight.specs.Moves.{setting_of, share}
+use Rattle.smp_flight.specs.Laws.Entries.{entry-sized, sized_entries}
+use Rattle.smp_flight.specs.Laws.Nexts.{narrow_line}
 use Rattle.smp_flight.specs.Narrow.{AreBounded, IsNarrow, IsWideByDenominator}
 
 -- ---- the direction
@@ -30,13 +31,14 @@ reduced_at g x s y z b p e h k =
     let n : 1 * unsigned_abs x ≤ unsigned_abs g * unsigned_abs x = mul-le-mul one same in
     omega (arith, f, m, n)
 
-pub direction_within : (units : Units) (order : List ℕ) (w : List ℤ) (line : Line) → IsDirection units order w line → (z b : ℕ) → ((k : ℕ) → size units k ≤ z) → Within b w → Within (z * b) line.entries
+pub direction_within : (units : Units) (order : List ℕ) (w : List ℤ) (line : Line) → IsDirection (share units) order w line → (z b : ℕ) → ((k : ℕ) → size units k ≤ z) → Within b w → Within (z * b) line.entries
 direction_within units order w line d z b sizes within =
+    let own = sized_entries units order w line d in
     Within-from_entries (z * b) line.entries (λ j l.
     let lu : j < length line.units = omega (arith, l, d.lengths) in
     let lw : j < length w = omega (arith, lu, ap length d.prefix, length-take (length w) order) in
-    reduced_at d.entries.divisor (entry line.entries j) (size units (get_or line.units j 0)) (entry w j) z b d.entries.positive
-    (d.entries.product j ∙ entry-sized units line.units w j lu lw) (sizes (get_or line.units j 0)) (entry_within b w within j))
+    reduced_at own.divisor (entry line.entries j) (size units (get_or line.units j 0)) (entry w j) z b own.positive
+    (own.product j ∙ entry-sized units line.units w j lu lw) (sizes (get_or line.units j 0)) (entry_within b w within j))
 
 -- ---- the columns
 module _ (units : Units) (bound : ℕ → ℕ) (b : AreBounded units bound) where
@@ -83,20 +85,21 @@ module _ (units : Units) (n : IsNarrow units) (s : Flight) (order : List ℕ) (i
   fit : minor_limit n.bound s.rows ≤ most_entry
   fit = at_most (minor_limit n.bound s.rows) (minor_limit n.bound (row_count units)) most_entry rows_limit all_fit
 
-  entries_fit : (w : List ℤ) → Finds units s order (found w) → (m : Move) (p q : Shares) → IsMove units s.values order w m p q → Within most_entry m.direction.entries
-  entries_fit w f m p q is =
+  entries_fit : (w : List ℤ) → Finds (setting_of units) s order (found w) → (line : Line) → IsDirection (share units) order w line → Within most_entry line.entries
+  entries_fit w f line d =
       let c : Within (minor_limit n.bound s.rows) w = found_within n.bound n.bounded.some s.rows (columns_of units order) columns_from fit w f in
-      let d : Within (n.bound 0 * minor_limit n.bound s.rows) m.direction.entries =
-      direction_within units order w m.direction is.direction (n.bound 0) (minor_limit n.bound s.rows) (size_bound units n.bound n.bounded is_flight.are) c in
+      let r : Within (n.bound 0 * minor_limit n.bound s.rows) line.entries =
+      direction_within units order w line d (n.bound 0) (minor_limit n.bound s.rows) (size_bound units n.bound n.bounded is_flight.are) c in
       let same : n.bound 0 ≤ n.bound 0 = omega arith in
       let t : n.bound 0 * minor_limit n.bound s.rows ≤ n.bound 0 * minor_limit n.bound (row_count units) = mul-le-mul same rows_limit in
-      Within-from_entries most_entry m.direction.entries (λ i l.
-      at_most (unsigned_abs (entry m.direction.entries i)) (n.bound 0 * minor_limit n.bound s.rows) most_entry
-      (entry_within (n.bound 0 * minor_limit n.bound s.rows) m.direction.entries d i)
+      Within-from_entries most_entry line.entries (λ i l.
+      at_most (unsigned_abs (entry line.entries i)) (n.bound 0 * minor_limit n.bound s.rows) most_entry
+      (entry_within (n.bound 0 * minor_limit n.bound s.rows) line.entries r i)
       (at_most (n.bound 0 * minor_limit n.bound s.rows) (n.bound 0 * minor_limit n.bound (row_count units)) most_entry t n.entries))
 
-  pub by_denominator : IsWide units s order → IsWideByDenominator units s order
+  pub by_denominator : IsWide (setting_of units) s order → IsWideByDenominator units s order
   by_denominator (IsWide.search_wide f) = absurd (not_too_wide n.bound n.bounded.some s.rows (columns_of units order) columns_from fit f)
+  by_denominator (IsWide.direction_wide w line f d never) = absurd (never (narrow_line units s is_flight w line (entries_fit w f line d)))
   by_denominator (IsWide.move_wide w m p q f is out) = record {
     circuit = w;
     finds = f;
@@ -104,5 +107,5 @@ module _ (units : Units) (n : IsNarrow units) (s : Flight) (order : List ℕ) (i
     plus_end = p;
     minus_end = q;
     is = is;
-    wide = λ a b. out (record { entries = entries_fit w f m p q is; plus_den = a; minus_den = b });
+    wide = λ a b. out (record { plus = a; minus = b });
   }

@@ -16,7 +16,8 @@ use Rattle.smp_moves.proofs.Entries.{turned_line}
 use Rattle.smp_moves.proofs.Evens.{entry_of_turned}
 use Rattle.smp_flight.specs.Kept.Windows.{is_in}
 use Rattle.smp_flight.specs.Laws.Nexts.{IsKnown}
-use Rattle.smp_flight.specs.Moves.{IsNext}
+use Rattle.smp_moves.specs.Steps.{IsNext}
+use Rattle.smp_flight.specs.Moves.{setting_of}
 use Rattle.smp_flight.specs.Narrow.{IsNarrow}
 use Rattle.smp_flight.specs.Selections.{Balancing, GoesOn, IsBalancing, IsSelection, IsWholeOrder, Selection, chooses, flies, kind_by, parts_by, shares_cube, starting}
 use Rattle.smp_flight.specs.States as flights
@@ -70,7 +71,7 @@ module _ (units : Units) (are : IsUnits units) (n : IsNarrow units) where
     pub no_wide : next_on units order f ≢ wide
     no_wide e =
         not_by_denominator units are n f ok order whole_order.is_order held rest split h
-        (by_denominator units n f order ok whole_order.is_order (subst (IsNext units f order) e (next_is units f order ok whole_order.is_order)))
+        (by_denominator units n f order ok whole_order.is_order (subst (IsNext (setting_of units) f order) e (next_is units f order ok whole_order.is_order)))
 
     pub dropped_held : next_on units order f ≡ independent → is_settled f.values ≡ false → IsHeld units are n (dropped f) held
     dropped_held e going =
@@ -103,9 +104,9 @@ module _ (units : Units) (are : IsUnits units) (n : IsNarrow units) where
           (against_it units order k.circuit m.direction k.is.direction count) (turned_line f.values m.direction k.line) list ordered alone
           (λ i t x. all i t (elim x [ inl a ↦ inl a | inr ne ↦ inr (turned_entry i ne) ]))
 
-      chosen_held : (plus : Bool) → HoldsNext held m (flying (record { values = stepping.end_at units.requested.den f.values (chosen_line m plus); rows = f.rows; fixed = f.fixed }) left)
+      chosen_held : (plus : Bool) → HoldsNext held m (flying (record { values = stepping.end_at units f.values (chosen_line m plus); rows = f.rows; fixed = f.fixed }) left)
       chosen_held plus =
-          subst (λ (x : Shares). HoldsNext held m (flying (record { values = x; rows = f.rows; fixed = f.fixed }) left)) (sym (end_at_is units.requested.den f.values (chosen_line m plus))) (end_held plus)
+          subst (λ (x : Shares). HoldsNext held m (flying (record { values = x; rows = f.rows; fixed = f.fixed }) left)) (sym (end_at_is units f.values (chosen_line m plus))) (end_held plus)
 
       pub both_held : EachPart (λ p. HoldsNext held m p.state) (flight_parts (shares_cube units) f left (move m))
       both_held = (chosen_held true, (chosen_held false, tt))

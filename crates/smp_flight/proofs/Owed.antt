@@ -1,38 +1,35 @@
 -- A selection by flight and landing owes what a balanced selection owes: of each step, and of the state that it starts from.
 use Rattle.std.proofs.Common.{◌≡◌, ◌≢◌, ℕ, zero, suc, ◌*◌, ◌<◌, ◌≤◌, max, mul-pos, false, ℤ, List, [], ◌∷◌, length, get_or, arith, refl, sym, ap, ◌∙◌, subst, inl, inr}
-use Rattle.std.proofs.lemmas.Bool.{eqb-false, ne_eqb}
+use Rattle.std.proofs.lemmas.Bool.{eqb-false}
 use Rattle.smp_fractions.specs.Fractions.{Fraction, Same, integer, times, over}
 use Rattle.smp_fractions.proofs.Fractions.{same_refl, sum_same, one-times}
 use Rattle.smp_fractions.proofs.Integers.{diff-same, by_diff, diffs}
 use Rattle.smp_kernel.specs.Vectors.{entry}
-use Rattle.smp_split.specs.Trees.{Part, EachPart}
+use Rattle.smp_split.specs.Trees.{EachPart}
 use Rattle.smp_split.specs.declared.kind.Kind.{Kind}
 use Rattle.smp_split.specs.declared.kind.Kind.TheVariants as kind
-use Rattle.smp_split.proofs.Parts.{each_moved}
-use Rattle.smp_values.specs.Steps.{kind_on, pivotal_parts}
+use Rattle.smp_values.specs.Steps.{kind_on}
 use Rattle.smp_values.specs.Values.{fractional_count, fractional_units, is_fractional, is_settled, value_at}
 use Rattle.smp_moves.specs.Moves.{independent, Next, move, wide}
 use Rattle.smp_moves.specs.Balances.{Begins}
 use Rattle.smp_moves.specs.Owed.{HasKept, HasStayed, IsStart, Owes, weighed_total}
 use Rattle.smp_moves.proofs.Owed.{is_balanced}
-use Rattle.smp_moves.specs.Cubes.{flying, pairing, values_in, rows_in, left_in, flight_kind, flight_parts, landed, HasIndependentColumns}
+use Rattle.smp_moves.specs.Cubes.{flying, pairing, values_in, rows_in, left_in, flight_kind, flight_parts, HasIndependentColumns}
 use Rattle.smp_flight.specs.States as flights
 use Rattle.smp_flight.specs.States.{Units, Flight, IsFlight, column, size}
 use Rattle.smp_flight.specs.Steps.{next_on}
-use Rattle.smp_flight.specs.Moves.{IsNext}
+use Rattle.smp_moves.specs.Steps.{IsNext, IsStuck}
+use Rattle.smp_moves.proofs.Flights.{IsInFlight, flies_at, is_independent, is_wide, lands_at, later_at}
+use Rattle.smp_flight.specs.Moves.{setting_of}
 use Rattle.smp_flight.specs.Totals.{expanded, addend, row_total}
 use Rattle.smp_flight.specs.Selections.{Balancing, GoesOn, IsBalancing, IsSelection, IsWholeOrder, Selection, chooses, flies, kind_by, parts_by, starting, shares_cube}
-use Rattle.smp_flight.specs.Landings.{IsBalanced, IsStuck, weighed_of}
+use Rattle.smp_flight.specs.Landings.{IsBalanced, weighed_of}
 use Rattle.smp_flight.proofs.ByOrder.{both_totals, few_fractional, values_ok}
 use Rattle.smp_flight.proofs.Nexts.{independent_columns, next_is}
 use Rattle.smp_flight.proofs.NeverWide.{KeepsFront, never_wide}
 use Rattle.smp_flight.proofs.Seen.{Flies, each_seen, each_so, each_unmoved, total_is}
 use Rattle.smp_flight.proofs.Settled.{IsSettledAt, step_settled}
 use Rattle.smp_flight.proofs.WholeOrders.{independent_in_frame_order}
-
-abbrev pub IsFlying : Balancing → Type 0
-IsFlying (flying f left) = Unit {0}
-IsFlying (pairing s left) = ⊥
 
 -- ---- pivotal steps are neither of the flight nor of the landing
 
@@ -41,32 +38,15 @@ no_flight [] e = cc
 no_flight (i ∷ []) e = cc
 no_flight (i ∷ j ∷ order) e = cc
 
+pub no_choice : (order : List ℕ) → kind_on order ≢ kind.Choose
+no_choice [] e = cc
+no_choice (i ∷ []) e = cc
+no_choice (i ∷ j ∷ order) e = cc
+
 no_landing : (order : List ℕ) → Begins (kind_on order) → ⊥
 no_landing [] e = elim e [ inl d ↦ absurd (cc) | inr w ↦ absurd (cc) ]
 no_landing (i ∷ []) e = elim e [ inl d ↦ absurd (cc) | inr w ↦ absurd (cc) ]
 no_landing (i ∷ j ∷ order) e = elim e [ inl d ↦ absurd (cc) | inr w ↦ absurd (cc) ]
-
-is_independent : (a : Next) → flight_kind a ≡ kind.Drop → a ≡ independent
-is_independent independent k = refl
-is_independent (move m) k = absurd (cc)
-is_independent wide k = absurd (cc)
-
-is_wide : (a : Next) → flight_kind a ≡ kind.Wide → a ≡ wide
-is_wide (move m) e = absurd (cc)
-is_wide independent e = absurd (cc)
-is_wide wide e = refl
-
--- ---- how many are left
-
-landed_first : (f : Flight) (left : ℕ) → left ≡ 0 → landed (fractional_count f.values) left ≡ fractional_count f.values
-landed_first f left none = rw none refl
-
-landed_later : (f : Flight) (left n : ℕ) → 1 ≤ n → left ≡ n → landed (fractional_count f.values) left ≡ n
-landed_later f left n some e = (let ne : left ≢ 0 = omega arith in rw (ne_eqb left 0 ne) e)
-
-each_part : {State : Type 0} (P : Part State → Type 0) → ((p : Part State) → P p) → (parts : List (Part State)) → EachPart P parts
-each_part P h [] = tt
-each_part P h (p ∷ parts) = (h p, each_part P h parts)
 
 some_left : (s : Balancing) → is_settled (values_in s) ≡ false → 1 ≤ fractional_count (values_in s)
 some_left s going = (let ne : fractional_count (values_in s) ≢ 0 = eqb-false (fractional_count (values_in s)) 0 going in omega (arith, ne))
@@ -75,16 +55,12 @@ some_left s going = (let ne : fractional_count (values_in s) ≢ 0 = eqb-false (
 
 -- a step before the landing leaves the rows in force and their totals as they were
 pub record StaysSo (units : Units) (s to : Balancing) : Type 0 where
-  pub flies : IsFlying to
+  pub flies : IsInFlight to
   pub rows : rows_in to ≡ rows_in s
   pub left : left_in to ≡ left_in s
   pub totals : (row : ℕ) → row < rows_in s → Same (row_total units (values_in to) row) (row_total units (values_in s) row)
 
 module _ (units : Units) (order : List ℕ) where
-  is_flying : (s : Balancing) → kind_by units order s ≡ kind.Flight → IsFlying s
-  is_flying (flying f left) k = tt
-  is_flying (pairing s left) k = absurd (no_flight (fractional_units s) k)
-
   stays_by : (f : Flight) (left : ℕ) → IsFlight units f → IsWholeOrder f.values order → (a : Next) → next_on units order f ≡ a → (Begins (flight_kind a) → ⊥) →
       EachPart (λ p. StaysSo units (flying f left) p.state) (flight_parts (shares_cube units) f left a)
   stays_by f left ok w independent is not = absurd (not (inl refl))
@@ -94,7 +70,7 @@ module _ (units : Units) (order : List ℕ) where
     (record { flies = tt; rows = refl; left = refl; totals = λ row l. (both_totals units f left order ok w.is_order m is row l).1.0 }, tt),
   )
 
-  stays : (s : Balancing) → IsBalancing units s → IsWholeOrder (values_in s) order → IsFlying s → (Begins (kind_by units order s) → ⊥) →
+  stays : (s : Balancing) → IsBalancing units s → IsWholeOrder (values_in s) order → IsInFlight s → (Begins (kind_by units order s) → ⊥) →
       EachPart (λ p. StaysSo units s p.state) (parts_by units order s)
   stays (flying f left) ok w air not = stays_by f left ok w (next_on units order f) refl not
   stays (pairing s left) ok w air not = absurd air
@@ -108,31 +84,11 @@ module _ (units : Units) (order : List ℕ) where
   drop_few (flying f left) ok w k = few_fractional units f left order ok w (is_independent (next_on units order f) k)
   drop_few (pairing s left) ok w k = absurd (no_landing (fractional_units s) (inl k))
 
-  lands_there : (s : Balancing) → IsBalancing units s → IsWholeOrder (values_in s) order → Begins (kind_by units order s) → IsStuck units order s
+  lands_there : (s : Balancing) → IsBalancing units s → IsWholeOrder (values_in s) order → Begins (kind_by units order s) → IsStuck (shares_cube units) order s
   lands_there (flying f left) ok w (inl drops) = inl (drop_independent (flying f left) w drops)
   lands_there (flying f left) ok w (inr wides) =
-      inr (subst (IsNext units f order) (is_wide (next_on units order f) wides) (next_is units f order ok w.is_order))
+      inr (subst (IsNext (setting_of units) f order) (is_wide (next_on units order f) wides) (next_is units f order ok w.is_order))
   lands_there (pairing s left) ok w begins = absurd (no_landing (fractional_units s) begins)
-
-  first_by : (f : Flight) (left : ℕ) → left ≡ 0 → (a : Next) → Begins (flight_kind a) → EachPart (λ p. left_in p.state ≡ fractional_count f.values) (flight_parts (shares_cube units) f left a)
-  first_by f left none (move m) begins = absurd (elim begins [ inl e ↦ (cc) | inr e ↦ (cc) ])
-  first_by f left none independent begins = (landed_first f left none, tt)
-  first_by f left none wide begins = (landed_first f left none, tt)
-
-  first_left : (s : Balancing) → IsFlying s → left_in s ≡ 0 → Begins (kind_by units order s) →
-      EachPart (λ p. left_in p.state ≡ fractional_count (values_in s)) (parts_by units order s)
-  first_left (flying f left) air none begins = first_by f left none (next_on units order f) begins
-  first_left (pairing s left) air none begins = absurd air
-
-  kept_by : (f : Flight) (left n : ℕ) → 1 ≤ n → left ≡ n → (a : Next) → EachPart (λ p. left_in p.state ≡ n) (flight_parts (shares_cube units) f left a)
-  kept_by f left n some e (move m) = (e, (e, tt))
-  kept_by f left n some e independent = (landed_later f left n some e, tt)
-  kept_by f left n some e wide = (landed_later f left n some e, tt)
-
-  left_kept : (n : ℕ) → 1 ≤ n → (s : Balancing) → left_in s ≡ n → EachPart (λ p. left_in p.state ≡ n) (parts_by units order s)
-  left_kept n some (flying f left) e = kept_by f left n some e (next_on units order f)
-  left_kept n some (pairing s left) e =
-      each_moved (λ t. pairing t left) (λ p. left ≡ n) (λ p. left_in p.state ≡ n) (λ p h. h) (pivotal_parts s) (each_part (λ p. left ≡ n) (λ p. e) (pivotal_parts s))
 
 -- ---- the steps of a selection
 
@@ -156,10 +112,10 @@ module _ {State : Type 0} (c : Selection State) (belongs : State → Type 0) (is
     landing_kind : (begins : Begins (c.tree.kind s)) → Begins (kind_by c.units (c.order s) (c.seen s))
     landing_kind begins = subst Begins (landing_flies begins).kind begins
 
-    flight_flies : c.tree.kind s ≡ kind.Flight → IsFlying (c.seen s)
+    flight_flies : c.tree.kind s ≡ kind.Flight → IsInFlight (c.seen s)
     flight_flies k =
         let step = flies_by kind.Flight (λ e. cc) s (is.step s ok) k in
-        is_flying c.units (c.order s) (c.seen s) (sym step.kind ∙ k)
+        flies_at (shares_cube c.units) (next_on c.units (c.order s)) (λ t. no_flight (fractional_units t)) (c.seen s) (sym step.kind ∙ k)
 
     settled_kept : (k : ℕ) → is_fractional (values_in (c.seen s)) k ≡ false → EachPart (λ p. HasKept (weighed_of c) s p.state k) (c.tree.parts s)
     settled_kept k still =
@@ -170,12 +126,12 @@ module _ {State : Type 0} (c : Selection State) (belongs : State → Type 0) (is
         (λ f. step_settled c.units (c.order s) k v (c.seen s) (is.member s ok) f.whole_order (record { still = still; same = same_refl v })))
 
     -- a choice leaves all as it was
-    stays_here : IsFlying (c.seen s) → StaysSo c.units (c.seen s) (c.seen s)
+    stays_here : IsInFlight (c.seen s) → StaysSo c.units (c.seen s) (c.seen s)
     stays_here air = record { flies = air; rows = refl; left = refl; totals = λ row l. same_refl (row_total c.units (values_in (c.seen s)) row) }
 
-    all_stays : IsFlying (c.seen s) → (Begins (c.tree.kind s) → ⊥) → EachPart (λ p. HasStayed (weighed_of c) (λ t. IsFlying (c.seen t)) s p.state) (c.tree.parts s)
+    all_stays : IsInFlight (c.seen s) → (Begins (c.tree.kind s) → ⊥) → EachPart (λ p. HasStayed (weighed_of c) (λ t. IsInFlight (c.seen t)) s p.state) (c.tree.parts s)
     all_stays air not =
-        each_so (λ p. StaysSo c.units (c.seen s) (c.seen p.state)) (λ p. HasStayed (weighed_of c) (λ t. IsFlying (c.seen t)) s p.state)
+        each_so (λ p. StaysSo c.units (c.seen s) (c.seen p.state)) (λ p. HasStayed (weighed_of c) (λ t. IsInFlight (c.seen t)) s p.state)
         (λ p h. record {
           flies = h.flies;
           rows = h.rows;
@@ -185,18 +141,18 @@ module _ {State : Type 0} (c : Selection State) (belongs : State → Type 0) (is
         (each_seen c (StaysSo c.units (c.seen s)) s (is.step s ok) (stays_here air)
         (λ f. stays c.units (c.order s) (c.seen s) (is.member s ok) f.whole_order air (λ begins. not (subst Begins (sym f.kind) begins))))
 
-    all_land : IsFlying (c.seen s) → left_in (c.seen s) ≡ 0 → Begins (c.tree.kind s) → EachPart (λ p. left_in (c.seen p.state) ≡ fractional_count (values_in (c.seen s))) (c.tree.parts s)
+    all_land : IsInFlight (c.seen s) → left_in (c.seen s) ≡ 0 → Begins (c.tree.kind s) → EachPart (λ p. left_in (c.seen p.state) ≡ fractional_count (values_in (c.seen s))) (c.tree.parts s)
     all_land air none begins =
         let f = landing_flies begins in
         each_unmoved c.seen (λ t. left_in t ≡ fractional_count (values_in (c.seen s))) (c.tree.parts s)
         (subst (EachPart (λ p. left_in p.state ≡ fractional_count (values_in (c.seen s)))) (sym f.parts)
-        (first_left c.units (c.order s) (c.seen s) air none (landing_kind begins)))
+        (lands_at (shares_cube c.units) (next_on c.units (c.order s)) (c.seen s) air none (landing_kind begins)))
 
     all_later : (n : ℕ) → 1 ≤ n → left_in (c.seen s) ≡ n → EachPart (λ p. left_in (c.seen p.state) ≡ n) (c.tree.parts s)
     all_later n some e =
-        each_seen c (λ b. left_in b ≡ n) s (is.step s ok) e (λ f. left_kept c.units (c.order s) n some (c.seen s) e)
+        each_seen c (λ b. left_in b ≡ n) s (is.step s ok) e (λ f. later_at (shares_cube c.units) (next_on c.units (c.order s)) n some (c.seen s) e)
 
-    all_stuck : Begins (c.tree.kind s) → IsStuck c.units (c.order s) (c.seen s)
+    all_stuck : Begins (c.tree.kind s) → IsStuck (shares_cube c.units) (c.order s) (c.seen s)
     all_stuck begins = lands_there c.units (c.order s) (c.seen s) (is.member s ok) (landing_flies begins).whole_order (landing_kind begins)
 
     all_drops : c.tree.kind s ≡ kind.Drop → HasIndependentColumns (shares_cube c.units) (c.seen s)
@@ -205,7 +161,7 @@ module _ {State : Type 0} (c : Selection State) (belongs : State → Type 0) (is
     all_few : c.tree.kind s ≡ kind.Drop → fractional_count (values_in (c.seen s)) ≤ rows_in (c.seen s)
     all_few k = (let f = drop_flies k in drop_few c.units (c.order s) (c.seen s) (is.member s ok) f.whole_order (sym f.kind ∙ k))
 
-  selection_owes : Owes (weighed_of c) belongs (λ s. IsFlying (c.seen s))
+  selection_owes : Owes (weighed_of c) belongs (λ s. IsInFlight (c.seen s))
   selection_owes = record {
     lawful = is.lawful;
     value = λ s ok k l. rw (is.value s) (same_refl (value_at (values_in (c.seen s)) k));
@@ -247,10 +203,10 @@ module _ {State : Type 0} (c : Selection State) (belongs : State → Type 0) (is
       rw (total_is c belongs is from row, is_start)
       (sum_same (length c.units.sizes) (λ k. times (expanded c.units row k) (value_at c.units.requested k)) (addend c.units row) (start_term c.units is_flight row))
 
-  selection_start : IsStart (weighed_of c) belongs (λ s. IsFlying (c.seen s)) from
+  selection_start : IsStart (weighed_of c) belongs (λ s. IsInFlight (c.seen s)) from
   selection_start = record {
     member = member;
-    flies = subst IsFlying (sym is_start) tt;
+    flies = subst IsInFlight (sym is_start) tt;
     rows = ap rows_in is_start;
     left = ap left_in is_start;
     totals = λ row l. start_total row;
@@ -259,5 +215,5 @@ module _ {State : Type 0} (c : Selection State) (belongs : State → Type 0) (is
   -- so it is balanced, and where its numbers are small no step is wide, as its searches begin with what moves have changed
   pub selection_balanced : (front : State → List ℕ → Type 0) → KeepsFront c front belongs → front from [] → IsBalanced c from
   selection_balanced front keeps first =
-      is_balanced (weighed_of c) belongs (λ s. IsFlying (c.seen s)) (selection_owes c belongs is) from selection_start
+      is_balanced (weighed_of c) belongs (λ s. IsInFlight (c.seen s)) (selection_owes c belongs is) from selection_start
       (λ n. never_wide c belongs is front keeps is_flight.are n from member is_start first)

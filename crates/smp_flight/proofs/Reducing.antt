@@ -6,9 +6,8 @@ use Rattle.smp_kernel.specs.Vectors.{entry, IsZero, Within}
 use Rattle.smp_kernel.specs.Elimination.{cut}
 use Rattle.smp_kernel.specs.Reduced.{IsReduced, IsTooLong, primitive_part}
 use Rattle.smp_flight.specs.States.{Units, size, column, columns_of}
-use Rattle.smp_flight.specs.Moves.{sized}
 use Rattle.smp_moves.specs.Ends.{entries_fit}
-use Rattle.smp_flight.specs.Kept.Steps.{direction}
+use Rattle.smp_flight.specs.Kept.Steps.{direction, sized}
 use Rattle.smp_flight.specs.Laws.Entries.{length-sized, entry-sized}
 use Rattle.smp_moves.proofs.Weights.{within_from}
 use Rattle.smp_moves.proofs.FirstPlaces.{front_is, front_long}

@@ -9,11 +9,11 @@ use Rattle.smp_values.specs.Values.{fractional_units}
 use Rattle.smp_values.proofs.Units.{fractional_units_length}
 use Rattle.smp_flight.specs.States.{AreFirst, Flight, IsFlight, Tracked, Units, columns_of}
 use Rattle.smp_moves.specs.Moves.{IsLine, IsOrder, move, wide}
-use Rattle.smp_flight.specs.Moves.{sized}
 use Rattle.smp_moves.specs.Ends.{entries_fit}
 use Rattle.smp_flight.specs.Steps.{next_on, next}
-use Rattle.smp_flight.specs.Kept.Steps.{direction, next_along, next_of, next_by}
-use Rattle.smp_flight.specs.Moves.{Finds}
+use Rattle.smp_flight.specs.Kept.Steps.{direction, next_along, next_of, next_by, sized}
+use Rattle.smp_moves.specs.Steps.{Finds}
+use Rattle.smp_flight.specs.Moves.{setting_of}
 use Rattle.smp_flight.specs.Answers.{Allows, AreSearched, IsFirstMove, IsMoveOf, answer_of, move_of, IsPaddedIn}
 use Rattle.smp_flight.specs.declared.steps.Next.{Next as Answer}
 use Rattle.smp_flight.specs.declared.steps.Next.TheVariants as answers
@@ -23,7 +23,8 @@ use Rattle.smp_flight.proofs.Firsts.{from_each}
 use Rattle.smp_flight.proofs.Fitting.{moves_within}
 use Rattle.smp_flight.proofs.Reordered.{independent_in_frame}
 use Rattle.smp_flight.proofs.Nexts.{independent_columns, known, next_on_front}
-use Rattle.smp_flight.specs.Laws.Nexts.{circuit_within, direction_line, is_direction, some_sized}
+use Rattle.smp_flight.specs.Laws.Nexts.{direction_sized, line_ok, some_sized}
+use Rattle.smp_moves.proofs.Computed.{circuit_within}
 
 -- the circuit in the first places of an array, and its line
 pub record IsCircuitOf (units : Units) (s : Flight) (us : List ℕ) (number : ℕ) (w : List ℤ) (n : ℕ) : Type 0 where
@@ -33,14 +34,14 @@ pub record IsCircuitOf (units : Units) (s : Flight) (us : List ℕ) (number : �
   pub line : IsLine s.values (direction units (take number us) (take n w))
 
 module _ (units : Units) (s : Flight) (is_flight : IsFlight units s) (us : List ℕ) (number : ℕ) (lu : number ≤ length us) (ok : IsOrder s.values (take number us)) (w : List ℤ) (n : ℕ) (lw : n ≤ length w) (e : found (take n w) ≡ search s.rows (columns_of units (take number us))) (past : (i : ℕ) → n ≤ i → entry w i ≡ pos 0) where
-  pub finds : Finds units s (take number us) (found (take n w))
-  finds = subst (Finds units s (take number us)) (sym e) (search_is s.rows (columns_of units (take number us)))
+  pub finds : Finds (setting_of units) s (take number us) (found (take n w))
+  finds = subst (Finds (setting_of units) s (take number us)) (sym e) (search_is s.rows (columns_of units (take number us)))
 
   count : length (take n w) ≡ n
   count = omega (arith, length-take n w)
 
   found_fewer : n ≤ number
-  found_fewer = omega (arith, count, circuit_within units s (take number us) (take n w) finds, length-take number us)
+  found_fewer = omega (arith, count, circuit_within (setting_of units) s (take number us) (take n w) finds, length-take number us)
 
   found_small : (j : ℕ) → unsigned_abs (entry w j) ≤ 2 ^ 44
   found_small = front_small w n past lw (subst (Within (2 ^ 44)) (sym finds.is) finds.closes.fits)
@@ -49,10 +50,10 @@ module _ (units : Units) (s : Flight) (is_flight : IsFlight units s) (us : List 
   found_units = ap (λ k. take k (take number us)) count ∙ take-take n number us found_fewer
 
   found_some : IsZero (sized units (take n us) (take n w)) → ⊥
-  found_some z = some_sized units s is_flight (take number us) ok (take n w) finds (subst (λ ks. IsZero (sized units ks (take n w))) (sym found_units) z)
+  found_some z = some_sized units s (take number us) is_flight ok (take n w) finds (subst (λ ks. IsZero (sized units ks (take n w))) (sym found_units) z)
 
   found_line : IsLine s.values (direction units (take number us) (take n w))
-  found_line = direction_line units s.values (take number us) ok (take n w) (direction units (take number us) (take n w)) (is_direction units s is_flight (take number us) ok (take n w) finds)
+  found_line = subst (IsLine s.values) (direction_sized units (take number us) (take n w)) (line_ok units s (take number us) is_flight ok (take n w) finds)
 
   pub found_circuit : IsCircuitOf units s us number w n
   found_circuit = record { fewer = found_fewer; small = found_small; some = found_some; line = found_line }

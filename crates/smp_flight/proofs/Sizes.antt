@@ -9,7 +9,8 @@ use Rattle.smp_flight.specs.declared.ends.End.{End}
 use Rattle.smp_moves.specs.Ends.{reach, advanced_numbers, common_factor}
 use Rattle.smp_flight.specs.Steps.{next_on}
 use Rattle.smp_flight.specs.Statements.{EachEnds, GoesBothWays}
-use Rattle.smp_flight.specs.Moves.{IsFlown}
+use Rattle.smp_moves.specs.Steps.{IsFlown}
+use Rattle.smp_flight.specs.Moves.{setting_of}
 use Rattle.smp_moves.specs.Kept.Ends.{IsOver}
 use Rattle.smp_flight.specs.Kept.Ends.{IsEndOf}
 use Rattle.smp_moves.proofs.LineEnds.{reached, full_positive, common_some}
@@ -41,11 +42,11 @@ module _ (first : ℕ) (s : Shares) (is_over : IsOver first s) (line : Line) (ok
         some_common = rw common (common_some first s is_over line ok);
       }
 
-pub flown_both_ways : (units : Units) (s : Flight) (order : List ℕ) → IsFlight units s → IsOrder s.values order → (m : Move) → IsFlown units s order m → GoesBothWays m
+pub flown_both_ways : (units : Units) (s : Flight) (order : List ℕ) → IsFlight units s → IsOrder s.values order → (m : Move) → IsFlown (setting_of units) s order m → GoesBothWays m
 flown_both_ways units s order is_flight ok m f =
     let k = known units s order is_flight ok m (one_next units s order is_flight ok (next_on units order s) (move m) (next_is units s order is_flight ok) f) in
-    goes_both_ways units s.values (flight_over units s is_flight) order ok f.circuit m f.plus_end f.minus_end f.is
-    (subst (λ (n : Move). n.plus_weight + n.minus_weight < 2 ^ 126) (sym k.same) (weights_small units.requested.den s.values (flight_over units s is_flight) m.direction k.line k.fits.entries))
+    goes_both_ways units s order is_flight ok f.circuit m f.plus_end f.minus_end f.is
+    (subst (λ (n : Move). n.plus_weight + n.minus_weight < 2 ^ 126) (sym k.same) (weights_small units.requested.den s.values (flight_over units s is_flight) m.direction k.line k.on_line.entries))
 
 pub flown_ends : EachEnds
 flown_ends units s order is_flight ok m f plus =

@@ -1,21 +1,15 @@
 -- What is balanced by a selection over its units: their totals (Horvitz and Thompson 1952), and where its landing may begin (Deville and
 -- Tillé 2004).
-use Rattle.std.specs.Prelude.{ℕ, List, slice_index}
+use Rattle.std.specs.Prelude.{slice_index}
 use Rattle.smp_values.specs.Values.{fractional_count}
 use Rattle.smp_moves.specs.Balances as moves
-use Rattle.smp_moves.specs.Cubes as cubes
 use Rattle.smp_moves.specs.Cubes.{HasIndependentColumns, left_in, rows_in, values_in}
 use Rattle.smp_moves.specs.Owed.{Weighed, balance_of}
-use Rattle.smp_flight.specs.States.{Units, row_count}
-use Rattle.smp_flight.specs.Moves.{IsWide}
+use Rattle.smp_flight.specs.States.{row_count}
+use Rattle.smp_moves.specs.Steps.{IsStuck}
 use Rattle.smp_flight.specs.Narrow.{IsNarrow}
 use Rattle.smp_flight.specs.Totals.{expanded, target}
-use Rattle.smp_flight.specs.Selections.{Balancing, Selection, shares_cube}
-
--- no direction is left, or the next step doesn't fit: a number of the search through these units, or of the move that it found, passes
--- its gate
-abbrev pub IsStuck : Units → List ℕ → Balancing → Type 0
-IsStuck units order = cubes.IsStuck (shares_cube units) (λ f. IsWide units f order)
+use Rattle.smp_flight.specs.Selections.{Selection, shares_cube}
 
 -- The total of a row at a state is the sum of what each unit counts for, times its value; in the first row it is the sum of the values.
 abbrev pub weighed_of : {State : Type 0} → Selection State → Weighed State
@@ -30,7 +24,7 @@ weighed_of c = record {
   expanded = expanded c.units;
   known = target c.units;
   independent = λ s. HasIndependentColumns (shares_cube c.units) (c.seen s);
-  stuck = λ s. IsStuck c.units (c.order s) (c.seen s);
+  stuck = λ s. IsStuck (shares_cube c.units) (c.order s) (c.seen s);
   narrow = IsNarrow c.units;
 }
 

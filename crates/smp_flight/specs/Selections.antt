@@ -13,8 +13,9 @@ use Rattle.smp_values.specs.Steps.{pivotal_kind, pivotal_parts}
 use Rattle.smp_moves.specs.Moves.{IsOrder}
 use Rattle.smp_moves.specs.Cubes as cubes
 use Rattle.smp_moves.specs.Cubes.{Cube, flying, pairing, values_in}
-use Rattle.smp_flight.specs.States.{Units, IsFlight, columns_of}
+use Rattle.smp_flight.specs.States.{Units, IsFlight}
 use Rattle.smp_flight.specs.States as flights
+use Rattle.smp_flight.specs.Moves.{setting_of}
 use Rattle.smp_flight.specs.Steps.{next_on, stepping}
 
 -- a state of flight and landing
@@ -39,9 +40,10 @@ shares_cube units = record {
   value_at = value_at;
   is_one = is_one;
   is_fractional = is_fractional;
+  fractional_units = fractional_units;
   fractional_count = fractional_count;
-  columns = λ s. columns_of units (fractional_units s);
-  end_at = stepping.end_at units.requested.den;
+  setting = setting_of units;
+  end_at = stepping.end_at units;
   pair_kind = pivotal_kind;
   pair_parts = pivotal_parts;
 }

@@ -7,12 +7,13 @@ use Rattle.smp_moves.specs.Moves.{Line, Move, Next}
 use Rattle.smp_moves.specs.Cubes.{chosen_by}
 use Rattle.smp_moves.specs.Ends.{end_of}
 use Rattle.smp_flight.specs.States.{Units, Flight}
-use Rattle.smp_flight.specs.Moves.{Stepping}
-use Rattle.smp_flight.specs.Kept.Steps.{next_by}
+use Rattle.smp_moves.specs.Steps.{Stepping}
+use Rattle.smp_flight.specs.Moves.{IsAllowed, setting_of}
+use Rattle.smp_moves.specs.Kept.Computed.{next_by}
 use Rattle.smp_flight.specs.Laws.Nexts.{each_step}
 
 -- the steps, of which there is only one kind
-pub stepping : Stepping
+pub stepping : Stepping setting_of IsAllowed
 stepping = each_step
 
 -- the step of a state whose search goes through the columns of these units
@@ -25,14 +26,15 @@ next units s = next_on units (fractional_units s.values) s
 
 -- the state at the end that is chosen
 abbrev pub chosen : Units → Flight → Move → Bool → Flight
-chosen units = chosen_by (stepping.end_at units.requested.den)
+chosen units = chosen_by (stepping.end_at units)
 
 -- ---- how they are found
 
-pub next_on_is : (units : Units) (order : List ℕ) (s : Flight) → next_on units order s ≡ next_by units order s
+pub next_on_is : (units : Units) (order : List ℕ) (s : Flight)
+    → next_on units order s ≡ next_by (setting_of units) (end_of units.requested.den) order s
 unfolding stepping
-next_on_is units order s = λ i. next_by units order s
+next_on_is units order s = λ i. next_by (setting_of units) (end_of units.requested.den) order s
 
-pub end_at_is : (requested_den : ℕ) (s : Shares) (line : Line) → stepping.end_at requested_den s line ≡ end_of requested_den s line
+pub end_at_is : (units : Units) (s : Shares) (line : Line) → stepping.end_at units s line ≡ end_of units.requested.den s line
 unfolding stepping
-end_at_is requested_den s line = λ i. end_of requested_den s line
+end_at_is units s line = λ i. end_of units.requested.den s line

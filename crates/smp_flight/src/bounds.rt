@@ -1,28 +1,28 @@
 //! Whether the numbers of units are so small that no step over them can be wide.
 
-ghost use Rattle.std.specs.Prelude.{◌≡◌, ◌*◌, ◌<◌, ◌≤◌, IfSome, length, max, slice_index, true};
+ghost use Rattle.std.specs.Prelude.{◌≡◌, ◌↔◌, ℕ, ◌*◌, ◌<◌, ◌≤◌, IfNone, IfSome, length, max, slice_index, true};
+ghost use Rattle.smp_fractions.specs.Limits.{most_denominator};
 ghost use Rattle.smp_kernel.specs.Minors.{minor_limit};
-ghost use Rattle.smp_flight.specs.Kept.Narrow.{IsMultiple, IsRowBound};
+ghost use Rattle.smp_flight.specs.Kept.Narrow.{HasNegative, IsCommon, IsLeast, IsRowBound};
 ghost use Rattle.smp_flight.specs.Narrow.{IsNarrow};
 ghost use Rattle.smp_flight.specs.States.{row_count};
 
 use crate::shapes::Shape;
+use crate::steps::GATE;
 use smp_frac::lcm_within;
 
 /// The greatest absolute value of an entry of a direction.
 const MOST_ENTRY: u128 = 1 << 44;
 
-/// The greatest common denominator of the values.
-const MOST_DENOMINATOR: u128 = 1 << 80;
-
 /// Whether the numbers of the units are so small that no step over them is wide, whatever is drawn and in whichever order is searched.
 ///
 /// It is known before any draw. With the greatest numbers of the rows (of the sizes, and of each balancing value), and at least 1 for
 /// each, half of the permutations of the rows times their product is a bound of every minor of the columns. That times the greatest size
-/// is at most 2^44, and times the least common multiple of the sizes and of the requested denominator at most 2^80. Where it is false, or
-/// where a balancing value is below 0, a step may be wide, and needn't be.
+/// is at most 2^44, and times the least common multiple of the sizes and of the requested denominator at most 2^80. It is true exactly
+/// where some bounds of the rows and some common multiple are within both, since no others are less. Where it is false, as where a
+/// balancing value is below 0, a step may be wide, and needn't be.
 pub fn is_narrow(shape: &Shape) -> bool
-    ensures { result ≡ true → IsNarrow shape.now }
+    ensures { result ≡ true ↔ IsNarrow shape.now }
 {
     let rows = shape.rows();
     let mut bounds = [1; 16];
@@ -32,18 +32,20 @@ pub fn is_narrow(shape: &Shape) -> bool
             None => return false,
         }
     }
-    match (limit_of(&bounds, rows), multiple_of(shape)) {
-        (Some(limit), Some(multiple)) => {
-            fits(bounds[0], limit, MOST_ENTRY) && fits(multiple, limit, MOST_DENOMINATOR)
-        }
-        _ => false,
-    }
+    let Some(limit) = limit_of(&bounds, rows) else {
+        return false;
+    };
+    let Some(multiple) = multiple_of(shape) else {
+        return false;
+    };
+    fits(bounds[0], limit, MOST_ENTRY) && fits(multiple, limit, GATE)
 }
 
 /// The greatest number of a row, or 1, and `None` where one is below 0.
 fn row_bound(shape: &Shape, row: usize) -> Option<u128>
     requires { row < row_count shape.now }
-    ensures { IfSome result (IsRowBound shape.now row) }
+    ensures some { IfSome result (IsRowBound shape.now row) }
+    ensures none { IfNone result (HasNegative shape.now row) }
 {
     shape.rows();
     let mut most: u32 = 1;
@@ -57,11 +59,13 @@ fn row_bound(shape: &Shape, row: usize) -> Option<u128>
     Some(most as u128)
 }
 
-/// No minor of so many rows passes this, where these bound the rows; `None` where it needs more than 128 bits.
+/// No minor of so many rows passes this, where these bound the rows; `None` where it needs more than 128 bits, and so passes both gates.
 fn limit_of(bounds: &[u128; 16], rows: usize) -> Option<u128>
     requires { rows ≤ 16 }
-    ensures { IfSome result (λ limit.
+    ensures some { IfSome result (λ limit.
         limit ≡ minor_limit (λ row. max 1 (slice_index bounds.now row)) rows) }
+    ensures none { IfNone result
+        (most_denominator < minor_limit (λ row. max 1 (slice_index bounds.now row)) rows) }
 {
     let mut limit: u128 = 1;
     for row in 0..rows {
@@ -73,19 +77,20 @@ fn limit_of(bounds: &[u128; 16], rows: usize) -> Option<u128>
 
 /// The least common multiple of the requested denominator and of the sizes, or `None` where it passes the gate of denominators.
 fn multiple_of(shape: &Shape) -> Option<u128>
-    ensures { IfSome result (IsMultiple shape.now) }
+    ensures some { IfSome result (IsLeast shape.now) }
+    ensures none { IfNone result ((m : ℕ) → IsCommon shape.now m → most_denominator < m) }
 {
     shape.rows();
     let mut multiple = shape.requested().denominator();
     for unit in 0..shape.requested().len() {
-        multiple = lcm_within(multiple, shape.size(unit) as u128, MOST_DENOMINATOR)?;
+        multiple = lcm_within(multiple, shape.size(unit) as u128, GATE)?;
     }
     Some(multiple)
 }
 
 /// Whether a product is at most so much.
 fn fits(a: u128, b: u128, most: u128) -> bool
-    ensures { result ≡ true → a * b ≤ most }
+    ensures { result ≡ true ↔ a * b ≤ most }
 {
     match a.checked_mul(b) {
         Some(product) => product <= most,

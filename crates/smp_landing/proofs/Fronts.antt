@@ -25,25 +25,17 @@ use Rattle.smp_flight.proofs.Held.{in_front, within_front}
 use Rattle.smp_flight.proofs.NeverWide.{IsNextFront, KeepsFront}
 use Rattle.smp_flight.proofs.Windowed.{in_at}
 use Rattle.smp_landing.specs.Cube.{cube_kind, cube_of, frame_order}
+use Rattle.smp_moves.proofs.Flights.{flies_not}
+use Rattle.smp_flight.proofs.Owed.{no_choice}
 
 -- a search begins with these units
 abbrev pub IsFront : Balancing → List ℕ → Type 0
 IsFront s held = (rest : List ℕ) × (frame_order s ≡ held ++ rest)
 
 -- no unit is chosen
-pairs_not : (order : List ℕ) → kind_on order ≢ kind.Choose
-pairs_not [] e = cc
-pairs_not (i ∷ []) e = cc
-pairs_not (i ∷ j ∷ order) e = cc
-
-flies_not : (a : Next) → flight_kind a ≢ kind.Choose
-flies_not (move m) e = cc
-flies_not independent e = cc
-flies_not wide e = cc
-
 never_chosen : (units : Units) (s : Balancing) → cube_kind units s ≢ kind.Choose
 never_chosen units (flying f left) e = flies_not (next units f) e
-never_chosen units (pairing s left) e = pairs_not (fractional_units s) e
+never_chosen units (pairing s left) e = no_choice (fractional_units s) e
 
 module _ (units : Units) (f : Flight) (left : ℕ) (ok : IsFlight units f) (held : List ℕ) (begins : IsFront (flying f left) held) (m : Move) (is : next units f ≡ move m) where
   abbrev us : List ℕ

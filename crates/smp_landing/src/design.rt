@@ -1,6 +1,6 @@
 //! The cube as a design.
 
-ghost use Rattle.std.specs.Prelude.{◌≡◌, IfOk, length, true};
+ghost use Rattle.std.specs.Prelude.{◌≡◌, ◌↔◌, IfOk, length, true};
 ghost use Rattle.smp_prob.specs.Requests.{IsRequest};
 ghost use Rattle.smp_split.specs.Methods.{Starts};
 ghost use Rattle.smp_values.specs.Starts.{IsRequested};
@@ -76,10 +76,11 @@ impl Cube {
         })
     }
 
-    /// Whether the numbers of the units are so small that no step of a selection is wide, whatever is drawn. Then no more units are left
-    /// where a landing begins than there are rows, by the clause `balanced` of [`Cube::start`].
+    /// Whether the numbers of the units are so small that no step of a selection is wide, whatever is drawn: exactly where some bounds of
+    /// the rows, and some common multiple of denominator and sizes, are within the gates. Then no more units are left where a landing
+    /// begins than there are rows, by the clause `balanced` of [`Cube::start`].
     pub fn is_narrow(&self) -> bool
-        ensures { result ≡ true → IsNarrow self.now }
+        ensures { result ≡ true ↔ IsNarrow self.now }
     {
         is_narrow(&self.shape)
     }

@@ -21,7 +21,8 @@ use Rattle.smp_flight.proofs.WholeOrders.{in_order_going, whole_length}
 use Rattle.smp_flight.proofs.Windowed.{in_append_left}
 use Rattle.smp_localcube.specs.Local.{IsCarried, IsChosen, front_of, is_one_of, order_around, untouched}
 use Rattle.smp_localcube.specs.Kept.States.{touched_in}
-use Rattle.smp_localcube.specs.Laws.Orders.{filter_again, in_filter, whole as whole_order}
+use Rattle.smp_localcube.specs.Laws.Orders.{filter_again, whole as whole_order}
+use Rattle.smp_flight.proofs.Free.{in_filter}
 use Rattle.smp_localcube.specs.Laws.Splits.{HasHead}
 
 module _ (f : Tracked) (ok : IsOrder f.flight.values f.window) where

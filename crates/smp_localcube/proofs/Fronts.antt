@@ -26,8 +26,10 @@ use Rattle.smp_flight.proofs.Firsts.{fractional_in}
 use Rattle.smp_flight.proofs.NeverWide.{IsNextFront, KeepsFront}
 use Rattle.smp_flight.proofs.Windowed.{in_at}
 use Rattle.smp_localcube.specs.Local.{AreCarried, IsCarried, IsLocal, Local, after, choosing, head_of, is_one_of, local_of, next_around, order_around, order_from, order_with, kind_around, kind_from, parts_around, parts_from, untouched}
-use Rattle.smp_localcube.specs.Laws.Orders.{filter_in, in_filter}
+use Rattle.smp_flight.proofs.Free.{out_filter, in_filter}
 use Rattle.smp_localcube.specs.Laws.Splits.{order_whole}
+use Rattle.smp_moves.proofs.Flights.{flies_not}
+use Rattle.smp_flight.proofs.Owed.{no_choice}
 
 abbrev pub IsFront : Local → List ℕ → Type 0
 IsFront s held = held ≡ s.touched
@@ -38,18 +40,6 @@ begins_with : (coords : List (List ℤ)) (at : Balancing) (touched : List ℕ) (
     (rest : List ℕ) × (order_with (record { coords = coords; at = at; touched = touched; chosen = chosen }) values (head_of touched chosen) ≡ touched ++ rest)
 begins_with coords at [] chosen values = (order_with (record { coords = coords; at = at; touched = []; chosen = chosen }) values chosen, refl)
 begins_with coords at (u ∷ touched) chosen values = (neighbours (untouched coords values (u ∷ touched)) u, refl)
-
--- ---- the kinds
-
-pairs_not : (order : List ℕ) → kind_on order ≢ kind.Choose
-pairs_not [] e = cc
-pairs_not (i ∷ []) e = cc
-pairs_not (i ∷ j ∷ order) e = cc
-
-flies_not : (a : Next) → flight_kind a ≢ kind.Choose
-flies_not (move m) e = cc
-flies_not independent e = cc
-flies_not wide e = cc
 
 module _ (units : Units) (s : Local) where
   abbrev Stays : List (Part Local) → Type 0
@@ -104,7 +94,7 @@ module _ (units : Units) (s : Local) where
               going = All-filter is_carried (λ k. is_fractional (values_in t) k ≡ true) (fractional_units (values_in t)) (frame_order (values_in t)).going;
               distinct = AllPairs-filter (λ k l. k ≢ l) is_carried (fractional_units (values_in t)) (frame_order (values_in t)).distinct;
             };
-            alone = λ k h. carried_or k (filter_in is_carried (fractional_units (values_in t)) k h).1;
+            alone = λ k h. carried_or k (out_filter is_carried (fractional_units (values_in t)) k h).1;
             all = λ k e h. in_filter is_carried (fractional_units (values_in t)) k (fractional_in (values_in t) k e) (carried_by k h);
           }
 
@@ -118,7 +108,7 @@ module _ (units : Units) (s : Local) where
 
   choice_at : (at : Balancing) → kind_from units s at ≡ kind.Choose → Stays (parts_from units s at)
   choice_at (flying f left) k = choice_stays f left (head_of s.touched s.chosen) k
-  choice_at (pairing t left) k = absurd (pairs_not (fractional_units t) k)
+  choice_at (pairing t left) k = absurd (no_choice (fractional_units t) k)
 
 -- so its searches begin with what moves have changed
 pub keeps_front : (units : Units) → KeepsFront (local_of units) IsFront (IsLocal units)

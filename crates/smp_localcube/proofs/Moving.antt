@@ -24,7 +24,8 @@ use Rattle.smp_flight.specs.Laws.Nexts.{flight_over}
 use Rattle.smp_localcube.proofs.Touch.{zero_size}
 use Rattle.smp_localcube.specs.Kept.States.{AreTouched, IsReady, MayTouch, is_changed, touched_in, weights_of}
 use Rattle.smp_localcube.specs.Local.{is_one_of, is_untouched, untouched}
-use Rattle.smp_localcube.specs.Laws.Orders.{filter_in, filter_same, in_filter, same_truth, untouched_at}
+use Rattle.smp_localcube.specs.Laws.Orders.{filter_same, same_truth, untouched_at}
+use Rattle.smp_flight.proofs.Free.{out_filter, in_filter}
 use Rattle.smp_localcube.proofs.Around.{same_points}
 
 -- the head of a step that was found
@@ -61,7 +62,7 @@ module _ (f : Tracked) (room : Shares) (points : LivingPoints) (weights : List �
     ];
     others = λ k e out. living_is k ∙ and_from (is_fractional f.flight.values k) (not (is_one_of (touched_in f) k)) e (elim (cases_Bool (is_one_of (touched_in f) k)) [
       | inr none ↦ rw none refl
-      | inl there ↦ absurd (both_ways (is_one_of f.window k) out (filter_in (is_one_of f.window) (fractional_units f.flight.values) k there).1)
+      | inl there ↦ absurd (both_ways (is_one_of f.window k) out (out_filter (is_one_of f.window) (fractional_units f.flight.values) k there).1)
     ]);
   }
 
@@ -83,7 +84,7 @@ module _ (before after : Tracked) (line : Line) (next : IsNextWindow before line
       contains_in after.window k ((next.is k).1 (
         e,
         elim (cases_Bool (is_one_of (touched_in before) k)) [
-          | inl was ↦ inl (in_contains before.window k (filter_in (is_one_of before.window) (fractional_units before.flight.values) k was).1)
+          | inl was ↦ inl (in_contains before.window k (out_filter (is_one_of before.window) (fractional_units before.flight.values) k was).1)
           | inr out ↦ inr (λ zero. both_ways (is_changed line k) (ap (λ (x : ℤ). not (nat_eq (unsigned_abs x) 0)) zero) (rw out at h))
         ],
       ))
@@ -103,7 +104,7 @@ module _ (before after : Tracked) (line : Line) (next : IsNextWindow before line
 
     from_touched : (k : ℕ) → is_fractional after.flight.values k ≡ true → is_changed line k ≡ false → is_one_of (touched_in after) k ≡ true → is_one_of (touched_in before) k ≡ true
     from_touched k e unchanged h =
-        or_false (is_one_of (touched_in before) k) (subst (λ (c : Bool). (is_one_of (touched_in before) k || c) ≡ true) unchanged (touched_from k e (filter_in (is_one_of after.window) (fractional_units after.flight.values) k h).1))
+        or_false (is_one_of (touched_in before) k) (subst (λ (c : Bool). (is_one_of (touched_in before) k || c) ≡ true) unchanged (touched_from k e (out_filter (is_one_of after.window) (fractional_units after.flight.values) k h).1))
       where
         or_false : (b : Bool) → (b || false) ≡ true → b ≡ true
         or_false true e = refl
@@ -169,7 +170,7 @@ module _ (units : Units) (f : Flight) (left : ℕ) (order : List ℕ) (ok : IsFl
 
   pub move_still : (k : ℕ) → entry_of m.direction k ≡ pos 0 → is_fractional (chosen units f m plus).values k ≡ is_fractional f.values k
   move_still k zero =
-      subst (λ (t : Shares). is_fractional t k ≡ is_fractional f.values k) (sym (end_at_is units.requested.den f.values (chosen_line m plus)))
+      subst (λ (t : Shares). is_fractional t k ≡ is_fractional f.values k) (sym (end_at_is units f.values (chosen_line m plus)))
       (same_still units.requested.den f.values (flight_over units f ok) (chosen_line m plus) (ends_at units f left order ok ordered m is plus).line_ok k (line_still plus k zero))
 
   pub move_fewer : (k : ℕ) → is_fractional (chosen units f m plus).values k ≡ true → is_fractional f.values k ≡ true

@@ -1,6 +1,6 @@
 //! The local cube as a design.
 
-ghost use Rattle.std.specs.Prelude.{◌≡◌, ◌≤◌, IfOk, length, true};
+ghost use Rattle.std.specs.Prelude.{◌≡◌, ◌↔◌, ◌≤◌, IfOk, length, true};
 ghost use Rattle.smp_near.specs.Nearest.{all_living};
 ghost use Rattle.smp_prob.specs.Requests.{IsRequest};
 ghost use Rattle.smp_split.specs.Methods.{Starts};
@@ -99,10 +99,11 @@ impl<const K: usize> LocalCube<K> {
         })
     }
 
-    /// Whether the numbers of the units are so small that no step of a selection is wide, whatever is drawn. Then no more units are left
-    /// where a landing begins than there are rows, by the clause `balanced` of [`LocalCube::start`].
+    /// Whether the numbers of the units are so small that no step of a selection is wide, whatever is drawn: exactly where some bounds of
+    /// the rows, and some common multiple of denominator and sizes, are within the gates. Then no more units are left where a landing
+    /// begins than there are rows, by the clause `balanced` of [`LocalCube::start`].
     pub fn is_narrow(&self) -> bool
-        ensures { result ≡ true → IsNarrow self.now.units }
+        ensures { result ≡ true ↔ IsNarrow self.now.units }
     {
         is_narrow(&self.shape)
     }

@@ -35,17 +35,17 @@ module _ (s : Shares) (order : List ℕ) (ok : IsOrder s order) where
         rw (get_or-take n order i d (omega (arith, l, b.0)), get_or-take n order j d b.0) (ok.distinct i j d l b.1);
   }
 
+pub numbers_apart : (n : ℕ) → AllPairs (λ k l. k ≢ l) (range_with_len 0 n)
+numbers_apart n i j d l m =
+    let b : j < n = omega (arith, m, length-range_with_len 0 n) in
+    rw (get_or-range_with_len 0 n i d (omega (arith, l, b)), get_or-range_with_len 0 n j d b) (λ e. (let same : 0 + i ≡ 0 + j = e in omega (arith, l, same)))
+
 -- all fractional units in the order of the frame
 pub frame_order : (s : Shares) → IsOrder s (fractional_units s)
 frame_order s = record {
   going = filter_passes (is_fractional s) (range_with_len 0 (length s.numer));
   distinct = AllPairs-filter (λ k l. k ≢ l) (is_fractional s) (range_with_len 0 (length s.numer)) (numbers_apart (length s.numer));
 }
-  where
-    numbers_apart : (n : ℕ) → AllPairs (λ k l. k ≢ l) (range_with_len 0 n)
-    numbers_apart n i j d l m =
-        let b : j < n = omega (arith, m, length-range_with_len 0 n) in
-        rw (get_or-range_with_len 0 n i d (omega (arith, l, b)), get_or-range_with_len 0 n j d b) (λ e. (let same : 0 + i ≡ 0 + j = e in omega (arith, l, same)))
 
 -- ---- the entry of a unit
 

@@ -1,14 +1,14 @@
 -- The cube (Deville and Tillé 2004), in whatever its values are kept: its states and its draw tree. The flight's moves keep the balancing
 -- totals as long as there is a direction for them. Then the landing begins. Where no direction is left, the last row in force is dropped,
 -- and the flight goes on without it. Where a number would pass its gate, pivotal steps finish the selection.
-use Rattle.std.specs.Prelude.{◌⊎◌, ℕ, ◌+◌, ◌-◌, Bool, true, false, nat_eq, if◌then◌else◌, List, [], ◌∷◌, ℤ}
+use Rattle.std.specs.Prelude.{ℕ, ◌+◌, ◌-◌, Bool, true, false, nat_eq, if◌then◌else◌, List, [], ◌∷◌, map}
 use Rattle.smp_fractions.specs.Fractions.{Fraction}
 use Rattle.smp_kernel.specs.Elimination.{cut, AreIndependent}
 use Rattle.smp_split.specs.Trees.{Part, Tree}
 use Rattle.smp_split.specs.Parts.{moved}
 use Rattle.smp_split.specs.declared.kind.Kind.{Kind}
 use Rattle.smp_split.specs.declared.kind.Kind.TheVariants as kind
-use Rattle.smp_moves.specs.Moves.{Line, Move, Next, move, independent, wide, chosen_line}
+use Rattle.smp_moves.specs.Moves.{Line, Move, Next, Setting, move, independent, wide, chosen_line}
 
 -- ---- the states
 
@@ -65,15 +65,16 @@ flight_kind (move m) = kind.Flight
 flight_kind independent = kind.Drop
 flight_kind wide = kind.Wide
 
--- A cube: how many units there are; the value of each, whether it is 1, and whether it is fractional; how many units are, and their
--- columns; the values at the end of a line; and the kind and the parts of a pivotal step.
-pub record Cube (Values : Type 0) : Type 0 where
+-- A cube: how many units there are; the value of each, whether it is 1, and whether it is fractional; which units are, in order, and how
+-- many; what a step goes by; the values at the end of a line; and the kind and the parts of a pivotal step.
+pub record Cube (Values : Type 0) : Type 1 where
   pub units : ℕ
   pub value_at : Values → ℕ → Fraction
   pub is_one : Values → ℕ → Bool
   pub is_fractional : Values → ℕ → Bool
+  pub fractional_units : Values → List ℕ
   pub fractional_count : Values → ℕ
-  pub columns : Values → List (List ℤ)
+  pub setting : Setting Values
   pub end_at : Values → Line → Values
   pub pair_kind : Values → Kind
   pub pair_parts : Values → List (Part Values)
@@ -91,12 +92,8 @@ module _ {Values Fixed : Type 0} (cube : Cube Values) where
 
   -- the columns of the fractional units are independent in the rows in force
   abbrev pub HasIndependentColumns : Balancing Values Fixed → Type 0
-  HasIndependentColumns s = AreIndependent (rows_in s) (cut (rows_in s) (cube.columns (values_in s)))
-
-  -- in flight, no direction is left, as no move keeps the totals of the rows in force, or the next step doesn't fit
-  abbrev pub IsStuck : (Flight Values Fixed → Type 0) → Balancing Values Fixed → Type 0
-  IsStuck IsWide (flying f left) = HasIndependentColumns (flying f left) ⊎ IsWide f
-  IsStuck IsWide (pairing values left) = ⊥
+  HasIndependentColumns s = AreIndependent (rows_in s)
+      (cut (rows_in s) (map cube.setting.column (cube.fractional_units (values_in s))))
 
   module _ (next : Flight Values Fixed → Next) where
     -- the kind of the step of a state

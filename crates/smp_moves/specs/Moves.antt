@@ -5,9 +5,8 @@ use Rattle.std.specs.Prelude.{pos, neg_ℤ, length, map, slice_index}
 use Rattle.std.specs.List.{All, AllPairs}
 use Rattle.std.specs.Int.{IsGcd}
 use Prim.Native.Nat.{◌∣◌}
-use Rattle.smp_fractions.specs.Limits.{most_entry, most_denominator}
 use Rattle.smp_fractions.specs.Fractions.{Fraction, Same, AtMost, whole, integer, plus, times, over}
-use Rattle.smp_kernel.specs.Vectors.{IsZero, Within}
+use Rattle.smp_kernel.specs.Vectors.{IsZero}
 use Rattle.smp_prob.specs.Shares.{Shares}
 use Rattle.smp_values.specs.Values.{is_fractional, value_at}
 use Rattle.smp_moves.specs.declared.lines.Ratio.{Ratio}
@@ -78,13 +77,6 @@ pub record Move : Type 0 where
   pub down : Ratio
   pub direction : Line
 
--- A move fits where no number of it passes its gate: no entry of the direction is above 2^44 in absolute value, and the denominator of the
--- values at either end isn't above 2^80.
-pub record Fits (m : Move) (plus_end minus_end : Shares) : Type 0 where
-  pub entries : Within most_entry m.direction.entries
-  pub plus_den : plus_end.den ≤ most_denominator
-  pub minus_den : minus_end.den ≤ most_denominator
-
 -- ---- what a search goes through
 
 -- some fractional units, none of them twice
@@ -111,3 +103,15 @@ chosen_line m plus = cond plus m.direction (turned m.direction)
 -- how far the line of the end that is chosen is followed
 abbrev pub chosen_extent : Move → Bool → Ratio
 chosen_extent m plus = cond plus m.up m.down
+
+-- ---- what a step goes by
+
+-- What a step goes by: of each unit its column, and its share, to which its change is in proportion; the values as numerators over a
+-- common denominator, which a line through these units needs; the common denominator that the values need by themselves; and which values
+-- are so far along a line.
+pub record Setting (Values : Type 0) : Type 1 where
+  pub column : ℕ → List ℤ
+  pub share : ℕ → Ratio
+  pub over : Values → List ℕ → Shares
+  pub common : Values → ℕ
+  pub IsEnd : Values → Line → Ratio → Values → Type 0

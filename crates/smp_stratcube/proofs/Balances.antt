@@ -8,7 +8,7 @@ use Rattle.smp_fractions.specs.Fractions.{Fraction, Same, whole, integer, times,
 use Rattle.smp_fractions.proofs.Fractions.{same_refl, same_trans, plus_same, plus-zero, times_same, times-zero, times-one, sum_same}
 use Rattle.smp_kernel.specs.Vectors.{entry}
 use Rattle.smp_kernel.proofs.Ring.{zero_or}
-use Rattle.smp_split.specs.Trees.{Part, EachPart}
+use Rattle.smp_split.specs.Trees.{EachPart}
 use Rattle.smp_split.specs.Parts.{moved}
 use Rattle.smp_split.specs.declared.kind.Kind.TheVariants as kind
 use Rattle.smp_values.specs.Values.{fractional}
@@ -18,19 +18,21 @@ use Rattle.smp_moves.specs.Owed.{HasKept, HasStayed, IsStart, Owes}
 use Rattle.smp_moves.proofs.Evens.{entry_of_turned, times_assoc}
 use Rattle.smp_moves.proofs.Entries.{off_line, place_or}
 use Rattle.smp_moves.proofs.Owed.{is_balanced}
-use Rattle.smp_moves.specs.Cubes.{flying, landed, left_in, pairing, values_in, flight_kind}
+use Rattle.smp_moves.specs.Cubes.{flying, pairing, values_in, flight_kind}
 use Rattle.smp_stratcube.specs.declared.units.Member.{Member}
 use Rattle.smp_stratcube.specs.declared.values.Value.{Value}
 use Rattle.smp_stratcube.specs.Units.{Units, IsUnits, column, member, nobody, share, stratum}
 use Rattle.smp_stratcube.specs.Values.{AreValues, IsValue, common_of, fractional_count, fractional_units, is_fractional, is_settled, nothing, over_common, touched_units, value, value_at}
 use Rattle.smp_stratcube.specs.States.{Balancing, Flight, IsBalancing, IsFlying, requested_value, started}
-use Rattle.smp_stratcube.specs.Moves.{Finds, line_common}
-use Rattle.smp_stratcube.specs.Kept.Computed.{direction, moved_values, next, flight_of}
-use Rattle.smp_stratcube.specs.Pairs.{first_pair, kind_by, meeting, parts_by, settling, is_either, paired_parts}
+use Rattle.smp_stratcube.specs.Moves.{line_common, setting_of}
+use Rattle.smp_stratcube.specs.Kept.Computed.{moved_values, next, flight_of}
+use Rattle.smp_stratcube.specs.Pairs.{first_pair, kind_by, meeting, parts_by, settling, is_either}
+use Rattle.smp_stratcube.specs.Cube.{cube_by}
+use Rattle.smp_stratcube.specs.Laws.Nexts.{each_step}
 use Rattle.smp_stratcube.specs.Kept.Trees.{IsBalanced, flight_parts, strat_kind, strat_parts, weighed_of}
 use Rattle.smp_stratcube.specs.Balances.{addend, expanded}
 use Rattle.smp_kernel.specs.Searches.{found}
-use Rattle.smp_stratcube.specs.Laws.Directions.{IsKnown, known, line_ok}
+use Rattle.smp_stratcube.specs.Laws.Directions.{line_ok}
 use Rattle.smp_stratcube.specs.Laws.Moves.{IsEnd, plus_end, minus_end}
 use Rattle.smp_stratcube.specs.Laws.Pairs.{IsMeeting, pair_found}
 use Rattle.smp_stratcube.specs.Laws.Splits.{strat_lawful, values_ok}
@@ -38,19 +40,18 @@ use Rattle.smp_stratcube.specs.Laws.Taken.{taken_kept}
 use Rattle.smp_stratcube.specs.Laws.Units.{front_going, order_apart, order_going}
 use Rattle.smp_stratcube.proofs.Landed.{drop_at, few_at, lands_at as begins_stuck}
 use Rattle.smp_stratcube.proofs.Totals.{inverse_cancels, plus_total, minus_total}
+use Rattle.smp_moves.specs.Steps.{Finds}
+use Rattle.smp_moves.specs.Kept.Computed.{direction, IsKnown}
+use Rattle.smp_moves.proofs.Computed.{known}
+use Rattle.smp_moves.proofs.Flights.{IsInFlight, flies_at, lands_at, later_at}
 
 IsGcd-zero : IsGcd 0 1 1
 IsGcd-zero = (dvd-zero 1, dvd_refl 1, λ d a b. b)
 
--- a state of the flight
-abbrev pub IsInFlight : Balancing → Type 0
-IsInFlight (flying f left) = Unit {0}
-IsInFlight (pairing values left) = ⊥
-
 -- a unit at which a direction isn't 0 is fractional
-on_line_open : (units : Units) (f : Flight) (ok : IsFlying units f) (w : List ℤ) (finds : Finds units f (found w)) (k : ℕ) → entry_of (direction units (fractional_units f.values) w) k ≢ pos 0 → is_fractional f.values k ≡ true
+on_line_open : (units : Units) (f : Flight) (ok : IsFlying units f) (w : List ℤ) (finds : Finds (setting_of units) f (fractional_units f.values) (found w)) (k : ℕ) → entry_of (direction (share units) (fractional_units f.values) w) k ≢ pos 0 → is_fractional f.values k ≡ true
 on_line_open units f ok w finds k ne =
-    let line : Line = direction units (fractional_units f.values) w in
+    let line : Line = direction (share units) (fractional_units f.values) w in
     elim (place_or (take (length w) (fractional_units f.values)) k) [
       | inl h ↦ subst (λ (x : ℕ). is_fractional f.values x ≡ true) h.2 (front_going f.values (length w) h.0 h.1)
       | inr out ↦ absurd (ne (off_line (over_common (line_common units f.values (take (length w) (fractional_units f.values))) f.values) line (line_ok units f ok w finds) k out))
@@ -108,42 +109,30 @@ no_flight : (p : Option (ℕ × ℕ)) → kind_by p ≢ kind.Flight
 no_flight (Some pair) e = cc
 no_flight None e = cc
 
--- ---- what is left
-
-landed_first : (values : List Value) (left : ℕ) → left ≡ 0 → landed (fractional_count values) left ≡ fractional_count values
-landed_first values left none = rw none refl
-
-landed_later : (values : List Value) (left n : ℕ) → 1 ≤ n → left ≡ n → landed (fractional_count values) left ≡ n
-landed_later values left n some e = (let ne : left ≢ 0 = omega arith in rw (ne_eqb left 0 ne) e)
-
-each_left : (units : Units) (left n : ℕ) → left ≡ n → (parts : List (Part (List Value))) → EachPart (λ (p : Part Balancing). left_in p.state ≡ n) (moved (λ v. pairing v left) parts)
-each_left units left n e [] = tt
-each_left units left n e (p ∷ parts) = (e, each_left units left n e parts)
-
 -- ---- each step, by what it is
 
 module _ (units : Units) (f : Flight) (ok : IsFlying units f) (left : ℕ) where
   abbrev here : Balancing
   here = flying f left
 
-  ends_kept : (m : Move) → IsKnown units f m → (k : ℕ) → is_fractional f.values k ≡ false → EachPart (λ p. HasKept (weighed_of units) (flying f left) p.state k) (flight_parts units f left (move m))
+  ends_kept : (m : Move) → IsKnown (setting_of units) (moved_values units) f (fractional_units f.values) m → (k : ℕ) → is_fractional f.values k ≡ false → EachPart (λ p. HasKept (weighed_of units) (flying f left) p.state k) (flight_parts units f left (move m))
   ends_kept m known k still =
       subst (λ (x : Move). EachPart (λ p. HasKept (weighed_of units) (flying f left) p.state k) (flight_parts units f left (move x))) (sym known.same)
-      (let line : Line = direction units (fractional_units f.values) known.circuit in
+      (let line : Line = direction (share units) (fractional_units f.values) known.circuit in
       let none : entry_of line k ≡ pos 0 = off_entry known k still in (
         end_kept units f ok left k still line _ _ refl (plus_end units f ok left m known) none,
         (end_kept units f ok left k still (turned line) _ _ refl (minus_end units f ok left m known) (entry_of_turned line k ∙ (rw none refl)), tt),
       ))
     where
-      off_entry : (known : IsKnown units f m) (k : ℕ) → is_fractional f.values k ≡ false → entry_of (direction units (fractional_units f.values) known.circuit) k ≡ pos 0
+      off_entry : (known : IsKnown (setting_of units) (moved_values units) f (fractional_units f.values) m) (k : ℕ) → is_fractional f.values k ≡ false → entry_of (direction (share units) (fractional_units f.values) known.circuit) k ≡ pos 0
       off_entry known k still =
-          elim (zero_or (entry_of (direction units (fractional_units f.values) known.circuit) k)) [
+          elim (zero_or (entry_of (direction (share units) (fractional_units f.values) known.circuit) k)) [
             | inl z ↦ z
             | inr ne ↦ absurd (true≢false (sym (on_line_open units f ok known.circuit known.finds k ne) ∙ still))
           ]
 
   pub kept_by : (a : Next) → next units f ≡ a → (k : ℕ) → is_fractional f.values k ≡ false → EachPart (λ p. HasKept (weighed_of units) (flying f left) p.state k) (flight_parts units f left a)
-  kept_by (move m) is k still = ends_kept m (known units f m is) k still
+  kept_by (move m) is k still = ends_kept m (known (setting_of units) (moved_values units) f (fractional_units f.values) m is) k still
   kept_by independent is k still = (record { still = still; same = same_refl (value_at f.values k) }, tt)
   kept_by wide is k still = (record { still = still; same = same_refl (value_at f.values k) }, tt)
 
@@ -151,21 +140,11 @@ module _ (units : Units) (f : Flight) (ok : IsFlying units f) (left : ℕ) where
   stays_by independent is calm = absurd (calm (inl refl))
   stays_by wide is calm = absurd (calm (inr refl))
   stays_by (move m) is calm =
-      let k = known units f m is in
+      let k = known (setting_of units) (moved_values units) f (fractional_units f.values) m is in
       subst (λ (x : Move). EachPart (λ p. HasStayed (weighed_of units) IsInFlight (flying f left) p.state) (flight_parts units f left (move x))) (sym k.same) (
         record { flies = tt; rows = refl; left = refl; totals = plus_total units f ok left m k },
         (record { flies = tt; rows = refl; left = refl; totals = minus_total units f ok left m k }, tt),
       )
-
-  lands_by : (a : Next) → left ≡ 0 → Begins (flight_kind a) → EachPart (λ p. left_in p.state ≡ fractional_count f.values) (flight_parts units f left a)
-  lands_by (move m) none begins = absurd (elim begins [ inl e ↦ (cc) | inr e ↦ (cc) ])
-  lands_by independent none begins = (landed_first f.values left none, tt)
-  lands_by wide none begins = (landed_first f.values left none, tt)
-
-  later_by : (a : Next) (n : ℕ) → 1 ≤ n → left ≡ n → EachPart (λ p. left_in p.state ≡ n) (flight_parts units f left a)
-  later_by (move m) n some e = (e, (e, tt))
-  later_by independent n some e = (landed_later f.values left n some e, tt)
-  later_by wide n some e = (landed_later f.values left n some e, tt)
 
 -- ---- what is owed
 
@@ -178,18 +157,6 @@ module _ (units : Units) where
   stays_at (flying f left) ok flies calm = stays_by units f ok left (next units f) refl calm
   stays_at (pairing values left) ok flies calm = absurd flies
 
-  flies_at : (s : Balancing) → strat_kind units s ≡ kind.Flight → IsInFlight s
-  flies_at (flying f left) e = tt
-  flies_at (pairing values left) e = absurd (no_flight (first_pair units (fractional_units values)) e)
-
-  lands_at : (s : Balancing) → IsBalancing units s → IsInFlight s → left_in s ≡ 0 → Begins (strat_kind units s) → EachPart (λ p. left_in p.state ≡ fractional_count (values_in s)) (strat_parts units s)
-  lands_at (flying f left) ok flies none begins = lands_by units f ok left (next units f) none begins
-  lands_at (pairing values left) ok flies none begins = absurd flies
-
-  later_at : (n : ℕ) → 1 ≤ n → (s : Balancing) → IsBalancing units s → left_in s ≡ n → EachPart (λ p. left_in p.state ≡ n) (strat_parts units s)
-  later_at n some (flying f left) ok e = later_by units f ok left (next units f) n some e
-  later_at n some (pairing values left) ok e = each_left units left n e (paired_parts units values)
-
   pub strat_owes : Owes (weighed_of units) (IsBalancing units) IsInFlight
   strat_owes = record {
     lawful = strat_lawful units;
@@ -197,10 +164,10 @@ module _ (units : Units) where
     within = λ s ok k. (let is = (values_ok units s ok).each k in (is.positive, is.most));
     settled = λ s ok going k still. settled_at s ok going k still;
     some = λ s ok going. (let some : fractional_count (values_in s) ≢ 0 = eqb-false (fractional_count (values_in s)) 0 going in omega (arith, some));
-    flies = λ s ok going e. flies_at s e;
+    flies = λ s ok going e. flies_at (cube_by each_step units) (next units) (λ values. no_flight (first_pair units (fractional_units values))) s e;
     stays = λ s ok going flies calm. stays_at s ok flies calm;
-    lands = λ s ok going flies none begins. lands_at s ok flies none begins;
-    later = λ n some s ok going e. later_at n some s ok e;
+    lands = λ s ok going flies none begins. lands_at (cube_by each_step units) (next units) s flies none begins;
+    later = λ n some s ok going e. later_at (cube_by each_step units) (next units) n some s e;
     stuck = λ s ok begins. begins_stuck units s ok begins;
     drops = λ s ok k. drop_at units s k;
     few = λ s ok k. few_at units s k;

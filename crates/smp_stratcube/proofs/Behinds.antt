@@ -11,7 +11,7 @@ use Rattle.smp_prob.specs.Given.{least_multiple}
 use Rattle.smp_stratcube.specs.declared.units.Member.{Member}
 use Rattle.smp_stratcube.specs.Units.{IsUnits, Units, nobody}
 use Rattle.smp_stratcube.specs.Kept.Behind.{AreBehind, HaveCommon, IsBehind, IsLeastOf, dens_behind}
-use Rattle.smp_stratcube.specs.Laws.Multiples.{AllDivide, least}
+use Rattle.smp_moves.proofs.Multiples.{AllDivide, least}
 use Rattle.smp_stratcube.proofs.Ahead.{units_here, units_none}
 
 abbrev stratum_at : List Member → ℕ → ℕ

@@ -14,15 +14,16 @@ use Rattle.smp_moves.proofs.LineEnds.{lowest_is}
 use Rattle.smp_moves.proofs.Weights.{within_from, within_to}
 use Rattle.smp_moves.specs.Moves.{Line}
 use Rattle.smp_stratcube.specs.Units.{Units, column, columns_of, share}
-use Rattle.smp_stratcube.specs.Kept.Computed.{direction_on}
-use Rattle.smp_stratcube.specs.Moves.{product, products, scale_of, scaled, signed}
+use Rattle.smp_moves.specs.Steps.{product, signed}
 use Rattle.smp_stratcube.specs.Kept.Gates.{held}
 use Rattle.smp_stratcube.specs.Kept.Lines.{AreParts, IsPart, direction_fits, no_part, over, part}
-use Rattle.smp_stratcube.specs.Laws.Directions.{entry-scaled, length-products, length-scaled}
-use Rattle.smp_stratcube.specs.Laws.Multiples.{AllSome}
-use Rattle.smp_stratcube.specs.Values.{common_multiple}
+use Rattle.smp_moves.proofs.Multiples.{AllSome}
+use Rattle.smp_moves.specs.Steps.{common_multiple}
 use Rattle.smp_stratcube.proofs.Gated.{gate_all, gate_held}
 use Rattle.smp_stratcube.proofs.Parts.{times-div}
+use Rattle.smp_moves.specs.Steps.{products, scale_of, scaled}
+use Rattle.smp_moves.specs.Kept.Computed.{direction_on}
+use Rattle.smp_moves.proofs.Products.{entry-scaled, length-products, length-scaled}
 
 -- ---- arrays as lists
 
@@ -34,7 +35,7 @@ columns_are units us cols n lu lc h =
     get_or-take n cols k [] b ∙ h k b ∙ ap (column units) (sym (get_or-take n us k 0 b)) ∙ sym (get_or-map (column units) (take n us) k 0 [] (omega (arith, b, lu, length-take n us)))))
 
 get_or-products : (units : Units) (order : List ℕ) (w : List ℤ) (j : ℕ) → j < length order → j < length w →
-    part (products units order w) j ≡ product (share units (get_or order j 0)) (entry w j)
+    part (products (share units) order w) j ≡ product (share units (get_or order j 0)) (entry w j)
 get_or-products units [] w j l m = absurd (omega arith)
 get_or-products units (k ∷ order) [] j l m = absurd (omega arith)
 get_or-products units (k ∷ order) (f ∷ w) zero l m = refl
@@ -42,10 +43,10 @@ get_or-products units (k ∷ order) (f ∷ w) (suc j) l m = get_or-products unit
 
 -- the products of units, in an array
 pub parts_are : (units : Units) (us : List ℕ) (w : List ℤ) (parts : List Ratio) (n : ℕ) → n ≤ length us → n ≤ length w → n ≤ length parts →
-    AreParts units us w n parts → take n parts ≡ products units (take n us) (take n w)
+    AreParts units us w n parts → take n parts ≡ products (share units) (take n us) (take n w)
 parts_are units us w parts n lu lw lp h =
     let same : length (take n us) ≡ length (take n w) = omega (arith, length-take n us, length-take n w) in
-    ext_get_or no_part (take n parts) (products units (take n us) (take n w)) (omega (arith, length-take n parts, length-take n us, length-products units (take n us) (take n w) same))
+    ext_get_or no_part (take n parts) (products (share units) (take n us) (take n w)) (omega (arith, length-take n parts, length-take n us, length-products (share units) (take n us) (take n w) same))
     (λ k l.
     (let b : k < n = omega (arith, l, length-take n parts) in
     get_or-take n parts k no_part b ∙ h k b
@@ -55,15 +56,15 @@ parts_are units us w parts n lu lw lp h =
 pub products_are : (units : Units) (den : ℕ) (us : List ℕ) (w ps : List ℤ) (parts : List Ratio) (n : ℕ) → n ≤ length us → n ≤ length w → n ≤ length ps →
     AreParts units us w n parts →
     ((k : ℕ) → k < n → entry ps k ≡ signed (entry w k) (over (part parts k) den)) →
-    take n ps ≡ scaled units den (take n us) (take n w)
+    take n ps ≡ scaled (share units) den (take n us) (take n w)
 products_are units den us w ps parts n lu lw lp are h =
     let same : length (take n us) ≡ length (take n w) = omega (arith, length-take n us, length-take n w) in
-    ext_get_or (pos 0) (take n ps) (scaled units den (take n us) (take n w)) (omega (arith, length-take n ps, length-take n us, length-scaled units den (take n us) (take n w) same))
+    ext_get_or (pos 0) (take n ps) (scaled (share units) den (take n us) (take n w)) (omega (arith, length-take n ps, length-take n us, length-scaled (share units) den (take n us) (take n w) same))
     (λ k l.
     (let b : k < n = omega (arith, l, length-take n ps) in
     get_or-take n ps k (pos 0) b ∙ h k b ∙ ap (λ (r : Ratio). signed (entry w k) (over r den)) (are k b)
     ∙ sym (ap₂ (λ (u : ℕ) (x : ℤ). signed x (over (product (share units u) x) den)) (get_or-take n us k 0 b) (get_or-take n w k (pos 0) b))
-    ∙ sym (entry-scaled units den (take n us) (take n w) k (omega (arith, b, lu, length-take n us)) (omega (arith, b, lw, length-take n w)))))
+    ∙ sym (entry-scaled (share units) den (take n us) (take n w) k (omega (arith, b, lu, length-take n us)) (omega (arith, b, lw, length-take n w)))))
 
 dens_some : (parts : List Ratio) (n : ℕ) → ((j : ℕ) → j < n → IsPart (part parts j)) → AllSome (map (λ (r : Ratio). r.den) (take n parts))
 dens_some parts zero each = tt
@@ -106,24 +107,24 @@ over_most r scale is narrow =
 
 -- ---- the direction that arrays hold
 
-module _ (units : Units) (prefix : List ℕ) (w row : List ℤ) (n : ℕ) (lr : n ≤ length row) (is : take n row ≡ scaled units (scale_of units prefix w) prefix w) (past : (j : ℕ) → n ≤ j → entry row j ≡ pos 0) (some : IsZero (scaled units (scale_of units prefix w) prefix w) → ⊥) where
+module _ (units : Units) (prefix : List ℕ) (w row : List ℤ) (n : ℕ) (lr : n ≤ length row) (is : take n row ≡ scaled (share units) (scale_of (share units) prefix w) prefix w) (past : (j : ℕ) → n ≤ j → entry row j ≡ pos 0) (some : IsZero (scaled (share units) (scale_of (share units) prefix w) prefix w) → ⊥) where
   some_row : IsZero (take n row) → ⊥
   some_row z = some (subst IsZero is z)
 
-  pub direction_is : (e : List ℤ) → length e ≡ length row → IsReduced row e → record { units = prefix; entries = take n e } ≡ direction_on units prefix w
+  pub direction_is : (e : List ℤ) → length e ≡ length row → IsReduced row e → record { units = prefix; entries = take n e } ≡ direction_on (share units) prefix w
   direction_is e le r = ap (λ es. record { units = prefix; entries = es }) (front_is row n past e lr le some_row r ∙ ap primitive_part is)
 
   pub direction_long : IsTooLong row → direction_fits units prefix w ≡ false
   direction_long t =
       elim (cases_Bool (direction_fits units prefix w)) [
         | inr f ↦ f
-        | inl h ↦ absurd (let parts = and_parts (nat_le (scale_of units prefix w) (2 ^ 80)) (entries_fit (direction_on units prefix w)) h in
-            front_long row n past some_row t (subst (Within (2 ^ 44)) (sym (ap primitive_part is)) (within_from (2 ^ 44) (direction_on units prefix w).entries parts.1)))
+        | inl h ↦ absurd (let parts = and_parts (nat_le (scale_of (share units) prefix w) (2 ^ 80)) (entries_fit (direction_on (share units) prefix w)) h in
+            front_long row n past some_row t (subst (Within (2 ^ 44)) (sym (ap primitive_part is)) (within_from (2 ^ 44) (direction_on (share units) prefix w).entries parts.1)))
       ]
 
-  pub direction_within : scale_of units prefix w ≤ 2 ^ 80 → (e : List ℤ) → length e ≡ length row → IsReduced row e → Within (2 ^ 44) e → direction_fits units prefix w ≡ true
+  pub direction_within : scale_of (share units) prefix w ≤ 2 ^ 80 → (e : List ℤ) → length e ≡ length row → IsReduced row e → Within (2 ^ 44) e → direction_fits units prefix w ≡ true
   direction_within scale e le r small =
-      and_from (nat_le (scale_of units prefix w) (2 ^ 80)) (entries_fit (direction_on units prefix w)) (le-leb (scale_of units prefix w) (2 ^ 80) scale)
+      and_from (nat_le (scale_of (share units) prefix w) (2 ^ 80)) (entries_fit (direction_on (share units) prefix w)) (le-leb (scale_of (share units) prefix w) (2 ^ 80) scale)
       (subst (λ (l : Line). entries_fit l ≡ true) (direction_is e le r)
       (within_to (2 ^ 44) (take n e) (front_small e small)))
     where
@@ -146,25 +147,25 @@ held_none m e =
       | inl t ↦ absurd (let some : None ≡ Some m = rw t at e in cc)
     ]
 
-not_scaled : (units : Units) (prefix : List ℕ) (w : List ℤ) → nat_le (scale_of units prefix w) (2 ^ 80) ≡ false → direction_fits units prefix w ≡ false
+not_scaled : (units : Units) (prefix : List ℕ) (w : List ℤ) → nat_le (scale_of (share units) prefix w) (2 ^ 80) ≡ false → direction_fits units prefix w ≡ false
 not_scaled units prefix w f = rw f refl
 
 -- the row that arrays of products hold, where their scale fits
 module _ (units : Units) (us : List ℕ) (ws : List ℤ) (parts : List Ratio) (n : ℕ) (lu : n ≤ length us) (lw : n ≤ length ws) (lp : n ≤ length parts) (are : AreParts units us ws n parts) where
   pub row_wide : None ≡ held (common_multiple (map (λ (r : Ratio). r.den) (take n parts))) → direction_fits units (take n us) (take n ws) ≡ false
   row_wide e =
-      not_scaled units (take n us) (take n ws) (held_none (scale_of units (take n us) (take n ws))
+      not_scaled units (take n us) (take n ws) (held_none (scale_of (share units) (take n us) (take n ws))
       (subst (λ (rs : List Ratio). None ≡ held (common_multiple (map (λ (r : Ratio). r.den) rs))) (parts_are units us ws parts n lu lw lp are) e))
 
-  row_held : (den : ℕ) → Some den ≡ held (common_multiple (map (λ (r : Ratio). r.den) (take n parts))) → (den ≡ scale_of units (take n us) (take n ws)) × (scale_of units (take n us) (take n ws) ≤ 2 ^ 80)
+  row_held : (den : ℕ) → Some den ≡ held (common_multiple (map (λ (r : Ratio). r.den) (take n parts))) → (den ≡ scale_of (share units) (take n us) (take n ws)) × (scale_of (share units) (take n us) (take n ws) ≤ 2 ^ 80)
   row_held den e =
-      held_some (scale_of units (take n us) (take n ws)) den
+      held_some (scale_of (share units) (take n us) (take n ws)) den
       (subst (λ (rs : List Ratio). Some den ≡ held (common_multiple (map (λ (r : Ratio). r.den) rs))) (parts_are units us ws parts n lu lw lp are) e)
 
   pub row_is : (den : ℕ) (row : List ℤ) → n ≤ length row → ((k : ℕ) → k < n → entry row k ≡ signed (entry ws k) (over (part parts k) den)) →
       Some den ≡ held (common_multiple (map (λ (r : Ratio). r.den) (take n parts))) →
-      (take n row ≡ scaled units (scale_of units (take n us) (take n ws)) (take n us) (take n ws)) × (scale_of units (take n us) (take n ws) ≤ 2 ^ 80)
+      (take n row ≡ scaled (share units) (scale_of (share units) (take n us) (take n ws)) (take n us) (take n ws)) × (scale_of (share units) (take n us) (take n ws) ≤ 2 ^ 80)
   row_is den row lr h e = (
-    subst (λ (m : ℕ). take n row ≡ scaled units m (take n us) (take n ws)) (row_held den e).0 (products_are units den us ws row parts n lu lw lr are h),
+    subst (λ (m : ℕ). take n row ≡ scaled (share units) m (take n us) (take n ws)) (row_held den e).0 (products_are units den us ws row parts n lu lw lr are h),
     (row_held den e).1,
   )

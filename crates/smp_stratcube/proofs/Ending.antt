@@ -26,14 +26,15 @@ use Rattle.smp_moves.proofs.Sizes.{can_advance, small_places}
 use Rattle.smp_stratcube.specs.declared.fronts.Front.{Front}
 use Rattle.smp_stratcube.specs.declared.values.Value.{Value}
 use Rattle.smp_stratcube.specs.Units.{Units, IsUnits, first, stratum}
-use Rattle.smp_stratcube.specs.Values.{AreValues, common_multiple, common_of, denominators, is_fractional, over_common, taken_over, touched_units, value}
+use Rattle.smp_stratcube.specs.Values.{AreValues, common_of, denominators, is_fractional, over_common, taken_over, touched_units, value}
+use Rattle.smp_moves.specs.Steps.{common_multiple}
 use Rattle.smp_stratcube.specs.Moves.{line_common}
 use Rattle.smp_stratcube.specs.Kept.Computed.{moves}
 use Rattle.smp_stratcube.specs.Kept.Fronts.{IsFront, front_units, units_on}
 use Rattle.smp_stratcube.specs.Kept.Gates.{gated, gathered, held, with_unit}
 use Rattle.smp_stratcube.specs.Kept.Moves.{IsAlong, end_gathered, moved_value}
 use Rattle.smp_stratcube.specs.Laws.Ends.{after_fractional, after_values, moving, still}
-use Rattle.smp_stratcube.specs.Laws.Multiples.{multiple_some, some_map}
+use Rattle.smp_moves.proofs.Multiples.{multiple_some, some_map}
 use Rattle.smp_stratcube.specs.Laws.Taken.{length_over, length_taken, numer_over, over_values, taken_kept, taken_moved}
 use Rattle.smp_stratcube.specs.Laws.Units.{denominators_some}
 use Rattle.smp_moves.proofs.Filtered.{filter_none, filter_twice}

@@ -7,7 +7,7 @@ use Rattle.smp_frac.specs.Divisors.{IsCommonMultiple, IsLeastMultiple}
 use Rattle.smp_prob.specs.Given.{least_multiple}
 use Rattle.smp_prob.proofs.Multiples.{least_multiple_is}
 use Rattle.smp_stratcube.specs.Kept.Gates.{gated, held}
-use Rattle.smp_stratcube.specs.Laws.Multiples.{AllSome, from, from_some, from_start, least}
+use Rattle.smp_moves.proofs.Multiples.{AllSome, from, from_some, from_start, least}
 
 pub gated_is : (r : Option ℕ) (m n : ℕ) → 1 ≤ m → 1 ≤ n → IfSome r (IsLeastMultiple m n) → IfSome r (λ k. k ≤ 2 ^ 80) → IfNone r ((k : ℕ) → IsCommonMultiple m n k → 2 ^ 80 < k) → r ≡ gated (Some m) n
 gated_is (Some k) m n pm pn is within passes =

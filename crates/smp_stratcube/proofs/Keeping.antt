@@ -14,17 +14,16 @@ use Rattle.smp_stratcube.specs.declared.fronts.Front.{Front}
 use Rattle.smp_stratcube.specs.declared.state.Phase.{Phase}
 use Rattle.smp_stratcube.specs.declared.state.Phase.TheVariants.{Flying, Pairing}
 use Rattle.smp_stratcube.specs.declared.values.Value.{Value}
-use Rattle.smp_stratcube.specs.Units.{Units, stratum}
+use Rattle.smp_stratcube.specs.Units.{Units, stratum, share}
 use Rattle.smp_stratcube.specs.Values.{fractional_count, fractional_units, is_fractional, is_settled, taken_over, value}
 use Rattle.smp_stratcube.specs.States.{Balancing, Flight, IsBalancing, IsFlying, IsPairing}
-use Rattle.smp_stratcube.specs.Kept.Computed.{chosen, direction, moved_values, moves, next, next_along, flight_of}
+use Rattle.smp_stratcube.specs.Kept.Computed.{chosen, moved_values, moves, next, flight_of}
 use Rattle.smp_stratcube.specs.Pairs.{first_pair, is_either, paired_parts, parts_by}
 use Rattle.smp_stratcube.specs.Laws.Splits.{strat_lawful}
 use Rattle.smp_stratcube.specs.Kept.Fronts.{IsAhead, IsFront, front_units}
 use Rattle.smp_stratcube.specs.Kept.States.{IsInFlight, IsNextOf, balancing_of}
 use Rattle.smp_stratcube.specs.Kept.Moves.{IsStep}
 use Rattle.smp_stratcube.specs.declared.steps.Next.{Next as Answer}
-use Rattle.smp_stratcube.specs.Laws.Directions.{IsKnown, known}
 use Rattle.smp_stratcube.specs.Laws.Ends.{still}
 use Rattle.smp_stratcube.specs.Laws.Moves.{minus_end, plus_end}
 use Rattle.smp_stratcube.specs.Laws.Taken.{length_taken, taken_kept}
@@ -32,6 +31,9 @@ use Rattle.smp_stratcube.proofs.Ahead.{front_before, stays_ahead}
 use Rattle.smp_stratcube.proofs.Pairing.{pair_of_front}
 use Rattle.smp_stratcube.proofs.Written.{alone, some_front}
 use Rattle.smp_stratcube.proofs.Stepped.{off_units}
+use Rattle.smp_moves.specs.Kept.Computed.{direction, next_along, IsKnown}
+use Rattle.smp_moves.proofs.Computed.{known}
+use Rattle.smp_stratcube.specs.Moves.{setting_of}
 
 -- ---- the values of a state
 
@@ -88,11 +90,11 @@ pair_sum units values left = weight_sum-moved (λ t. pairing t left) (paired_par
 -- ---- the front after a move
 
 module _ (units : Units) (f : Flight) (ok : IsFlying units f) (front : Front) (is : IsFront f.values front) (long : front.number ≤ length front.units) (m : Move) (e : next units f ≡ move m) where
-  k : IsKnown units f m
-  k = known units f m e
+  k : IsKnown (setting_of units) (moved_values units) f (fractional_units f.values) m
+  k = known (setting_of units) (moved_values units) f (fractional_units f.values) m e
 
   abbrev line : Line
-  line = direction units (fractional_units f.values) k.circuit
+  line = direction (share units) (fractional_units f.values) k.circuit
 
   few : f.rows + 1 ≤ 17
   few = omega (arith, ok.rows_in, ok.are.few_rows)
@@ -110,14 +112,14 @@ module _ (units : Units) (f : Flight) (ok : IsFlying units f) (front : Front) (i
   minus_ahead =
       stays_ahead f.values (moved_values units f.values (turned line)) front is long (length_taken (moves (turned line)) f.values _) (minus_end units f ok 0 m k).fewer (same_behind (turned line) refl)
 
-  along_ahead : (plus : Bool) → IsAhead (chosen units f (next_along units f.values line) plus).values front
+  along_ahead : (plus : Bool) → IsAhead (chosen units f (next_along (setting_of units) f.values line) plus).values front
   along_ahead true = plus_ahead
   along_ahead false = minus_ahead
 
   pub move_ahead : (plus : Bool) → IsAhead (chosen units f m plus).values front
   move_ahead plus = subst (λ (x : Move). IsAhead (chosen units f x plus).values front) (sym k.same) (along_ahead plus)
 
-  along_count : (plus : Bool) → length (chosen units f (next_along units f.values line) plus).values ≡ length f.values
+  along_count : (plus : Bool) → length (chosen units f (next_along (setting_of units) f.values line) plus).values ≡ length f.values
   along_count true = length_taken (moves line) f.values _
   along_count false = length_taken (moves (turned line)) f.values _
 

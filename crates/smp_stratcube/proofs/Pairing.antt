@@ -19,7 +19,7 @@ use Rattle.smp_stratcube.specs.States.{IsPairing}
 use Rattle.smp_stratcube.specs.Kept.Behind.{IsBehind, IsLeastOf, dens_behind}
 use Rattle.smp_stratcube.specs.Kept.Fronts.{IsFront, front_units, units_on}
 use Rattle.smp_stratcube.specs.Kept.Pairs.{HasStratum, common_in}
-use Rattle.smp_stratcube.specs.Laws.Multiples.{AllSome, AllDivide, from, from_each, from_least, from_some, from_start, least, multiple_some, some_map}
+use Rattle.smp_moves.proofs.Multiples.{AllSome, AllDivide, from, from_each, from_least, from_some, from_start, least, multiple_some, some_map}
 use Rattle.smp_moves.proofs.Filtered.{filter_none, rest_in, rest_out}
 use Rattle.smp_stratcube.proofs.Ahead.{front_before, front_inside, in_front, order_rises, unit_on, units_none}
 use Rattle.smp_stratcube.specs.Laws.Units.{filter_from}

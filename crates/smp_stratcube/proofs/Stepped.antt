@@ -21,21 +21,24 @@ use Rattle.smp_moves.specs.Kept.Ends.{HasSmallEntries}
 use Rattle.smp_moves.proofs.Entries.{entry_at_none, place_or, turned_line}
 use Rattle.smp_stratcube.specs.declared.fronts.Front.{Front}
 use Rattle.smp_stratcube.specs.declared.values.Value.{Value}
-use Rattle.smp_stratcube.specs.Units.{Units, IsUnits, column, columns_of}
+use Rattle.smp_stratcube.specs.Units.{Units, IsUnits, column, columns_of, share}
 use Rattle.smp_stratcube.specs.Values.{common_of, fractional_units, over_common, taken_over, value}
 use Rattle.smp_stratcube.specs.States.{Flight, IsFlying}
-use Rattle.smp_stratcube.specs.Kept.Computed.{direction, fits, moved_values, moves, next, next_along, next_of}
-use Rattle.smp_stratcube.specs.Moves.{Finds, line_common, scale_of, scaled}
+use Rattle.smp_stratcube.specs.Kept.Computed.{moved_values, moves, next}
+use Rattle.smp_stratcube.specs.Moves.{line_common, setting_of}
 use Rattle.smp_stratcube.specs.Kept.Fronts.{IsFront, front_units, units_on}
 use Rattle.smp_stratcube.specs.Kept.Lines.{IsLineOf, direction_fits}
 use Rattle.smp_stratcube.specs.Kept.Moves.{IsAlong, IsMoveOf, end_gathered}
 use Rattle.smp_stratcube.specs.Kept.Gates.{held}
 use Rattle.smp_stratcube.specs.Kept.Steps.{HasDirection}
-use Rattle.smp_stratcube.specs.Laws.Directions.{den_divides, den_some, line_ok, prefix_in, prefix_length, some_scaled}
+use Rattle.smp_stratcube.specs.Laws.Directions.{den_divides, den_some, line_ok, prefix_in, some_shares}
 use Rattle.smp_moves.proofs.FirstPlaces.{front_small}
 use Rattle.smp_stratcube.proofs.Directed.{held_none, held_some}
 use Rattle.smp_stratcube.proofs.Ending.{end_held, inside, some_left, some_size}
 use Rattle.smp_stratcube.proofs.Ahead.{front_before, units_none}
+use Rattle.smp_moves.specs.Steps.{Finds, scale_of, scaled}
+use Rattle.smp_moves.specs.Kept.Computed.{direction, fits, next_along, next_of}
+use Rattle.smp_moves.proofs.Computed.{prefix_length, some_scaled}
 
 -- ---- the first units decide
 
@@ -59,14 +62,14 @@ module _ (units : Units) (f : Flight) (front : Front) (is : IsFront f.values fro
             | inr all ↦ ap (take (f.rows + 1)) (sym is.all ∙ ap (λ us. front_units front ++ us) (units_none front.place (length f.values) (omega (arith, all))) ∙ append-nil (front_units front))
           ]
 
-  pub front_search : (a : Search) → IsSearch f.rows (cut f.rows (columns_of units (front_units front))) a → Finds units f a
+  pub front_search : (a : Search) → IsSearch f.rows (cut f.rows (columns_of units (front_units front))) a → Finds (setting_of units) f (fractional_units f.values) a
   front_search a h =
       let cs : List (List ℤ) = columns_of units (front_units front) in
       let first : Search = search f.rows (take (f.rows + 1) cs) in
       let is_first : IsSearch f.rows (cut f.rows (take (f.rows + 1) cs)) first = search_is f.rows (take (f.rows + 1) cs) in
       let same : first ≡ a = one_answer f.rows (cut f.rows cs) first a (first_decide f.rows cs first is_first) h in
       let there : IsSearch f.rows (cut f.rows (take (f.rows + 1) (columns_of units order))) first = subst (λ (ds : List (List ℤ)). IsSearch f.rows (cut f.rows ds) first) (sym first_columns) is_first in
-      subst (Finds units f) same (first_decide f.rows (columns_of units order) first there)
+      subst (Finds (setting_of units) f (fractional_units f.values)) same (first_decide f.rows (columns_of units order) first there)
 
   -- a circuit goes through units of the front
   pub front_circuit : (w : List ℤ) → IsSearch f.rows (cut f.rows (columns_of units (front_units front))) (found w) → length w ≤ front.number
@@ -74,14 +77,14 @@ module _ (units : Units) (f : Flight) (front : Front) (is : IsFront f.values fro
 
 -- ---- the step by its search
 
-pub next_found : (units : Units) (f : Flight) (a : Search) → Finds units f a → next units f ≡ next_of units f.values (fractional_units f.values) a
+pub next_found : (units : Units) (f : Flight) (a : Search) → Finds (setting_of units) f (fractional_units f.values) a → next units f ≡ next_of (setting_of units) (moved_values units) f.values (fractional_units f.values) a
 next_found units f a h =
     let cs : List (List ℤ) = columns_of units (fractional_units f.values) in
-    ap (next_of units f.values (fractional_units f.values)) (one_answer f.rows (cut f.rows cs) (search f.rows cs) a (search_is f.rows cs) h)
+    ap (next_of (setting_of units) (moved_values units) f.values (fractional_units f.values)) (one_answer f.rows (cut f.rows cs) (search f.rows cs) a (search_is f.rows cs) h)
 
-module _ (units : Units) (f : Flight) (w : List ℤ) (finds : Finds units f (found w)) where
+module _ (units : Units) (f : Flight) (w : List ℤ) (finds : Finds (setting_of units) f (fractional_units f.values) (found w)) where
   abbrev line : Line
-  line = direction units (fractional_units f.values) w
+  line = direction (share units) (fractional_units f.values) w
 
   abbrev narrow : Bool
   narrow = nat_le (line_common units f.values line.units) (2 ^ 80)
@@ -95,28 +98,28 @@ module _ (units : Units) (f : Flight) (w : List ℤ) (finds : Finds units f (fou
   abbrev prefix : List ℕ
   prefix = take (length w) (fractional_units f.values)
 
-  pub fits_then : direction_fits units prefix w ≡ true → narrow ≡ true → plus ≡ true → minus ≡ true → next units f ≡ move (next_along units f.values (direction units (fractional_units f.values) w))
+  pub fits_then : direction_fits units prefix w ≡ true → narrow ≡ true → plus ≡ true → minus ≡ true → next units f ≡ move (next_along (setting_of units) f.values (direction (share units) (fractional_units f.values) w))
   fits_then d n p m =
-      let parts = and_parts (nat_le (scale_of units prefix w) (2 ^ 80)) (entries_fit line) d in
-      let all : fits units f.values (fractional_units f.values) w ≡ true =
-      and_from (nat_le (scale_of units prefix w) (2 ^ 80)) (entries_fit line && (narrow && (plus && minus))) parts.0
+      let parts = and_parts (nat_le (scale_of (share units) prefix w) (2 ^ 80)) (entries_fit line) d in
+      let all : fits (setting_of units) (moved_values units) f.values (fractional_units f.values) w ≡ true =
+      and_from (nat_le (scale_of (share units) prefix w) (2 ^ 80)) (entries_fit line && (narrow && (plus && minus))) parts.0
       (and_from (entries_fit line) (narrow && (plus && minus)) parts.1 (and_from narrow (plus && minus) n (and_from plus minus p m))) in
       next_found units f (found w) finds ∙ (rw all refl)
 
-  unfit : fits units f.values (fractional_units f.values) w ≡ false → next units f ≡ wide
+  unfit : fits (setting_of units) (moved_values units) f.values (fractional_units f.values) w ≡ false → next units f ≡ wide
   unfit h = next_found units f (found w) finds ∙ (rw h refl)
 
-  all_of : fits units f.values (fractional_units f.values) w ≡ true → (direction_fits units prefix w ≡ true) × (narrow ≡ true) × (plus ≡ true) × (minus ≡ true)
+  all_of : fits (setting_of units) (moved_values units) f.values (fractional_units f.values) w ≡ true → (direction_fits units prefix w ≡ true) × (narrow ≡ true) × (plus ≡ true) × (minus ≡ true)
   all_of h =
-      let a = and_parts (nat_le (scale_of units prefix w) (2 ^ 80)) (entries_fit line && (narrow && (plus && minus))) h in
+      let a = and_parts (nat_le (scale_of (share units) prefix w) (2 ^ 80)) (entries_fit line && (narrow && (plus && minus))) h in
       let b = and_parts (entries_fit line) (narrow && (plus && minus)) a.1 in
       let c = and_parts narrow (plus && minus) b.1 in
       let d = and_parts plus minus c.1 in
-      (and_from (nat_le (scale_of units prefix w) (2 ^ 80)) (entries_fit line) a.0 b.0, c.0, d.0, d.1)
+      (and_from (nat_le (scale_of (share units) prefix w) (2 ^ 80)) (entries_fit line) a.0 b.0, c.0, d.0, d.1)
 
-  not_all : ((fits units f.values (fractional_units f.values) w ≡ true) → ⊥) → next units f ≡ wide
+  not_all : ((fits (setting_of units) (moved_values units) f.values (fractional_units f.values) w ≡ true) → ⊥) → next units f ≡ wide
   not_all h =
-      elim (cases_Bool (fits units f.values (fractional_units f.values) w)) [
+      elim (cases_Bool (fits (setting_of units) (moved_values units) f.values (fractional_units f.values) w)) [
         | inl t ↦ absurd (h t)
         | inr n ↦ unfit n
       ]
@@ -134,21 +137,21 @@ module _ (units : Units) (f : Flight) (w : List ℤ) (finds : Finds units f (fou
   wide_minus n = not_all (λ t. true≢false (sym (all_of t).3 ∙ n))
 
 -- a circuit goes through at most one unit more than there are rows in force
-circuit_few : (units : Units) (f : Flight) (w : List ℤ) → Finds units f (found w) → length w ≤ f.rows + 1
+circuit_few : (units : Units) (f : Flight) (w : List ℤ) → Finds (setting_of units) f (fractional_units f.values) (found w) → length w ≤ f.rows + 1
 circuit_few units f w finds =
     let cs : List (List ℤ) = columns_of units (fractional_units f.values) in
     omega (arith, circuit_length f.rows (cut f.rows cs) w finds, few_enter f.rows (cut f.rows cs) (cut_short f.rows cs) finds.number finds.enter)
 
 -- ---- a circuit goes through units of the front
 
-module _ (units : Units) (f : Flight) (ok : IsFlying units f) (front : Front) (is : IsFront f.values front) (long : front.number ≤ length front.units) (few : f.rows + 1 ≤ 17) (w : List ℤ) (finds : Finds units f (found w)) where
+module _ (units : Units) (f : Flight) (ok : IsFlying units f) (front : Front) (is : IsFront f.values front) (long : front.number ≤ length front.units) (few : f.rows + 1 ≤ 17) (w : List ℤ) (finds : Finds (setting_of units) f (fractional_units f.values) (found w)) where
   pub circuit_in : length w ≤ front.number
   circuit_in =
       elim is.enough [
         | inl enough ↦ omega (arith, enough, few, circuit_few units f w finds)
         | inr all ↦
             (let whole : fractional_units f.values ≡ front_units front = sym is.all ∙ ap (λ us. front_units front ++ us) (units_none front.place (length f.values) (omega (arith, all))) ∙ append-nil (front_units front) in
-            omega (arith, long, prefix_length units f ok w finds, length-take (length w) (fractional_units f.values), ap length whole, length-take front.number front.units))
+            omega (arith, long, prefix_length (setting_of units) f (fractional_units f.values) w finds, length-take (length w) (fractional_units f.values), ap length whole, length-take front.number front.units))
       ]
 
   -- so a unit behind it has no entry
@@ -169,7 +172,7 @@ module _ (units : Units) (f : Flight) (ok : IsFlying units f) (front : Front) (i
 -- ---- what is known of the line of a circuit
 
 module _ (units : Units) (f : Flight) (ok : IsFlying units f) (line : LineOfPlaces) (h : HasDirection units f line) where
-  pub line_is : line_of line ≡ direction units (fractional_units f.values) h.circuit
+  pub line_is : line_of line ≡ direction (share units) (fractional_units f.values) h.circuit
   line_is = h.is_line.is
 
   pub line_inside : (j : ℕ) → j < line.number → get_or line.units j 0 < length units.members
@@ -243,7 +246,7 @@ weights_is units values l den up down x den_is u d e =
 -- all that a step along a line leads to
 module _ (units : Units) (f : Flight) (ok : IsFlying units f) (front : Front) (is : IsFront f.values front) (long : front.number ≤ length front.units) (line : LineOfPlaces) (h : HasDirection units f line) where
   abbrev lane : Line
-  lane = direction units (fractional_units f.values) h.circuit
+  lane = direction (share units) (fractional_units f.values) h.circuit
 
   pub few_rows : f.rows + 1 ≤ 17
   few_rows = omega (arith, ok.rows_in, ok.are.few_rows)
@@ -299,7 +302,7 @@ module _ (units : Units) (f : Flight) (ok : IsFlying units f) (front : Front) (i
             let turned_reach : down ≡ reach (over_common den f.values) (turned (line_of line)) = d ∙ ap (reach (over_common den f.values)) turns in
             let w = weights_is units f.values (line_of line) den up down x den_is u turned_reach e in
             record {
-              next = fits_then units f h.circuit h.finds h.is_line.fits narrow_there (sym (plus_is up u) ∙ p) (sym (minus_is down d) ∙ m) ∙ ap (λ (l : Line). move (next_along units f.values l)) (sym (line_is units f ok line h));
+              next = fits_then units f h.circuit h.finds h.is_line.fits narrow_there (sym (plus_is up u) ∙ p) (sym (minus_is down d) ∙ m) ∙ ap (λ (l : Line). move (next_along (setting_of units) f.values l)) (sym (line_is units f ok line h));
               den = den_is;
               plus = ap (λ (r : Ratio). r.num) w;
               minus = ap (λ (r : Ratio). r.den) w;
@@ -313,7 +316,7 @@ module _ (units : Units) (f : Flight) (ok : IsFlying units f) (front : Front) (i
   few : f.rows + 1 ≤ 17
   few = omega (arith, ok.rows_in, ok.are.few_rows)
 
-  pub step_found : (a : Search) → IsSearch f.rows (cut f.rows (columns_of units (front_units front))) a → next units f ≡ next_of units f.values (fractional_units f.values) a
+  pub step_found : (a : Search) → IsSearch f.rows (cut f.rows (columns_of units (front_units front))) a → next units f ≡ next_of (setting_of units) (moved_values units) f.values (fractional_units f.values) a
   step_found a h = next_found units f a (front_search units f front is long few a h)
 
   -- a circuit in the first places of an array
@@ -321,7 +324,7 @@ module _ (units : Units) (f : Flight) (ok : IsFlying units f) (front : Front) (i
     count : length (take n w) ≡ n
     count = omega (arith, lw, length-take n w)
 
-    finds : Finds units f (found (take n w))
+    finds : Finds (setting_of units) f (fractional_units f.values) (found (take n w))
     finds = front_search units f front is long few (found (take n w)) h
 
     pub found_fewer : n ≤ front.number
@@ -334,8 +337,8 @@ module _ (units : Units) (f : Flight) (ok : IsFlying units f) (front : Front) (i
     found_prefix =
         ap (λ k. take k (fractional_units f.values)) count ∙ same_first units f front is long few n found_fewer ∙ take-take n front.number front.units found_fewer
 
-    pub found_some : IsZero (scaled units (scale_of units (take n front.units) (take n w)) (take n front.units) (take n w)) → ⊥
-    found_some z = some_scaled units f ok (take n w) finds (subst (λ ks. IsZero (scaled units (scale_of units ks (take n w)) ks (take n w))) (sym found_prefix) z)
+    pub found_some : IsZero (scaled (share units) (scale_of (share units) (take n front.units) (take n w)) (take n front.units) (take n w)) → ⊥
+    found_some z = some_scaled (setting_of units) f (fractional_units f.values) (take n w) finds (some_shares units f ok) (subst (λ ks. IsZero (scaled (share units) (scale_of (share units) ks (take n w)) ks (take n w))) (sym found_prefix) z)
 
     pub found_wide : direction_fits units (take n front.units) (take n w) ≡ false → next units f ≡ wide
     found_wide e = wide_direction units f (take n w) finds (subst (λ ks. direction_fits units ks (take n w) ≡ false) (sym found_prefix) e)

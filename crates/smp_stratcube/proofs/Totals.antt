@@ -24,11 +24,15 @@ use Rattle.smp_fractions.proofs.Differences.{neg-diff}
 use Rattle.smp_stratcube.specs.Units.{Units, column, columns_of, share, stratum}
 use Rattle.smp_stratcube.specs.Values.{fractional_units, over_common, value_at}
 use Rattle.smp_stratcube.specs.States.{Flight, IsFlying}
-use Rattle.smp_stratcube.specs.Kept.Computed.{direction, moved_values}
-use Rattle.smp_stratcube.specs.Moves.{Finds, IsDirection, line_common, product, scale_of, signed}
+use Rattle.smp_stratcube.specs.Kept.Computed.{moved_values}
+use Rattle.smp_stratcube.specs.Moves.{line_common, setting_of}
 use Rattle.smp_stratcube.specs.Balances.{expanded}
-use Rattle.smp_stratcube.specs.Laws.Directions.{IsKnown, entry-scaled, is_direction, line_ok, prefix_in, prefix_length, scale_divides}
+use Rattle.smp_stratcube.specs.Laws.Directions.{is_direction, line_ok, prefix_in, some_shares}
 use Rattle.smp_stratcube.specs.Laws.Moves.{plus_end, minus_end}
+use Rattle.smp_moves.specs.Steps.{Finds, IsDirection, product, scale_of, signed}
+use Rattle.smp_moves.specs.Kept.Computed.{direction, IsKnown}
+use Rattle.smp_moves.proofs.Computed.{front_some, prefix_length}
+use Rattle.smp_moves.proofs.Products.{entry-scaled, scale_divides}
 
 -- ---- fractions
 
@@ -129,21 +133,21 @@ numbers_are units row (k ∷ order) = ap (λ xs. number_in units row k ∷ xs) (
 as_positive : (d : ℤ) → pos 0 <ℤ d → d ≡ pos (unsigned_abs d)
 as_positive d p = omega (arith, ints)
 
-module _ (units : Units) (f : Flight) (ok : IsFlying units f) (w : List ℤ) (finds : Finds units f (found w)) where
+module _ (units : Units) (f : Flight) (ok : IsFlying units f) (w : List ℤ) (finds : Finds (setting_of units) f (fractional_units f.values) (found w)) where
   abbrev line : Line
-  line = direction units (fractional_units f.values) w
+  line = direction (share units) (fractional_units f.values) w
 
   abbrev prefix : List ℕ
   prefix = take (length w) (fractional_units f.values)
 
-  is : IsDirection units (fractional_units f.values) w line
+  is : IsDirection (share units) (fractional_units f.values) w line
   is = is_direction units f ok w finds
 
   abbrev D : ℕ
   D = unsigned_abs is.entries.divisor
 
   abbrev L : ℕ
-  L = scale_of units (take (length w) (fractional_units f.values)) w
+  L = scale_of (share units) (take (length w) (fractional_units f.values)) w
 
   abbrev A : Fraction
   A = over L D
@@ -156,13 +160,13 @@ module _ (units : Units) (f : Flight) (ok : IsFlying units f) (w : List ℤ) (fi
   entry_is j l =
       let k : ℕ = get_or line.units j 0 in
       let s = ok.are.shares k (prefix_in units f ok w finds j l) in
-      let m : j < length w = omega (arith, l, prefix_length units f ok w finds) in
+      let m : j < length w = omega (arith, l, prefix_length (setting_of units) f (fractional_units f.values) w finds) in
       let low = lowest_is ((share units k).num * unsigned_abs (entry w j)) (share units k).den (omega (arith, s.below)) in
       let p : Ratio = product (share units k) (entry w j) in
-      let d : p.den ∣ L = scale_divides units ok.are prefix w (prefix_in units f ok w finds) j l m in
+      let d : p.den ∣ L = scale_divides (share units) prefix w (front_some (setting_of units) f (fractional_units f.values) w finds (some_shares units f ok)) j l m in
       let num : p.num * (L / p.den) * (share units k).den ≡ (share units k).num * unsigned_abs (entry w j) * L = number_is (share units k).num (share units k).den (unsigned_abs (entry w j)) p.num p.den L d low.same in
       let prod : pos D *ℤ entry line.entries j ≡ signed (entry w j) (p.num * (L / p.den)) =
-      ap (λ (z : ℤ). z *ℤ entry line.entries j) (sym (as_positive is.entries.divisor is.entries.positive)) ∙ is.entries.product j ∙ entry-scaled units L prefix w j l m in
+      ap (λ (z : ℤ). z *ℤ entry line.entries j) (sym (as_positive is.entries.divisor is.entries.positive)) ∙ is.entries.product j ∙ entry-scaled (share units) L prefix w j l m in
       entry_in_proportion D L (share units k).num (share units k).den (p.num * (L / p.den)) some_D (omega (arith, s.below)) (entry line.entries j) (entry w j) prod num
 
   factor : ℕ → Fraction
@@ -193,26 +197,26 @@ module _ (units : Units) (f : Flight) (ok : IsFlying units f) (w : List ℤ) (fi
       ap (dot w) (sym (numbers_are units row prefix)) ∙ ap (λ cs. dot w (in_row row cs)) (sym (take-map (column units) (length w) (fractional_units f.values)))
       ∙ circuit_row f.rows (columns_of units (fractional_units f.values)) w finds row l
 
-  pub direction_total : (row : ℕ) → row < f.rows → Same (sum_below (length units.members) (λ k. times (expanded units row k) (integer (entry_of (direction units (fractional_units f.values) w) k)))) (whole 0)
+  pub direction_total : (row : ℕ) → row < f.rows → Same (sum_below (length units.members) (λ k. times (expanded units row k) (integer (entry_of (direction (share units) (fractional_units f.values) w) k)))) (whole 0)
   direction_total row l =
       let lok = line_ok units f ok w finds in
       same_trans (sum_line (length units.members) (expanded units row) line.units line.entries (prefix_in units f ok w finds) lok.order.distinct)
-      (same_trans (line_dot (expanded units row) (factor row) (number_in units row) line.units line.entries w is.lengths (sym (prefix_length units f ok w finds)) (in_proportion row))
+      (same_trans (line_dot (expanded units row) (factor row) (number_in units row) line.units line.entries w is.lengths (sym (prefix_length (setting_of units) f (fractional_units f.values) w finds)) (in_proportion row))
       (subst (λ (z : ℤ). Same (times (factor row) (integer z)) (whole 0)) (sym (none_in row l)) (times-zero (factor row))))
 
 -- ---- both ends of a move
 
-module _ (units : Units) (f : Flight) (ok : IsFlying units f) (left : ℕ) (m : Move) (k : IsKnown units f m) where
+module _ (units : Units) (f : Flight) (ok : IsFlying units f) (left : ℕ) (m : Move) (k : IsKnown (setting_of units) (moved_values units) f (fractional_units f.values) m) where
   abbrev flown : Line
-  flown = direction units (fractional_units f.values) k.circuit
+  flown = direction (share units) (fractional_units f.values) k.circuit
 
-  pub plus_total : (row : ℕ) → row < f.rows → Same (sum_below (length units.members) (λ u. times (expanded units row u) (value_at (moved_values units f.values (direction units (fractional_units f.values) k.circuit)) u)))
+  pub plus_total : (row : ℕ) → row < f.rows → Same (sum_below (length units.members) (λ u. times (expanded units row u) (value_at (moved_values units f.values (direction (share units) (fractional_units f.values) k.circuit)) u)))
       (sum_below (length units.members) (λ u. times (expanded units row u) (value_at f.values u)))
   plus_total row l =
       sum_stays (length units.members) (expanded units row) (value_at f.values) (value_at (moved_values units f.values flown)) (fraction_of (extent (over_common (line_common units f.values (take (length k.circuit) (fractional_units f.values))) f.values) flown)) (entry_of flown)
       (plus_end units f ok left m k).along (direction_total units f ok k.circuit k.finds row l)
 
-  pub minus_total : (row : ℕ) → row < f.rows → Same (sum_below (length units.members) (λ u. times (expanded units row u) (value_at (moved_values units f.values (turned (direction units (fractional_units f.values) k.circuit))) u)))
+  pub minus_total : (row : ℕ) → row < f.rows → Same (sum_below (length units.members) (λ u. times (expanded units row u) (value_at (moved_values units f.values (turned (direction (share units) (fractional_units f.values) k.circuit))) u)))
       (sum_below (length units.members) (λ u. times (expanded units row u) (value_at f.values u)))
   minus_total row l =
       sum_stays (length units.members) (expanded units row) (value_at f.values) (value_at (moved_values units f.values (turned flown))) (fraction_of (extent (over_common (line_common units f.values (take (length k.circuit) (fractional_units f.values))) f.values) (turned flown))) (entry_of (turned flown))

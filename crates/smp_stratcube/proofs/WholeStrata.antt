@@ -24,7 +24,8 @@ use Rattle.smp_stratcube.specs.Laws.Taken.{taken_kept}
 use Rattle.smp_stratcube.specs.Laws.Units.{fractional_in, order_apart, order_going, order_place}
 use Rattle.smp_stratcube.proofs.Ahead.{order_rises}
 use Rattle.smp_stratcube.proofs.Alone.{alone_in}
-use Rattle.smp_stratcube.proofs.Balances.{IsInFlight, kept_by, started_flying, stays_by, strat_start}
+use Rattle.smp_moves.proofs.Flights.{IsInFlight}
+use Rattle.smp_stratcube.proofs.Balances.{kept_by, started_flying, stays_by, strat_start}
 use Rattle.smp_stratcube.proofs.Landed.{drop_at}
 use Rattle.smp_stratcube.proofs.Pairing.{AreApart, apart}
 use Rattle.smp_stratcube.proofs.StratumSums.{NoneOpen, alone_never, counted, kept_sum, paired_sum, stratum_sum, total_is}

@@ -4,14 +4,14 @@ use Rattle.std.specs.Prelude.{ℕ, cond, nat_eq, nat_lt, length}
 use Rattle.smp_fractions.specs.Fractions.{Fraction, whole, integer, times, inverse, sum_below}
 use Rattle.smp_kernel.specs.Vectors.{entry}
 use Rattle.smp_moves.specs.Balances as moves
-use Rattle.smp_moves.specs.Cubes as cubes
 use Rattle.smp_moves.specs.Cubes.{HasIndependentColumns, left_in, rows_in, values_in}
 use Rattle.smp_moves.specs.Moves.{fraction_of}
 use Rattle.smp_moves.specs.Owed.{Weighed, balance_of}
 use Rattle.smp_stratcube.specs.Units.{Units, column, share, stratum}
-use Rattle.smp_stratcube.specs.Values.{fractional_count, value}
+use Rattle.smp_stratcube.specs.Values.{fractional_count, fractional_units, value}
 use Rattle.smp_stratcube.specs.States.{Balancing}
-use Rattle.smp_stratcube.specs.Moves.{IsTooWide, Stepping}
+use Rattle.smp_moves.specs.Steps.{IsStuck}
+use Rattle.smp_stratcube.specs.Moves.{Stepping}
 use Rattle.smp_stratcube.specs.Steps.{stepping}
 use Rattle.smp_stratcube.specs.Cube.{cube_by, tree_by}
 
@@ -33,10 +33,6 @@ addend units row k =
 abbrev pub target : Units → ℕ → Fraction
 target units row = sum_below (length units.members) (addend units row)
 
--- no direction is left, or the next step doesn't fit: a number of the search, or of the move that it found, passes its gate
-abbrev pub IsStuck : Units → Balancing → Type 0
-IsStuck units = cubes.IsStuck (cube_by stepping units) (IsTooWide units)
-
 -- The total of a row at a state is the sum of what each unit counts for, times its value: in the tree by such steps, and in that of the
 -- cube. Of no units is it said here that their numbers are narrow.
 abbrev pub weighed_by : Stepping → Units → Weighed Balancing
@@ -51,7 +47,7 @@ weighed_by steps units = record {
   expanded = expanded units;
   known = target units;
   independent = HasIndependentColumns (cube_by steps units);
-  stuck = IsStuck units;
+  stuck = λ s. IsStuck (cube_by steps units) (fractional_units (values_in s)) s;
   narrow = ⊥;
 }
 

@@ -5,10 +5,10 @@ use Rattle.smp_split.specs.Trees.{Tree}
 use Rattle.smp_moves.specs.Cubes as cubes
 use Rattle.smp_moves.specs.Cubes.{Cube}
 use Rattle.smp_stratcube.specs.declared.values.Value.{Value}
-use Rattle.smp_stratcube.specs.Units.{Units, columns_of}
+use Rattle.smp_stratcube.specs.Units.{Units}
 use Rattle.smp_stratcube.specs.Values.{fractional_count, fractional_units, is_fractional, is_one, value_at}
 use Rattle.smp_stratcube.specs.States.{Balancing}
-use Rattle.smp_stratcube.specs.Moves.{Stepping}
+use Rattle.smp_stratcube.specs.Moves.{Stepping, next_by, setting_of}
 use Rattle.smp_stratcube.specs.Steps.{stepping}
 use Rattle.smp_stratcube.specs.Pairs.{paired_kind, paired_parts}
 
@@ -19,8 +19,9 @@ cube_by steps units = record {
   value_at = value_at;
   is_one = is_one;
   is_fractional = is_fractional;
+  fractional_units = fractional_units;
   fractional_count = fractional_count;
-  columns = λ values. columns_of units (fractional_units values);
+  setting = setting_of units;
   end_at = steps.end_at units;
   pair_kind = paired_kind units;
   pair_parts = paired_parts units;
@@ -28,7 +29,7 @@ cube_by steps units = record {
 
 -- the draw tree of the cube over all strata of these units, by such steps
 abbrev pub tree_by : Stepping → Units → Tree Balancing
-tree_by steps units = cubes.tree_by (cube_by steps units) (steps.next units)
+tree_by steps units = cubes.tree_by (cube_by steps units) (next_by steps units)
 
 -- the draw tree of the cube over all strata of these units, by the steps of the cube
 abbrev pub strat_tree : Units → Tree Balancing

@@ -5,13 +5,14 @@ use Rattle.smp_split.specs.Trees.{Lawful}
 use Rattle.smp_stratcube.specs.Units.{Units, IsUnits}
 use Rattle.smp_stratcube.specs.States.{Flight, IsBalancing, IsFlying, IsPairing, started}
 use Rattle.smp_stratcube.specs.Steps.{stepping}
-use Rattle.smp_stratcube.specs.Moves.{IsNext}
+use Rattle.smp_stratcube.specs.Moves.{next_by, setting_of}
 use Rattle.smp_stratcube.specs.Cube.{strat_tree}
 use Rattle.smp_stratcube.specs.declared.values.Value.{Value}
 use Rattle.smp_stratcube.specs.Values.{fractional_units}
 use Rattle.smp_stratcube.specs.Pairs.{IsPairOf, first_pair}
 use Rattle.smp_stratcube.specs.Balances.{IsBalanced}
 use Rattle.smp_stratcube.specs.Counts.{HasCounts}
+use Rattle.smp_moves.specs.Steps.{IsNext}
 
 -- each split is lawful
 abbrev pub EachLawful : Type 0
@@ -27,11 +28,14 @@ EachCounted = (units : Units) → IsUnits units → HasCounts units (started uni
 
 -- the step of a state has the properties of a step
 abbrev pub EachNext : Type 0
-EachNext = (units : Units) (f : Flight) → IsFlying units f → IsNext units f (stepping.next units f)
+EachNext =
+    (units : Units) (f : Flight) → IsFlying units f → IsNext (setting_of units) f (fractional_units f.values) (next_by stepping units f)
 
 -- and no other has
 abbrev pub OneNext : Type 0
-OneNext = (units : Units) (f : Flight) → IsFlying units f → (a b : Next) → IsNext units f a → IsNext units f b → a ≡ b
+OneNext =
+    (units : Units) (f : Flight) → IsFlying units f → (a b : Next) → IsNext (setting_of units) f (fractional_units f.values) a →
+    IsNext (setting_of units) f (fractional_units f.values) b → a ≡ b
 
 -- the pair of a pivotal step is the first two fractional units of the first stratum that has two
 abbrev pub EachPair : Type 0

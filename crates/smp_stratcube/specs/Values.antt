@@ -1,14 +1,14 @@
 -- Values of units in lowest terms. With each stands whether a move has changed it.
 use Rattle.std.specs.Prelude.{◌≡◌, ℕ, ◌*◌, ◌/◌, ◌≤◌, Bool, true, false, cond, nat_eq, List, [], ◌∷◌}
-use Rattle.std.specs.Prelude.{length, map, fold, filter, slice_index, slice_index_or}
+use Rattle.std.specs.Prelude.{length, map, filter, slice_index, slice_index_or}
 use Rattle.std.specs.List.{count_by, range_with_len}
 use Rattle.std.specs.Int.{IsGcd}
 use Rattle.smp_fractions.specs.Fractions.{Fraction}
-use Rattle.smp_prob.specs.Given.{least_multiple}
 use Rattle.smp_prob.specs.Shares.{Shares}
 use Rattle.smp_values.specs.Values.{fractional}
 use Rattle.smp_moves.specs.Ends.{lowest}
 use Rattle.smp_moves.specs.Moves.{fraction_of}
+use Rattle.smp_moves.specs.Steps.{common_multiple}
 use Rattle.smp_stratcube.specs.declared.values.Value.{Value}
 use Rattle.smp_stratcube.specs.Units.{Units, first, stratum}
 
@@ -45,10 +45,6 @@ abbrev pub is_settled : List Value → Bool
 is_settled values = nat_eq (fractional_count values) 0
 
 -- ---- common denominators
-
--- the least common multiple of some numbers, 1 where there are none
-abbrev pub common_multiple : List ℕ → ℕ
-common_multiple numbers = fold least_multiple 1 numbers
 
 -- the values as numerators over a multiple of their denominators
 abbrev pub over_common : ℕ → List Value → Shares

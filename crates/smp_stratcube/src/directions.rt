@@ -5,11 +5,12 @@ ghost use Rattle.std.specs.Prelude.{unsigned_abs};
 ghost use Rattle.std.specs.List.{All};
 ghost use Rattle.smp_fractions.specs.Limits.{most_denominator, most_entry, number_limit};
 ghost use Rattle.smp_kernel.specs.Vectors.{IsZero, Within, entry};
-ghost use Rattle.smp_stratcube.specs.Units.{IsUnits, columns_of};
-ghost use Rattle.smp_stratcube.specs.Moves.{product, scale_of, scaled, signed};
-ghost use Rattle.smp_stratcube.specs.Values.{common_multiple};
+ghost use Rattle.smp_stratcube.specs.Units.{IsUnits, columns_of, share};
+ghost use Rattle.smp_moves.specs.Steps.{product, signed};
+ghost use Rattle.smp_moves.specs.Steps.{common_multiple};
 ghost use Rattle.smp_stratcube.specs.Kept.Gates.{IsSome, held};
 ghost use Rattle.smp_stratcube.specs.Kept.Lines.{AreInside, AreParts, IsLineOf, IsPart, direction_fits, over, part};
+ghost use Rattle.smp_moves.specs.Steps.{scale_of, scaled};
 
 use crate::fronts::Front;
 use crate::units::Units;
@@ -110,7 +111,7 @@ pub(crate) fn direction(units: &Units, front: &Front, factors: &Factors) -> Opti
     requires small { (j : ℕ) → unsigned_abs (entry factors.now.w j) ≤ most_entry }
     requires some { let number = factors.now.number in
         let prefix = take number front.now.units in let w = take number factors.now.w in
-        ¬ (IsZero (scaled units.now (scale_of units.now prefix w) prefix w)) }
+        ¬ (IsZero (scaled (share units.now) (scale_of (share units.now) prefix w) prefix w)) }
     ensures { let number = factors.now.number in
         let prefix = take number front.now.units in let w = take number factors.now.w in
         MatchOption result

@@ -1,14 +1,19 @@
 -- One step of the flight phase as the code goes: along the circuit that a search finds.
-use Rattle.std.specs.Prelude.{ℕ, nat_le, ◌&&◌, Bool, if◌then◌else◌, List, ℤ, length, take}
+use Rattle.std.specs.Prelude.{ℕ, nat_le, ◌&&◌, Bool, if◌then◌else◌, List, [], ◌∷◌, ℤ, pos, ◌*ℤ◌, length, take}
 use Rattle.smp_fractions.specs.Limits.{most_denominator}
 use Rattle.smp_kernel.specs.Searches.{Search, found, none, too_wide}
 use Rattle.smp_kernel.specs.Reduced.{primitive_part}
 use Rattle.smp_prob.specs.Shares.{Shares}
-use Rattle.smp_flight.specs.States.{Units, Flight, columns_of}
+use Rattle.smp_flight.specs.States.{Units, Flight, columns_of, size}
 use Rattle.smp_moves.specs.Moves.{Line, Next, move, independent, wide, turned}
 use Rattle.smp_moves.specs.Ends.{entries_fit, end_of, move_along}
 use Rattle.smp_moves.specs.Kept.Searches.{search}
-use Rattle.smp_flight.specs.Moves.{sized}
+
+-- the size of each unit times its factor
+abbrev pub sized : Units → List ℕ → List ℤ → List ℤ
+sized units [] w = []
+sized units (k ∷ order) [] = []
+sized units (k ∷ order) (f ∷ w) = (pos (size units k) *ℤ f) ∷ sized units order w
 
 -- the direction of the circuit w of the first of these units
 abbrev pub direction : Units → List ℕ → List ℤ → Line

@@ -17,6 +17,7 @@ use Rattle.smp_flight.specs.Kept.Windows.{is_in}
 use Rattle.smp_flight.specs.Selections.{IsWholeOrder}
 use Rattle.smp_moves.proofs.Entries.{frame_order}
 use Rattle.smp_flight.proofs.Firsts.{contains_in, in_contains}
+use Rattle.smp_flight.proofs.Free.{in_filter, out_filter}
 use Rattle.smp_flight.proofs.WholeOrders.{in_order_going}
 use Rattle.smp_flight.proofs.Windowed.{in_append_left, in_append_right, in_at, in_one}
 use Rattle.smp_localcube.specs.Local.{front_of, is_one_of, is_untouched, order_around, untouched}
@@ -30,32 +31,6 @@ same_truth false false to from = refl
 
 pub all_in : (P : ℕ → Type 0) (xs : List ℕ) → ((k : ℕ) → is_in xs k ≡ true → P k) → All P xs
 all_in P xs h j d l = subst P (get_or_default xs j 0 d l) (h (get_or xs j 0) (in_at xs j l))
-
-module _ (p : ℕ → Bool) where
-  pub filter_in : (xs : List ℕ) (k : ℕ) → is_in (filter p xs) k ≡ true → (is_in xs k ≡ true) × (p k ≡ true)
-  filter_in [] k h = absurd (true≢false (sym h))
-  filter_in (x ∷ xs) k h =
-      elim (cases_Bool (p x)) [
-        | inr e ↦ (let rest = filter_in xs k (rw e at h) in (or_right (nat_eq x k) (is_in xs k) rest.0, rest.1))
-        | inl e ↦ elim (cases_eq x k) [
-          | inl same ↦ (or_left (nat_eq x k) (is_in xs k) (eq-eqb x k same), subst (λ (u : ℕ). p u ≡ true) same e)
-          | inr ne ↦ (let rest = filter_in xs k (rw (e, ne_eqb x k ne) at h) in (or_right (nat_eq x k) (is_in xs k) rest.0, rest.1))
-        ]
-      ]
-
-  pub in_filter : (xs : List ℕ) (k : ℕ) → is_in xs k ≡ true → p k ≡ true → is_in (filter p xs) k ≡ true
-  in_filter [] k h t = absurd (true≢false (sym h))
-  in_filter (x ∷ xs) k h t =
-      elim (cases_eq x k) [
-        | inl same ↦ (let here : p x ≡ true = subst (λ (u : ℕ). p u ≡ true) (sym same) t in
-            rw here (or_left (nat_eq x k) (is_in (filter p xs) k) (eq-eqb x k same)))
-        | inr ne ↦
-            (let rest : is_in (filter p xs) k ≡ true = in_filter xs k (rw (ne_eqb x k ne) at h) t in
-            elim (cases_Bool (p x)) [
-              | inl e ↦ rw e (or_right (nat_eq x k) (is_in (filter p xs) k) rest)
-              | inr e ↦ rw e rest
-            ])
-      ]
 
 -- tests that agree on each member
 pub filter_same : (p q : ℕ → Bool) (xs : List ℕ) → ((k : ℕ) → is_in xs k ≡ true → p k ≡ q k)
@@ -73,7 +48,7 @@ filter_same p q (x ∷ xs) h =
 pub filter_again : (p : ℕ → Bool) (xs : List ℕ) → filter p xs ≡ filter (is_one_of (filter p xs)) xs
 filter_again p xs =
     filter_same p (is_one_of (filter p xs)) xs
-    (λ k h. same_truth (p k) (is_one_of (filter p xs) k) (λ t. in_filter p xs k h t) (λ t. (filter_in p xs k t).1))
+    (λ k h. same_truth (p k) (is_one_of (filter p xs) k) (λ t. in_filter p xs k h t) (λ t. (out_filter p xs k t).1))
 
 pub filter_none : (xs : List ℕ) → [] ≡ filter (is_one_of []) xs
 filter_none [] = refl
@@ -163,7 +138,7 @@ pub carried_going : (s : Shares) (touched : List ℕ) → touched ≡ filter (is
 carried_going s touched are k h =
     let there : is_in (filter (is_one_of touched) (fractional_units s)) k ≡ true =
     subst (λ (us : List ℕ). is_in us k ≡ true) are h in
-    in_order_going s (fractional_units s) (frame_order s) k (filter_in (is_one_of touched) (fractional_units s) k there).0
+    in_order_going s (fractional_units s) (frame_order s) k (out_filter (is_one_of touched) (fractional_units s) k there).0
 
 -- ---- the whole order
 

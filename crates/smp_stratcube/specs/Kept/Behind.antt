@@ -4,7 +4,7 @@ use Rattle.std.specs.List.{filter, range_with_len}
 use Prim.Native.Nat.{◌∣◌}
 use Rattle.smp_stratcube.specs.declared.units.Member.{Member}
 use Rattle.smp_stratcube.specs.Units.{nobody}
-use Rattle.smp_stratcube.specs.Laws.Multiples.{AllDivide}
+use Rattle.smp_moves.proofs.Multiples.{AllDivide}
 
 -- a least common multiple of some numbers
 pub record IsLeastOf (numbers : List ℕ) (m : ℕ) : Type 0 where

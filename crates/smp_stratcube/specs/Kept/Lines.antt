@@ -10,8 +10,9 @@ use Rattle.smp_moves.specs.Kept.Ends.{HasSmallEntries}
 use Rattle.smp_moves.specs.declared.lines.Line.{Line as LineOfPlaces}
 use Rattle.smp_stratcube.specs.declared.fronts.Front.{Front}
 use Rattle.smp_stratcube.specs.Units.{Units, share}
-use Rattle.smp_stratcube.specs.Kept.Computed.{direction_on}
-use Rattle.smp_stratcube.specs.Moves.{product, scale_of}
+use Rattle.smp_moves.specs.Steps.{product}
+use Rattle.smp_moves.specs.Steps.{scale_of}
+use Rattle.smp_moves.specs.Kept.Computed.{direction_on}
 
 -- the units of a front are among so many
 pub record AreInside (count : ℕ) (front : Front) : Type 0 where
@@ -42,11 +43,11 @@ over r den = r.num * (den / r.den)
 -- the common denominator of the products and the entries of the direction fit
 abbrev pub direction_fits : Units → List ℕ → List ℤ → Bool
 direction_fits units prefix w =
-    nat_le (scale_of units prefix w) most_denominator && entries_fit (direction_on units prefix w)
+    nat_le (scale_of (share units) prefix w) most_denominator && entries_fit (direction_on (share units) prefix w)
 
 -- the direction at these units, which fits
 pub record IsLineOf (units : Units) (prefix : List ℕ) (w : List ℤ) (line : LineOfPlaces) : Type 0 where
-  pub is : line_of line ≡ direction_on units prefix w
+  pub is : line_of line ≡ direction_on (share units) prefix w
   pub fits : direction_fits units prefix w ≡ true
   pub padded : IsPadded line
   pub small : HasSmallEntries line

@@ -20,10 +20,11 @@ use Rattle.smp_stratcube.specs.declared.steps.Next.TheVariants as answers
 use Rattle.smp_stratcube.specs.Units.{Units}
 use Rattle.smp_stratcube.specs.Values.{AreValues, over_common, value}
 use Rattle.smp_stratcube.specs.States.{Flight}
-use Rattle.smp_stratcube.specs.Kept.Computed.{chosen, next, next_along}
-use Rattle.smp_stratcube.specs.Moves.{line_common}
+use Rattle.smp_stratcube.specs.Kept.Computed.{chosen, next}
+use Rattle.smp_stratcube.specs.Moves.{line_common, setting_of}
 use Rattle.smp_stratcube.specs.Kept.Fronts.{front_units}
 use Rattle.smp_stratcube.specs.Kept.Gates.{gathered}
+use Rattle.smp_moves.specs.Kept.Computed.{next_along}
 
 -- the value at the end of a line, of a unit whose entry there is e
 abbrev pub moved_value : Value → ℕ → Reach → ℤ → Value
@@ -57,10 +58,10 @@ end_gathered units values front line den r =
 
 -- a move of a state's next step, with what is known of its line
 pub record IsMoveOf (units : Units) (f : Flight) (m : Move) : Type 0 where
-  pub next : next units f ≡ move (next_along units f.values (line_of m.line))
+  pub next : next units f ≡ move (next_along (setting_of units) f.values (line_of m.line))
   pub den : m.den ≡ line_common units f.values (line_of m.line).units
-  pub plus : m.plus_weight ≡ (next_along units f.values (line_of m.line)).plus_weight
-  pub minus : m.minus_weight ≡ (next_along units f.values (line_of m.line)).minus_weight
+  pub plus : m.plus_weight ≡ (next_along (setting_of units) f.values (line_of m.line)).plus_weight
+  pub minus : m.minus_weight ≡ (next_along (setting_of units) f.values (line_of m.line)).minus_weight
   pub up : IsAlong (length units.members) f.values m.line m.den m.up
   pub down : m.down ≡ reach (over_common m.den f.values) (turned (line_of m.line))
 
@@ -72,4 +73,4 @@ IsStep units f answers.Wide = next units f ≡ wide
 
 -- the values at the end that is chosen
 pub record HasGone (units : Units) (f : Flight) (m : Move) (plus : Bool) (new : List Value) : Type 0 where
-  pub is : new ≡ (chosen units f (next_along units f.values (line_of m.line)) plus).values
+  pub is : new ≡ (chosen units f (next_along (setting_of units) f.values (line_of m.line)) plus).values

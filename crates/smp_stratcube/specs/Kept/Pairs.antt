@@ -6,7 +6,8 @@ use Rattle.smp_moves.specs.Ends.{lowest}
 use Rattle.smp_stratcube.specs.declared.fronts.Front.{Front}
 use Rattle.smp_stratcube.specs.declared.values.Value.{Value}
 use Rattle.smp_stratcube.specs.Units.{Units, stratum}
-use Rattle.smp_stratcube.specs.Values.{common_multiple, over_common, stratum_common, value}
+use Rattle.smp_stratcube.specs.Values.{over_common, stratum_common, value}
+use Rattle.smp_moves.specs.Steps.{common_multiple}
 use Rattle.smp_stratcube.specs.Kept.Fronts.{front_units}
 
 -- the least common denominator of the values of these units that are of a stratum

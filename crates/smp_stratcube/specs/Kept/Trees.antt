@@ -9,7 +9,7 @@ use Rattle.smp_stratcube.specs.Units.{Units}
 use Rattle.smp_stratcube.specs.States.{Balancing, Flight}
 use Rattle.smp_moves.specs.Cubes as cubes
 use Rattle.smp_stratcube.specs.Cube.{cube_by, tree_by}
-use Rattle.smp_stratcube.specs.Moves.{Stepping}
+use Rattle.smp_stratcube.specs.Moves.{Stepping, next_by}
 use Rattle.smp_stratcube.specs.Balances.{weighed_by}
 use Rattle.smp_stratcube.specs.Counts.{HasCountsIn}
 use Rattle.smp_stratcube.specs.Laws.Nexts.{each_step}
@@ -19,10 +19,10 @@ flight_parts units = cubes.flight_parts (cube_by each_step units)
 
 -- the kind of the step of a state, and its parts, by any `Stepping`
 abbrev pub kind_by : Stepping → Units → Balancing → Kind
-kind_by steps units = cubes.kind_by (cube_by steps units) (steps.next units)
+kind_by steps units = cubes.kind_by (cube_by steps units) (next_by steps units)
 
 abbrev pub parts_by : Stepping → Units → Balancing → List (Part Balancing)
-parts_by steps units = cubes.parts_by (cube_by steps units) (steps.next units)
+parts_by steps units = cubes.parts_by (cube_by steps units) (next_by steps units)
 
 abbrev pub strat_kind : Units → Balancing → Kind
 strat_kind = kind_by each_step

@@ -18,12 +18,16 @@ use Rattle.smp_stratcube.specs.Units.{Units, share}
 use Rattle.smp_stratcube.specs.Values.{AreValues, common_of, fractional_count, fractional_units, is_fractional, over_common, value}
 use Rattle.smp_stratcube.specs.Values.{value_at}
 use Rattle.smp_stratcube.specs.States.{Flight, IsBalancing, IsFlying}
-use Rattle.smp_stratcube.specs.Kept.Computed.{direction, moved_values, moves, next, next_along, flight_of}
-use Rattle.smp_stratcube.specs.Moves.{line_common}
+use Rattle.smp_stratcube.specs.Kept.Computed.{moved_values, moves, next, flight_of}
+use Rattle.smp_stratcube.specs.Moves.{line_common, setting_of}
 use Rattle.smp_stratcube.specs.Kept.Trees.{flight_parts, strat_tree}
 use Rattle.smp_stratcube.specs.Laws.Taken.{taken_kept, taken_moved}
 use Rattle.smp_stratcube.specs.Laws.Ends.{after_along, after_falls, after_fractional, after_values, is_over, moving, still}
-use Rattle.smp_stratcube.specs.Laws.Directions.{IsKnown, known, HasRoom, room_of, line_ok, den_some, den_divides}
+use Rattle.smp_stratcube.specs.Laws.Directions.{line_ok, den_some, den_divides}
+use Rattle.smp_moves.specs.Kept.Computed.{direction, next_along, IsKnown}
+use Rattle.smp_moves.specs.Steps.{FitsAtEnds, FitsOnLine}
+use Rattle.smp_stratcube.specs.Laws.Nexts.{owes}
+use Rattle.smp_moves.proofs.Computed.{at_ends, known, on_line}
 
 -- what holds of the end of a line
 pub record IsEnd (units : Units) (f : Flight) (line : Line) (t : Fraction) : Type 0 where
@@ -81,21 +85,24 @@ module _ (units : Units) (f : Flight) (ok : IsFlying units f) (left : ℕ) where
   values = f.values
 
   abbrev line_of : List ℤ → Line
-  line_of w = direction units (fractional_units f.values) w
+  line_of w = direction (share units) (fractional_units f.values) w
 
-  module _ (m : Move) (k : IsKnown units f m) where
+  module _ (m : Move) (k : IsKnown (setting_of units) (moved_values units) f (fractional_units f.values) m) where
     abbrev line : Line
-    line = direction units (fractional_units f.values) k.circuit
+    line = direction (share units) (fractional_units f.values) k.circuit
 
     abbrev den : ℕ
     den = line_common units f.values (take (length k.circuit) (fractional_units f.values))
 
-    room : HasRoom units f.values line (turned line)
-    room = room_of units f.values (fractional_units f.values) k.circuit k.fits
+    fit : FitsOnLine (setting_of units) f.values k.circuit line
+    fit = on_line (setting_of units) (moved_values units) f (fractional_units f.values) (owes units f ok) k.circuit k.finds k.fits
+
+    there : FitsAtEnds (setting_of units) (moved_values units f.values line) (moved_values units f.values (turned line))
+    there = at_ends (setting_of units) (moved_values units) f (fractional_units f.values) (owes units f ok) k.circuit k.finds k.fits
 
     pub line_is : IsLine (over_common (line_common units f.values
         (take (length k.circuit) (fractional_units f.values))) f.values)
-        (direction units (fractional_units f.values) k.circuit)
+        (direction (share units) (fractional_units f.values) k.circuit)
     line_is = line_ok units f ok k.circuit k.finds
 
     some : 1 ≤ den
@@ -106,20 +113,21 @@ module _ (units : Units) (f : Flight) (ok : IsFlying units f) (left : ℕ) where
     divides = den_divides units f ok k.circuit k.finds
 
     pub plus_end : IsEnd units f line (fraction_of (extent (over_common den f.values) line))
-    plus_end = is_end units f ok line some room.narrow line_is divides room.plus
+    plus_end = is_end units f ok line some fit.denominator line_is divides there.plus
 
     pub minus_end : IsEnd units f (turned line) (fraction_of (extent (over_common den f.values) (turned line)))
-    minus_end = is_end units f ok (turned line) some room.narrow (turned_line (over_common den f.values) line line_is) divides room.minus
+    minus_end = is_end units f ok (turned line) some fit.denominator
+        (turned_line (over_common den f.values) line line_is) divides there.minus
 
     abbrev along : Move
-    along = next_along units f.values line
+    along = next_along (setting_of units) f.values line
 
     even_at : (u : ℕ) → Same (plus (times (whole along.plus_weight) (value_at (moved_values units f.values line) u))
         (plus (times (whole along.minus_weight) (value_at (moved_values units f.values (turned line)) u))
         (whole 0)))
         (times (whole (along.plus_weight + (along.minus_weight + 0))) (value_at f.values u))
     even_at u =
-        let over = is_over (length units.members) f.values ok.values den some room.narrow line line_is divides in
+        let over = is_over (length units.members) f.values ok.values den some fit.denominator line line_is divides in
         let up : Fraction = fraction_of (extent (over_common den f.values) line) in
         let down : Fraction = fraction_of (extent (over_common den f.values) (turned line)) in
         let b = subst (λ (z : ℤ). Same (value_at (moved_values units f.values (turned line)) u)
@@ -131,10 +139,10 @@ module _ (units : Units) (f : Flight) (ok : IsFlying units f) (left : ℕ) where
 
     along_split : LawfulParts (strat_tree units) (IsBalancing units) (flying f left) (flight_parts units f left (move along))
     along_split =
-        let over = is_over (length units.members) f.values ok.values den some room.narrow line line_is divides in
+        let over = is_over (length units.members) f.values ok.values den some fit.denominator line line_is divides in
         let p = plus_some 1 (over_common den f.values) over line line_is in
         let q = minus_some 1 (over_common den f.values) over line line_is in
-        let small = weights_small 1 (over_common den f.values) over line line_is room.entries in
+        let small = weights_small 1 (over_common den f.values) over line line_is fit.entries in
         record {
           some = omega (arith, p);
           narrow = omega (arith, small);
@@ -151,4 +159,4 @@ module _ (units : Units) (f : Flight) (ok : IsFlying units f) (left : ℕ) where
 
   pub move_split : (m : Move) → next units f ≡ move m
       → LawfulParts (strat_tree units) (IsBalancing units) (flying f left) (flight_parts units f left (move m))
-  move_split m is = known_split m (known units f m is)
+  move_split m is = known_split m (known (setting_of units) (moved_values units) f (fractional_units f.values) m is)

@@ -14,7 +14,7 @@ use Rattle.smp_stratcube.specs.Values.{AreValues, fractional_units, is_fractiona
 use Rattle.smp_stratcube.specs.Values.{taken_over, value}
 use Rattle.smp_stratcube.specs.Pairs.{first_pair}
 use Rattle.smp_stratcube.specs.States.{IsPairing}
-use Rattle.smp_stratcube.specs.Laws.Multiples.{map_divide, multiple_most, some_map}
+use Rattle.smp_moves.proofs.Multiples.{map_divide, multiple_most, some_map}
 use Rattle.smp_stratcube.specs.Laws.Taken.{taken_divides}
 use Rattle.smp_stratcube.specs.Laws.Taken.{taken_kept, taken_moved, taken_values}
 use Rattle.smp_stratcube.specs.Laws.Units.{filter_from, filter_is, fractional_in, order_going, stratum_divides, stratum_some}

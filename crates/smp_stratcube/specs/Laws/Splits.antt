@@ -9,8 +9,6 @@ use Rattle.std.specs.Prelude.{slice_index_or}
 use Prim.Native.Nat.{◌∣◌}
 use Rattle.std.proofs.lemmas.List.{length-map}
 use Rattle.std.proofs.lemmas.List.Sums.{length-filter}
-use Rattle.smp_fractions.specs.Fractions.{whole, times}
-use Rattle.smp_fractions.proofs.Fractions.{plus-zero}
 use Rattle.smp_kernel.proofs.SearchLaw.{none_is_few}
 use Rattle.smp_split.specs.Trees.{LawfulParts, LawfulSplit, LawfulEnd, Lawful}
 use Rattle.smp_split.specs.Parts.{moved}
@@ -20,31 +18,25 @@ use Rattle.smp_moves.specs.Cubes.{dropped, flying, landed, pairing, values_in}
 use Rattle.smp_stratcube.specs.declared.values.Value.{Value}
 use Rattle.smp_stratcube.specs.Units.{Units, column, columns_of, first, stratum}
 use Rattle.smp_stratcube.specs.Values.{AreValues, common_of, fractional_count, fractional_units, is_fractional, is_settled, open_in}
-use Rattle.smp_stratcube.specs.Values.{stratum_common, value, value_at}
+use Rattle.smp_stratcube.specs.Values.{stratum_common, value}
 use Rattle.smp_stratcube.specs.States.{Balancing, Flight, IsBalancing, IsFlying, IsPairing}
-use Rattle.smp_stratcube.specs.Kept.Computed.{next}
+use Rattle.smp_stratcube.specs.Kept.Computed.{next, moved_values}
 use Rattle.smp_stratcube.specs.Pairs.{first_pair, parts_by}
 use Rattle.smp_stratcube.specs.Kept.Trees.{flight_parts, strat_tree}
-use Rattle.smp_stratcube.specs.Laws.Multiples.{map_divide, multiple_most, some_map}
+use Rattle.smp_moves.proofs.Multiples.{map_divide, multiple_most, some_map}
 use Rattle.smp_stratcube.specs.Laws.Units.{common_divides, common_some, filter_from, filter_is, fractional_in, fresh_divides, order_apart}
 use Rattle.smp_stratcube.specs.Laws.Units.{order_going, order_place}
-use Rattle.smp_stratcube.specs.Laws.Directions.{finds_none}
 use Rattle.smp_stratcube.specs.Laws.Moves.{move_split}
 use Rattle.smp_stratcube.specs.Laws.Meetings.{meeting_split}
 use Rattle.smp_stratcube.specs.Laws.Pairs.{pair_found}
 use Rattle.smp_stratcube.specs.Laws.Settlings.{settling_split}
+use Rattle.smp_moves.proofs.Computed.{finds_none}
+use Rattle.smp_moves.proofs.Flights.{lone_split}
+use Rattle.smp_stratcube.specs.Cube.{cube_by}
+use Rattle.smp_stratcube.specs.Laws.Nexts.{each_step}
+use Rattle.smp_stratcube.specs.Moves.{setting_of}
 
--- ---- one part with the same values
-
-lone_split : (units : Units) (s t : Balancing) → values_in t ≡ values_in s
-    → (strat_tree units).rank t < (strat_tree units).rank s → IsBalancing units t →
-    LawfulParts (strat_tree units) (IsBalancing units) s (record { weight = 1; state = t } ∷ [])
-lone_split units s t same falls member = record {
-  some = omega arith;
-  narrow = omega arith;
-  each = (record { heavy = omega arith; falls = falls; member = member }, tt);
-  even = λ k _. rw same (plus-zero (times (whole 1) (value_at (values_in s) k)));
-}
+-- ---- where no direction is left
 
 pub order_count : (values : List Value) → length (fractional_units values) ≡ fractional_count values
 order_count values = length-filter (is_fractional values) (range_with_len 0 (length values))
@@ -53,7 +45,8 @@ module _ (units : Units) (f : Flight) (ok : IsFlying units f) where
   pub few_fractional : next units f ≡ independent → fractional_count f.values ≤ f.rows
   few_fractional is =
       let few : length (columns_of units (fractional_units f.values)) ≤ f.rows =
-      none_is_few f.rows (columns_of units (fractional_units f.values)) (finds_none units f is) in
+      none_is_few f.rows (columns_of units (fractional_units f.values))
+      (finds_none (setting_of units) (moved_values units) f (fractional_units f.values) is) in
       omega (arith, few, length-map (fractional_units f.values) (column units), order_count f.values)
 
   -- so where units are fractional, some row is in force
@@ -147,16 +140,23 @@ module _ (units : Units) (f : Flight) (ok : IsFlying units f) where
   wide_pairing = record { are = ok.are; values = ok.values; fresh = ok.fresh; narrow = narrow_at }
 
   dropped_flight : IsFlying units (dropped f)
-  dropped_flight = record { are = ok.are; fixed_is = ok.fixed_is; values = ok.values; fresh = ok.fresh; narrow = ok.narrow; rows_in = omega (arith, ok.rows_in) }
+  dropped_flight = record {
+    are = ok.are;
+    fixed_is = ok.fixed_is;
+    values = ok.values;
+    fresh = ok.fresh;
+    narrow = ok.narrow;
+    rows_in = omega (arith, ok.rows_in);
+  }
 
   pub split_by : (left : ℕ) → is_settled f.values ≡ false → (a : Next) → next units f ≡ a
       → LawfulParts (strat_tree units) (IsBalancing units) (flying f left) (flight_parts units f left a)
   split_by left going (move m) is = move_split units f ok left m is
   split_by left going independent is =
       let some = some_row is going in
-      lone_split units (flying f left) (flying (dropped f) (landed (fractional_count f.values) left)) refl
+      lone_split (cube_by each_step units) (next units) (IsBalancing units) (flying f left) (flying (dropped f) (landed (fractional_count f.values) left)) refl
       (omega (arith, some)) dropped_flight
-  split_by left going wide is = lone_split units (flying f left)
+  split_by left going wide is = lone_split (cube_by each_step units) (next units) (IsBalancing units) (flying f left)
       (pairing f.values (landed (fractional_count f.values) left)) refl (omega arith) wide_pairing
 
 -- ---- the pivotal steps

@@ -18,8 +18,8 @@ use Rattle.smp_stratcube.specs.Values.{AreValues, common_of, denominators, fract
 use Rattle.smp_stratcube.specs.Values.{open_in, stratum_common, touched_units, value}
 use Rattle.smp_stratcube.specs.States.{Flight, IsFlying}
 use Rattle.smp_stratcube.specs.Moves.{line_common}
-use Rattle.smp_stratcube.specs.Laws.Multiples.{AllSome, AllDivide, multiple_some, multiple_each, some_append, divide_append, some_map}
-use Rattle.smp_stratcube.specs.Laws.Multiples.{divide_map}
+use Rattle.smp_moves.proofs.Multiples.{AllSome, AllDivide, multiple_some, multiple_each, some_append, divide_append, some_map}
+use Rattle.smp_moves.proofs.Multiples.{divide_map}
 
 -- ---- elements that pass a test
 

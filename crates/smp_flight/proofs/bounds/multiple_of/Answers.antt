@@ -3,6 +3,7 @@ use Rattle.std.proofs.lemmas.Bool.{cases_eq}
 use Rattle.std.proofs.lemmas.Nat.Gcd.{dvd_refl, dvd_trans}
 use Prim.Native.Nat.{◌∣◌}
 use Rattle.smp_prob.specs.Shares.{Shares}
+use Rattle.smp_flight.specs.Kept.Narrow.{IsLeastBelow}
 use Rattle.smp_flight.specs.States.{size}
 use Rattle.smp_flight.proofs.bounds.multiple_of.Goals as goal
 
@@ -11,7 +12,12 @@ loop-unit-init c =
     let same : c.denominator-multiple.result ≡ c.args.shape.now.requested.den = c.denominator-multiple.ensures ∙ ap (λ (s : Shares). s.den) c.requested.ensures in
     let P : ℕ → Type 0 = λ x. c.args.shape.now.requested.den ∣ x in
     let some = c.rows.ensures.are.requested.positive in
-    record { so_far = record { some = omega (arith, some, same); of_denominator = subst P (sym same) (dvd_refl c.args.shape.now.requested.den); of_sizes = λ k l. absurd (omega (arith, l)) } }
+    record {
+      so_far = record {
+        common = record { some = omega (arith, some, same); of_denominator = subst P (sym same) (dvd_refl c.args.shape.now.requested.den); of_sizes = λ k l. absurd (omega (arith, l)) };
+        divides = λ other common. (let Q : ℕ → Type 0 = λ x. x ∣ other in subst Q (sym same) common.of_denominator);
+      };
+    }
 
 pub size-requires : goal.size-requires
 size-requires c =
@@ -19,7 +25,7 @@ size-requires c =
     omega (arith, c.loop-unit-test.true, c.len-unit-end.ensures, same, c.rows.ensures.are.requested.count)
 
 pub lcm_within-requires-clause-first : goal.lcm_within-requires-clause-first
-lcm_within-requires-clause-first c = c.loop-unit.invariant.so_far.some
+lcm_within-requires-clause-first c = c.loop-unit.invariant.so_far.common.some
 
 pub lcm_within-requires-clause-second : goal.lcm_within-requires-clause-second
 lcm_within-requires-clause-second c =
@@ -32,23 +38,45 @@ lcm_within-requires-clause-second c =
 pub loop-unit-preserved : goal.loop-unit-preserved
 loop-unit-preserved c =
     let s = c.loop-unit.invariant.so_far in
-    let l = c.in_ok-multiple.ensures.least.common in
+    let least = c.in_ok-multiple.ensures.least in
+    let l = least.common in
     let fits : SFits w32 c.size.result = search rules in
     let here : size c.args.shape.now c.loop-unit.unit ∣ c.in_ok-multiple.multiple = rw (to_z-of_z fits, c.size.ensures) at l.second in
     record {
       so_far = record {
-        some = l.positive;
-        of_denominator = dvd_trans c.args.shape.now.requested.den s.of_denominator l.first;
-        of_sizes = λ k m. elim (cases_eq k c.loop-unit.unit) [
-          | inl e ↦ subst (λ (x : ℕ). size c.args.shape.now x ∣ c.in_ok-multiple.multiple) (sym e) here
-          | inr ne ↦ dvd_trans (size c.args.shape.now k) (s.of_sizes k (omega (arith, m, ne))) l.first
-        ];
+        common = record {
+          some = l.positive;
+          of_denominator = dvd_trans c.args.shape.now.requested.den s.common.of_denominator l.first;
+          of_sizes = λ k m. elim (cases_eq k c.loop-unit.unit) [
+            | inl e ↦ subst (λ (x : ℕ). size c.args.shape.now x ∣ c.in_ok-multiple.multiple) (sym e) here
+            | inr ne ↦ dvd_trans (size c.args.shape.now k) (s.common.of_sizes k (omega (arith, m, ne))) l.first
+          ];
+        };
+        divides = λ other common. least.least other (record {
+          positive = common.some;
+          first = s.divides other (record { some = common.some; of_denominator = common.of_denominator; of_sizes = λ k m. common.of_sizes k (omega (arith, m)) });
+          second = rw (to_z-of_z fits, c.size.ensures) (common.of_sizes c.loop-unit.unit (omega arith));
+        });
       };
     }
 
-pub returns : goal.returns
-returns c =
+pub returns-in_err-multiple-clause-none : goal.returns-in_err-multiple-clause-none
+returns-in_err-multiple-clause-none c =
     let same : length c.requested-2.result.now.numer ≡ length c.args.shape.now.requested.numer = ap (λ (s : Shares). length s.numer) c.requested-2.ensures in
-    let all : length c.args.shape.now.sizes ≤ c.loop-unit.unit = omega (arith, c.loop-unit-test.false, c.len-unit-end.ensures, same, c.rows.ensures.are.requested.count) in
+    let here : c.loop-unit.unit < length c.args.shape.now.sizes = omega (arith, c.loop-unit-test.true, c.len-unit-end.ensures, same, c.rows.ensures.are.requested.count) in
+    let fits : SFits w32 c.size.result = search rules in
     let s = c.loop-unit.invariant.so_far in
-    record { some = s.some; of_denominator = s.of_denominator; of_sizes = λ k l. s.of_sizes k (omega (arith, l, all)) }
+    rw c.from_residual.ensures (λ m common.
+    c.in_err-multiple.ensures.passes m (record {
+      positive = common.some;
+      first = s.divides m (record { some = common.some; of_denominator = common.of_denominator; of_sizes = λ k l. common.of_sizes k (omega (arith, l, here)) });
+      second = rw (to_z-of_z fits, c.size.ensures) (common.of_sizes c.loop-unit.unit here);
+    }))
+
+pub returns-clause-some : goal.returns-clause-some
+returns-clause-some c =
+    let same : length c.requested-2.result.now.numer ≡ length c.args.shape.now.requested.numer = ap (λ (s : Shares). length s.numer) c.requested-2.ensures in
+    let all : c.loop-unit.unit ≡ length c.args.shape.now.sizes = omega (arith, c.loop-unit-test.false, c.len-unit-end.ensures, same, c.rows.ensures.are.requested.count) in
+    let s = c.loop-unit.invariant.so_far in
+    let P : ℕ → Type 0 = λ n. IsLeastBelow c.args.shape.now n c.loop-unit.multiple in
+    subst P all s

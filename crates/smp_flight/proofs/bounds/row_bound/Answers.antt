@@ -8,7 +8,7 @@ use Rattle.smp_flight.specs.States.{column, row_count}
 use Rattle.smp_flight.proofs.bounds.row_bound.Goals as goal
 
 pub loop-unit-init : goal.loop-unit-init
-loop-unit-init c = record { so_far = record { some = omega arith; each = λ k l. absurd (omega (arith, l)); signs = λ k l. absurd (omega (arith, l)) } }
+loop-unit-init c = record { so_far = record { some = omega arith; each = λ k l. absurd (omega (arith, l)); signs = λ k l. absurd (omega (arith, l)); least = λ other some small. some } }
 
 pub column-requires : goal.column-requires
 column-requires c =
@@ -42,12 +42,35 @@ loop-unit-preserved c =
           | inl e ↦ rw (e, here) (omega (arith, ints, sign))
           | inr ne ↦ s.signs k (omega (arith, l, ne))
         ];
+        least = λ other one each.
+            (let last : unsigned_abs (entry (column c.args.shape.now c.loop-unit.unit) c.args.row) ≤ other = each c.loop-unit.unit (omega arith) in
+            let last_here = rw here at last in
+            let before = s.least other one (λ k l. each k (omega (arith, l))) in
+            omega (arith, c.max-most.ensures, size, last_here, before));
       };
     }
 
-pub returns : goal.returns
-returns c =
+pub returns-clause-some : goal.returns-clause-some
+returns-clause-some c =
     let same : length c.requested.result.now.numer ≡ length c.args.shape.now.requested.numer = ap (λ (s : Shares). length s.numer) c.requested.ensures in
-    let all : length c.args.shape.now.sizes ≤ c.loop-unit.unit = omega (arith, c.loop-unit-test.false, c.len-unit-end.ensures, same, c.rows.ensures.are.requested.count) in
+    let all : c.loop-unit.unit ≡ length c.args.shape.now.sizes = omega (arith, c.loop-unit-test.false, c.len-unit-end.ensures, same, c.rows.ensures.are.requested.count) in
     let s = c.loop-unit.invariant.so_far in
-    record { some = s.some; each = λ k l. s.each k (omega (arith, l, all)); signs = λ k l. s.signs k (omega (arith, l, all)) }
+    record {
+      some = s.some;
+      each = λ k l. s.each k (omega (arith, l, all));
+      signs = λ k l. s.signs k (omega (arith, l, all));
+      least = λ other one each. s.least other one (λ k l. each k (omega (arith, l, all)));
+    }
+
+pub returns-then-number-lt0-clause-none : goal.returns-then-number-lt0-clause-none
+returns-then-number-lt0-clause-none c =
+    let same : length c.requested.result.now.numer ≡ length c.args.shape.now.requested.numer = ap (λ (s : Shares). length s.numer) c.requested.ensures in
+    let fits : SFits w32 (get_or c.column.result c.args.row (pos 0)) = search rules in
+    let sign = rw (to_z-of_z fits) at c.if-number-lt0.true in
+    let here : entry (column c.args.shape.now c.loop-unit.unit) c.args.row ≡ get_or c.column.result c.args.row (pos 0) =
+    ap (λ xs. entry xs c.args.row) (sym c.column.ensures.is) ∙ get_or-take (row_count c.args.shape.now) c.column.result c.args.row (pos 0) c.requires in
+    record {
+      unit = c.loop-unit.unit;
+      among = omega (arith, c.loop-unit-test.true, c.len-unit-end.ensures, same, c.rows.ensures.are.requested.count);
+      below = omega (arith, ints, here, sign);
+    }

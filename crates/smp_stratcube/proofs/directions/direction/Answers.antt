@@ -3,16 +3,17 @@ use Rattle.std.proofs.lemmas.Bool.{cases_lt}
 use Rattle.std.proofs.lemmas.List.{get_or_past}
 use Rattle.smp_kernel.specs.Vectors.{entry, IsZero}
 use Rattle.smp_moves.proofs.FirstPlaces.{past_reduced, zero_front}
-use Rattle.smp_stratcube.specs.Moves.{scale_of, scaled}
 use Rattle.smp_stratcube.proofs.Directed.{direction_is, direction_long, direction_within, row_is, row_wide}
 use Rattle.smp_stratcube.proofs.directions.direction.Goals as goal
 use Rattle.smp_stratcube.proofs.directions.direction.Goals.{After-products}
+use Rattle.smp_moves.specs.Steps.{scale_of, scaled}
+use Rattle.smp_stratcube.specs.Units.{share}
 
 -- the row of the products, in the places of the circuit
 row : (c : After-products) →
     (take c.args.factors.now.number c.products.result
-    ≡ scaled c.args.units.now (scale_of c.args.units.now (take c.args.factors.now.number c.args.front.now.units) (take c.args.factors.now.number c.args.factors.now.w)) (take c.args.factors.now.number c.args.front.now.units) (take c.args.factors.now.number c.args.factors.now.w))
-    × (scale_of c.args.units.now (take c.args.factors.now.number c.args.front.now.units) (take c.args.factors.now.number c.args.factors.now.w) ≤ 2 ^ 80)
+    ≡ scaled (share c.args.units.now) (scale_of (share c.args.units.now) (take c.args.factors.now.number c.args.front.now.units) (take c.args.factors.now.number c.args.factors.now.w)) (take c.args.factors.now.number c.args.front.now.units) (take c.args.factors.now.number c.args.factors.now.w))
+    × (scale_of (share c.args.units.now) (take c.args.factors.now.number c.args.front.now.units) (take c.args.factors.now.number c.args.factors.now.w) ≤ 2 ^ 80)
 row c =
     let n = c.args.factors.now.number in
     let long : n ≤ 17 = omega (arith, c.requires.inside.short, c.requires.fewer) in

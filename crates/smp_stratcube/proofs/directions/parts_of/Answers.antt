@@ -7,7 +7,7 @@ use Rattle.smp_kernel.specs.Vectors.{entry}
 use Rattle.smp_kernel.proofs.Lists.{each_more}
 use Rattle.smp_moves.specs.declared.lines.Ratio.{Ratio}
 use Rattle.smp_stratcube.specs.Units.{share}
-use Rattle.smp_stratcube.specs.Moves.{product}
+use Rattle.smp_moves.specs.Steps.{product}
 use Rattle.smp_stratcube.specs.Kept.Lines.{IsPart, no_part, part}
 use Rattle.smp_stratcube.proofs.directions.parts_of.Goals as goal
 

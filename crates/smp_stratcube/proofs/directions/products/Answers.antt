@@ -5,7 +5,7 @@ use Rattle.std.proofs.lemmas.Int.{to_z-of_z, ints}
 use Rattle.std.proofs.lemmas.List.{get_or-set_same, get_or-set_other, get_or_past}
 use Rattle.smp_kernel.specs.Vectors.{entry}
 use Rattle.smp_kernel.proofs.Lists.{each_more}
-use Rattle.smp_stratcube.specs.Moves.{signed}
+use Rattle.smp_moves.specs.Steps.{signed}
 use Rattle.smp_stratcube.specs.Kept.Lines.{over, part}
 use Rattle.std.proofs.lemmas.List.Elements.{All-from_get_or}
 use Rattle.std.specs.Int.RustNames.{unsigned_abs}

@@ -1,7 +1,7 @@
 use Rattle.std.proofs.Common.{◌≡◌, ℕ, ◌<◌, ◌≤◌, ◌^◌, pos, length}
 use Rattle.std.specs.Int.RustNames.{unsigned_abs}
 use Rattle.smp_kernel.specs.Vectors.{entry}
-use Rattle.smp_stratcube.specs.Moves.{signed}
+use Rattle.smp_moves.specs.Steps.{signed}
 use Rattle.smp_stratcube.specs.Kept.Lines.{over, part}
 use Rattle.smp_stratcube.proofs.directions.products.Given as goal
 

@@ -3,7 +3,7 @@ use Rattle.smp_prob.specs.Given.{least_multiple}
 use Rattle.smp_moves.proofs.Places.{rest_all, rest_none, rest_of}
 use Rattle.smp_stratcube.specs.declared.values.Value.{Value}
 use Rattle.smp_stratcube.specs.Values.{value}
-use Rattle.smp_stratcube.specs.Laws.Multiples.{from, least}
+use Rattle.smp_moves.proofs.Multiples.{from, least}
 use Rattle.smp_stratcube.proofs.Ahead.{front_inside}
 use Rattle.smp_stratcube.proofs.Pairing.{dens, dens_here, dens_past, dens_some, front_narrow, most_of}
 use Rattle.smp_stratcube.proofs.pairs.front_common.Goals as goal

@@ -5,7 +5,7 @@ use Rattle.smp_stratcube.specs.Units.{stratum}
 use Rattle.smp_stratcube.specs.Values.{value}
 use Rattle.smp_stratcube.specs.Kept.Fronts.{front_units}
 use Rattle.smp_stratcube.specs.Kept.Pairs.{common_in}
-use Rattle.smp_stratcube.specs.Laws.Multiples.{from}
+use Rattle.smp_moves.proofs.Multiples.{from}
 use Rattle.smp_stratcube.proofs.pairs.front_common.Given as goal
 
 -- the common denominator so far, and the units that are left

@@ -4,7 +4,7 @@ use Rattle.smp_moves.specs.Answers.{line_of}
 use Rattle.smp_moves.specs.Moves.{Next}
 use Rattle.smp_stratcube.specs.declared.values.Value.{Value}
 use Rattle.smp_stratcube.specs.Values.{is_settled}
-use Rattle.smp_stratcube.specs.Kept.Computed.{next_along, flight_of}
+use Rattle.smp_stratcube.specs.Kept.Computed.{flight_of}
 use Rattle.smp_stratcube.specs.Pairs.{paired_parts}
 use Rattle.smp_stratcube.specs.States.{IsFlying, IsPairing}
 use Rattle.smp_stratcube.specs.Kept.Trees.{flight_parts}
@@ -12,6 +12,8 @@ use Rattle.smp_stratcube.specs.Kept.Fronts.{IsFront}
 use Rattle.smp_stratcube.specs.Laws.Moves.{move_split}
 use Rattle.smp_stratcube.proofs.Keeping.{pair_sum}
 use Rattle.smp_stratcube.proofs.state.StratCubeState.bound.Goals as goal
+use Rattle.smp_moves.specs.Kept.Computed.{next_along}
+use Rattle.smp_stratcube.specs.Moves.{setting_of}
 
 pub next_step-requires : goal.next_step-requires
 next_step-requires c = rw (← c.self.view_is, c.in-Flying.is) (rw (← c.self.view_is, c.in-Flying.is) at c.requires.state)
@@ -20,7 +22,7 @@ pub overflow_add-result : goal.overflow_add-result
 overflow_add-result c =
     (let ok : IsFlying c.args.units.now (flight_of c.self.inside.of.value c.self.inside.values.items c.self.inside.rows) = (rw (← c.self.view_is, c.in-Flying.is) at c.requires.state) in
     let m = (rw (← c.self.view_is, c.in-Flying.is) at c.in-Move.ensures) in
-    let n = (move_split c.args.units.now (flight_of c.self.inside.of.value c.self.inside.values.items c.self.inside.rows) ok c.self.inside.left (next_along c.args.units.now c.self.inside.values.items (line_of c.in-Move.mv.line)) m.next).narrow in
+    let n = (move_split c.args.units.now (flight_of c.self.inside.of.value c.self.inside.values.items c.self.inside.rows) ok c.self.inside.left (next_along (setting_of c.args.units.now) c.self.inside.values.items (line_of c.in-Move.mv.line)) m.next).narrow in
     omega (arith, n, m.plus, m.minus))
 
 pub bound-requires-clause-pairing : goal.bound-requires-clause-pairing
@@ -38,7 +40,7 @@ bound-requires-clause-going c =
 pub returns-in-Move : goal.returns-in-Move
 returns-in-Move c =
     (let m = (rw (← c.self.view_is, c.in-Flying.is) at c.in-Move.ensures) in
-    let both : c.in-Move.mv.plus_weight + c.in-Move.mv.minus_weight ≡ (next_along c.args.units.now c.self.inside.values.items (line_of c.in-Move.mv.line)).plus_weight + ((next_along c.args.units.now c.self.inside.values.items (line_of c.in-Move.mv.line)).minus_weight + 0) = omega (arith, m.plus, m.minus) in
+    let both : c.in-Move.mv.plus_weight + c.in-Move.mv.minus_weight ≡ (next_along (setting_of c.args.units.now) c.self.inside.values.items (line_of c.in-Move.mv.line)).plus_weight + ((next_along (setting_of c.args.units.now) c.self.inside.values.items (line_of c.in-Move.mv.line)).minus_weight + 0) = omega (arith, m.plus, m.minus) in
     rw (← c.self.view_is, c.in-Flying.is) (both ∙ sym (ap (λ (a : Next). weight_sum (flight_parts c.args.units.now (flight_of c.self.inside.of.value c.self.inside.values.items c.self.inside.rows) c.self.inside.left a)) m.next)))
 
 pub returns-in-Independent : goal.returns-in-Independent

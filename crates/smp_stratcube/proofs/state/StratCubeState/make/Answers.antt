@@ -5,7 +5,7 @@ use Rattle.smp_moves.specs.Moves.{Next}
 use Rattle.smp_moves.specs.Cubes.{flying, landed, pairing}
 use Rattle.smp_stratcube.specs.declared.values.Value.{Value}
 use Rattle.smp_stratcube.specs.Values.{fractional_count, is_settled}
-use Rattle.smp_stratcube.specs.Kept.Computed.{chosen, next_along, flight_of}
+use Rattle.smp_stratcube.specs.Kept.Computed.{chosen, flight_of}
 use Rattle.smp_stratcube.specs.Pairs.{paired_parts}
 use Rattle.smp_stratcube.specs.States.{IsFlying, IsPairing}
 use Rattle.smp_stratcube.specs.Kept.Trees.{flight_parts, strat_parts}
@@ -15,6 +15,8 @@ use Rattle.smp_stratcube.specs.Units.{Units}
 use Rattle.smp_stratcube.specs.Kept.Moves.{IsMoveOf}
 use Rattle.smp_stratcube.proofs.Keeping.{move_ahead, move_count, own_flight, pair_ahead, pair_behind, pair_sum, picks_drop, picks_move, picks_pair, picks_wide}
 use Rattle.smp_stratcube.proofs.state.StratCubeState.make.Goals as goal
+use Rattle.smp_moves.specs.Kept.Computed.{next_along}
+use Rattle.smp_stratcube.specs.Moves.{setting_of}
 
 pub next_step-requires : goal.next_step-requires
 next_step-requires c = rw (← c.self.view_is, c.in-Flying.is) (rw (← c.self.view_is, c.in-Flying.is) at c.requires.state)
@@ -64,14 +66,14 @@ pub front_of-self-inside-requires : goal.front_of-self-inside-requires
 front_of-self-inside-requires c =
     (let ok : IsFlying c.args.units.now (flight_of c.self.inside.of.value c.self.inside.values.items c.self.inside.rows) = (rw (← c.self.view_is, c.in-Flying.is) at c.requires.state) in
     let m = (rw (← c.self.view_is, c.in-Flying.is) at c.in-Move.ensures) in
-    subst (λ (vs : List Value). IsAhead vs c.self.inside.front) (sym (c.as_slice-in-Move.ensures.value ∙ c.fly.ensures.is)) (move_ahead c.args.units.now (flight_of c.self.inside.of.value c.self.inside.values.items c.self.inside.rows) ok c.self.inside.front c.self.invariant.first (omega (arith, c.self.invariant.first.short)) (next_along c.args.units.now c.self.inside.values.items (line_of c.in-Move.mv.line)) m.next (nat_lt c.args.draw c.in-Move.mv.plus_weight)))
+    subst (λ (vs : List Value). IsAhead vs c.self.inside.front) (sym (c.as_slice-in-Move.ensures.value ∙ c.fly.ensures.is)) (move_ahead c.args.units.now (flight_of c.self.inside.of.value c.self.inside.values.items c.self.inside.rows) ok c.self.inside.front c.self.invariant.first (omega (arith, c.self.invariant.first.short)) (next_along (setting_of c.args.units.now) c.self.inside.values.items (line_of c.in-Move.mv.line)) m.next (nat_lt c.args.draw c.in-Move.mv.plus_weight)))
 
 pub invariant_of-self-in-Move : goal.invariant_of-self-in-Move
 invariant_of-self-in-Move c =
     (let ok : IsFlying c.args.units.now (flight_of c.self.inside.of.value c.self.inside.values.items c.self.inside.rows) = (rw (← c.self.view_is, c.in-Flying.is) at c.requires.state) in
     let m = (rw (← c.self.view_is, c.in-Flying.is) at c.in-Move.ensures) in
     record {
-      few = omega (arith, ap length c.fly.ensures.is, move_count c.args.units.now (flight_of c.self.inside.of.value c.self.inside.values.items c.self.inside.rows) ok c.self.inside.front c.self.invariant.first (omega (arith, c.self.invariant.first.short)) (next_along c.args.units.now c.self.inside.values.items (line_of c.in-Move.mv.line)) m.next (nat_lt c.args.draw c.in-Move.mv.plus_weight), c.self.invariant.few);
+      few = omega (arith, ap length c.fly.ensures.is, move_count c.args.units.now (flight_of c.self.inside.of.value c.self.inside.values.items c.self.inside.rows) ok c.self.inside.front c.self.invariant.first (omega (arith, c.self.invariant.first.short)) (next_along (setting_of c.args.units.now) c.self.inside.values.items (line_of c.in-Move.mv.line)) m.next (nat_lt c.args.draw c.in-Move.mv.plus_weight), c.self.invariant.few);
       first = subst (λ (vs : List Value). IsFront vs c.front_of-self-inside.result) c.as_slice-in-Move.ensures.value c.front_of-self-inside.ensures;
       step = rw c.forget-in-Move.ensures tt;
     })
@@ -131,11 +133,11 @@ pub returns-in-Move : goal.returns-in-Move
 returns-in-Move c =
     (let m = (rw (← c.self.view_is, c.in-Flying.is) at c.in-Move.ensures) in
     let w : c.args.draw < weight_sum (strat_parts c.args.units.now (flying (flight_of c.self.inside.of.value c.self.inside.values.items c.self.inside.rows) c.self.inside.left)) = (rw (← c.self.view_is, c.in-Flying.is) at c.requires.within) in
-    let sum : c.args.draw < (next_along c.args.units.now c.self.inside.values.items (line_of c.in-Move.mv.line)).plus_weight + ((next_along c.args.units.now c.self.inside.values.items (line_of c.in-Move.mv.line)).minus_weight + 0) = subst (λ n. c.args.draw < n) (ap (λ (a : Next). weight_sum (flight_parts c.args.units.now (flight_of c.self.inside.of.value c.self.inside.values.items c.self.inside.rows) c.self.inside.left a)) m.next) w in
+    let sum : c.args.draw < (next_along (setting_of c.args.units.now) c.self.inside.values.items (line_of c.in-Move.mv.line)).plus_weight + ((next_along (setting_of c.args.units.now) c.self.inside.values.items (line_of c.in-Move.mv.line)).minus_weight + 0) = subst (λ n. c.args.draw < n) (ap (λ (a : Next). weight_sum (flight_parts c.args.units.now (flight_of c.self.inside.of.value c.self.inside.values.items c.self.inside.rows) c.self.inside.left a)) m.next) w in
     rw (← c.self.view_is, c.in-Flying.is)
     (ap (λ (vs : List Value). flying (flight_of c.self.inside.of.value vs c.self.inside.rows) c.self.inside.left) c.fly.ensures.is
-    ∙ ap (λ n. flying (chosen c.args.units.now (flight_of c.self.inside.of.value c.self.inside.values.items c.self.inside.rows) (next_along c.args.units.now c.self.inside.values.items (line_of c.in-Move.mv.line)) (nat_lt c.args.draw n)) c.self.inside.left) m.plus
-    ∙ sym (picks_move c.args.units.now (flight_of c.self.inside.of.value c.self.inside.values.items c.self.inside.rows) c.self.inside.left (next_along c.args.units.now c.self.inside.values.items (line_of c.in-Move.mv.line)) c.args.draw m.next (omega (arith, sum)))))
+    ∙ ap (λ n. flying (chosen c.args.units.now (flight_of c.self.inside.of.value c.self.inside.values.items c.self.inside.rows) (next_along (setting_of c.args.units.now) c.self.inside.values.items (line_of c.in-Move.mv.line)) (nat_lt c.args.draw n)) c.self.inside.left) m.plus
+    ∙ sym (picks_move c.args.units.now (flight_of c.self.inside.of.value c.self.inside.values.items c.self.inside.rows) c.self.inside.left (next_along (setting_of c.args.units.now) c.self.inside.values.items (line_of c.in-Move.mv.line)) c.args.draw m.next (omega (arith, sum)))))
 
 pub returns-in-Pairing : goal.returns-in-Pairing
 returns-in-Pairing c =

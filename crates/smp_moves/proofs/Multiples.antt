@@ -9,7 +9,7 @@ use Rattle.smp_frac.specs.Divisors.{greatest_common_divisor, IsCommonMultiple, I
 use Rattle.smp_frac.specs.Laws.Coprime.{IsLeastMultiple-from_gcd}
 use Rattle.smp_frac.specs.Laws.Gcds.{IsGcd-greatest_common_divisor}
 use Rattle.smp_prob.specs.Given.{least_multiple}
-use Rattle.smp_stratcube.specs.Values.{common_multiple}
+use Rattle.smp_moves.specs.Steps.{common_multiple}
 
 pub least : (a b : ℕ) → 1 ≤ a → 1 ≤ b → IsLeastMultiple a b (least_multiple a b)
 least a b some also = IsLeastMultiple-from_gcd a b (greatest_common_divisor a b) some also (IsGcd-greatest_common_divisor a b)
