@@ -14,7 +14,8 @@ use Rattle.smp_values.specs.Values.{is_fractional, is_one, value_at}
 use Rattle.smp_moves.specs.Cubes.{values_in}
 use Rattle.smp_flight.specs.States as flights
 use Rattle.smp_flight.specs.States.{Flight, Units, column}
-use Rattle.smp_flight.specs.Moves.{IsNext}
+use Rattle.smp_moves.specs.Steps.{IsNext}
+use Rattle.smp_flight.specs.Moves.{setting_of}
 use Rattle.smp_flight.specs.Steps.{next, stepping}
 use Rattle.smp_values.specs.Values.{fractional_units}
 use Rattle.smp_moves.specs.Cubes.{flying}
@@ -240,7 +241,7 @@ each_is_balanced s ok = are_balanced s ok
 
 -- the step of a state to which a path of the cube leads is by its properties: from what is said of a balanced stratum alone
 pub step_known : (s : StratumUnits) → AreBalanced s → (path : List Entry) (f : Flight) (left : ℕ) → Leads (cube_tree (free_units s)) (starting (free_units s)) path (flying f left)
-    → IsOrder f.values (fractional_units f.values) → IsNext (free_units s) f (fractional_units f.values) (next (free_units s) f)
+    → IsOrder f.values (fractional_units f.values) → IsNext (setting_of (free_units s)) f (fractional_units f.values) (next (free_units s) f)
 step_known s b path f left leads order =
     stepping.is_next (free_units s) f (fractional_units f.values)
-    (leads_belong (cube_tree (free_units s)) (IsBalancing (free_units s)) (cube_lawful (free_units s)) path (starting (free_units s)) (flying f left) leads b.own) order
+    (leads_belong (cube_tree (free_units s)) (IsBalancing (free_units s)) (cube_lawful (free_units s)) path (starting (free_units s)) (flying f left) leads b.own, order)

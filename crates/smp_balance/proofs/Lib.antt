@@ -6,6 +6,8 @@ pub mod Balances
 pub mod Told
 pub mod Sums
 pub mod Reports
+pub mod RowSums
+pub mod RowReports
 pub mod ColumnSums
 pub mod Runs
 pub mod FrameSums

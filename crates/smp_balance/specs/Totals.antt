@@ -14,17 +14,17 @@ use Rattle.smp_split.specs.Trees.{Tree}
 use Rattle.smp_moves.specs.Balances.{Balance, IsBalanced}
 use Rattle.smp_moves.specs.Cubes.{Balancing, Cube, HasIndependentColumns, left_in, rows_in, values_in}
 use Rattle.smp_flight.specs.Selections.{IsBalancing, Selection, shares_cube, starting}
-use Rattle.smp_flight.specs.Landings.{IsStuck}
+use Rattle.smp_moves.specs.Steps.{IsStuck}
 use Rattle.smp_flight.specs.Narrow.{IsNarrow}
 use Rattle.smp_landing.specs.Cube.{cube_of}
 use Rattle.smp_localcube.specs.Local.{IsLocal, local_of}
 use Rattle.smp_localcube.specs.Method.{started}
-use Rattle.smp_stratcube.specs.Balances as together
 use Rattle.smp_stratcube.specs.Cube.{cube_by, strat_tree}
 use Rattle.smp_stratcube.specs.Layers.{Layer, layer_of}
 use Rattle.smp_stratcube.specs.States as strata
 use Rattle.smp_stratcube.specs.Steps.{stepping}
 use Rattle.smp_stratcube.specs.Units.{Units, units_of}
+use Rattle.smp_stratcube.specs.Values.{fractional_units}
 use Rattle.smp_balance.specs.Strata.{StratumUnits, AreStratumUnits, column_count, free_units, free_values, value_in}
 
 -- ---- what a unit counts for
@@ -115,10 +115,10 @@ row_count frame = length frame + columns_in frame
 -- ---- what is balanced
 
 -- What a selection from the free units of these strata balances: by its draw tree, by the state of the cube that is seen of each of its
--- states, by where its landing may begin, and by whether the numbers of the free units are narrow.
+-- states, by the units that the search of a state goes through, and by whether the numbers of the free units are narrow.
 module _ {State Values Fixed : Type 0} (frame : List StratumUnits) (cube : Cube Values) where
-  abbrev pub balance_over : Tree State → (State → Balancing Values Fixed) → (State → Type 0) → Type 0 → Balance State
-  balance_over tree seen stuck narrow = record {
+  abbrev pub balance_over : Tree State → (State → Balancing Values Fixed) → (State → List ℕ) → Type 0 → Balance State
+  balance_over tree seen order narrow = record {
     tree = tree;
     rows = λ t. rows_in (seen t);
     left = λ t. left_in (seen t);
@@ -129,7 +129,7 @@ module _ {State Values Fixed : Type 0} (frame : List StratumUnits) (cube : Cube 
     estimate = λ t. estimate frame (cube.is_one (values_in (seen t)));
     bound = λ t. error_bound frame (cube.is_fractional (values_in (seen t)));
     independent = λ t. HasIndependentColumns cube (seen t);
-    stuck = stuck;
+    stuck = λ t. IsStuck cube (order t) (seen t);
     narrow = narrow;
   }
 
@@ -138,8 +138,7 @@ module _ {State Values Fixed : Type 0} (frame : List StratumUnits) (cube : Cube 
 -- what a selection from the free units of a stratum balances
 abbrev pub balance_of : {State : Type 0} → StratumUnits → Selection State → Balance State
 balance_of s c =
-    balance_over (s ∷ []) (shares_cube (free_units s)) c.tree c.seen (λ t. IsStuck (free_units s) (c.order t) (c.seen t))
-    (IsNarrow (free_units s))
+    balance_over (s ∷ []) (shares_cube (free_units s)) c.tree c.seen c.order (IsNarrow (free_units s))
 
 -- every selection from the stratum is balanced from its start: by the cube, and by the local cube wherever its free units lie
 pub record AreBalanced (s : StratumUnits) : Type 0 where
@@ -168,7 +167,7 @@ frame_units frame = units_of (layers_of frame)
 abbrev pub frame_balance : List StratumUnits → Balance strata.Balancing
 frame_balance frame =
     balance_over frame (cube_by stepping (frame_units frame)) (strat_tree (frame_units frame)) (λ t. t)
-    (together.IsStuck (frame_units frame)) ⊥
+    (λ t. fractional_units (values_in t)) ⊥
 
 -- the selection of all strata is balanced from its start, which is a state of its own
 pub record IsBalancedFrame (frame : List StratumUnits) : Type 0 where

@@ -1,7 +1,7 @@
 //! What holds of every selection from a stratum, or from all strata together.
 
 ghost use Rattle.smp_balance.specs.Totals.{EachFrameIsBalanced, EachIsBalanced};
-ghost use Rattle.smp_balance.specs.Reports.{EachLineTells};
+ghost use Rattle.smp_balance.specs.Reports.{EachLineTells, EachRowTells};
 
 /// The law that every selection from a stratum by the cube, or by the local cube, is balanced: its flight keeps each total in force
 /// exactly, its landing begins only where no direction is left or the next step doesn't fit, and the units that are undecided there
@@ -14,6 +14,11 @@ pub fn balance_law()
 /// unless it is wide, and what is known of it.
 pub fn report_law()
     ensures { EachLineTells }
+{}
+
+/// The same law of strata that are drawn together, where each unit of each of them is a row that is told.
+pub fn row_report_law()
+    ensures { EachRowTells }
 {}
 
 /// The law that every selection by the cube over all strata is balanced, as `balance_law` says it of a stratum, over all units of all

@@ -10,5 +10,5 @@
 mod laws;
 mod lines;
 
-pub use laws::{balance_law, frame_law, report_law};
+pub use laws::{balance_law, frame_law, report_law, row_report_law};
 pub use lines::{DrawnUnits, balance_lines};

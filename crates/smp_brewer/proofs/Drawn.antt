@@ -11,7 +11,8 @@ use Rattle.smp_split.specs.Counts.{AddsUp}
 use Rattle.smp_split.proofs.Sums.{list_adds_up, list_adds}
 use Rattle.smp_brewer.specs.Sizes.{marks_taken}
 use Rattle.smp_brewer.specs.declared.offers.Offers.{Offers}
-use Rattle.smp_brewer.specs.Brewer.{offering, total, size_of, share_of, offering_value, brewing_tree}
+use Rattle.smp_brewer.specs.Brewer.{offering, total, size_of, offering_value, brewing_tree}
+use Rattle.smp_brewer.specs.Kept.Sizes.{share_of}
 use Rattle.smp_brewer.specs.Laws.Sums.{sum-cons}
 
 -- the units that are taken and those still to be drawn are n

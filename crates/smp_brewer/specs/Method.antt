@@ -1,5 +1,4 @@
 -- Brewer's method as a method, and where it starts.
-use Rattle.std.specs.Prelude.{ℕ, length}
 use Rattle.smp_prob.specs.declared.requests.Request.{Request}
 use Rattle.smp_prob.specs.Shares.{draws_of}
 use Rattle.smp_split.specs.Methods.{Method}

@@ -3,10 +3,10 @@ use Rattle.std.proofs.Common.{◌≡◌, ◌↔◌, ℕ, List, [], ◌∷◌, Op
 use Rattle.std.proofs.lemmas.Bool.{cases_Bool}
 use Rattle.std.proofs.lemmas.Slice.Eq.{bytes_eq-Decides}
 use Rattle.smp_prob.specs.declared.orders.Order.{Order}
-use Rattle.smp_prob.specs.declared.orders.Order.TheVariants.{Frame}
+use Rattle.smp_prob.specs.declared.orders.Order.TheVariants.{Frame, Random}
 use Rattle.smp_design.specs.declared.method.Method.{Method}
 use Rattle.smp_design.specs.declared.method.Method.TheVariants.{Pivotal}
-use Rattle.smp_design.specs.Words.{row, methods, meaning, method_of, order_word, orders, order_of}
+use Rattle.smp_design.specs.Words.{row, methods, meaning, method_of, order_word, order_of}
 
 -- what a word means has that word
 its_word : {A : Type 0} (word_of : A → List ℕ) (things : List A) (word : List ℕ) (x : A) → meaning word_of things word ≡ Some x → word ≡ word_of x
@@ -35,4 +35,4 @@ pub method_read_back : (word : List ℕ) (m : Method) → (method_of word ≡ So
 method_read_back = read_back (λ m. (row m).word) methods each_method
 
 pub order_read_back : (word : List ℕ) (order : Order) → (order_of word ≡ Some order) ↔ (word ≡ order_word order)
-order_read_back = read_back order_word orders each_order
+order_read_back = read_back order_word (Frame ∷ Random ∷ []) each_order

@@ -1,6 +1,6 @@
 -- What is true of the values that keys have.
 use Rattle.std.proofs.Common.{◌≡◌, ℕ, ℤ, pos, negsuc, ◌≤◌, true, ◌&&◌, nat_le, List, [], ◌∷◌, length, Option, Some, None, option_map, IfSome, sym, ap, subst}
-use Rattle.std.specs.Prelude.{All, option_and_then, is_some}
+use Rattle.std.specs.Prelude.{All, if◌then◌else◌, option_and_then, is_some}
 use Rattle.std.proofs.lemmas.Bool.{and_parts, leb-true}
 use Rattle.std.proofs.lemmas.List.Elements.{All-nil, All-cons}
 use Rattle.smp_fractions.specs.Limits.{most_rows}
@@ -8,7 +8,7 @@ use Rattle.toml.specs.Data.{Data, Members, no_members, member, as_integer, as_ar
 use Rattle.smp_design.specs.declared.design.Quota as quota
 use Rattle.smp_design.specs.declared.method.Method.{Method}
 use Rattle.smp_design.specs.Bounds.{From1To, InRange}
-use Rattle.smp_design.specs.Values.{last_version, from_1_to, integer_to, version, number, method, if_second, second_method, few, names, strings, quotas_of, quotas, optional}
+use Rattle.smp_design.specs.Values.{last_version, from_1_to, integer_to, version, number, method, second_method, names, strings, quotas_of, quotas, optional}
 use Rattle.smp_design.specs.Words.{in_second}
 use Rattle.smp_design.proofs.Went.{goes_on, mapped, passes}
 
@@ -53,7 +53,7 @@ Few most xs = (1 ≤ length xs) × (length xs ≤ most)
 
 pub names-few : (most : ℕ) (value : Data) (xs : List (List ℕ)) → names most value ≡ Some xs → Few most xs
 names-few most value xs h =
-    let step = goes_on (few most) (option_and_then strings (as_array value)) xs h in
+    let step = goes_on (λ (them : List (List ℕ)). if nat_le 1 (length them) && nat_le (length them) most then Some them else None) (option_and_then strings (as_array value)) xs h in
     let test = passes (nat_le 1 (length step.value) && nat_le (length step.value) most) (Some step.value) xs step.gives in
     let parts = and_parts (nat_le 1 (length step.value)) (nat_le (length step.value) most) test.holds in
     let is : step.value ≡ xs = (let same : ◌≡◌ {A = Option (List (List ℕ))} (Some step.value) (Some xs) = test.gives in cc) in
@@ -61,7 +61,7 @@ names-few most value xs h =
 
 pub second_method-is : (version : ℕ) (value : Data) (m : Method) → second_method version value ≡ Some m → in_second m ≡ true
 second_method-is version value m h =
-    let step = goes_on if_second (method version value) m h in
+    let step = goes_on (λ (k : Method). if in_second k then Some k else None) (method version value) m h in
     let test = passes (in_second step.value) (Some step.value) m step.gives in
     let is : step.value ≡ m = (let same : ◌≡◌ {A = Option Method} (Some step.value) (Some m) = test.gives in cc) in
     subst (λ (k : Method). in_second k ≡ true) is test.holds

@@ -17,20 +17,12 @@ use Rattle.smp_design.specs.Words.{row, is_balance, is_near, takes_second}
 abbrev pub version_of : Members → Option ℕ
 version_of t = option_and_then Values.version (get_member (codes "version") t)
 
--- the key that came with version 2
-abbrev pub prob_key : ℕ → List (List ℕ)
-prob_key version = if version == 1 then [] else codes "prob" ∷ []
-
--- the keys of a design of this version
+-- the keys of a design of this version; `prob` came with version 2
 abbrev pub known_keys : ℕ → List (List ℕ)
 known_keys version =
     codes "version" ∷ codes "method" ∷ codes "id" ∷ codes "stratum" ∷ codes "size" ∷ codes "n" ∷ codes "sizes" ∷
-    prob_key version
+    (if version == 1 then [] else codes "prob" ∷ [])
     ++ codes "order" ∷ codes "balance" ∷ codes "near" ∷ codes "second" ∷ []
-
--- the keys of its table `second`
-abbrev pub second_keys : List (List ℕ)
-second_keys = codes "psu" ∷ codes "method" ∷ codes "n" ∷ codes "size" ∷ []
 
 -- the keys of a table
 abbrev pub keys_of : Members → List (List ℕ)
@@ -67,7 +59,8 @@ or_else None other = other
 -- the first unknown key of a design of this version; one of the table `second` comes after those of the design itself
 unfoldable pub unknown_key : ℕ → Members → Option (List ℕ)
 unknown_key version t = or_else (first_unknown (known_keys version) t)
-    (option_map (λ key. codes "second." ++ key) (option_and_then (first_unknown second_keys) (second_table t)))
+    (option_map (λ key. codes "second." ++ key)
+    (option_and_then (first_unknown (codes "psu" ∷ codes "method" ∷ codes "n" ∷ codes "size" ∷ [])) (second_table t)))
 
 -- a key is there
 abbrev pub has : List ℕ → Members → Bool

@@ -29,21 +29,14 @@ version value = integer_to last_version value
 abbrev pub number : Data → Option ℕ
 number value = integer_to most_rows value
 
--- a method, if designs of this version have it
-abbrev pub if_since : ℕ → Method → Option Method
-if_since version m = if nat_le (row m).since version then Some m else None
-
--- the word of a method in a design of this version
+-- the word of a method that designs of this version have
 abbrev pub method : ℕ → Data → Option Method
-method version value = option_and_then (if_since version) (option_and_then method_of (as_str value))
-
--- a method, if a second stage may have it
-abbrev pub if_second : Method → Option Method
-if_second m = if in_second m then Some m else None
+method version value =
+    option_and_then (λ m. if nat_le (row m).since version then Some m else None) (option_and_then method_of (as_str value))
 
 -- the word of a method that a second stage may have
 abbrev pub second_method : ℕ → Data → Option Method
-second_method version value = option_and_then if_second (method version value)
+second_method version value = option_and_then (λ m. if in_second m then Some m else None) (method version value)
 
 -- the word of an order
 abbrev pub order : Data → Option Order
@@ -54,13 +47,11 @@ abbrev pub strings : Items → Option (List (List ℕ))
 strings no_items = Some []
 strings (item value rest) = option_and_then (λ name. option_map (λ more. name ∷ more) (strings rest)) (as_str value)
 
--- 1 to `most` names
-abbrev pub few : ℕ → List (List ℕ) → Option (List (List ℕ))
-few most names = if nat_le 1 (length names) && nat_le (length names) most then Some names else None
-
 -- an array of 1 to `most` strings
 abbrev pub names : ℕ → Data → Option (List (List ℕ))
-names most value = option_and_then (few most) (option_and_then strings (as_array value))
+names most value =
+    option_and_then (λ them. if nat_le 1 (length them) && nat_le (length them) most then Some them else None)
+    (option_and_then strings (as_array value))
 
 -- the quotas of a table's entries, in their order
 abbrev pub quotas_of : Members → Option (List quota.Quota)

@@ -120,10 +120,6 @@ abbrev pub order_word : Order → List ℕ
 order_word Frame = codes "frame"
 order_word Random = codes "random"
 
--- both orders
-abbrev pub orders : List Order
-orders = Frame ∷ Random ∷ []
-
 -- the order that a word means
 abbrev pub order_of : List ℕ → Option Order
-order_of word = meaning order_word orders word
+order_of word = meaning order_word (Frame ∷ Random ∷ []) word

@@ -1,7 +1,6 @@
 //! The methods of drawing, what a design may say of each, and the words for methods and orders.
 
-ghost use Rattle.std.specs.Prelude.{◌≡◌, ◌↔◌, ◌&&◌, not, ℕ, List, Some};
-ghost use Rattle.smp_design.specs.Values;
+ghost use Rattle.std.specs.Prelude.{◌≡◌, ◌↔◌, ◌&&◌, not, ℕ, List, Some, None, nat_le, if◌then◌else◌};
 ghost use Rattle.smp_design.specs.Words;
 ghost use Rattle.smp_design.specs.Words.{row, method_of, order_word};
 
@@ -190,7 +189,7 @@ impl Method {
 
     // The method, if designs of this version have it.
     pub(crate) fn if_in(self, version: u32) -> Option<Method>
-        ensures { result ≡ Values.if_since version self }
+        ensures { result ≡ (if nat_le (row self).since version then Some self else None) }
     {
         if self.row().since <= version {
             Some(self)

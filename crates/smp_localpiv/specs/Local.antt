@@ -8,7 +8,6 @@ use Rattle.smp_near.specs.Nearest.{LivingPoints, nearest}
 use Rattle.smp_prob.specs.Shares.{Shares}
 use Rattle.smp_split.specs.Parts.{equal_parts, moved}
 use Rattle.smp_split.specs.Trees.{Part, Tree}
-use Rattle.smp_split.specs.declared.kind.Kind.{Kind}
 use Rattle.smp_split.specs.declared.kind.Kind.TheVariants.{Pivot, Lone, Choose}
 use Rattle.smp_values.specs.Steps.{pair_parts, lone_parts}
 use Rattle.smp_values.specs.Values.{IsValues, fractional, fractional_at, fractional_count, is_fractional, is_one, is_settled, value_at}
@@ -56,17 +55,13 @@ abbrev pub parts_from : Local → Option ℕ → List (Part Local)
 parts_from s (Some unit) = meeting s unit
 parts_from s None = if nat_lt 1 (fractional_count s.state) then choice s else settling s
 
--- the kind of the next step
-abbrev pub kind_of : Local → Kind
-kind_of s =
-    if is_some s.chosen then Pivot else if nat_lt 1 (fractional_count s.state) then Choose else Lone
-
 -- The draw tree over so many units. It is done where no unit is fractional, and selects the units of value 1.
 abbrev pub local_tree : ℕ → Tree Local
 local_tree units = record {
   units = units;
   done = λ s. is_settled s.state;
-  kind = kind_of;
+  kind = λ s.
+      if is_some s.chosen then Pivot else if nat_lt 1 (fractional_count s.state) then Choose else Lone;
   parts = λ s. parts_from s s.chosen;
   rank = λ s. 2 * fractional_count s.state + (if is_some s.chosen then 0 else 1);
   value = λ s unit. value_at s.state unit;

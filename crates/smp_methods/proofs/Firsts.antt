@@ -81,7 +81,7 @@ module _ (order : Order) (near columns : ℕ) (request : Request) (values : List
       let starts = placed_starts pivotal_rule pivotal_law order shares (few_shares request is) ok in
       is_started (way method.Pivotal) request values (so method.Pivotal) (first_state (so method.Pivotal)) whole refl
       (requested_in_order request is (places_tree pivotal_rule units) order refl own_value) refl
-      starts.means (λ _. starts.count) tt (λ _ _. placed_around pivotal_rule pivotal_law order shares (few_shares request is) ok)
+      starts.means.member (λ _. starts.count) tt (λ _ _. placed_around pivotal_rule pivotal_law order shares (few_shares request is) ok)
 
   by_systematic : First method.Systematic
   by_systematic whole takes =
@@ -89,7 +89,7 @@ module _ (order : Order) (near columns : ℕ) (request : Request) (values : List
       let starts = placed_starts systematic_rule systematic_law order shares (few_shares request is) ok in
       is_started (way method.Systematic) request values (so method.Systematic) (first_state (so method.Systematic)) whole refl
       (requested_in_order request is (places_tree systematic_rule units) order refl own_value) refl
-      starts.means (λ _. starts.count) tt (λ _ _. placed_around systematic_rule systematic_law order shares (few_shares request is) ok)
+      starts.means.member (λ _. starts.count) tt (λ _ _. placed_around systematic_rule systematic_law order shares (few_shares request is) ok)
 
   by_support : First method.MinimumSupport
   unfolding row
@@ -97,7 +97,7 @@ module _ (order : Order) (near columns : ℕ) (request : Request) (values : List
       let starts = support_starts shares (belongs_requested request is whole.total) in
       is_started (way method.MinimumSupport) request values (so method.MinimumSupport) (first_state (so method.MinimumSupport)) whole refl
       (requested_values request is (support_tree units) shares refl (λ k _. own_value k)) refl
-      starts.means (λ _. starts.count) tt (λ any _. absurd (true≢false any))
+      starts.means.member (λ _. starts.count) tt (λ any _. absurd (true≢false any))
 
   by_brewer : First method.Brewer
   unfolding row
@@ -105,7 +105,7 @@ module _ (order : Order) (near columns : ℕ) (request : Request) (values : List
       let starts = brewing_starts (record { sizes = request.shape; draws = draws_of request; refused = 0 }) (first_offers request is whole.total) in
       is_started (way method.Brewer) request values (so method.Brewer) (first_state (so method.Brewer)) whole refl
       (brewing_requested request is whole.total) refl
-      starts.means (λ _. starts.count) tt (λ any _. absurd (true≢false any))
+      starts.means.member (λ _. starts.count) tt (λ any _. absurd (true≢false any))
 
   by_elimination : First method.Elimination
   unfolding row
@@ -114,7 +114,7 @@ module _ (order : Order) (near columns : ℕ) (request : Request) (values : List
       let starts = (begun_at request.shape (draws_of request) (are_sizes request is whole.total (draws_of request) (omega arith)) few).starts in
       is_started (way method.Elimination) request values (so method.Elimination) (first_state (so method.Elimination)) whole refl
       (elimination_requested request is whole.total few) refl
-      starts.means (λ _. starts.count) tt (λ any _. absurd (true≢false any))
+      starts.means.member (λ _. starts.count) tt (λ any _. absurd (true≢false any))
 
   by_local : First method.LocalPivotal
   unfolding row
@@ -124,7 +124,7 @@ module _ (order : Order) (near columns : ℕ) (request : Request) (values : List
       let starts = local_starts columns coords shares opens in
       is_started (way method.LocalPivotal) request values (so method.LocalPivotal) (first_state (so method.LocalPivotal)) whole refl
       (local_requested request is coords) refl
-      starts.means (λ _. starts.count) tt (λ _ _. local_around columns coords shares opens)
+      starts.means.member (λ _. starts.count) tt (λ _ _. local_around columns coords shares opens)
 
   by_cube : First method.Cube
   unfolding row
@@ -132,7 +132,7 @@ module _ (order : Order) (near columns : ℕ) (request : Request) (values : List
       let starts = cube_starts (units_of request balanced) (flies takes.balancing) in
       is_started (way method.Cube) request values (so method.Cube) (first_state (so method.Cube)) whole refl
       (cube_requested request balanced is) refl
-      starts.means (λ _. starts.count) tt (λ _ balances. absurd (true≢false balances))
+      starts.means.member (λ _. starts.count) tt (λ _ balances. absurd (true≢false balances))
 
   by_local_cube : First method.LocalCube
   unfolding row
@@ -141,7 +141,7 @@ module _ (order : Order) (near columns : ℕ) (request : Request) (values : List
       let starts = local_cube_starts (record { units = units_of request balanced; coords = coords }) (flies takes.balancing) in
       is_started (way method.LocalCube) request values (so method.LocalCube) (first_state (so method.LocalCube)) whole refl
       (local_cube_requested request balanced coords is) refl
-      starts.means (λ _. starts.count) tt (λ _ balances. absurd (true≢false balances))
+      starts.means.member (λ _. starts.count) tt (λ _ balances. absurd (true≢false balances))
 
   by_strata : First method.StratifiedCube
   unfolding row
@@ -152,7 +152,7 @@ module _ (order : Order) (near columns : ℕ) (request : Request) (values : List
       let are = layers_units layers all each in
       is_started (way method.StratifiedCube) request values (so method.StratifiedCube) (first_state (so method.StratifiedCube)) whole refl
       (one_requested request balanced is (are_requested layers all each)) refl
-      (strat_means (strata.units_of layers) are) (λ apart. absurd (true≢false apart)) (counts_so (strata.units_of layers) are, is_balanced (strata.units_of layers) are)
+      (strat_means (strata.units_of layers) are).member (λ apart. absurd (true≢false apart)) (counts_so (strata.units_of layers) are, is_balanced (strata.units_of layers) are)
       (λ _ balances. absurd (true≢false balances))
     where
       one_layer : length balanced ≡ length request.free → AreValues balanced → (h : ℕ) → h < 1 → IsLayer (get_or (layer_of request balanced ∷ []) h no_layer)

@@ -7,7 +7,8 @@ use Rattle.smp_fractions.proofs.Around.{around_over, around_same}
 use Rattle.smp_fractions.proofs.Fractions.{same_trans}
 use Rattle.smp_prob.specs.declared.requests.Request.{Request}
 use Rattle.smp_split.specs.Counts.{AddsUp, LeavesSelect, LeavesSelectAround}
-use Rattle.smp_split.specs.Methods.{HasCount, HasMeans, Method, Starts}
+use Rattle.smp_split.specs.Embeds.{embedded}
+use Rattle.smp_split.specs.Methods.{HasCount, HasMeans, Starts}
 use Rattle.smp_split.specs.Trees.{Tree}
 use Rattle.smp_split.proofs.Embeds.{adds_up_inside, embedded_adds_up, embedded_around, embedded_count}
 use Rattle.smp_split.proofs.Methods.{has_means}
@@ -16,7 +17,7 @@ use Rattle.smp_values.proofs.Requests.{adds_to_draws}
 use Rattle.smp_design.specs.declared.method.Method as named
 use Rattle.smp_stratcube.specs.States.{started}
 use Rattle.smp_stratcube.specs.Layers.{Layer, layer_of}
-use Rattle.smp_stratcube.specs.Method as stratified_cube
+use Rattle.smp_stratcube.specs.Cube.{strat_tree}
 use Rattle.smp_stratcube.specs.Requests.{AreRequested}
 use Rattle.smp_stratcube.specs.Units.{units_of}
 use Rattle.smp_design.specs.Words.{row, balances, draws_together}
@@ -26,37 +27,38 @@ use Rattle.smp_methods.specs.declared.any.AnyDesign.{AnyDesign}
 use Rattle.smp_methods.specs.declared.any.AnyState.{AnyState}
 use Rattle.smp_methods.specs.declared.any.AnyState.TheVariants as states
 use Rattle.smp_methods.specs.declared.procedure.Procedure.{Procedure}
-use Rattle.smp_methods.specs.Designs.{Variant, design_by, design_of, design_of_strata, drawn_by, embedded_method, first_state, method_among, method_of, name_of, state_among, variant, variant_of}
-use Rattle.smp_methods.specs.Kept.Alone.{AroundAlone, CountAlone, MeansAlone, RequestedAlone, StrataAlone}
+use Rattle.smp_methods.specs.Designs.{Variant, design_by, design_of, design_of_strata, drawn_by, first_state, name_of, state_among, tree_among, variant, variant_of}
+use Rattle.smp_methods.specs.Methods.{method_of}
+use Rattle.smp_methods.specs.Kept.Alone.{AroundAlone, CountAlone, RequestedAlone, StrataAlone}
 use Rattle.smp_methods.specs.Procedures.{NeedsWhole, balancing_values}
 use Rattle.smp_methods.specs.Starts.{AreStarted, IsStarted, SelectsAround}
 use Rattle.smp_methods.proofs.OneStratum.{one_count}
 use Rattle.smp_methods.proofs.Ways.{drawn_by_method}
 use Rattle.smp_methods.proofs.Wholes.{is_needed}
 
--- what a method says of its start holds of the design among all methods
-means_among : (v : Variant) → MeansAlone v (state_among v) → HasMeans (method_among v) (state_among v)
-means_among (variant name method design into out back) means =
-    let its : HasMeans method design = rw (back design) at means in
-    has_means (embedded_method into out back method) (into design) (rw (back design) its.member)
+-- ---- what a method says of its start holds of the design among all methods
 
-count_in : {State : Type 0} (into : State → AnyState) (out : AnyState → Option State) (back : (state : State) → out (into state) ≡ Some state) (method : Method State) (design : State)
-    → HasCount method.tree design → HasCount (embedded_method into out back method).tree (into design)
-count_in into out back method design count n adds =
-    embedded_count into out method.tree back method.belongs n design (count n (adds_up_inside into out method.tree back method.belongs n design adds))
+-- whatever states are its own
+any_own : {State : Type 0} → State → Type 0
+any_own state = Unit {0}
 
-count_among : (v : Variant) → CountAlone v (state_among v) → draws_together (name_of v) ≡ false → HasCount (method_among v).tree (state_among v)
-count_among (variant name method design into out back) count apart = count_in into out back method design ((rw (back design) at count) apart)
+count_in : {State : Type 0} (into : State → AnyState) (out : AnyState → Option State) (back : (state : State) → out (into state) ≡ Some state) (tree : Tree State) (design : State)
+    → HasCount tree design → HasCount (embedded into out tree) (into design)
+count_in into out back tree design count n adds =
+    embedded_count into out tree back any_own n design (count n (adds_up_inside into out tree back any_own n design adds))
 
-requested_among : (v : Variant) (request : Request) → RequestedAlone request v → IsRequested (method_among v).tree request (state_among v)
-requested_among (variant name method design into out back) request here = record {
+count_among : (v : Variant) → CountAlone v (state_among v) → draws_together (name_of v) ≡ false → HasCount (tree_among v) (state_among v)
+count_among (variant name tree design into out back) count apart = count_in into out back tree design ((rw (back design) at count) apart)
+
+requested_among : (v : Variant) (request : Request) → RequestedAlone request v → IsRequested (tree_among v) request (state_among v)
+requested_among (variant name tree design into out back) request here = record {
   units = here.units;
   values = λ unit within. rw (back design) (here.values unit within);
-  whole = λ some whole. embedded_adds_up into out method.tree back method.belongs request.r design (here.whole some whole);
+  whole = λ some whole. embedded_adds_up into out tree back any_own request.r design (here.whole some whole);
 }
 
-around_among : (v : Variant) → AroundAlone v (state_among v) → (row (name_of v)).draws_whole ≡ false → balances (name_of v) ≡ false → LeavesSelectAround (method_among v).tree (state_among v)
-around_among (variant name method design into out back) around any unbalanced = embedded_around into out method.tree back method.belongs design ((rw (back design) at around) any unbalanced)
+around_among : (v : Variant) → AroundAlone v (state_among v) → (row (name_of v)).draws_whole ≡ false → balances (name_of v) ≡ false → LeavesSelectAround (tree_among v) (state_among v)
+around_among (variant name tree design into out back) around any unbalanced = embedded_around into out tree back any_own design ((rw (back design) at around) any unbalanced)
 
 -- a whole number is around itself
 select_around : {State : Type 0} (tree : Tree State) (n : ℕ) (state : State) → AddsUp tree n state → LeavesSelect tree n state → LeavesSelectAround tree state
@@ -80,23 +82,23 @@ module _ (request : Request) (design : AnyDesign) (starts : Starts (method_of de
 -- ---- how many units are selected
 
 -- the design of one stratum alone
-one_stratum : (layer : Layer) → MeansAlone (variant_of (design_of_strata (layer ∷ []))) (first_state (design_of_strata (layer ∷ []))) → StrataAlone (design_of_strata (layer ∷ [])) (first_state (design_of_strata (layer ∷ [])))
+one_stratum : (layer : Layer) → (method_of (design_of_strata (layer ∷ []))).belongs (first_state (design_of_strata (layer ∷ []))) → StrataAlone (design_of_strata (layer ∷ [])) (first_state (design_of_strata (layer ∷ [])))
     → HasCount (method_of (design_of_strata (layer ∷ []))).tree (first_state (design_of_strata (layer ∷ [])))
-one_stratum layer means strata =
+one_stratum layer member strata =
     count_in states.StratifiedCube (elim [ states.StratifiedCube state ↦ Some state | other ↦ None ]) (λ _. refl)
-    (stratified_cube.method_of (units_of (layer ∷ []))) (started (units_of (layer ∷ []))) (one_count layer means.member.are strata.0)
+    (strat_tree (units_of (layer ∷ []))) (started (units_of (layer ∷ []))) (one_count layer member.are strata.0)
 
-module _ (way : Procedure) (request : Request) (values : List (List ℤ)) (design : AnyDesign) (made : design ≡ design_of way request values) (means : MeansAlone (variant_of design) (first_state design)) where
+module _ (way : Procedure) (request : Request) (values : List (List ℤ)) (design : AnyDesign) (made : design ≡ design_of way request values) (member : (method_of design).belongs (first_state design)) where
   by_strata : StrataAlone design (first_state design) → way.method ≡ StratifiedCube → HasCount (method_of design).tree (first_state design)
   by_strata strata is =
       let layer : Layer = layer_of request (balancing_values way.near way.columns values) in
       let same : design ≡ design_of_strata (layer ∷ []) = made ∙ ap (λ m. design_by m way.order way.near way.columns request values) is in
       subst (λ (d : AnyDesign). HasCount (method_of d).tree (first_state d)) (sym same)
-      (one_stratum layer (subst (λ (d : AnyDesign). MeansAlone (variant_of d) (first_state d)) same means) (subst (λ (d : AnyDesign). StrataAlone d (first_state d)) same strata))
+      (one_stratum layer (subst (λ (d : AnyDesign). (method_of d).belongs (first_state d)) same member) (subst (λ (d : AnyDesign). StrataAlone d (first_state d)) same strata))
 
   starts_all : CountAlone (variant_of design) (first_state design) → StrataAlone design (first_state design) → Starts (method_of design) (first_state design)
   starts_all count strata = record {
-    means = means_among (variant_of design) means;
+    means = has_means (method_of design) (first_state design) member;
     count = elim (cases_Bool (draws_together way.method)) [
       | inl together ↦ by_strata strata (is_together way.method together)
       | inr apart ↦
@@ -107,13 +109,13 @@ module _ (way : Procedure) (request : Request) (values : List (List ℤ)) (desig
 
 -- the design of the request by the method, at its first state
 pub is_started : (way : Procedure) (request : Request) (values : List (List ℤ)) (design : AnyDesign) (state : AnyState)
-    → NeedsWhole way request → design ≡ design_of way request values → RequestedAlone request (variant_of design) → state ≡ first_state design → MeansAlone (variant_of design) state → CountAlone (variant_of design) state → StrataAlone design state
+    → NeedsWhole way request → design ≡ design_of way request values → RequestedAlone request (variant_of design) → state ≡ first_state design → (method_of design).belongs state → CountAlone (variant_of design) state → StrataAlone design state
     → AroundAlone (variant_of design) state
     → IsStarted way request values (record { design = design; state = state })
-is_started way request values design state whole made requested there means count strata around =
+is_started way request values design state whole made requested there member count strata around =
     let own : AnyDesign = design_of way request values in
     let start : Starts (method_of own) (first_state own) = subst (λ (d : AnyDesign). Starts (method_of d) (first_state d)) made
-    (starts_all way request values design made (subst (MeansAlone (variant_of design)) there means) (subst (CountAlone (variant_of design)) there count) (subst (StrataAlone design) there strata)) in
+    (starts_all way request values design made (subst (λ (s : AnyState). (method_of design).belongs s) there member) (subst (CountAlone (variant_of design)) there count) (subst (StrataAlone design) there strata)) in
     let asked : IsRequested (method_of own).tree request (first_state own) =
     subst (λ (d : AnyDesign). IsRequested (method_of d).tree request (first_state d)) made (requested_among (variant_of design) request requested) in
     let same : state ≡ first_state own = there ∙ ap first_state made in
@@ -129,12 +131,12 @@ is_started way request values design state whole made requested there means coun
 -- ---- all strata together
 
 pub are_started : (layers : List Layer) (design : AnyDesign) (state : AnyState) → design ≡ design_of_strata layers → AreRequested layers (started (units_of layers)) → state ≡ first_state design
-    → MeansAlone (variant_of design) state → StrataAlone design state → AreStarted layers (record { design = design; state = state })
-are_started layers design state made requested there means strata =
+    → (method_of design).belongs state → StrataAlone design state → AreStarted layers (record { design = design; state = state })
+are_started layers design state made requested there member strata =
     let own : AnyDesign = design_of_strata layers in
     let same : state ≡ first_state own = there ∙ ap first_state made in
     let its : HasMeans (method_of own) (first_state own) =
-    means_among (variant_of own) (subst (λ (d : AnyDesign). MeansAlone (variant_of d) (first_state d)) made (subst (MeansAlone (variant_of design)) there means)) in
+    has_means (method_of own) (first_state own) (subst (λ (d : AnyDesign). (method_of d).belongs (first_state d)) made (subst (λ (s : AnyState). (method_of design).belongs s) there member)) in
     let kept : StrataAlone own (first_state own) = subst (λ (d : AnyDesign). StrataAlone d (first_state d)) made (subst (StrataAlone design) there strata) in
     record {
       design = made;

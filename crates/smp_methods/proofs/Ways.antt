@@ -8,7 +8,8 @@ use Rattle.smp_design.specs.declared.method.Method.TheVariants.{Pivotal}
 use Rattle.smp_design.specs.Words.{balances}
 use Rattle.smp_methods.specs.declared.any.AnyState.{AnyState}
 use Rattle.smp_methods.specs.declared.procedure.Procedure.{Procedure}
-use Rattle.smp_methods.specs.Designs.{design_by, design_of, drawn_by, method_of}
+use Rattle.smp_methods.specs.Designs.{design_by, design_of, drawn_by}
+use Rattle.smp_methods.specs.Methods.{method_of}
 use Rattle.smp_methods.specs.Starts.{SelectsAround}
 
 -- this is checked method by method

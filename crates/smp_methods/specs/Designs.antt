@@ -1,28 +1,35 @@
--- The design of a request by any procedure, and what it owes. Each method has a row in each of two
--- lists: how it starts, and what is asked of it.
-use Rattle.std.specs.Prelude.{◌≡◌, ℕ, ◌-◌, ℤ, List, [], ◌∷◌, Option, Some, None, refl}
+-- The design of a request by any procedure, its draw tree, and its first state. Each method has a row in each of two
+-- lists: how it starts, and by which tree it is drawn. What it owes stands in Methods.
+use Rattle.std.specs.Prelude.{◌≡◌, ℕ, ◌-◌, ℤ, List, [], ◌∷◌, length, Option, Some, None, refl}
 use Rattle.smp_prob.specs.declared.orders.Order.{Order}
 use Rattle.smp_prob.specs.declared.requests.Request.{Request}
-use Rattle.smp_split.specs.Embeds.{embedded, BelongsInside}
-use Rattle.smp_split.specs.Methods.{Method}
-use Rattle.smp_split.proofs.Embeds.{embedded_lawful}
+use Rattle.smp_split.specs.Embeds.{embedded}
+use Rattle.smp_split.specs.Trees.{Tree}
+use Rattle.smp_values.specs.InOrder.{placed_tree}
 use Rattle.smp_design.specs.declared.method.Method as named
 use Rattle.smp_design.specs.declared.method.Method.TheVariants as method
 use Rattle.smp_pivotal.specs.Method as pivotal
+use Rattle.smp_pivotal.specs.Pivotal.{pivotal_rule}
 use Rattle.smp_systematic.specs.Method as systematic
+use Rattle.smp_systematic.specs.Systematic.{systematic_rule}
 use Rattle.smp_minsup.specs.Method as support
+use Rattle.smp_minsup.specs.Support.{support_tree}
 use Rattle.smp_brewer.specs.Method as brewer
+use Rattle.smp_brewer.specs.Brewer.{brewing_tree, units_of as count_of}
 use Rattle.smp_localpiv.specs.Method as local
+use Rattle.smp_localpiv.specs.Local.{local_tree}
 use Rattle.smp_elim.specs.Method as elimination
+use Rattle.smp_elim.specs.Elimination.{elimination_tree}
 use Rattle.smp_moves.specs.Cubes.{left_in}
 use Rattle.smp_flight.specs.Requests.{units_of}
 use Rattle.smp_flight.specs.Selections.{starting}
-use Rattle.smp_landing.specs.Method as cube
+use Rattle.smp_landing.specs.Cube.{cube_tree}
 use Rattle.smp_localpiv.specs.Coordinates.{points_from}
+use Rattle.smp_localcube.specs.Local as near_cube
 use Rattle.smp_localcube.specs.Method as local_cube
 use Rattle.smp_stratcube.specs.States as stratified
 use Rattle.smp_stratcube.specs.Layers.{Layer, layer_of}
-use Rattle.smp_stratcube.specs.Method as stratified_cube
+use Rattle.smp_stratcube.specs.Cube.{strat_tree}
 use Rattle.smp_stratcube.specs.Units as strata
 use Rattle.smp_methods.specs.Procedures.{balancing_values}
 use Rattle.smp_methods.specs.declared.procedure.Procedure.{Procedure}
@@ -63,73 +70,64 @@ design_by method.StratifiedCube order near columns request values =
 abbrev pub design_of : Procedure → Request → List (List ℤ) → AnyDesign
 design_of way request values = design_by way.method way.order way.near way.columns request values
 
--- One method's design among all: its method's name; what the method owes; the design, which is seen as its first state; `into`, which puts
+-- One method's design among all: its method's name; its draw tree; the design, which is seen as its first state; `into`, which puts
 -- the method's states among those of all methods, and `out`, which gives them back; and that it gives back what was put there.
 pub data Variant : Type 1 where
-  variant : {State : Type 0} → named.Method → Method State → State → (into : State → AnyState)
+  variant : {State : Type 0} → named.Method → Tree State → State → (into : State → AnyState)
       → (out : AnyState → Option State) → ((state : State) → out (into state) ≡ Some state)
       → Variant
 
--- the variant that each design is: the list of the methods
+-- the variant that each design is: the list of the methods, each with its tree over as many units as the design has
 abbrev pub variant_of : AnyDesign → Variant
-variant_of (designs.Pivotal s) = variant method.Pivotal (pivotal.method_of s) s states.Pivotal
+variant_of (designs.Pivotal s) =
+    variant method.Pivotal (placed_tree pivotal_rule (length s.state.numer)) s states.Pivotal
     (elim [ states.Pivotal state ↦ Some state | other ↦ None ]) (λ _. refl)
 variant_of (designs.Systematic s) =
-    variant method.Systematic (systematic.method_of s) s states.Systematic
+    variant method.Systematic (placed_tree systematic_rule (length s.state.numer)) s states.Systematic
     (elim [ states.Systematic state ↦ Some state | other ↦ None ]) (λ _. refl)
 variant_of (designs.MinimumSupport s) =
-    variant method.MinimumSupport (support.method_of s) s states.MinimumSupport
+    variant method.MinimumSupport (support_tree (length s.numer)) s states.MinimumSupport
     (elim [ states.MinimumSupport state ↦ Some state | other ↦ None ]) (λ _. refl)
-variant_of (designs.Brewer s) = variant method.Brewer (brewer.method_of s) s states.Brewer
+variant_of (designs.Brewer s) = variant method.Brewer (brewing_tree (count_of s)) s states.Brewer
     (elim [ states.Brewer state ↦ Some state | other ↦ None ]) (λ _. refl)
 variant_of (designs.LocalPivotal s) =
-    variant method.LocalPivotal (local.method_of s) s states.LocalPivotal
+    variant method.LocalPivotal (local_tree (length s.state.numer)) s states.LocalPivotal
     (elim [ states.LocalPivotal state ↦ Some state | other ↦ None ]) (λ _. refl)
 variant_of (designs.Cube units) =
-    variant method.Cube (cube.method_of units) (starting units) states.Cube
+    variant method.Cube (cube_tree units) (starting units) states.Cube
     (elim [ states.Cube state ↦ Some state | other ↦ None ]) (λ _. refl)
 variant_of (designs.Elimination s) =
-    variant method.Elimination (elimination.method_of s) s states.Elimination
+    variant method.Elimination (elimination_tree (length s.sizes)) s states.Elimination
     (elim [ states.Elimination state ↦ Some state | other ↦ None ]) (λ _. refl)
 variant_of (designs.LocalCube design) =
-    variant method.LocalCube (local_cube.method_of design) (local_cube.started design) states.LocalCube
+    variant method.LocalCube (near_cube.local_tree design.units) (local_cube.started design) states.LocalCube
     (elim [ states.LocalCube state ↦ Some state | other ↦ None ]) (λ _. refl)
 variant_of (designs.StratifiedCube units) =
-    variant method.StratifiedCube (stratified_cube.method_of units) (stratified.started units) states.StratifiedCube
+    variant method.StratifiedCube (strat_tree units) (stratified.started units) states.StratifiedCube
     (elim [ states.StratifiedCube state ↦ Some state | other ↦ None ]) (λ _. refl)
 
--- a method put into a larger type of states
-module _ {Inner Outer : Type 0} (into : Inner → Outer) (out : Outer → Option Inner)
-    (back : (i : Inner) → out (into i) ≡ Some i) (inner : Method Inner) where
-  abbrev pub embedded_method : Method Outer
-  embedded_method = record {
-    tree = embedded into out inner.tree;
-    belongs = BelongsInside into out inner.tree inner.belongs;
-    lawful = embedded_lawful into out inner.tree back inner.belongs inner.lawful;
-  }
-
--- the method among those of all methods
-abbrev pub method_among : Variant → Method AnyState
-method_among (variant name method design into out back) = embedded_method into out back method
+-- the tree over the states of all methods
+abbrev pub tree_among : Variant → Tree AnyState
+tree_among (variant name tree design into out back) = embedded into out tree
 
 -- the design's first state among the states of all methods
 abbrev pub state_among : Variant → AnyState
-state_among (variant name method design into out back) = into design
+state_among (variant name tree design into out back) = into design
 
 -- the method that a design is drawn by
 abbrev pub name_of : Variant → named.Method
-name_of (variant name method design into out back) = name
+name_of (variant name tree design into out back) = name
 
 abbrev pub drawn_by : AnyDesign → named.Method
 drawn_by design = name_of (variant_of design)
 
+-- the draw tree of a design
+abbrev pub design_tree : AnyDesign → Tree AnyState
+design_tree design = tree_among (variant_of design)
+
 -- the state before the first step
 abbrev pub first_state : AnyDesign → AnyState
 first_state design = state_among (variant_of design)
-
--- what the design's method owes: its draw tree, which states are its own, and the law of its splits
-abbrev pub method_of : AnyDesign → Method AnyState
-method_of design = method_among (variant_of design)
 
 -- how many units were undecided where the landing of the cube, of the local cube or of the cube over all strata began, and 0 by any
 -- other method

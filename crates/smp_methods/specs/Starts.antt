@@ -15,7 +15,8 @@ use Rattle.smp_methods.specs.declared.any.AnyDesign.{AnyDesign}
 use Rattle.smp_methods.specs.declared.any.AnyState.{AnyState}
 use Rattle.smp_methods.specs.declared.procedure.Procedure.{Procedure}
 use Rattle.smp_methods.specs.declared.start.Started.{Started}
-use Rattle.smp_methods.specs.Designs.{design_of, design_of_strata, drawn_by, first_state, method_of}
+use Rattle.smp_methods.specs.Designs.{design_of, design_of_strata, drawn_by, first_state}
+use Rattle.smp_methods.specs.Methods.{method_of}
 
 -- Each leaf selects as many units as the values add up to, or, where that isn't whole, one of the two
 -- whole numbers around it. It isn't said of a method that balances.

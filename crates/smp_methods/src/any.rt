@@ -7,13 +7,14 @@ ghost use Rattle.smp_stratcube.specs.States as stratified;
 ghost use Rattle.smp_stratcube.specs.Layers.{AreLayers};
 ghost use Rattle.smp_stratcube.specs.Requests.{AreRequested};
 ghost use Rattle.smp_stratcube.specs.Units.{units_of};
-ghost use Rattle.smp_methods.specs.Designs.{design_of, design_of_strata, first_state, left_at, method_of, variant_of};
-ghost use Rattle.smp_methods.specs.Kept.Alone.{AroundAlone, CountAlone, MeansAlone, RequestedAlone, StepsAlone, StrataAlone};
+ghost use Rattle.smp_methods.specs.Designs.{design_of, design_of_strata, first_state, left_at, variant_of};
+ghost use Rattle.smp_methods.specs.Methods.{method_of};
+ghost use Rattle.smp_methods.specs.Kept.Alone.{AroundAlone, CountAlone, RequestedAlone, StepsAlone, StrataAlone};
 ghost use Rattle.smp_methods.specs.Procedures.{NeedsWhole, TakesValues};
 
-use crate::Procedure;
 use crate::local::local_cube;
 use crate::stratified::stratified_cube;
+use crate::{Boxed, Procedure};
 use smp_design::{Method, each_method};
 use smp_frac::NoMemory;
 use smp_frame::Numbers;
@@ -37,18 +38,18 @@ pub enum AnyDesign {
     StratifiedCube(smp_stratcube::StratCube),
 }
 
-/// A state of a design, in the variant of its method.
+/// A state of a design, in the variant of its method, each in a box of its own.
 #[derive(Drop)]
 pub enum AnyState {
-    Pivotal(smp_pivotal::PivotalState),
-    Systematic(smp_systematic::SystematicState),
-    MinimumSupport(smp_minsup::SupportState),
-    Brewer(smp_brewer::BrewerState),
-    LocalPivotal(smp_localpiv::AnyLocalState),
-    Cube(smp_landing::CubeState),
-    Elimination(smp_elim::EliminationState),
-    LocalCube(smp_localcube::AnyLocalCubeState),
-    StratifiedCube(smp_stratcube::StratCubeState),
+    Pivotal(Boxed<smp_pivotal::PivotalState>),
+    Systematic(Boxed<smp_systematic::SystematicState>),
+    MinimumSupport(Boxed<smp_minsup::SupportState>),
+    Brewer(Boxed<smp_brewer::BrewerState>),
+    LocalPivotal(Boxed<smp_localpiv::AnyLocalState>),
+    Cube(Boxed<smp_landing::CubeState>),
+    Elimination(Boxed<smp_elim::EliminationState>),
+    LocalCube(Boxed<smp_localcube::AnyLocalCubeState>),
+    StratifiedCube(Boxed<smp_stratcube::StratCubeState>),
 }
 
 // What the design of a method says, whichever method it is: of itself; a state that it makes; or of
@@ -143,12 +144,12 @@ impl AnyDesign {
     #[tactic(auto, unfolding(smp_design::specs::Words::row))]
     pub(crate) fn start(&self, alloc: Global) -> Result<AnyState, NoMemory>
         ensures state { IfOk result (λ state. state ≡ first_state self.now) }
-        ensures means { IfOk result (MeansAlone (variant_of self.now)) }
+        ensures member { IfOk result (method_of self.now).belongs }
         ensures count { IfOk result (CountAlone (variant_of self.now)) }
         ensures strata { IfOk result (StrataAlone self.now) }
         ensures around { IfOk result (AroundAlone (variant_of self.now)) }
     {
-        by_method!(self, design => state design.start(alloc)?)
+        by_method!(self, design => state Boxed::new(alloc, design.start(alloc)?)?)
     }
 
     /// How many units were undecided where the landing of the cube, of the local cube or of the cube over
@@ -157,10 +158,10 @@ impl AnyDesign {
         ensures { result ≡ left_at self.now state.now }
     {
         match (self, state) {
-            (AnyDesign::Cube(design), AnyState::Cube(inner)) => design.left(inner),
-            (AnyDesign::LocalCube(design), AnyState::LocalCube(inner)) => design.left(inner),
+            (AnyDesign::Cube(design), AnyState::Cube(inner)) => design.left(inner.get()),
+            (AnyDesign::LocalCube(design), AnyState::LocalCube(inner)) => design.left(inner.get()),
             (AnyDesign::StratifiedCube(design), AnyState::StratifiedCube(inner)) => {
-                design.left(inner)
+                design.left(inner.get())
             }
             _ => 0,
         }
@@ -175,7 +176,7 @@ impl AnyDesign {
         ensures { StepsAlone (variant_of self.now) state.old state.new draw }
     {
         by_method!(
-            self, state, (design, inner) => return design.advance(inner, draw), unreachable!()
+            self, state, (design, inner) => return design.advance(&mut inner.state, draw), unreachable!()
         )
     }
 }
@@ -190,16 +191,16 @@ impl Splitting for AnyDesign {
     }
 
     fn done(&self, state: &AnyState) -> bool {
-        by_method!(self, state, (design, inner) => design.done(inner), true)
+        by_method!(self, state, (design, inner) => design.done(inner.get()), true)
     }
 
     fn kind(&self, state: &AnyState) -> Kind {
-        by_method!(self, state, (design, inner) => design.kind(inner), Kind::Pivot)
+        by_method!(self, state, (design, inner) => design.kind(inner.get()), Kind::Pivot)
     }
 
     #[tactic(auto, using(crate::proofs::Moved::bound_moved))]
     fn bound(&self, state: &AnyState) -> u128 {
-        by_method!(self, state, (design, inner) => design.bound(inner), 1)
+        by_method!(self, state, (design, inner) => design.bound(inner.get()), 1)
     }
 
     #[tactic(auto, using(crate::proofs::Moved::steps_among))]
@@ -208,6 +209,6 @@ impl Splitting for AnyDesign {
     }
 
     fn selected(&self, state: &AnyState, unit: usize) -> bool {
-        by_method!(self, state, (design, inner) => design.selected(inner, unit), false)
+        by_method!(self, state, (design, inner) => design.selected(inner.get(), unit), false)
     }
 }

@@ -7,7 +7,6 @@ use Rattle.smp_fractions.specs.Fractions.{whole}
 use Rattle.smp_frac.specs.LowestTerms.{lowest_terms}
 use Rattle.smp_frac.specs.declared.fractions.Frac.{Frac}
 use Rattle.smp_frame.specs.declared.frame.Unit as unit
-use Rattle.smp_frame.specs.Bounds.{probs_of, sizes_of, second_sizes_of}
 
 -- the rows of a frame by their numbers, of which the first is 0
 abbrev pub rows_of : List unit.Unit → List ℕ
@@ -26,11 +25,11 @@ psu_at units row = slice_index_or (map (λ u. u.psu) units) row []
 
 -- the size of a row in the second stage
 abbrev pub second_size_at : List unit.Unit → ℕ → ℕ
-second_size_at units row = slice_index (second_sizes_of units) row
+second_size_at units row = slice_index (map (λ u. u.second_size) units) row
 
 -- the probability of a row, where the frame has a column of these
 abbrev pub prob_at : List unit.Unit → ℕ → Frac
-prob_at units row = slice_index_or (probs_of units) row (lowest_terms (whole 1))
+prob_at units row = slice_index_or (map (λ u. u.prob) units) row (lowest_terms (whole 1))
 
 -- the value of a row in a column of values
 abbrev pub value_at : List unit.Unit → ℕ → ℕ → ℤ
@@ -43,7 +42,7 @@ value_at units row column =
 -- = Σ size
 -- e.g. of c: 3
 abbrev pub size_of : List unit.Unit → List ℕ → ℕ
-size_of units rows = sum_by (λ row. slice_index (sizes_of units) row) rows
+size_of units rows = sum_by (λ row. slice_index (map (λ u. u.size) units) row) rows
 
 -- the sum of a column of values
 abbrev pub value_of : List unit.Unit → List ℕ → ℕ → ℤ

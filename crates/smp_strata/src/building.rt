@@ -97,7 +97,7 @@ fn first_of(
     let second = second_request(alloc, units, design.second, rows)?;
     Ok(FirstUnit {
         rows: Group::from_slice(alloc, rows)?,
-        values: Numbers::from_slice(alloc, &values)?,
+        values: Numbers::from_vec(values),
         second: SecondRequest::new(alloc, second)?,
     })
 }

@@ -25,10 +25,11 @@ use Rattle.smp_strata.specs.declared.strata.FirstUnit.{FirstUnit}
 use Rattle.smp_strata.specs.declared.strata.Seat.{Seat}
 use Rattle.smp_strata.specs.declared.strata.Stratum.{Stratum}
 use Rattle.smp_twostage.specs.Covered.{StartsAlone}
-use Rattle.smp_twostage.specs.Kept.{EachStarts}
+use Rattle.smp_twostage.specs.Kept.Stages.{EachStarts}
 use Rattle.smp_twostage.specs.Plans.{CanBeDrawn}
-use Rattle.smp_twostage.specs.Selections.{BelongsToWhole, Selecting, all_of, belongs_to, first_number, first_stage, is_of_stratum, parts_by, place_of, seat_alone, seat_by, seats_by, seats_of, stage_by, stage_within, stages_below, stages_in, stages_of, stages_within, states_of, tree_of}
-use Rattle.smp_twostage.specs.Sides.{section_count_by, stages_before_by, stages_by}
+use Rattle.smp_twostage.specs.Selections.{BelongsToWhole, Selecting, all_of, belongs_to, first_number, first_stage, is_of_stratum, parts_by, place_of, seat_alone, seat_by, seats_by, seats_of, stage_by, stage_within, stages_below, stages_in, stages_of, stages_within, tree_of}
+use Rattle.smp_twostage.specs.Kept.Sides.{states_of}
+use Rattle.smp_twostage.specs.Kept.Sides.{section_count_by, stages_before_by, stages_by}
 use Rattle.smp_twostage.specs.Laws.Covered.{alone_staged, length_alone, made_at, strata_are}
 use Rattle.smp_twostage.specs.Laws.Numbering.{less_or_same}
 use Rattle.smp_twostage.specs.Laws.Staged.{length_seats, seat_at}

@@ -16,7 +16,7 @@ use Rattle.smp_twostage.specs.Covered.{StartsAlone, state_alone}
 use Rattle.smp_twostage.specs.Laws.Wholes.{whole_lawful}
 use Rattle.smp_twostage.specs.Selections.{BelongsToWhole, all_of, belongs_to, covered_tree, is_of_section, is_together, one_of, start_of, strata_sections, whole_tree}
 use Rattle.smp_twostage.specs.Selections.{tree_of}
-use Rattle.smp_twostage.specs.Sides.{is_in_section, seats_in, section_count_by, stages_before_by, stages_by}
+use Rattle.smp_twostage.specs.Kept.Sides.{is_in_section, seats_in, section_count_by, stages_before_by, stages_by}
 use Rattle.smp_twostage.specs.Starts.{row_fraction}
 use Rattle.smp_twostage.proofs.StartsBy.{states_so, stages_so, tree_so}
 

@@ -19,7 +19,7 @@ use Rattle.smp_strata.specs.Bounds.{IsFirst, IsOver, IsStratum}
 use Rattle.smp_strata.specs.Plans.{Parts}
 use Rattle.smp_strata.specs.declared.strata.FirstUnit.{FirstUnit}
 use Rattle.smp_strata.specs.declared.strata.Stratum.{Stratum}
-use Rattle.smp_twostage.specs.Kept.{IsPlanned}
+use Rattle.smp_twostage.specs.Kept.Stages.{IsPlanned}
 use Rattle.smp_twostage.specs.Plans.{CanBeDrawn}
 use Rattle.smp_balance.specs.Strata.{column_count, free_values, values_of}
 use Rattle.smp_twostage.specs.Selections.{balance_count, balancing, valued}

@@ -6,10 +6,10 @@ use Rattle.smp_methods.specs.Designs.{first_state}
 use Rattle.smp_stages.specs.declared.places.Stage.{Stage}
 use Rattle.smp_stages.specs.Starts.{StartsInStages}
 use Rattle.smp_stages.specs.Stages.{Progress, progress}
-use Rattle.smp_twostage.specs.Kept.{EachStarts, first_numbers}
+use Rattle.smp_twostage.specs.Kept.Stages.{EachStarts, first_numbers}
 use Rattle.smp_twostage.specs.Selections.{Coverage, Selecting, belongs_to, covered_seats, covered_stages, covered_start, covered_states, is_together}
 use Rattle.smp_twostage.specs.Selections.{tree_of}
-use Rattle.smp_twostage.specs.Sides.{seats_in, section_count_by, stages_before_by, stages_by}
+use Rattle.smp_twostage.specs.Kept.Sides.{seats_in, section_count_by, stages_before_by, stages_by}
 use Rattle.smp_twostage.proofs.Starts.{states_are}
 
 module _ (b : Bool) (c : Coverage) (is : is_together c ≡ b) where

@@ -28,7 +28,8 @@ use Rattle.smp_methods.specs.declared.any.AnyDesign.{AnyDesign}
 use Rattle.smp_methods.specs.declared.any.AnyState.{AnyState}
 use Rattle.smp_methods.specs.declared.any.AnyState.TheVariants as states
 use Rattle.smp_methods.specs.declared.procedure.Procedure.{Procedure}
-use Rattle.smp_methods.specs.Designs.{design_by, design_of, first_state, method_of}
+use Rattle.smp_methods.specs.Designs.{design_by, design_of, first_state}
+use Rattle.smp_methods.specs.Methods.{method_of}
 use Rattle.smp_methods.specs.Procedures.{balancing_values, procedure}
 use Rattle.smp_stages.specs.Paths.{GoesByStages, IsStagePath}
 use Rattle.smp_stages.specs.Stages.{drawn_within, is_drawn, read, unit_selected, within_of}
@@ -39,7 +40,8 @@ use Rattle.smp_strata.specs.declared.strata.Stratum.{Stratum}
 use Rattle.smp_twostage.specs.Cubes.{IsDrawnByCube, IsDrawnFrom, balancing, by_cube, by_local_cube, leaf_of, local_units}
 use Rattle.smp_twostage.specs.Plans.{CanBeDrawn}
 use Rattle.smp_balance.specs.Strata.{column_count, free_units, free_values, values_of}
-use Rattle.smp_twostage.specs.Selections.{balance_count, tree_of, first_number, first_stage, stages_of, states_of, valued}
+use Rattle.smp_twostage.specs.Selections.{balance_count, tree_of, first_number, first_stage, stages_of, valued}
+use Rattle.smp_twostage.specs.Kept.Sides.{states_of}
 use Rattle.smp_twostage.specs.Laws.Numbering.{first_there}
 use Rattle.smp_twostage.proofs.Columns.{is_planned}
 use Rattle.smp_twostage.proofs.StartsBy.{first_so}

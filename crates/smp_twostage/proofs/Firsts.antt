@@ -13,7 +13,8 @@ use Rattle.smp_values.proofs.Requests.{adds_to_draws}
 use Rattle.smp_design.specs.declared.method.Method.{Method}
 use Rattle.smp_design.specs.Words.{draws_together}
 use Rattle.smp_methods.specs.declared.procedure.Procedure.{Procedure}
-use Rattle.smp_methods.specs.Designs.{design_of, design_of_strata, first_state, method_of}
+use Rattle.smp_methods.specs.Designs.{design_of, design_of_strata, first_state}
+use Rattle.smp_methods.specs.Methods.{method_of}
 use Rattle.smp_methods.specs.Starts.{AreStarted, IsStarted}
 use Rattle.smp_methods.specs.Procedures.{procedure, procedure_of}
 use Rattle.smp_methods.proofs.Firsts.{is_first}
@@ -32,9 +33,10 @@ use Rattle.smp_stratcube.proofs.BySteps.{counts_so, is_balanced}
 use Rattle.smp_stratcube.proofs.Layered.{units_are}
 use Rattle.smp_stratcube.proofs.Starting.{are_requested, strat_means}
 use Rattle.smp_stratcube.proofs.Stored.{layer_is}
-use Rattle.smp_twostage.specs.Kept.{EachStarts, IsPlanned, StageStarts}
+use Rattle.smp_twostage.specs.Kept.Stages.{EachStarts, IsPlanned, StageStarts}
 use Rattle.smp_twostage.specs.Plans.{CanBeDrawn, TakesRows}
-use Rattle.smp_twostage.specs.Selections.{BelongsToCovered, BelongsToWhole, Selecting, balancing, belongs_to, covered_stages, covered_start, covered_states, first_stage, layers_of, parts_by, second_stage, stage_by, stage_of_strata, stage_within, stages_below, stages_in, stages_of, stages_within, start_of, states_of, tree_of, valued}
+use Rattle.smp_twostage.specs.Selections.{BelongsToCovered, BelongsToWhole, Selecting, balancing, belongs_to, covered_stages, covered_start, covered_states, first_stage, layers_of, parts_by, second_stage, stage_by, stage_of_strata, stage_within, stages_below, stages_in, stages_of, stages_within, start_of, tree_of, valued}
+use Rattle.smp_twostage.specs.Kept.Sides.{states_of}
 use Rattle.smp_twostage.proofs.Columns.{has_procedure, is_planned, takes_free, takes_rows}
 use Rattle.smp_twostage.proofs.Layers.{are_layers, numbers, one_each, same_units}
 use Rattle.smp_twostage.proofs.Starts.{each_belongs}
@@ -155,7 +157,7 @@ module _ (plan : Parts) (drawable : CanBeDrawn plan) where
     pub together_started : AreStarted (layers_of plan) (record { design = design_of_strata (layers_of plan); state = first_state (design_of_strata (layers_of plan)) })
     together_started =
         are_started (layers_of plan) (design_of_strata (layers_of plan)) (first_state (design_of_strata (layers_of plan))) refl
-        (are_requested (layers_of plan) (are_layers plan drawable same) each_is) refl (strat_means (units_of (layers_of plan)) are_units)
+        (are_requested (layers_of plan) (are_layers plan drawable same) each_is) refl (strat_means (units_of (layers_of plan)) are_units).member
         (counts_so (units_of (layers_of plan)) are_units, is_balanced (units_of (layers_of plan)) are_units)
 
     pub together_belongs : EachBelongs tree_of belongs_to (stage_of_strata plan ∷ []) (first_state (stage_of_strata plan).design.design ∷ [])

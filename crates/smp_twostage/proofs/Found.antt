@@ -6,7 +6,7 @@ use Rattle.std.proofs.lemmas.List.Sorted.{IsPartitionedBy-leb}
 use Rattle.smp_stages.specs.Laws.Firsts.{first_is, first_unique}
 use Rattle.smp_stages.specs.Stages.{first_among}
 use Rattle.smp_stages.proofs.Sections.{before_rises, section}
-use Rattle.smp_twostage.specs.Kept.{first_numbers}
+use Rattle.smp_twostage.specs.Kept.Stages.{first_numbers}
 use Rattle.smp_twostage.specs.Laws.Covered.{strata_are_sections}
 use Rattle.smp_twostage.specs.Selections.{Coverage, covered_stages, section_count, stages_before}
 use Rattle.smp_twostage.proofs.Inside.{first_at, length_firsts}

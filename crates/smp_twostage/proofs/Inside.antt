@@ -18,10 +18,10 @@ use Rattle.smp_twostage.specs.Plans.{CanBeDrawn}
 use Rattle.smp_twostage.specs.Starts.{left_by}
 use Rattle.smp_twostage.specs.Laws.Covered.{alone_there, before_within}
 use Rattle.smp_twostage.specs.Laws.Numbering.{first_there}
-use Rattle.smp_twostage.specs.Kept.{first_numbers}
+use Rattle.smp_twostage.specs.Kept.Stages.{first_numbers}
 use Rattle.smp_twostage.specs.Selections.{Coverage, Selecting, belongs_to, covered_number, covered_parts, covered_seats, covered_stages, covered_tree, covers, first_number, first_place}
 use Rattle.smp_twostage.specs.Selections.{count_by, first_stage, is_only, is_together, number_by, parts_by, section_count, stage_of_strata, stages_before, tree_of, units_before}
-use Rattle.smp_twostage.specs.Sides.{first_place_by, section_count_by, stages_before_by, stages_by}
+use Rattle.smp_twostage.specs.Kept.Sides.{first_place_by, section_count_by, stages_before_by, stages_by}
 use Rattle.smp_twostage.proofs.Columns.{is_planned}
 
 module _ (c own : Coverage) (view : own ≡ c) (stages : List (Stage Selecting)) (stages_are : stages ≡ covered_stages own) where

@@ -20,7 +20,7 @@ use Rattle.smp_strata.specs.Bounds.{IsStratum}
 use Rattle.smp_strata.specs.Plans.{Parts}
 use Rattle.smp_strata.specs.declared.strata.FirstUnit.{FirstUnit}
 use Rattle.smp_strata.specs.declared.strata.Stratum.{Stratum}
-use Rattle.smp_twostage.specs.Kept.{IsPlanned}
+use Rattle.smp_twostage.specs.Kept.Stages.{IsPlanned}
 use Rattle.smp_twostage.specs.Plans.{CanBeDrawn, IsTogether}
 use Rattle.smp_twostage.specs.Selections.{balance_count, balancing, layers_of, numbers_from, units_before, valued}
 use Rattle.smp_twostage.proofs.Columns.{columns_are, free_counted, free_near, is_planned, planned_columns, stratum_at}

@@ -14,7 +14,7 @@ use Rattle.smp_design.specs.declared.method.Method.{Method}
 use Rattle.smp_design.specs.Words.{draws_together}
 use Rattle.smp_rows.specs.Laws.Rows.{free_within}
 use Rattle.smp_methods.specs.declared.any.AnyState.{AnyState}
-use Rattle.smp_methods.specs.Designs.{method_of}
+use Rattle.smp_methods.specs.Methods.{method_of}
 use Rattle.smp_stages.specs.declared.places.Place.{Place}
 use Rattle.smp_stages.specs.declared.places.Stage.{Stage}
 use Rattle.smp_stages.specs.Stages.{Progress, read, seat_selected, staged_tree, unit_selected}
@@ -25,7 +25,7 @@ use Rattle.smp_strata.specs.declared.strata.Seat.{Seat}
 use Rattle.smp_twostage.specs.Plans.{CanBeDrawn}
 use Rattle.smp_twostage.specs.Selections.{Coverage, Selecting, tree_of, covered_tree, first_number, first_stage, is_of_stratum, is_together, parts_by, place_of, seat_alone, seat_by, seat_together}
 use Rattle.smp_twostage.specs.Selections.{second_stage, stage_of_strata, stages_of, units_before}
-use Rattle.smp_twostage.specs.Sides.{seats_in, stages_by}
+use Rattle.smp_twostage.specs.Kept.Sides.{seats_in, stages_by}
 use Rattle.smp_twostage.specs.Starts.{is_positive, row_fraction}
 use Rattle.smp_twostage.specs.Laws.Covered.{its_place, made_at}
 use Rattle.smp_twostage.specs.Laws.Numbering.{first_there, second_there}

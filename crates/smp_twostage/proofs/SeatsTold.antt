@@ -28,7 +28,7 @@ use Rattle.smp_strata.specs.Seats.{IsSeat, first_fraction}
 use Rattle.smp_strata.specs.declared.strata.FirstUnit.{FirstUnit}
 use Rattle.smp_strata.specs.declared.strata.Seat.{Seat}
 use Rattle.smp_strata.specs.declared.strata.Stratum.{Stratum}
-use Rattle.smp_twostage.specs.Kept.{IsThere, each_told, told_count, told_seat}
+use Rattle.smp_twostage.specs.Kept.Stages.{IsThere, each_told, told_count, told_seat}
 use Rattle.smp_twostage.specs.Lines.{seat_values, told, told_seats}
 use Rattle.smp_twostage.specs.Plans.{CanBeDrawn}
 use Rattle.smp_twostage.specs.Selections.{Coverage, balance_count, balancing, covers, is_together, place_of, units_at}

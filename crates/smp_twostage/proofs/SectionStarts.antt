@@ -11,7 +11,7 @@ use Rattle.smp_strata.specs.Plans.{Parts}
 use Rattle.smp_twostage.specs.Covered.{state_alone}
 use Rattle.smp_twostage.specs.Plans.{CanBeDrawn}
 use Rattle.smp_twostage.specs.Selections.{BelongsToCovered, BelongsToWhole, all_of, covered_start, covered_tree, is_of_section, one_of, parts_by, section_count, stages_of, start_of, strata_sections, tree_of, whole_tree}
-use Rattle.smp_twostage.specs.Sides.{is_in_section, section_count_by, stages_before_by, stages_by}
+use Rattle.smp_twostage.specs.Kept.Sides.{is_in_section, section_count_by, stages_before_by, stages_by}
 use Rattle.smp_twostage.proofs.Alone.{alone_part, states_run}
 use Rattle.smp_twostage.proofs.AloneBy.{own_state, reached_part, tree_alone}
 use Rattle.smp_twostage.proofs.Firsts.{covered_belongs, start_belongs}

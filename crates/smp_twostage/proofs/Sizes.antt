@@ -15,7 +15,7 @@ use Rattle.smp_rows.proofs.Asked.{value_is_asked}
 use Rattle.smp_design.specs.Words.{balances}
 use Rattle.smp_methods.specs.declared.any.AnyState.{AnyState}
 use Rattle.smp_methods.specs.declared.procedure.Procedure.{Procedure}
-use Rattle.smp_methods.specs.Designs.{method_of}
+use Rattle.smp_methods.specs.Methods.{method_of}
 use Rattle.smp_methods.specs.Procedures.{procedure}
 use Rattle.smp_methods.proofs.Ways.{around_unless}
 use Rattle.smp_stages.specs.Paths.{GoesByStages, IsStagePath}
@@ -24,7 +24,7 @@ use Rattle.smp_stages.specs.Laws.Reads.{some_within}
 use Rattle.smp_strata.specs.Draws.{expected_firsts}
 use Rattle.smp_strata.specs.Plans.{Parts}
 use Rattle.smp_strata.specs.declared.strata.Stratum.{Stratum}
-use Rattle.smp_twostage.specs.Kept.{EachStarts, StageStarts}
+use Rattle.smp_twostage.specs.Kept.Stages.{EachStarts, StageStarts}
 use Rattle.smp_twostage.specs.Plans.{CanBeDrawn}
 use Rattle.smp_balance.specs.Strata.{column_count, free_values}
 use Rattle.smp_twostage.specs.Selections.{Selecting, first_number, first_stage, stages_of, tree_of, valued}

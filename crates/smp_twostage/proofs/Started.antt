@@ -3,7 +3,7 @@ use Rattle.std.proofs.Common.{List, [], ◌∷◌, ◌++◌, arith, refl, length
 use Rattle.smp_methods.specs.declared.any.AnyState.{AnyState}
 use Rattle.smp_stages.specs.declared.places.Stage.{Stage}
 use Rattle.smp_stages.proofs.Grown.{each_more}
-use Rattle.smp_twostage.specs.Kept.{EachStarts, StageStarts}
+use Rattle.smp_twostage.specs.Kept.Stages.{EachStarts, StageStarts}
 use Rattle.smp_twostage.specs.Selections.{Selecting}
 
 pub none_start : EachStarts [] []

@@ -14,7 +14,8 @@ use Rattle.smp_split.specs.Counts.{LeavesSelect, selected_count}
 use Rattle.smp_split.specs.Paths.{AtEachLeaf}
 use Rattle.smp_rows.proofs.Asked.{rows_select}
 use Rattle.smp_methods.specs.declared.any.AnyState.{AnyState}
-use Rattle.smp_methods.specs.Designs.{first_state, method_of}
+use Rattle.smp_methods.specs.Designs.{first_state}
+use Rattle.smp_methods.specs.Methods.{method_of}
 use Rattle.smp_stages.specs.declared.places.Stage.{Stage}
 use Rattle.smp_stages.specs.Stages.{Progress, EachBelongs, progress, seat_value, unit_value, drawn_within, is_drawn, selected_in, within_of}
 use Rattle.smp_stages.specs.Paths.{GoesByStages}
@@ -27,9 +28,10 @@ use Rattle.smp_strata.specs.Plans.{Parts}
 use Rattle.smp_strata.specs.Seats.{first_at, first_fraction, place_fraction, stage_fraction, unit_fraction}
 use Rattle.smp_strata.specs.declared.strata.FirstUnit.{FirstUnit}
 use Rattle.smp_strata.specs.declared.strata.Stratum.{Stratum}
-use Rattle.smp_twostage.specs.Kept.{EachFirst, EachStarts, StageStarts}
+use Rattle.smp_twostage.specs.Kept.Stages.{EachFirst, EachStarts, StageStarts}
 use Rattle.smp_twostage.specs.Plans.{CanBeDrawn}
-use Rattle.smp_twostage.specs.Selections.{Selecting, tree_of, belongs_to, first_stage, second_stage, stages_of, seats_of, states_of, first_number, place_of}
+use Rattle.smp_twostage.specs.Selections.{Selecting, tree_of, belongs_to, first_stage, second_stage, stages_of, seats_of, first_number, place_of}
+use Rattle.smp_twostage.specs.Kept.Sides.{states_of}
 use Rattle.smp_twostage.specs.Starts.{StartsWhole, known, row_fraction, weighted}
 use Rattle.smp_twostage.specs.Laws.Numbering.{first_there, second_there}
 use Rattle.smp_twostage.specs.Laws.Staged.{length_seats, none_in, seconds_in}

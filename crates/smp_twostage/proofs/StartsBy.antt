@@ -21,7 +21,7 @@ use Rattle.smp_strata.specs.declared.strata.Stratum.{Stratum}
 use Rattle.smp_twostage.specs.Cubes.{IsDrawnByCube, IsDrawnTogether, frame_of}
 use Rattle.smp_twostage.specs.Plans.{CanBeDrawn}
 use Rattle.smp_twostage.specs.Selections.{Selecting, all_of, belongs_to, first_number, is_together, tree_of}
-use Rattle.smp_twostage.specs.Sides.{first_place_by, seats_in, stages_by}
+use Rattle.smp_twostage.specs.Kept.Sides.{first_place_by, seats_in, stages_by}
 use Rattle.smp_twostage.specs.Starts.{StartsWhole, known, row_fraction, weighted}
 
 module _ (together : Bool) (plan : Parts) where

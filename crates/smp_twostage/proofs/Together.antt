@@ -23,7 +23,8 @@ use Rattle.smp_rows.specs.Rows.{row_value}
 use Rattle.smp_rows.specs.Laws.Rows.{free_within}
 use Rattle.smp_methods.specs.declared.any.AnyState.{AnyState}
 use Rattle.smp_design.specs.Words.{draws_together}
-use Rattle.smp_methods.specs.Designs.{design_of_strata, first_state, method_of}
+use Rattle.smp_methods.specs.Designs.{design_of_strata, first_state}
+use Rattle.smp_methods.specs.Methods.{method_of}
 use Rattle.smp_split.specs.Methods.{HasMeans}
 use Rattle.smp_split.specs.Sectioning.{IsPartOf}
 use Rattle.smp_stages.specs.declared.places.Seat.{Seat as Seat_in_stages}
@@ -54,8 +55,8 @@ use Rattle.smp_twostage.specs.Cubes.{balancing, units_together}
 use Rattle.smp_twostage.specs.Plans.{CanBeDrawn}
 use Rattle.smp_twostage.specs.Selections.{BelongsToWhole, Selecting, all_of, belongs_to, layers_of, numbers_from, place_of, seat_together}
 use Rattle.smp_twostage.specs.Selections.{seats_together, stage_of_strata, tree_of, units_before}
-use Rattle.smp_twostage.specs.Sides.{is_in_section, section_count_by, stages_before_by, stages_by}
-use Rattle.smp_twostage.specs.Kept.{EachFirst}
+use Rattle.smp_twostage.specs.Kept.Sides.{is_in_section, section_count_by, stages_before_by, stages_by}
+use Rattle.smp_twostage.specs.Kept.Stages.{EachFirst}
 use Rattle.smp_twostage.specs.Starts.{row_fraction}
 use Rattle.smp_twostage.specs.Laws.Covered.{made_at, sections_case, together_staged}
 use Rattle.smp_twostage.specs.Laws.Places.{StandsIn}

@@ -16,7 +16,7 @@ use Rattle.smp_balance.specs.Totals.{can_be_selected}
 use Rattle.smp_design.specs.Words.{balances}
 use Rattle.smp_design.proofs.Rows.{balances_few}
 use Rattle.smp_methods.specs.declared.any.AnyState.{AnyState}
-use Rattle.smp_methods.specs.Designs.{method_of}
+use Rattle.smp_methods.specs.Methods.{method_of}
 use Rattle.smp_methods.proofs.Wholes.{takes_some}
 use Rattle.smp_methods.proofs.Columns.{are_values}
 use Rattle.smp_stages.specs.declared.places.Stage.{Stage}
@@ -27,10 +27,10 @@ use Rattle.smp_strata.specs.Plans.{Parts}
 use Rattle.smp_strata.specs.declared.strata.FirstUnit.{FirstUnit}
 use Rattle.smp_strata.specs.declared.strata.Stratum.{Stratum}
 use Rattle.smp_twostage.specs.Cubes.{balancing}
-use Rattle.smp_twostage.specs.Kept.{IsPlanned}
+use Rattle.smp_twostage.specs.Kept.Stages.{IsPlanned}
 use Rattle.smp_twostage.specs.Plans.{CanBeDrawn}
 use Rattle.smp_twostage.specs.Selections.{Coverage, Selecting, balance_count, covered_number, covered_parts, covers, first_number, first_stage, is_only, is_together, parts_by, place_together, stage_of_strata, stages_of, tree_of}
-use Rattle.smp_twostage.specs.Sides.{first_place_by, stages_by}
+use Rattle.smp_twostage.specs.Kept.Sides.{first_place_by, stages_by}
 use Rattle.smp_twostage.specs.Starts.{covered_first}
 use Rattle.smp_twostage.specs.Laws.Covered.{alone_there}
 use Rattle.smp_twostage.specs.Laws.Numbering.{first_there}

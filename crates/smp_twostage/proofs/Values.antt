@@ -11,7 +11,7 @@ use Rattle.smp_prob.specs.Inclusions.{asked_fraction}
 use Rattle.smp_design.specs.declared.method.Method.{Method}
 use Rattle.smp_rows.proofs.Asked.{value_is_asked}
 use Rattle.smp_methods.specs.declared.any.AnyState.{AnyState}
-use Rattle.smp_methods.specs.Designs.{method_of}
+use Rattle.smp_methods.specs.Methods.{method_of}
 use Rattle.smp_stages.specs.declared.places.Place.{Place}
 use Rattle.smp_stages.specs.declared.places.Stage.{Stage}
 use Rattle.smp_stages.specs.Stages.{seat_value, unit_value, read}
@@ -23,7 +23,7 @@ use Rattle.smp_strata.specs.declared.strata.Stratum.{Stratum}
 use Rattle.smp_twostage.specs.Plans.{CanBeDrawn}
 use Rattle.smp_twostage.specs.Selections.{Selecting, tree_of, stages_of, first_number, first_stage, is_of_stratum, parts_by, second_stage, seat_by, place_of, seats_of}
 use Rattle.smp_twostage.specs.Starts.{row_fraction}
-use Rattle.smp_twostage.specs.Kept.{EachStarts}
+use Rattle.smp_twostage.specs.Kept.Stages.{EachStarts}
 use Rattle.smp_twostage.specs.Laws.Covered.{its_place}
 use Rattle.smp_twostage.specs.Laws.Numbering.{HaveSeconds, first_there, second_there}
 use Rattle.smp_twostage.specs.Laws.Places.{StandsIn}

@@ -6,7 +6,8 @@ use Rattle.smp_stages.specs.Stages.{progress}
 use Rattle.smp_stages.proofs.Starts.{starts_in_stages}
 use Rattle.smp_strata.specs.Plans.{Parts}
 use Rattle.smp_twostage.specs.Plans.{CanBeDrawn}
-use Rattle.smp_twostage.specs.Selections.{belongs_to, seats_of, seats_together, stage_of_strata, stages_of, start_of, states_of, tree_of}
+use Rattle.smp_twostage.specs.Selections.{belongs_to, seats_of, seats_together, stage_of_strata, stages_of, start_of, tree_of}
+use Rattle.smp_twostage.specs.Kept.Sides.{states_of}
 use Rattle.smp_twostage.specs.Starts.{StartsWhole}
 use Rattle.smp_twostage.specs.Laws.Covered.{together_staged}
 use Rattle.smp_twostage.specs.Laws.Staged.{whole_staged}

@@ -36,8 +36,7 @@ local_units plan s = record {
 }
 
 -- The stratum is drawn so from the requested probabilities, by the cube or by the local cube.
-pub data IsDrawnByCube (plan : Parts) (h : ℕ) (s : Stratum) (part : List Entry)
-    (ends : List AnyState) : Type 0 where
+pub data IsDrawnByCube (plan : Parts) (h : ℕ) (s : Stratum) (part : List Entry) (ends : List AnyState) : Type 0 where
   by_cube : plan.method ≡ method.Cube
       → IsDrawnFrom (cube_tree (free_units (balancing plan s))) (starting (free_units (balancing plan s)))
       states.Cube (first_number plan h) part ends → IsDrawnByCube plan h s part ends

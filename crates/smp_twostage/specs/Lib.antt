@@ -1,5 +1,4 @@
 pub mod Selections
-pub mod Sides
 pub mod Plans
 pub mod Cubes
 pub mod Starts

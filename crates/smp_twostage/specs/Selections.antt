@@ -1,7 +1,7 @@
 -- The whole selection by a plan, in stages. Strata are drawn in order of first appearance. In each its first stage units are drawn,
 -- and then, where there is a second stage, rows within each of those that were drawn, certain ones among them (Särndal, Swensson and
 -- Wretman 1992). A method that draws all strata together has one stage for them.
-use Rattle.std.specs.Prelude.{ℕ, zero, Bool, true, false, suc, ◌+◌, ◌-◌, nat_eq, nat_lt, ◌&&◌, ◌||◌, if◌then◌else◌}
+use Rattle.std.specs.Prelude.{ℕ, zero, Bool, true, suc, ◌+◌, ◌-◌, nat_eq, nat_lt, ◌&&◌, ◌||◌, if◌then◌else◌}
 use Rattle.std.specs.Prelude.{List, [], ◌∷◌}
 use Rattle.std.specs.Prelude.{◌++◌, length, map, take, drop, Option, Some, None, option_map, unwrap_or}
 use Rattle.std.specs.List.{slice_get, list_any, position_or_len, range_with_len}
@@ -15,7 +15,8 @@ use Rattle.smp_design.specs.declared.method.Method.{Method}
 use Rattle.smp_design.specs.Words.{draws_together}
 use Rattle.smp_methods.specs.declared.any.AnyDesign.{AnyDesign}
 use Rattle.smp_methods.specs.declared.any.AnyState.{AnyState}
-use Rattle.smp_methods.specs.Designs.{design_by, design_of_strata, first_state, method_of}
+use Rattle.smp_methods.specs.Designs.{design_by, design_of_strata, design_tree, first_state}
+use Rattle.smp_methods.specs.Methods.{method_of}
 use Rattle.smp_strata.specs.Plans.{Parts}
 use Rattle.smp_strata.specs.declared.strata.FirstUnit as unit
 use Rattle.smp_strata.specs.declared.strata.Seat as place
@@ -39,11 +40,11 @@ pub record Selecting : Type 0 where
 
 -- the draw tree over all units of the stage, the certain ones and those of probability 0 among them
 abbrev pub tree_of : Selecting → Tree AnyState
-tree_of s = rows_tree s.units s.request (method_of s.design).tree
+tree_of s = rows_tree s.units s.request (design_tree s.design)
 
 -- which states belong to that tree
 abbrev pub belongs_to : Selecting → AnyState → Type 0
-belongs_to s = BelongsToRows s.request (method_of s.design).tree (method_of s.design).belongs
+belongs_to s = BelongsToRows s.request (design_tree s.design) (method_of s.design).belongs
 
 -- ---- the stages
 
@@ -99,20 +100,17 @@ stage_within method at k None = []
 -- the stages within the first n of these units
 abbrev pub stages_within : Option Method → ℕ → List unit.FirstUnit → ℕ → List (Stage Selecting)
 stages_within method at units zero = []
-stages_within method at units (suc n) =
-    stages_within method at units n ++ stage_within method at n (slice_get units n)
+stages_within method at units (suc n) = stages_within method at units n ++ stage_within method at n (slice_get units n)
 
 -- the stages of a stratum: its first stage, which has the number `at`, and those within its units
 abbrev pub stages_in : Parts → ℕ → Option stratum.Stratum → List (Stage Selecting)
-stages_in plan at (Some s) =
-    first_stage plan s ∷ stages_within plan.second at s.units (length s.units)
+stages_in plan at (Some s) = first_stage plan s ∷ stages_within plan.second at s.units (length s.units)
 stages_in plan at None = []
 
 -- the stages of the first n strata
 abbrev pub stages_below : Parts → ℕ → List (Stage Selecting)
 stages_below plan zero = []
-stages_below plan (suc n) =
-    stages_below plan n
+stages_below plan (suc n) = stages_below plan n
     ++ stages_in plan (length (stages_below plan n)) (slice_get plan.strata n)
 
 -- all stages
@@ -173,8 +171,7 @@ stage_of_strata plan = record {
 -- second stage itself within that unit. The stages within a stratum's units stand behind its first stage, one for each unit.
 abbrev pub seat_by : Option Method → ℕ → place.Seat → Seat
 seat_by None at p = First (record { stage = at; unit = p.unit })
-seat_by (Some method) at p =
-    Second (record { stage = at; unit = p.unit })
+seat_by (Some method) at p = Second (record { stage = at; unit = p.unit })
     (record { stage = suc (at + p.unit); unit = p.place })
 
 -- the seat of a row, with the number that the stratum's first stage has
@@ -185,10 +182,6 @@ seat_of plan p = seat_by plan.second (first_number plan p.stratum) p
 abbrev pub unit_has : ℕ → unit.FirstUnit → Bool
 unit_has row u = list_any (nat_eq row) u.rows
 
--- whether a row is one of a stratum
-abbrev pub stratum_has : ℕ → stratum.Stratum → Bool
-stratum_has row s = list_any (unit_has row) s.units
-
 -- the first stage units of a stratum, none where there is no such stratum
 abbrev pub units_at : Option stratum.Stratum → List unit.FirstUnit
 units_at (Some s) = s.units
@@ -198,7 +191,7 @@ units_at None = []
 -- rows
 abbrev pub place_of : List stratum.Stratum → ℕ → place.Seat
 place_of strata row =
-    let h = position_or_len (stratum_has row) strata in
+    let h = position_or_len (λ s. list_any (unit_has row) s.units) strata in
     let units = units_at (slice_get strata h) in
     let k = position_or_len (unit_has row) units in
     record {
@@ -225,13 +218,43 @@ seat_together plan row =
 abbrev pub seats_together : Parts → List Seat
 seats_together plan = map (seat_together plan) (range_with_len 0 plan.rows)
 
--- the states from which the stages start
-abbrev pub states_of : Parts → List AnyState
-states_of plan = map (λ stage. first_state stage.design.design) (stages_of plan)
+-- ---- the whole selection
+
+-- the stages: one of all strata where these are drawn together, or those of each stratum
+abbrev pub whole_stages : Parts → List (Stage Selecting)
+whole_stages plan = if draws_together plan.method then stage_of_strata plan ∷ [] else stages_of plan
+
+-- the states from which they start
+abbrev pub whole_states : Parts → List AnyState
+whole_states plan = map (λ stage. first_state stage.design.design) (whole_stages plan)
+
+-- the seats of all rows in them
+abbrev pub whole_seats : Parts → List Seat
+whole_seats plan = if draws_together plan.method then seats_together plan else seats_of plan
+
+-- where unit k of stratum h stands in them
+abbrev pub whole_place : Parts → ℕ → ℕ → Place
+whole_place plan h k =
+    if draws_together plan.method then place_together plan.strata h k
+    else record { stage = first_number plan h; unit = k }
+
+-- the draw tree, whose units are the rows of the frame
+abbrev pub whole_tree : Parts → Tree (Progress AnyState)
+whole_tree plan = staged_tree tree_of (whole_stages plan) (whole_seats plan)
+
+-- the state before the first step
+abbrev pub start_of : Parts → Progress AnyState
+start_of plan = progress tree_of (whole_stages plan) (whole_states plan)
+
+-- the sections of the draw, by how many stages stand before each and how many they are: each stratum is one, or all strata together
+abbrev pub whole_sections : Parts → Sectioning (Progress AnyState)
+whole_sections plan = sections_by (λ h. if draws_together plan.method then h else first_number plan h)
+    (if draws_together plan.method then 1 else length plan.strata)
 
 -- ---- all strata, or one alone
 
--- a plan, and the number of the stratum that is drawn alone; where there is none, all are drawn
+-- A plan, and the number of the stratum that is drawn alone; where there is none, all are drawn, and what is said of the covered strata
+-- is what is said of the whole.
 pub record Coverage : Type 0 where
   pub plan : Parts
   pub only : Option ℕ
@@ -347,16 +370,6 @@ stages_before c h = if is_together c then h else first_number (covered_parts c) 
 abbrev pub strata_sections : Coverage → Sectioning (Progress AnyState)
 strata_sections c = sections_by (stages_before c) (section_count c)
 
--- ---- the whole selection
-
--- the draw tree of all strata, whose units are the rows of the frame
-abbrev pub whole_tree : Parts → Tree (Progress AnyState)
-whole_tree plan = covered_tree (all_of plan)
-
--- the state is one of the selection by a plan that can be drawn
+-- the state is one of the selection of all strata by a plan that can be drawn
 abbrev pub BelongsToWhole : Parts → Progress AnyState → Type 0
 BelongsToWhole plan = BelongsToCovered (all_of plan)
-
--- the state before the first step
-abbrev pub start_of : Parts → Progress AnyState
-start_of plan = covered_start (all_of plan)

@@ -20,8 +20,8 @@ use Rattle.smp_stages.specs.Stages.{Progress, selected_in}
 use Rattle.smp_stages.specs.Paths.{GoesByStages}
 use Rattle.smp_balance.specs.Totals.{IsBalancedFrame}
 use Rattle.smp_twostage.specs.Cubes.{IsDrawnByCube, IsDrawnTogether, frame_of}
-use Rattle.smp_twostage.specs.Selections.{Coverage, Selecting, BelongsToWhole, all_of, covered_stages, covered_states, first_number}
-use Rattle.smp_twostage.specs.Selections.{first_place, place_of, tree_of, whole_tree}
+use Rattle.smp_twostage.specs.Selections.{Coverage, Selecting, BelongsToWhole, covered_stages, first_number}
+use Rattle.smp_twostage.specs.Selections.{first_place, place_of, tree_of, whole_place, whole_stages, whole_states, whole_tree}
 
 -- the probability that a plan gives a row
 abbrev pub row_fraction : Parts → ℕ → Fraction
@@ -50,14 +50,17 @@ weighted asked x = times (integer (known asked x)) (inverse asked)
 -- ---- units that are selected
 
 -- whether unit k of stratum h is selected in the first stage, where the stages are in these states
+abbrev pub first_selected : Parts → List AnyState → ℕ → ℕ → Bool
+first_selected plan states h k = selected_in tree_of (whole_stages plan) states (whole_place plan h k)
+
+-- the same where the covered stages are in these states
 abbrev pub covered_first : Coverage → List AnyState → ℕ → ℕ → Bool
 covered_first c states h k = selected_in tree_of (covered_stages c) states (first_place c h k)
 
 -- whether a row within it is selected in the second stage, by its place among the rows of the unit
 abbrev pub second_selected : Parts → List AnyState → ℕ → ℕ → ℕ → Bool
-second_selected plan states h k row =
-    selected_in tree_of (covered_stages (all_of plan)) states
-    (record { stage = suc ((first_place (all_of plan) h k).stage + k); unit = row })
+second_selected plan states h k row = selected_in tree_of (whole_stages plan) states
+    (record { stage = suc ((whole_place plan h k).stage + k); unit = row })
 
 -- how many units were undecided where the landing of a stage's cube began, and 0 by any other method
 abbrev pub left_by : Option (Stage Selecting) → Option AnyState → ℕ
@@ -68,20 +71,20 @@ left_by stage state = 0
 abbrev pub FirstSelects : Parts → Progress AnyState → ℕ → stratum.Stratum → ℕ → Type 0
 FirstSelects plan start h s n =
     AtEachLeaf (whole_tree plan) start (λ path leaf.
-    count_by (covered_first (all_of plan) leaf.states h) (range_with_len 0 (length s.units)) ≡ n)
+    count_by (first_selected plan leaf.states h) (range_with_len 0 (length s.units)) ≡ n)
 
 -- at each leaf as many of them are selected as are expected of the stratum, or one of the two whole numbers around that where it
 -- isn't whole
 abbrev pub FirstSelectsAround : Parts → Progress AnyState → ℕ → stratum.Stratum → Type 0
 FirstSelectsAround plan start h s =
     AtEachLeaf (whole_tree plan) start (λ path leaf.
-    IsAround (count_by (covered_first (all_of plan) leaf.states h) (range_with_len 0 (length s.units)))
+    IsAround (count_by (first_selected plan leaf.states h) (range_with_len 0 (length s.units)))
     (expected_firsts s))
 
 -- at each leaf at which unit k of stratum h is selected, n of its rows are
 abbrev pub SecondSelects : Parts → Progress AnyState → ℕ → ℕ → unit.FirstUnit → ℕ → Type 0
 SecondSelects plan start h k u n =
-    AtEachLeaf (whole_tree plan) start (λ path leaf. covered_first (all_of plan) leaf.states h k ≡ true
+    AtEachLeaf (whole_tree plan) start (λ path leaf. first_selected plan leaf.states h k ≡ true
     → count_by (second_selected plan leaf.states h k) (range_with_len 0 (length u.rows)) ≡ n)
 
 -- ---- the start
@@ -114,17 +117,17 @@ pub record StartsWhole (plan : Parts) (start : Progress AnyState) : Type 0 where
       → FirstSelectsAround plan start h s
   -- A path to a leaf is made of the stages' own paths, one after another.
   pub paths : AtEachLeaf (whole_tree plan) start
-      (λ path leaf. GoesByStages tree_of (covered_stages (all_of plan)) (covered_states (all_of plan)) path leaf.states)
+      (λ path leaf. GoesByStages tree_of (whole_stages plan) (whole_states plan) path leaf.states)
   -- Where the method balances, each stratum's part of it is one of the method's own paths.
   pub cubes : balances plan.method ≡ true → draws_together plan.method ≡ false
       → (path : List Entry) (ends : List AnyState)
-      (goes : GoesByStages tree_of (covered_stages (all_of plan)) (covered_states (all_of plan)) path ends)
+      (goes : GoesByStages tree_of (whole_stages plan) (whole_states plan) path ends)
       → (h : ℕ) (s : stratum.Stratum) → slice_get plan.strata h ≡ Some s
       → IsDrawnByCube plan h s (goes.part (first_number plan h)) ends
   -- Where it draws all strata together, the whole path is one of its own, and it is balanced over all strata.
   pub together : draws_together plan.method ≡ true
       → (path : List Entry) (ends : List AnyState)
-      (goes : GoesByStages tree_of (covered_stages (all_of plan)) (covered_states (all_of plan)) path ends)
+      (goes : GoesByStages tree_of (whole_stages plan) (whole_states plan) path ends)
       → IsDrawnTogether plan (goes.part 0) ends
   pub balanced : draws_together plan.method ≡ true
       → IsBalancedFrame (frame_of plan)

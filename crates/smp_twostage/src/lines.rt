@@ -6,7 +6,7 @@ ghost use Rattle.smp_design.specs.Words.{balances};
 ghost use Rattle.smp_balance.specs.Strata.{column_count};
 ghost use Rattle.smp_frac.specs.LowestTerms.{lowest_terms};
 ghost use Rattle.smp_strata.specs.Seats.{first_fraction};
-ghost use Rattle.smp_twostage.specs.Kept.{IsThere, each_told, section_lines, told_count, told_seat};
+ghost use Rattle.smp_twostage.specs.Kept.Stages.{IsThere, each_told, section_lines, told_count, told_seat};
 ghost use Rattle.smp_twostage.specs.Lines.{balance_lines, seat_values, told_sections};
 ghost use Rattle.smp_twostage.specs.Plans.{CanBeDrawn};
 ghost use Rattle.smp_twostage.specs.Selections.{BelongsToCovered, balance_count, balancing, covered_tree, covers};

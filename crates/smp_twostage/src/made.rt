@@ -10,7 +10,7 @@ ghost use Rattle.smp_methods.specs.Designs.{design_of, design_of_strata, first_s
 ghost use Rattle.smp_methods.specs.Procedures.{NeedsWhole, procedure, procedure_of, TakesValues};
 ghost use Rattle.smp_methods.specs.Starts.{AreStarted};
 ghost use Rattle.smp_strata.specs.Bounds.{IsFirst};
-ghost use Rattle.smp_twostage.specs.Kept.{EachFirst, EachStarts, IsPlanned, StageStarts};
+ghost use Rattle.smp_twostage.specs.Kept.Stages.{EachFirst, EachStarts, IsPlanned, StageStarts};
 ghost use Rattle.smp_twostage.specs.Plans.{CanBeDrawn, TakesRows};
 ghost use Rattle.smp_balance.specs.Strata as Strata;
 ghost use Rattle.smp_twostage.specs.Selections as Selections;

@@ -1,9 +1,10 @@
 //! How the units of one stage are drawn.
 
 ghost use Rattle.std.specs.Prelude.{◌≡◌};
-ghost use Rattle.smp_methods.specs.Designs.{left_at, method_of};
+ghost use Rattle.smp_methods.specs.Designs.{left_at};
+ghost use Rattle.smp_methods.specs.Methods.{method_of};
 ghost use Rattle.smp_rows.specs.Laws.Rows.{rows_method};
-ghost use Rattle.smp_twostage.specs.Kept.{asked_view};
+ghost use Rattle.smp_twostage.specs.Kept.Stages.{asked_view};
 ghost use Rattle.smp_twostage.specs.Selections.{belongs_to, tree_of};
 
 use smp_methods::{AnyDesign, AnyState};
@@ -39,7 +40,7 @@ pub struct StageDesign<'a> {
 }
 
 impl<'a> Model for StageDesign<'a> {
-    ghost use Rattle.smp_twostage.specs.Kept.{asked_view};
+    ghost use Rattle.smp_twostage.specs.Kept.Stages.{asked_view};
     ghost use Rattle.smp_twostage.specs.Selections.{Selecting};
 
     ghost Value = { Selecting };

@@ -8,7 +8,7 @@ ghost use Rattle.smp_stages.specs.Starts.{StartsInStages};
 ghost use Rattle.smp_strata.specs.declared.strata.Stratum.{Stratum};
 ghost use Rattle.smp_design.specs.Words.{draws_together};
 ghost use Rattle.smp_twostage.specs.Covered.{StartsAlone, covered_left};
-ghost use Rattle.smp_twostage.specs.Kept.{EachFirst, first_numbers};
+ghost use Rattle.smp_twostage.specs.Kept.Stages.{EachFirst, first_numbers};
 ghost use Rattle.smp_twostage.specs.Laws.Wholes.{covered_method, strata_sectioned};
 ghost use Rattle.smp_twostage.specs.Plans.{CanBeDrawn};
 ghost use Rattle.smp_twostage.specs.Selections as Selections;
@@ -47,7 +47,7 @@ pub struct Whole<'a> {
 
 impl<'a> Model for Whole<'a> {
     ghost use Rattle.std.specs.Prelude.{◌≡◌};
-    ghost use Rattle.smp_twostage.specs.Kept.{first_numbers};
+    ghost use Rattle.smp_twostage.specs.Kept.Stages.{first_numbers};
     ghost use Rattle.smp_twostage.specs.Selections.{Coverage, covered_seats, covered_stages};
 
     ghost Value = { Coverage };

@@ -20,7 +20,8 @@ use Rattle.smp_values.specs.Steps.{steps_tree}
 use Rattle.smp_values.specs.Values.{IsValues, fractional}
 use Rattle.smp_values.proofs.Pivotal.{steps_lawful}
 use Rattle.smp_brewer.specs.declared.offers.Offers.{Offers}
-use Rattle.smp_brewer.specs.Brewer.{Brewing, offering, offered, spent, total, largest, size_of, is_taken, allowed, offer_parts, share_of}
+use Rattle.smp_brewer.specs.Brewer.{Brewing, offering, offered, spent, total, largest, size_of, is_taken, allowed, offer_parts}
+use Rattle.smp_brewer.specs.Kept.Sizes.{share_of}
 use Rattle.smp_brewer.specs.Brewer.{shares_left, brewing_tree, IsOffers, IsBrewing}
 use Rattle.smp_brewer.specs.Laws.Sums.{sum-cons}
 use Rattle.smp_brewer.specs.Laws.Identities.{in_parts, offers_keep}

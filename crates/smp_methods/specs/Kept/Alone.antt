@@ -3,8 +3,8 @@ use Rattle.std.specs.Prelude.{◌≡◌, ℕ, false, Option, Some, None}
 use Rattle.smp_prob.specs.declared.requests.Request.{Request}
 use Rattle.smp_design.specs.Words.{row, balances, draws_together}
 use Rattle.smp_split.specs.Counts.{LeavesSelectAround}
-use Rattle.smp_split.specs.Methods.{HasCount, HasMeans, Method}
-use Rattle.smp_split.specs.Trees.{picked}
+use Rattle.smp_split.specs.Methods.{HasCount}
+use Rattle.smp_split.specs.Trees.{Tree, picked}
 use Rattle.smp_values.specs.Starts.{IsRequested}
 use Rattle.smp_stratcube.specs.Balances.{IsBalanced}
 use Rattle.smp_stratcube.specs.Counts.{HasCounts}
@@ -19,14 +19,10 @@ abbrev pub OfOwn : {State : Type 0} → (State → Type 0) → Option State → 
 OfOwn holds None = ⊥
 OfOwn holds (Some state) = holds state
 
--- in such a state a selection starts
-abbrev pub MeansAlone : Variant → AnyState → Type 0
-MeansAlone (variant name method design into out back) from = OfOwn (HasMeans method) (out from)
-
 -- as many units are selected as the values add up to, by a method that draws each stratum by itself
 abbrev pub CountAlone : Variant → AnyState → Type 0
-CountAlone (variant name method design into out back) from =
-    OfOwn (λ state. draws_together name ≡ false → HasCount method.tree state) (out from)
+CountAlone (variant name tree design into out back) from =
+    OfOwn (λ state. draws_together name ≡ false → HasCount tree state) (out from)
 
 -- in each stratum that many, by the one that draws all strata together, and it is balanced
 abbrev pub StrataAlone : AnyDesign → AnyState → Type 0
@@ -36,23 +32,23 @@ StrataAlone other from = Unit {0}
 
 -- and its values are those that are requested
 abbrev pub RequestedAlone : Request → Variant → Type 0
-RequestedAlone request (variant name method design into out back) =
-    IsRequested method.tree request design
+RequestedAlone request (variant name tree design into out back) =
+    IsRequested tree request design
 
 -- Each leaf selects one of the whole numbers of units around the sum of the values, whatever the sum, by a
 -- method that draws not only a whole number of units and doesn't balance.
 abbrev pub AroundAlone : Variant → AnyState → Type 0
-AroundAlone (variant name method design into out back) from =
-    OfOwn (λ state. (row name).draws_whole ≡ false → balances name ≡ false → LeavesSelectAround method.tree state)
+AroundAlone (variant name tree design into out back) from =
+    OfOwn (λ state. (row name).draws_whole ≡ false → balances name ≡ false → LeavesSelectAround tree state)
     (out from)
 
 -- the draw leads from the method's own state to that of its part
-abbrev pub IsStep : {State : Type 0} → (State → AnyState) → Method State → Option State
+abbrev pub IsStep : {State : Type 0} → (State → AnyState) → Tree State → Option State
     → AnyState → AnyState → ℕ → Type 0
-IsStep into method None from to draw = ⊥
-IsStep into method (Some state) from to draw =
-    (from ≡ into state) × (to ≡ into (picked state (method.tree.parts state) draw))
+IsStep into tree None from to draw = ⊥
+IsStep into tree (Some state) from to draw =
+    (from ≡ into state) × (to ≡ into (picked state (tree.parts state) draw))
 
 abbrev pub StepsAlone : Variant → AnyState → AnyState → ℕ → Type 0
-StepsAlone (variant name method design into out back) from to draw =
-    IsStep into method (out from) from to draw
+StepsAlone (variant name tree design into out back) from to draw =
+    IsStep into tree (out from) from to draw

@@ -22,7 +22,7 @@ use Rattle.smp_twostage.specs.Selections.{Coverage, count_by, covered_seats, cov
 use Rattle.smp_twostage.specs.Selections.{parts_by, place_of, place_together, seat_alone, seat_by, seat_together, seats_by}
 use Rattle.smp_twostage.specs.Selections.{seats_together, section_count, stage_of_strata, stages_before}
 use Rattle.smp_twostage.specs.Selections.{stages_below, stages_in, stages_of, tree_of, unit_count, units_before}
-use Rattle.smp_twostage.specs.Sides.{seats_in, section_count_by, stages_before_by, stages_by}
+use Rattle.smp_twostage.specs.Kept.Sides.{seats_in, section_count_by, stages_before_by, stages_by}
 use Rattle.smp_twostage.specs.Laws.Places.{StandsIn}
 use Rattle.smp_twostage.specs.Laws.Staged.{first_seat, place_stands, second_seat, seconds_in, staged_below, whole_staged}
 

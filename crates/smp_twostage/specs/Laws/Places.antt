@@ -6,7 +6,7 @@ use Rattle.smp_strata.specs.Seats.{IsSeat, row_at}
 use Rattle.smp_strata.specs.declared.strata.FirstUnit.{FirstUnit}
 use Rattle.smp_strata.specs.declared.strata.Seat.{Seat}
 use Rattle.smp_strata.specs.declared.strata.Stratum.{Stratum}
-use Rattle.smp_twostage.specs.Selections.{unit_has, stratum_has, place_of}
+use Rattle.smp_twostage.specs.Selections.{unit_has, place_of}
 use Rattle.smp_twostage.specs.Laws.Lists.{FirstThat, any_that, first_that}
 
 -- the stratum and the first stage unit of a seat
@@ -42,9 +42,9 @@ module _ (strata : List Stratum) (row : ℕ) where
       let has : list_any (nat_eq row) at.unit.rows ≡ true = any_that (nat_eq row) at.unit.rows seat.place row at.is_row same_row in
       let here : list_any (unit_has row) at.stratum.units ≡ true =
       any_that (unit_has row) at.stratum.units seat.unit at.unit at.is_unit has in
-      let s : FirstThat (stratum_has row) strata =
-      first_that (stratum_has row) strata
-      (any_that (stratum_has row) strata seat.stratum at.stratum at.is_stratum here) in
+      let s : FirstThat (λ (s : Stratum). list_any (unit_has row) s.units) strata =
+      first_that (λ (s : Stratum). list_any (unit_has row) s.units) strata
+      (any_that (λ (s : Stratum). list_any (unit_has row) s.units) strata seat.stratum at.stratum at.is_stratum here) in
       let u : FirstThat (unit_has row) s.found.units = first_that (unit_has row) s.found.units s.passes in
       let r : FirstThat (nat_eq row) u.found.rows = first_that (nat_eq row) u.found.rows u.passes in
       let same : row ≡ r.found = eqb-true row r.found r.passes in

@@ -4,7 +4,7 @@ use Rattle.smp_split.specs.Methods.{Method}
 use Rattle.smp_split.specs.Sectioning.{IsSectioned}
 use Rattle.smp_split.specs.Trees.{Part, EachPart, IsPart, Lawful}
 use Rattle.smp_methods.specs.declared.any.AnyState.{AnyState}
-use Rattle.smp_methods.specs.Designs.{method_of}
+use Rattle.smp_methods.specs.Methods.{method_of}
 use Rattle.smp_rows.specs.Laws.Rows.{rows_lawful}
 use Rattle.smp_stages.specs.Stages.{Progress, IsUnderWay}
 use Rattle.smp_stages.specs.Laws.Staged.{staged_lawful}

@@ -2,7 +2,7 @@ use Rattle.std.proofs.Common.{◌≡◌, ◌<◌, ◌≤◌, ℕ, true, false, a
 use Rattle.std.specs.Prelude.{string_bytes}
 use Rattle.std.specs.List.{flat_map}
 use Rattle.smp_strata.specs.Plans.{Parts}
-use Rattle.smp_twostage.specs.Kept.{section_lines}
+use Rattle.smp_twostage.specs.Kept.Stages.{section_lines}
 use Rattle.smp_twostage.specs.Lines.{told_sections}
 use Rattle.smp_twostage.specs.Selections.{all_of, covers, section_count}
 use Rattle.smp_twostage.proofs.Numbers.{line_more, line_passed, lines_all}

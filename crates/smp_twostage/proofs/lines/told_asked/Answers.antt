@@ -3,7 +3,7 @@ use Rattle.smp_frac.specs.LowestTerms.{lowest_terms}
 use Rattle.smp_strata.specs.Plans.{Parts}
 use Rattle.smp_strata.specs.Seats.{first_fraction}
 use Rattle.smp_strata.specs.declared.strata.Seat.{Seat}
-use Rattle.smp_twostage.specs.Kept.{told_seat}
+use Rattle.smp_twostage.specs.Kept.Stages.{told_seat}
 use Rattle.smp_twostage.proofs.SeatsTold.{next_told}
 use Rattle.smp_twostage.proofs.lines.told_asked.Goals as goal
 

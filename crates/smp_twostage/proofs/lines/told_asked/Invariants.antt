@@ -1,7 +1,7 @@
 use Rattle.std.proofs.Common.{◌≡◌}
 use Rattle.smp_frac.specs.LowestTerms.{lowest_terms}
 use Rattle.smp_strata.specs.Seats.{first_fraction}
-use Rattle.smp_twostage.specs.Kept.{each_told}
+use Rattle.smp_twostage.specs.Kept.Stages.{each_told}
 use Rattle.smp_twostage.proofs.lines.told_asked.Given as goal
 
 abbrev pub invariant-loop-number : goal.invariant-loop-number

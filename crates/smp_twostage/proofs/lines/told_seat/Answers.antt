@@ -3,7 +3,7 @@ use Rattle.smp_design.specs.Words.{draws_together}
 use Rattle.smp_strata.specs.Plans.{Parts}
 use Rattle.smp_strata.specs.Seats.{IsSeat}
 use Rattle.smp_strata.specs.declared.strata.Seat.{Seat}
-use Rattle.smp_twostage.specs.Kept.{IsThere}
+use Rattle.smp_twostage.specs.Kept.Stages.{IsThere}
 use Rattle.smp_twostage.specs.Selections.{covers, is_together}
 use Rattle.smp_twostage.proofs.SeatsTold.{row_told, seat_here}
 use Rattle.smp_twostage.proofs.lines.told_seat.Goals as goal

@@ -4,7 +4,7 @@ use Rattle.smp_methods.specs.Designs.{first_state}
 use Rattle.smp_stages.specs.declared.places.Stage.{Stage}
 use Rattle.smp_stages.specs.Starts.{StartsInStages}
 use Rattle.smp_stages.specs.Stages.{EachBelongs, progress}
-use Rattle.smp_twostage.specs.Kept.{EachFirst}
+use Rattle.smp_twostage.specs.Kept.Stages.{EachFirst}
 use Rattle.smp_twostage.specs.Laws.Covered.{covered_staged}
 use Rattle.smp_twostage.specs.Selections.{Coverage, Selecting, belongs_to, covered_seats, covered_stages, covered_states, tree_of}
 use Rattle.smp_twostage.proofs.whole.started.Goals as goal

@@ -1,6 +1,6 @@
 use Rattle.std.proofs.Common.{◌≡◌, ◌∙◌, ◌<◌, ℕ, List, length, get_or, map, arith, refl, sym}
 use Rattle.std.proofs.lemmas.List.{ext_get_or, get_or-map, length-map}
-use Rattle.smp_brewer.specs.Brewer.{share_of}
+use Rattle.smp_brewer.specs.Kept.Sizes.{share_of}
 use Rattle.smp_brewer.proofs.offers.Offers.fill.Goals as goal
 
 shares_are : (share : ℕ → ℕ) (numer sizes : List ℕ) → length numer ≡ length sizes → ((k : ℕ) → k < length sizes → get_or numer k 0 ≡ share (get_or sizes k 0)) → numer ≡ map share sizes

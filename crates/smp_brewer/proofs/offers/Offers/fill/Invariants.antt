@@ -1,5 +1,5 @@
 use Rattle.std.proofs.Common.{◌≡◌, ◌<◌, ℕ, get_or, length}
-use Rattle.smp_brewer.specs.Brewer.{share_of}
+use Rattle.smp_brewer.specs.Kept.Sizes.{share_of}
 use Rattle.smp_brewer.proofs.offers.Offers.fill.Given as goal
 
 -- the values of the units so far

@@ -8,7 +8,7 @@ use Rattle.smp_methods.specs.Starts.{AreStarted}
 use Rattle.smp_stages.specs.declared.places.Stage.{Stage}
 use Rattle.smp_strata.specs.Plans.{Parts}
 use Rattle.smp_stratcube.specs.Layers.{AreLayers, Layer}
-use Rattle.smp_twostage.specs.Kept.{EachFirst}
+use Rattle.smp_twostage.specs.Kept.Stages.{EachFirst}
 use Rattle.smp_twostage.specs.Selections.{Selecting, layers_of, request_over, stage_of_strata, unit_count}
 use Rattle.smp_twostage.proofs.Layers.{are_layers, few_strata}
 use Rattle.smp_twostage.proofs.Together.{stage_first}

@@ -1,5 +1,7 @@
 -- What a selection is on either side: where all strata are drawn together, and where they are drawn one by one. The proofs go by these.
-use Rattle.std.specs.Prelude.{ℕ, Bool, true, if◌then◌else◌, List, [], ◌∷◌}
+use Rattle.std.specs.Prelude.{ℕ, Bool, true, if◌then◌else◌, List, [], ◌∷◌, map}
+use Rattle.smp_methods.specs.declared.any.AnyState.{AnyState}
+use Rattle.smp_methods.specs.Designs.{first_state}
 use Rattle.smp_stages.specs.declared.places.Place.{Place}
 use Rattle.smp_stages.specs.declared.places.Seat.{Seat}
 use Rattle.smp_stages.specs.declared.places.Stage.{Stage}
@@ -27,3 +29,7 @@ module _ (together : Bool) where
 
   abbrev pub stages_before_by : Coverage → ℕ → ℕ
   stages_before_by c h = if together then h else first_number (covered_parts c) h
+
+-- the states from which the stages of strata that are drawn one by one start
+abbrev pub states_of : Parts → List AnyState
+states_of plan = map (λ stage. first_state stage.design.design) (stages_of plan)
