@@ -12,7 +12,7 @@ use Rattle.smp_values.specs.Values.{is_one}
 use Rattle.smp_prob.specs.Inclusions.{asked_fraction, inclusion, is_taken}
 use Rattle.smp_frac.specs.LowestTerms.{lowest_terms}
 use Rattle.smp_balance.specs.Strata.{AreStratumUnits, column_count, free_values, values_of}
-use Rattle.smp_balance.specs.Reports.{TellsColumn, TellsOf}
+use Rattle.smp_balance.specs.Reports.{TellsOf}
 use Rattle.smp_balance.proofs.Balances.{each_is_balanced}
 use Rattle.smp_balance.proofs.Reports.{each_line_tells}
 use Rattle.smp_balance.specs.Totals.{IsBalancedFrame}
@@ -38,10 +38,11 @@ use Rattle.smp_twostage.proofs.Cubes.{cube_selected}
 use Rattle.smp_twostage.proofs.StartsBy.{first_so}
 use Rattle.smp_twostage.proofs.Told.{is_stratum as cube_stratum}
 use Rattle.smp_plan.specs.declared.plan.FramePlan.{FramePlan}
-use Rattle.smp_plan.specs.Plans.{parts}
+use Rattle.smp_plan.specs.Plans.{Plan, parts}
 use Rattle.smp_app.specs.Drawn.{Drawn, covered}
 use Rattle.smp_plan.specs.Planned.{IsPlanned, plan_view}
-use Rattle.smp_app.specs.Draws.{KeepsBalance}
+use Rattle.smp_app.specs.Draws.{IsDrawnBy, KeepsBalance}
+use Rattle.smp_app.specs.Reports.{TellsBalance, TellsSection}
 use Rattle.smp_app.proofs.Together.{tells_together}
 
 -- ---- the strata of a plan
@@ -49,12 +50,9 @@ use Rattle.smp_app.proofs.Together.{tells_together}
 map_same : {A : Type 0} (f g : ℕ → A) (xs : List ℕ) → ((k : ℕ) → f k ≡ g k) → map f xs ≡ map g xs
 map_same f g xs same = ap (λ h. map h xs) (fun_ext same)
 
-module _ (plan : FramePlan) (planned : IsPlanned plan) (balance : balances plan.design.method ≡ true) (apart : draws_together plan.design.method ≡ false) (h : ℕ) (s : Stratum) (is : slice_get (parts (plan_view plan)).strata h ≡ Some s) where
+module _ (plan : Plan) (drawable : CanBeDrawn (parts plan)) (balance : balances plan.design.method ≡ true) (apart : draws_together plan.design.method ≡ false) (h : ℕ) (s : Stratum) (is : slice_get (parts plan).strata h ≡ Some s) where
   abbrev all : Parts
-  all = parts (plan_view plan)
-
-  drawable : CanBeDrawn all
-  drawable = subst CanBeDrawn planned.parts_are planned.drawable
+  all = parts plan
 
   -- the stratum, as the cube draws from it
   pub is_stratum : AreStratumUnits (balancing all s)
@@ -64,7 +62,7 @@ module _ (plan : FramePlan) (planned : IsPlanned plan) (balance : balances plan.
 
   module _ (path part : List Entry) (to : Progress AnyState) (drawn : IsDrawnByCube all h s part to.states) where
     abbrev here : Drawn
-    here = record { plan = plan_view plan; only = None; leaf = to; path = path }
+    here = record { plan = plan; only = None; leaf = to; path = path }
 
     abbrev units : List ℕ
     units = range_with_len 0 (length s.units)
@@ -109,15 +107,18 @@ module _ (plan : FramePlan) (planned : IsPlanned plan) (balance : balances plan.
         ap (left_by (Some (first_stage all s))) d.leaf_is
         ∙ ap (λ way. left_at (design_by way all.order all.near (column_count (valued s)) s.request (free_values (valued s))) (states.LocalCube d.leaf)) m
 
-    pub left_is : (told (covered here) to.states h).left ≡ left_in (leaf_of drawn)
+    left_is : (told (covered here) to.states h).left ≡ left_in (leaf_of drawn)
     left_is =
         let one : covered_left (covered here) to.states h ≡ left_by (slice_get (stages_of all) (first_number all h)) (slice_get to.states (first_number all h)) = rw apart refl in
         one
         ∙ ap (λ (o : Option (Stage Selecting)). left_by o (slice_get to.states (first_number all h))) (first_there all h s is)
         ∙ left_by_cube drawn
 
-    pub tells : (column : ℕ) → TellsColumn (told (covered here) to.states h) (balancing all s ∷ []) (is_one (values_in (leaf_of drawn))) column
-    tells = each_line_tells (balancing all s) is_stratum (is_one (values_in (leaf_of drawn))) (told (covered here) to.states h) tells_of
+    pub tells : TellsSection (told (covered here) to.states h) (balancing all s ∷ []) (is_one (values_in (leaf_of drawn))) (left_in (leaf_of drawn))
+    tells = record {
+      columns = each_line_tells (balancing all s) is_stratum (is_one (values_in (leaf_of drawn))) (told (covered here) to.states h) tells_of;
+      left = left_is;
+    }
 
 left_together : (plan : Parts) → draws_together plan.method ≡ true → (part : List Entry) (ends : List AnyState) (drawn : IsDrawnTogether plan part ends)
     → (told (all_of plan) ends 0).left ≡ left_in drawn.leaf
@@ -152,16 +153,36 @@ module _ (plan : FramePlan) (planned : IsPlanned plan) (path : List Entry) (to :
             (let drawn_so = has.cubes balance apart h s is in
             record {
               drawn_so = drawn_so;
-              balanced = each_is_balanced (balancing (parts (plan_view plan)) s) (is_stratum plan planned balance apart h s is);
-              tells = tells plan planned balance apart h s is path (has.goes.part (first_number (parts (plan_view plan)) h)) to drawn_so;
-              left = left_is plan planned balance apart h s is path (has.goes.part (first_number (parts (plan_view plan)) h)) to drawn_so;
+              balanced = each_is_balanced (balancing (parts (plan_view plan)) s) (is_stratum (plan_view plan) (subst CanBeDrawn planned.parts_are planned.drawable) balance apart h s is);
             });
         together = λ all.
             (let drawn_so = has.together all in
             record {
               drawn_so = drawn_so;
               balanced = has.balanced all;
-              tells = tells_together (plan_view plan) (subst CanBeDrawn planned.parts_are planned.drawable) all (has.goes.part 0) to.states drawn_so;
-              left = left_together (parts (plan_view plan)) all (has.goes.part 0) to.states drawn_so;
             });
       }
+
+-- ---- what the report tells of it
+
+module _ (plan : Plan) (drawable : CanBeDrawn (parts plan)) (leaf : Progress AnyState) (path : List Entry) where
+  abbrev drawn_of : Option ℕ → Drawn
+  drawn_of only = record { plan = plan; only = only; leaf = leaf; path = path }
+
+  tells_all : (kept : KeepsBalance (drawn_of None)) → TellsBalance (drawn_of None) kept
+  tells_all kept = record {
+    cubes = λ balance apart h s is.
+        tells plan drawable balance apart h s is path (kept.goes.part (first_number (parts plan) h)) leaf (kept.cubes balance apart h s is).drawn_so;
+    together = λ all.
+        (let drawn_so = (kept.together all).drawn_so in
+        record {
+          columns = tells_together plan drawable all (kept.goes.part 0) leaf.states drawn_so;
+          left = left_together (parts plan) all (kept.goes.part 0) leaf.states drawn_so;
+        });
+  }
+
+  tells_by : (only : Option ℕ) → only ≡ None → (kept : KeepsBalance (drawn_of only)) → TellsBalance (drawn_of only) kept
+  tells_by only is = subst (λ (o : Option ℕ). (kept : KeepsBalance (drawn_of o)) → TellsBalance (drawn_of o) kept) (sym is) tells_all
+
+pub tells_balance : (drawn : Drawn) → CanBeDrawn (parts drawn.plan) → (by : IsDrawnBy drawn) → TellsBalance drawn by.balance
+tells_balance drawn drawable by = tells_by drawn.plan drawable drawn.leaf drawn.path drawn.only by.all by.balance

@@ -1,5 +1,5 @@
 -- How a call ends, from what its parts did.
-use Rattle.std.proofs.Common.{◌≡◌, ◌≤◌, ℕ, List, Option, Some, None, option_map, Ok, Err, refl, sym, ap, subst, ◌∙◌, inl, inr, true}
+use Rattle.std.proofs.Common.{◌≡◌, ◌⊎◌, ◌≤◌, ℕ, List, Option, Some, None, option_map, Ok, Err, refl, sym, ap, subst, ◌∙◌, inl, inr, true}
 use Rattle.std.specs.Prelude.{is_some, is_ok}
 use Rattle.smp_io.specs.Counts.{Rose, NeverFalls}
 use Rattle.smp_io.specs.Sink.{with_bytes, AppendsFront}
@@ -10,12 +10,12 @@ use Rattle.smp_words.specs.declared.command.Command.{Command}
 use Rattle.smp_words.specs.Words.{command_of}
 use Rattle.smp_status.specs.Codes.{Class, IsDone, IsUsage, IsRefusal, IsReadFault, IsWriteFault, IsNoMemory, class_of}
 use Rattle.smp_status.specs.FaultLines.{fault_line, line_by}
-use Rattle.smp_app.specs.Commands.{Job, job_of, job_for, inputs_of, outputs_of}
+use Rattle.smp_app.specs.Commands.{Job, job_of, job_for, inputs_by, inputs_named, inputs_of, outputs_of}
 use Rattle.smp_faults.specs.Steps.{◌>>=◌}
 use Rattle.smp_plan.specs.Stops.{Refused, or_refused, without}
 use Rattle.smp_app.specs.Verdict.{outputs_stage, verdict}
-use Rattle.smp_app.specs.Draws.{IsExact, IsExactRefusal}
-use Rattle.smp_plan.specs.Reads.{IsErrorOf, IsCaused, ReadCause}
+use Rattle.smp_app.specs.Kept.Exact.{ExactSays, IsExact, IsExactRefusal}
+use Rattle.smp_plan.specs.Reads.{IsErrorOf, IsCaused, ReadCause, Sees}
 use Rattle.smp_status.specs.Reports.{IsOfInputs, Put, PutsLine, Whole, Cut, OutOfMemory, Reports}
 use Rattle.smp_app.specs.Kept.Stages.{Refusing, WorkSays}
 use Rattle.smp_app.specs.Deliveries.{Outputs, SomeRose, names_of, with_files, StopsAt, FailsAt}
@@ -53,19 +53,28 @@ module _ (words : List (List ℕ)) (job : Job) (before now : Outside) (asked : j
   pub error_says :
       (asked_before asked_now : Option (List (List ℕ))) (class : Class) (error : Status)
       → IsOfInputs class error
-      → ((fs : Files) → before.files ≡ Some fs → IsErrorOf class error (outputs_stage job fs))
+      → ((fs : Files) → Sees (inputs_of job) before.files fs → IsErrorOf class error (outputs_stage job fs))
       → IsCaused class (ReadCause (inputs_of job) (outputs_stage job) (record { files = before.files; read_faults = before.read_faults; write_faults = before.write_faults; write_shortages = before.write_shortages; asked = asked_before }) (record { files = now.files; read_faults = now.read_faults; write_faults = now.write_faults; write_shortages = now.write_shortages; asked = asked_now }))
-      → ((fs : Files) → before.files ≡ Some fs → IsExactRefusal job error fs)
       → Untouched before now
       → WorkSays class error words before now
-  error_says asked_before asked_now IsDone error kind follows cause exact same = absurd kind
-  error_says asked_before asked_now IsUsage error kind follows cause exact same = absurd kind
-  error_says asked_before asked_now IsWriteFault error kind follows cause exact same = absurd kind
-  error_says asked_before asked_now IsNoMemory error kind follows cause exact same = inl same
-  error_says asked_before asked_now IsRefusal error kind follows cause exact same =
+  error_says asked_before asked_now IsDone error kind follows cause same = absurd kind
+  error_says asked_before asked_now IsUsage error kind follows cause same = absurd kind
+  error_says asked_before asked_now IsWriteFault error kind follows cause same = absurd kind
+  error_says asked_before asked_now IsNoMemory error kind follows cause same = inl same
+  error_says asked_before asked_now IsRefusal error kind follows cause same =
       let by = commanded (command_of words) job asked in
-      record { refused = record { command = by.command; asked = by.is; verdict_is = λ fs told. verdict_of words job asked fs ∙ follows fs told; exact = λ fs told. subst (λ (j : Job). IsExactRefusal j error fs) (sym (job_is (command_of words) by.command job by.is asked)) (exact fs told) }; lined = kind; same = same }
-  error_says asked_before asked_now IsReadFault error kind follows cause exact same = record {
+      let one : job_of by.command ≡ job = job_is (command_of words) by.command job by.is asked in
+      let seen : (fs : Files) → Sees (inputs_of (job_of by.command)) before.files fs → Sees (inputs_of job) before.files fs = λ fs sees. subst (λ (j : Job). Sees (inputs_of j) before.files fs) one sees in
+      record {
+        refused = record {
+          command = by.command;
+          asked = by.is;
+          verdict_is = λ fs sees. verdict_of words job asked fs ∙ follows fs (seen fs sees);
+        };
+        lined = kind;
+        same = same;
+      }
+  error_says asked_before asked_now IsReadFault error kind follows cause same = record {
     job = job;
     asked = asked;
     cause = record { name = cause.name; is_one = cause.is_input; rose = cause.rose };
@@ -74,16 +83,15 @@ module _ (words : List (List ℕ)) (job : Job) (before now : Outside) (asked : j
   }
 
   -- the outputs, where the files between the work and the writes are those before it
-  module _ (mid : Option Files) (same : mid ≡ before.files) (outputs : Outputs) (stage : (fs : Files) → before.files ≡ Some fs → outputs_stage job fs ≡ Ok outputs) where
-    pub all_done : ((fs : Files) → before.files ≡ Some fs → IsExact job fs) → now.files ≡ option_map (with_files outputs.files) mid → now.put ≡ with_bytes outputs.put before.put → Done words before now
-    all_done exact wrote put = record {
+  module _ (mid : Option Files) (same : mid ≡ before.files) (outputs : Outputs) (stage : (fs : Files) → Sees (inputs_of job) before.files fs → outputs_stage job fs ≡ Ok outputs) where
+    pub all_done : now.files ≡ option_map (with_files outputs.files) mid → now.put ≡ with_bytes outputs.put before.put → Done words before now
+    all_done wrote put = record {
       job = job;
       asked = asked;
-      done = λ fs told. record {
+      done = λ fs sees. record {
         outputs = outputs;
-        accepted = verdict_of words job asked fs ∙ stage fs told;
-        exact = exact fs told;
-        files = wrote ∙ ap (option_map (with_files outputs.files)) (same ∙ told);
+        accepted = verdict_of words job asked fs ∙ stage fs sees;
+        files = wrote ∙ ap (option_map (with_files outputs.files)) same;
         put = put;
       };
     }
@@ -101,11 +109,48 @@ module _ (words : List (List ℕ)) (job : Job) (before now : Outside) (asked : j
             asked = asked;
             outputs = outputs;
             named = named;
-            accepted = λ fs told. verdict_of words job asked fs ∙ stage fs told;
+            accepted = λ fs sees. verdict_of words job asked fs ∙ stage fs sees;
             stops = here.stops;
           };
           cause = place_since outputs before.files now.files before.put now.put put first counts counts_now rises here.stops here.cause;
         }
+
+-- ---- what the work says besides
+
+job_same : (x y : Job) → Some x ≡ Some y → x ≡ y
+job_same x y same = cc
+
+module _ (words : List (List ℕ)) (job : Job) (told : Option Files) (asked : job_for words ≡ Some job) where
+  of_job : (other : Job) → job_for words ≡ Some other → job ≡ other
+  of_job other also = job_same job other (sym asked ∙ also)
+
+  pub exact_done : (answer : Status) → ((fs : Files) → Sees (inputs_of job) told fs → IsExact job fs) → ExactSays IsDone answer words told
+  exact_done answer exact other also = subst (λ (j : Job). (fs : Files) → Sees (inputs_of j) told fs → IsExact j fs) (of_job other also) exact
+
+  pub exact_error : (class : Class) (error : Status) → IsOfInputs class error → ((fs : Files) → Sees (inputs_of job) told fs → IsExactRefusal job error fs) → ExactSays class error words told
+  exact_error IsDone error kind exact = absurd kind
+  exact_error IsRefusal error kind exact = λ other also. subst (λ (j : Job). (fs : Files) → Sees (inputs_of j) told fs → IsExactRefusal j error fs) (of_job other also) exact
+  exact_error IsUsage error kind exact = tt
+  exact_error IsReadFault error kind exact = tt
+  exact_error IsWriteFault error kind exact = tt
+  exact_error IsNoMemory error kind exact = tt
+
+-- the answer is the status with which the work ended, unless memory ran out in the put of its line
+module _ (ended answer : Status) (words : List (List ℕ)) (told : Option Files) (before now : Put) where
+  same_or_out : (line : Option (List ℕ)) → Reports line ended answer before now → (answer ≡ ended) ⊎ (answer ≡ status.NoMemory)
+  same_or_out None reports = inl reports.0
+  same_or_out (Some line) puts = elim puts [
+    | Whole same whole ↦ inl same
+    | Cut same rose front ↦ inl same
+    | OutOfMemory same uncounted some ↦ inr same
+  ]
+
+  pub exact_says : Reports (fault_line ended) ended answer before now → ExactSays (class_of ended) ended words told → ExactSays (class_of answer) answer words told
+  exact_says reports exact =
+      elim (same_or_out (fault_line ended) reports) [
+        | inl same ↦ subst (λ a. ExactSays (class_of a) a words told) (sym same) exact
+        | inr out ↦ subst (λ a. ExactSays (class_of a) a words told) (sym out) tt
+      ]
 
 -- ---- the line of a refusal
 
@@ -186,9 +231,13 @@ module _ (answer : Status) (words : List (List ℕ)) (before now : Outside) wher
   unfolding verdict
   none_asked fs none = rw none refl
 
-  complete : (class : Class) → class_of answer ≡ class → Says class answer words before now → (fs : Files) → before.files ≡ Some fs
+  -- the files that a job is told
+  seen : (fs : Files) (job : Job) → job_for words ≡ Some job → Sees (inputs_named words) before.files fs → Sees (inputs_of job) before.files fs
+  seen fs job asked sees = subst (λ (names : List (List ℕ)). Sees names before.files fs) (ap inputs_by asked) sees
+
+  complete : (class : Class) → class_of answer ≡ class → Says class answer words before now → (fs : Files) → Sees (inputs_named words) before.files fs
       → ((job : Job) → job_for words ≡ Some job → Undisturbed job before now) → IsVerdict class answer (verdict words fs)
-  complete IsDone is said fs told calm = ap is_ok (said.done fs told).accepted
+  complete IsDone is said fs sees calm = ap is_ok (said.done fs (seen fs said.job said.asked sees)).accepted
   complete IsNoMemory is said fs told calm = tt
   complete IsReadFault is said fs told calm = (calm said.job said.asked).reads said.cause
   complete IsWriteFault is said fs told calm =
@@ -198,7 +247,8 @@ module _ (answer : Status) (words : List (List ℕ)) (before now : Outside) wher
         | inl write ↦ quiet.writes (subst (λ names. SomeRose names before.write_faults now.write_faults) stopped.named write)
         | inr put ↦ quiet.put put
       ]
-  complete IsRefusal is said fs told calm = said.refused.verdict_is fs told
+  complete IsRefusal is said fs sees calm =
+      said.refused.verdict_is fs (seen fs (job_of said.refused.command) (ap (option_map job_of) said.refused.asked) sees)
   complete IsUsage is said fs told calm = none_asked fs said.refused
 
   pub is_answer : Says (class_of answer) answer words before now → IsAnswer answer words before now

@@ -1,5 +1,5 @@
 -- A call that ended well has drawn by the design, the frame and the draws that were read, and a log that was refused differs at its line.
-use Rattle.std.proofs.Common.{◌≡◌, ℕ, zero, suc, ◌+◌, ◌-◌, ◌^◌, ◌<◌, ◌≤◌, Bool, true, false, ◌&&◌, List, [], ◌∷◌, ◌++◌, map, length, Option, Some, None, Result, Ok, Err, refl, sym, ap, subst, ◌∙◌, inl, inr, arith, length-append}
+use Rattle.std.proofs.Common.{◌≡◌, ℕ, zero, suc, ◌+◌, ◌-◌, ◌^◌, ◌<◌, ◌≤◌, Bool, true, false, ◌&&◌, List, [], ◌∷◌, ◌++◌, map, length, Option, Some, None, Result, Ok, Err, refl, sym, ap, ap₂, subst, ◌∙◌, inl, inr, arith, length-append}
 use Rattle.std.specs.Prelude.{◌==◌, is_ok, option_map}
 use Rattle.std.specs.List.{filter, flat_map, range_with_len}
 use Rattle.std.proofs.lemmas.Bool.{cases_Bool, eqb-true}
@@ -12,13 +12,13 @@ use Rattle.smp_tape.specs.TapeSources.{tape_source}
 use Rattle.smp_sieve.specs.Keys.{words_of_seed}
 use Rattle.smp_sieve.specs.SieveSources.{key_stream, sieve_source}
 use Rattle.smp_split.specs.Counts.{selected_units}
-use Rattle.smp_split.specs.Paths.{Entry, IsFull, IsReached}
+use Rattle.smp_split.specs.Paths.{Entry, IsFull, IsReached, values_of}
 use Rattle.smp_split.specs.Sectioning.{IsSectioned}
 use Rattle.smp_split.proofs.Sectioned.{sectioned_within}
 use Rattle.smp_split.proofs.Steps.{reached_lawful}
 use Rattle.smp_split.specs.Runs.{Outcome, IsLeaf, IsOutcome, leaf, stopped, run}
-use Rattle.smp_split.proofs.Runs.{run_is}
-use Rattle.smp_split.proofs.Tapes.{runs_full}
+use Rattle.smp_split.proofs.Runs.{run_is, run_to_leaf}
+use Rattle.smp_split.proofs.Tapes.{full_runs, runs_full}
 use Rattle.smp_stages.specs.Stages.{Progress}
 use Rattle.smp_twostage.specs.Covered.{state_alone}
 use Rattle.smp_twostage.specs.Plans.{CanBeDrawn}
@@ -28,6 +28,7 @@ use Rattle.smp_twostage.proofs.SectionStarts.{IsSectionStart, section_start}
 use Rattle.smp_twostage.specs.Selections.{BelongsToCovered, BelongsToWhole, Coverage, all_of, covered_start, covered_tree, is_of_section, section_count, strata_sections}
 use Rattle.smp_twostage.specs.Laws.Wholes.{covered_lawful, strata_sectioned, whole_lawful}
 use Rattle.smp_methods.specs.declared.any.AnyState.{AnyState}
+use Rattle.smp_words.specs.declared.command.DemoArguments.{DemoArguments}
 use Rattle.smp_words.specs.declared.command.DesignArguments.{DesignArguments}
 use Rattle.smp_words.specs.declared.command.DrawArguments.{DrawArguments}
 use Rattle.smp_words.specs.declared.command.MigrateArguments.{MigrateArguments}
@@ -59,22 +60,29 @@ use Rattle.smp_status.specs.declared.status.Status.TheVariants as status
 use Rattle.smp_status.specs.declared.status.Status.TheVariants.{TapeLong}
 use Rattle.smp_status.specs.Codes.{class_of, tape_status}
 use Rattle.smp_plan.specs.Plans.{Plan, parts, quick_design}
+use Rattle.smp_weights.specs.Sample.{sample_file}
 use Rattle.smp_app.specs.Drawn.{Drawn, tree_of, start_of, sections_of, covered, drawn_rows}
-use Rattle.smp_app.specs.Texts.{accepted_text, log_text, probabilities_text, report_text, sample_text}
+use Rattle.smp_app.specs.Texts.{accepted_text, demo_text, draw_log, draw_sample, log_text, probabilities_text, report_text, sample_text, weighted_row}
 use Rattle.smp_plan.specs.Inputs.{Given, Held, FrameHeld, ReadDesign, design_stage, frame_stage, plan_stage}
-use Rattle.smp_app.specs.Commands.{DrawnFile, ByLog, ByOldLog, BySection, Draws, Lists, Job, source_of, log_source, held_job, job_of, job_for, outputs_by, written_by}
+use Rattle.smp_cases.specs.Demo.{demo_design_text, demo_frame_text, demo_key}
+use Rattle.smp_plan.specs.Reads.{Sees}
+use Rattle.smp_app.specs.Commands.{DrawnFile, ByLog, ByOldLog, BySection, BySeed, Draws, Lists, Job, source_of, log_source, held_job, job_of, job_for, inputs_of, outputs_by, written_by}
 use Rattle.smp_app.specs.Commands as drawing
 use Rattle.smp_faults.specs.Steps.{◌>>=◌}
 use Rattle.smp_plan.specs.Stops.{Stop, Refused, content, or_fault}
 use Rattle.smp_app.specs.Verdict.{values_taken, values_left, no_words, drawn_at, drawn_of, drawn_by_tape, drawn_by_seed, alone, stratum_at, told_by, drawn_by_log, drawn_by_old_log, drawn_by_section, drawn_stage, outputs_stage}
 use Rattle.smp_app.specs.Deliveries.{Outputs, with_files}
-use Rattle.smp_app.specs.Draws.{IsDrawFrom, IsDrawnAlone, IsDrawnBy, IsDrawnOf, IsDrawnWhole, IsExactFrom, IsExactRefusal, IsRefused, IsRefusedFrom, OldDiffers, RefusesLog, StratumDiffers, WholeDiffers}
-use Rattle.smp_app.specs.Answers.{Outside, Says, IsWork, Done, Refuses}
-use Rattle.smp_app.specs.Headline.{IsDrawnBySeed, IsDrawnByChance, IsReadFrame, IsReadPlan, IsExactDraw, IsReplayed, IsExactQuick, IsExactReplay, IsExactSection, IsExactList, IsExactMigration, IsRefusedLog, Ends, Headline}
+use Rattle.smp_app.specs.Draws.{IsDrawnAlone, IsDrawnBy, OldDiffers, RefusesLog, StratumDiffers, WholeDiffers}
+use Rattle.smp_app.specs.Kept.Exact.{ExactSays, IsDrawFrom, IsDrawnOf, IsDrawnWhole, IsExact, IsExactFrom, IsExactRefusal, IsRefused, IsRefusedFrom}
+use Rattle.smp_app.specs.Answers.{Outside, Says, IsWork, Done}
+use Rattle.smp_app.specs.Reports.{IsReported}
+use Rattle.smp_app.specs.Headline.{IsAccepted, IsDrawnBySeed, IsDrawnByChance, IsReadFrame, IsReadPlan, IsExactDraw, IsReplayed, IsExactQuick, IsExactReplay, IsExactSection, IsExactList, IsExactMigration, IsExactDemo, IsRefusedLog, Ends, Headline}
+use Rattle.smp_plan.proofs.Steps.{sees_told}
 use Rattle.smp_app.proofs.Alone.{seats_long}
+use Rattle.smp_app.proofs.Cubes.{tells_balance}
 use Rattle.smp_app.proofs.Ends.{verdict_of}
 use Rattle.smp_app.proofs.Refusals.{stratum_is}
-use Rattle.smp_app.proofs.PlansRead.{Planned, content_is, frame_plan, ok_same, planned, read, read_is, read_once, read_plan, some_same, step}
+use Rattle.smp_app.proofs.PlansRead.{MadePlan, Planned, accepted_plan, made_plan, content_is, frame_accepted, frame_plan, ok_same, planned, read, read_is, read_once, read_plan, some_same, step}
 use Rattle.smp_app.proofs.Joints.{exact_joint}
 
 -- ---- what is drawn
@@ -154,6 +162,35 @@ module _ (plan : Plan) (member : BelongsToWhole (parts plan) (start_of plan)) wh
         tape_read = ap (option_map tape_of) (content_is (fs tape) tape bytes.value bytes.first_is) ∙ ap Some (read_is tape_status (tape_of bytes.value) values.value values.first_is);
         all = (tape_full values.value drawn values.then_is).all;
       }
+
+-- a draw that came so from the start is what the verdict draws
+module _ (drawn : Drawn) (all : drawn.only ≡ None) (member : BelongsToWhole (parts drawn.plan) (start_of drawn.plan)) (full : IsFullPath (tree_of drawn.plan) (start_of drawn.plan) drawn.path drawn.leaf) where
+  abbrev by_only : Option ℕ → Result Drawn Stop
+  by_only only = Ok (record { plan = drawn.plan; only = only; leaf = drawn.leaf; path = drawn.path })
+
+  tape_again : (values : List ℕ) → values ≡ values_of drawn.path → drawn_by_tape drawn.plan values ≡ Ok drawn
+  tape_again values is =
+      ap (drawn_of drawn.plan values_taken values_left)
+      (full_runs (tree_of drawn.plan) (BelongsToWhole (parts drawn.plan)) (whole_lawful (parts drawn.plan)) (start_of drawn.plan) drawn.leaf drawn.path [] values member
+      (record { leads = full.leads; done = full.done; all = is }))
+      ∙ ap by_only (sym all)
+
+  seed_again : (seed : List ℕ) → IsDrawnBySeed seed drawn → drawn_by_seed drawn.plan seed ≡ Ok drawn
+  seed_again seed by =
+      ap (drawn_of drawn.plan no_words no_words)
+      (run_to_leaf (sieve_source key_stream) (tree_of drawn.plan) (BelongsToWhole (parts drawn.plan)) (whole_lawful (parts drawn.plan)) (start_of drawn.plan) drawn.leaf drawn.path (words_of_seed seed) by.left member
+      (record { leads = full.leads; done = full.done; gives = by.gives }))
+      ∙ ap by_only (sym all)
+
+  read_again : (name values : List ℕ) (held : Option (List ℕ)) → option_map tape_of held ≡ Some (Ok values) → (stage : List ℕ → Result Drawn Stop)
+      → content name held >>= (λ bytes. or_fault tape_status (tape_of bytes) >>= stage) ≡ stage values
+  read_again name values (Some bytes) is stage = (let same : tape_of bytes ≡ Ok values = cc in rw same refl)
+  read_again name values None is stage = absurd (cc)
+
+  chance_again : (chance : Chance) (fs : Files) → IsDrawnByChance chance fs drawn → drawn_stage drawn.plan (source_of chance) fs ≡ Ok drawn
+  unfolding drawn_stage
+  chance_again (Seed seed) fs by = seed_again seed by
+  chance_again (Tape tape) fs by = read_again tape by.values (fs tape) by.tape_read (drawn_by_tape drawn.plan) ∙ tape_again by.values by.all
 
 -- all strata are drawn
 chance_same : (plan : Plan) (chance : Chance) (fs : Files) (drawn : Drawn) → drawn_stage plan (source_of chance) fs ≡ Ok drawn → Same plan None drawn
@@ -365,13 +402,13 @@ record Drew (job : Job) (source : drawing.Source) (files : List DrawnFile) (put 
   shown : now.put ≡ with_bytes (put drawn) before.put
 
 drew : (words : List (List ℕ)) (job : Job) (fs : Files) (before now : Outside) {source : drawing.Source} {files : List DrawnFile} {put : Drawn → List ℕ}
-    → job_for words ≡ Some job → job.work ≡ Draws source files put → Done words before now → before.files ≡ Some fs → Drew job source files put fs before now
-drew words job fs before now {source = source} {files = files} {put = put} asked work_is done told =
+    → job_for words ≡ Some job → job.work ≡ Draws source files put → IsExact job fs → Done words before now → before.files ≡ Some fs → Drew job source files put fs before now
+drew words job fs before now {source = source} {files = files} {put = put} asked work_is exact done told =
     let same : done.job ≡ job = some_same _ _ (sym done.asked ∙ asked) in
-    let work : IsWork words job fs before now = subst (λ (j : Job). IsWork words j fs before now) same (done.done fs told) in
-    let plan = work.exact.plan in
-    let planned_so = work.exact.planned in
-    let from : IsDrawFrom plan source fs = subst (λ (w : drawing.Work). IsExactFrom plan w fs) work_is work.exact.from_plan in
+    let work : IsWork words job fs before now = subst (λ (j : Job). IsWork words j fs before now) same (done.done fs (sees_told (inputs_of done.job) before.files fs told)) in
+    let plan = exact.plan in
+    let planned_so = exact.planned in
+    let from : IsDrawFrom plan source fs = subst (λ (w : drawing.Work). IsExactFrom plan w fs) work_is exact.from_plan in
     let outputs = outputs_are words job fs before now source files put plan from.drawn asked work_is planned_so from.is_drawn work in
     record {
       plan = plan;
@@ -379,23 +416,33 @@ drew words job fs before now {source = source} {files = files} {put = put} asked
       drawn = from.drawn;
       staged = from.is_drawn;
       by_plan = from.by_plan;
-      written = work.files ∙ ap (λ (o : Outputs). Some (with_files o.files fs)) outputs;
+      written = work.files ∙ ap (option_map (with_files work.outputs.files)) told ∙ ap (λ (o : Outputs). Some (with_files o.files fs)) outputs;
       shown = work.put ∙ ap (λ (o : Outputs). with_bytes o.put before.put) outputs;
     }
+
+-- the plan of what is drawn can be drawn
+drawable_of : (plan : Plan) (drawn : Drawn) → drawn.plan ≡ plan → BelongsToWhole (parts plan) (start_of plan) → CanBeDrawn (parts drawn.plan)
+drawable_of plan drawn is member = subst (λ (p : Plan). CanBeDrawn (parts p)) (sym is) member.drawable
 
 -- what is drawn of all strata
 by_whole : (plan : Plan) (drawn : Drawn) → drawn.only ≡ None → IsDrawnOf drawn.only plan drawn → IsDrawnWhole plan drawn
 by_whole plan drawn all by = subst (λ (o : Option ℕ). IsDrawnOf o plan drawn) all by
 
+-- its texts are those by the plan's tree
+module _ (drawn : Drawn) (all : drawn.only ≡ None) where
+  abbrev seen : Option ℕ → Coverage
+  seen only = record { plan = parts drawn.plan; only = only }
+
+  log_so : log_text drawn ≡ draw_log drawn
+  log_so = ap (λ (o : Option ℕ). sectioned_log_text (covered_tree (seen o)) (strata_sections (seen o)) (covered_start (seen o)) drawn.plan.head drawn.path) all
+
+  sample_so : sample_text drawn ≡ draw_sample drawn
+  sample_so = ap (λ (o : Option ℕ). sample_file (map (weighted_row drawn.plan) (selected_units (covered_tree (seen o)) drawn.leaf))) all
+
 -- the log that is written of it is genuine, of version 2
 module _ (drawn : Drawn) (by : IsDrawnBy drawn) where
-  abbrev text_by : Option ℕ → List ℕ
-  text_by only =
-      let c : Coverage = record { plan = parts drawn.plan; only = only } in
-      sectioned_log_text (covered_tree c) (strata_sections c) (covered_start c) drawn.plan.head drawn.path
-
-  log_genuine : IsSectionedGenuine (tree_of drawn.plan) (sections_of drawn.plan) (start_of drawn.plan) drawn.plan.head (log_text drawn) drawn.leaf
-  log_genuine = record { path = drawn.path; full = by.full; text = ap text_by by.all }
+  log_genuine : IsSectionedGenuine (tree_of drawn.plan) (sections_of drawn.plan) (start_of drawn.plan) drawn.plan.head (draw_log drawn) drawn.leaf
+  log_genuine = record { path = drawn.path; full = by.full; text = refl }
 
   log_path : log_genuine.path ≡ drawn.path
   unfolding log_genuine
@@ -411,7 +458,7 @@ ok_drawn drawn = Ok drawn
 -- the log that is written of it tells it again
 module _ (drawn : Drawn) (by : IsDrawnBy drawn) (is_head : IsHead drawn.plan.head) (member : BelongsToWhole (parts drawn.plan) (start_of drawn.plan)) where
   abbrev own_log : List ℕ
-  own_log = log_text drawn
+  own_log = draw_log drawn
 
   own_genuine : IsSectionedGenuine (tree_of drawn.plan) (sections_of drawn.plan) (start_of drawn.plan) drawn.plan.head own_log drawn.leaf
   own_genuine = log_genuine drawn by
@@ -426,41 +473,128 @@ module _ (drawn : Drawn) (by : IsDrawnBy drawn) (is_head : IsHead drawn.plan.hea
   unfolding log_genuine own_genuine own_any
   told_back = any_told (tree_of drawn.plan) (BelongsToWhole (parts drawn.plan)) (whole_lawful (parts drawn.plan)) (sections_of drawn.plan) (strata_sectioned (all_of (parts drawn.plan))) (start_of drawn.plan) member drawn.plan.head is_head own_log drawn.leaf own_any
 
-  read_again : drawn_by_log drawn.plan own_log ≡ Ok drawn
-  read_again =
+  told_again : drawn_by_log drawn.plan own_log ≡ Ok drawn
+  told_again =
       ap (λ (path : List Entry). told_by drawn.plan None path (any_reading (tree_of drawn.plan) (sections_of drawn.plan) (start_of drawn.plan) drawn.plan.head own_log)) told_back
       ∙ ap (told_by drawn.plan None drawn.path) read_back
       ∙ ap (λ (o : Option ℕ). ok_drawn (record { plan = drawn.plan; only = o; leaf = drawn.leaf; path = drawn.path })) (sym by.all)
 
+  replayed_so : IsReplayed drawn
+  replayed_so = record {
+    start = member;
+    same = told_again;
+    sections = λ h within short. is_accepted drawn.plan is_head member.drawable h within own_log drawn.leaf short (log_genuine drawn by);
+  }
+
+drawn_once : (x y : Drawn) → ◌≡◌ {A = Result Drawn Stop} (Ok x) (Ok y) → x ≡ y
+drawn_once x y same = cc
+
 module _ (a : DrawArguments) (fs : Files) (before now : Outside) (words : List (List ℕ)) (asked : command_of words ≡ Some (commands.Draw a)) where
-  pub exact_draw : Done words before now → before.files ≡ Some fs → IsExactDraw a fs before now
-  exact_draw done told =
-      let d = drew words (job_of (commands.Draw a)) fs before now (ap (option_map job_of) asked) refl done told in
+  abbrev draw_files : List DrawnFile
+  draw_files = record { name = a.log; text = log_text } ∷ record { name = a.sample; text = sample_text } ∷ []
+
+  pub exact_draw : IsExact (job_of (commands.Draw a)) fs → Done words before now → before.files ≡ Some fs → IsExactDraw a fs now.files
+  exact_draw made done told =
+      let d = drew words (job_of (commands.Draw a)) fs before now (ap (option_map job_of) asked) refl made done told in
       let same = chance_same d.plan a.chance fs d.drawn d.staged in
       let whole = by_whole d.plan d.drawn same.only_so d.by_plan in
       record {
         drawn = d.drawn;
         is_drawn = by_chance d.plan whole.member a.chance fs d.drawn d.staged;
         by_plan = whole.by_plan;
-        written = d.written;
-        put = d.shown;
+        written =
+            d.written
+            ∙ ap₂ (λ (log sample : List ℕ). Some (with_files (record { name = a.log; bytes = log } ∷ record { name = a.sample; bytes = sample } ∷ []) fs))
+            (log_so d.drawn same.only_so) (sample_so d.drawn same.only_so);
         read = subst (IsReadPlan a.design a.frame fs) (sym same.by_plan) (read_plan a.design a.frame fs d.plan (read a.design a.frame fs d.plan d.planned));
       }
 
-  -- what it wrote is accepted
-  pub is_replayed : Done words before now → before.files ≡ Some fs → (exact : IsExactDraw a fs before now) → IsReplayed exact.drawn
-  is_replayed done told exact =
-      let d = drew words (job_of (commands.Draw a)) fs before now (ap (option_map job_of) asked) refl done told in
-      let same = chance_same d.plan a.chance fs d.drawn d.staged in
-      let whole = by_whole d.plan d.drawn same.only_so d.by_plan in
-      let one : d.plan ≡ exact.drawn.plan = read_once a.design a.frame fs d.plan exact.drawn.plan (read_plan a.design a.frame fs d.plan (read a.design a.frame fs d.plan d.planned)) exact.read in
-      let member : BelongsToWhole (parts exact.drawn.plan) (start_of exact.drawn.plan) = subst (λ (p : Plan). BelongsToWhole (parts p) (start_of p)) one whole.member in
-      record {
-        start = member;
-        same = read_again exact.drawn exact.by_plan (head_so a.design a.frame fs exact.drawn.plan exact.read) member;
-        sections = λ h within short.
-            is_accepted exact.drawn.plan (head_so a.design a.frame fs exact.drawn.plan exact.read) member.drawable h within (log_text exact.drawn) exact.drawn.leaf short (log_genuine exact.drawn exact.by_plan);
-      }
+  -- what it has done besides, of whatever draw such a record tells
+  module _ (made : IsExact (job_of (commands.Draw a)) fs) (done : Done words before now) (told : before.files ≡ Some fs) (exact : IsExactDraw a fs now.files) where
+    abbrev work : Drew (job_of (commands.Draw a)) (source_of a.chance) draw_files report_text fs before now
+    work = drew words (job_of (commands.Draw a)) fs before now (ap (option_map job_of) asked) refl made done told
+
+    one_plan : work.plan ≡ exact.drawn.plan
+    one_plan = read_once a.design a.frame fs work.plan exact.drawn.plan (read_plan a.design a.frame fs work.plan (read a.design a.frame fs work.plan work.planned)) exact.read
+
+    own_member : BelongsToWhole (parts exact.drawn.plan) (start_of exact.drawn.plan)
+    own_member =
+        let same = chance_same work.plan a.chance fs work.drawn work.staged in
+        subst (λ (p : Plan). BelongsToWhole (parts p) (start_of p)) one_plan (by_whole work.plan work.drawn same.only_so work.by_plan).member
+
+    -- it is the one that was made
+    one_draw : work.drawn ≡ exact.drawn
+    one_draw =
+        let again : drawn_stage exact.drawn.plan (source_of a.chance) fs ≡ Ok exact.drawn = chance_again exact.drawn exact.by_plan.all own_member exact.by_plan.full a.chance fs exact.is_drawn in
+        drawn_once work.drawn exact.drawn (sym work.staged ∙ ap (λ (p : Plan). drawn_stage p (source_of a.chance) fs) one_plan ∙ again)
+
+    pub is_accepted_plan : IsAccepted exact.drawn.plan
+    is_accepted_plan = subst IsAccepted one_plan (accepted_plan a.design a.frame fs work.plan (read a.design a.frame fs work.plan work.planned))
+
+    pub is_reported : IsReported exact.drawn exact.by_plan.balance before now
+    is_reported = record {
+      put = work.shown ∙ ap (λ (d : Drawn). with_bytes (report_text d) before.put) one_draw;
+      tells = tells_balance exact.drawn own_member.drawable exact.by_plan;
+    }
+
+    -- what it wrote is accepted
+    pub is_replayed : IsReplayed exact.drawn
+    is_replayed = replayed_so exact.drawn exact.by_plan (head_so a.design a.frame fs exact.drawn.plan exact.read) own_member
+
+-- ---- a demonstration that ended well
+
+none_written : (told : Option Files) → option_map (with_files []) told ≡ told
+none_written (Some fs) = refl
+none_written None = refl
+
+module _ (a : DemoArguments) (before now : Outside) (words : List (List ℕ)) (asked : command_of words ≡ Some (commands.Demo a)) where
+  abbrev no_files : Files
+  no_files = λ name. None
+
+  abbrev demo_job : Job
+  demo_job = job_of (commands.Demo a)
+
+  demo_asked : job_for words ≡ Some demo_job
+  demo_asked = ap (option_map job_of) asked
+
+  module _ (made : IsExact demo_job no_files) (done : Done words before now) where
+    abbrev drawn_so : IsDrawFrom made.plan (BySeed (demo_key a.seed)) no_files
+    drawn_so = made.from_plan
+
+    demo_work : IsWork words demo_job no_files before now
+    demo_work =
+        let same : done.job ≡ demo_job = some_same _ _ (sym done.asked ∙ demo_asked) in
+        subst (λ (j : Job). IsWork words j no_files before now) same (done.done no_files (subst (λ (j : Job). Sees (inputs_of j) before.files no_files) (sym same) tt))
+
+    demo_outputs : demo_work.outputs ≡ outputs_by [] demo_text drawn_so.drawn
+    demo_outputs = outputs_are words demo_job no_files before now (BySeed (demo_key a.seed)) [] demo_text made.plan drawn_so.drawn demo_asked refl made.planned drawn_so.is_drawn demo_work
+
+    -- the plan of what is drawn
+    demo_plan : MadePlan (demo_design_text a.n) (demo_frame_text a.n a.seed) drawn_so.drawn.plan
+    demo_plan =
+        let same = chance_same made.plan (Seed (demo_key a.seed)) no_files drawn_so.drawn drawn_so.is_drawn in
+        subst (MadePlan (demo_design_text a.n) (demo_frame_text a.n a.seed)) (sym same.by_plan) (made_plan (demo_design_text a.n) (demo_frame_text a.n a.seed) no_files made.plan made.planned)
+
+    pub exact_demo : IsExactDemo a before now
+    exact_demo =
+        let drawn = drawn_so.drawn in
+        let same = chance_same made.plan (Seed (demo_key a.seed)) no_files drawn drawn_so.is_drawn in
+        let whole = by_whole made.plan drawn same.only_so drawn_so.by_plan in
+        let member : BelongsToWhole (parts drawn.plan) (start_of drawn.plan) = subst (λ (p : Plan). BelongsToWhole (parts p) (start_of p)) (sym same.by_plan) whole.member in
+        let is_head : IsHead drawn.plan.head = subst IsHead (sym demo_plan.head) (head_of-is (demo_design_text a.n) (demo_frame_text a.n a.seed)) in
+        record {
+          drawn = drawn;
+          is_drawn = by_chance made.plan whole.member (Seed (demo_key a.seed)) no_files drawn drawn_so.is_drawn;
+          by_plan = whole.by_plan;
+          design_read = demo_plan.design_read;
+          frame_read = demo_plan.frame_read;
+          head = demo_plan.head;
+          accepted = demo_plan.accepted;
+          replayed = replayed_so drawn whole.by_plan is_head member;
+          tells = tells_balance drawn member.drawable whole.by_plan;
+          put = demo_work.put ∙ ap (λ (o : Outputs). with_bytes o.put before.put) demo_outputs;
+          same = demo_work.files ∙ ap (λ (o : Outputs). option_map (with_files o.files) before.files) demo_outputs ∙ none_written before.files;
+        }
 
 -- ---- a list that ended well
 
@@ -468,19 +602,20 @@ module _ (text : Plan → List ℕ) (a : DesignArguments) (fs : Files) (before n
   abbrev list_job : Job
   list_job = held_job a.design a.frame (Lists text)
 
-  pub exact_list : Done words before now → before.files ≡ Some fs → IsExactList text a fs before now
-  exact_list done told =
+  pub exact_list : IsExact list_job fs → Done words before now → before.files ≡ Some fs → IsExactList text a fs before now
+  exact_list made done told =
       let same : done.job ≡ list_job = some_same _ _ (sym done.asked ∙ asked) in
-      let work : IsWork words list_job fs before now = subst (λ (j : Job). IsWork words j fs before now) same (done.done fs told) in
-      let plan = work.exact.plan in
-      let staged : outputs_stage list_job fs ≡ Ok (record { files = []; put = text plan }) = rw work.exact.planned refl in
+      let work : IsWork words list_job fs before now = subst (λ (j : Job). IsWork words j fs before now) same (done.done fs (sees_told (inputs_of done.job) before.files fs told)) in
+      let plan = made.plan in
+      let staged : outputs_stage list_job fs ≡ Ok (record { files = []; put = text plan }) = rw made.planned refl in
       let outputs : work.outputs ≡ record { files = []; put = text plan } = ok_same _ _ (sym work.accepted ∙ verdict_of words list_job asked fs ∙ staged) in
       record {
         plan = plan;
-        read = read_plan a.design a.frame fs plan (read a.design a.frame fs plan work.exact.planned);
-        probabilities = work.exact.from_plan.probabilities;
+        read = read_plan a.design a.frame fs plan (read a.design a.frame fs plan made.planned);
+        accepted = accepted_plan a.design a.frame fs plan (read a.design a.frame fs plan made.planned);
+        probabilities = made.from_plan.probabilities;
         put = work.put ∙ ap (λ (o : Outputs). with_bytes o.put before.put) outputs;
-        same = work.files ∙ ap (λ (o : Outputs). Some (with_files o.files fs)) outputs;
+        same = work.files ∙ ap (option_map (with_files work.outputs.files)) told ∙ ap (λ (o : Outputs). Some (with_files o.files fs)) outputs;
       }
 
 -- ---- a quick draw that ended well
@@ -493,9 +628,9 @@ module _ (a : QuickArguments) (fs : Files) (before now : Outside) (words : List 
   unfolding design_stage
   quick_planned plan h = planned quick_read a.frame fs plan h
 
-  pub exact_quick : Done words before now → before.files ≡ Some fs → IsExactQuick a fs before now
-  exact_quick done told =
-      let d = drew words (job_of (commands.Quick a)) fs before now (ap (option_map job_of) asked) refl done told in
+  pub exact_quick : IsExact (job_of (commands.Quick a)) fs → Done words before now → before.files ≡ Some fs → IsExactQuick a fs before now
+  exact_quick made done told =
+      let d = drew words (job_of (commands.Quick a)) fs before now (ap (option_map job_of) asked) refl made done told in
       let from = frame_plan quick_read a.frame fs d.plan (quick_planned d.plan d.planned) in
       let same = chance_same d.plan (Tape a.tape) fs d.drawn d.staged in
       let whole = by_whole d.plan d.drawn same.only_so d.by_plan in
@@ -507,6 +642,7 @@ module _ (a : QuickArguments) (fs : Files) (before now : Outside) (words : List 
         put = d.shown;
         design = ap (λ (p : Plan). p.design) same.by_plan ∙ from.0;
         read = subst (IsReadFrame a.frame [] fs) (sym same.by_plan) from.1;
+        accepted = subst IsAccepted (sym same.by_plan) (frame_accepted quick_read a.frame fs d.plan (quick_planned d.plan d.planned));
       }
 
 -- ---- a replay that ended well
@@ -522,12 +658,12 @@ module _ (a : ReplayArguments) (fs : Files) (before now : Outside) (words : List
     replay_asked : job_for words ≡ Some (replay_job source)
     replay_asked = ap (option_map job_of) asked ∙ ap (λ (s : drawing.Source). Some (replay_job s)) from_words
 
-    replay_drew : Done words before now → before.files ≡ Some fs → Drew (replay_job source) source replay_files report_text fs before now
-    replay_drew = drew words (replay_job source) fs before now replay_asked refl
+    replay_drew : IsExact (job_of (commands.Replay a)) fs → Done words before now → before.files ≡ Some fs → Drew (replay_job source) source replay_files report_text fs before now
+    replay_drew made = drew words (replay_job source) fs before now replay_asked refl (subst (λ (s : drawing.Source). IsExact (replay_job s) fs) from_words made)
 
-  pub exact_replay : a.stratum ≡ None → Done words before now → before.files ≡ Some fs → IsExactReplay a fs before now
-  exact_replay none done told_files =
-      let d = replay_drew (ByLog a.log) (ap (log_source a.log) none) done told_files in
+  pub exact_replay : a.stratum ≡ None → IsExact (job_of (commands.Replay a)) fs → Done words before now → before.files ≡ Some fs → IsExactReplay a fs before now
+  exact_replay none made done told_files =
+      let d = replay_drew (ByLog a.log) (ap (log_source a.log) none) made done told_files in
       let plan = d.plan in
       let drawn = d.drawn in
       let from = read_plan a.design a.frame fs plan (read a.design a.frame fs plan d.planned) in
@@ -546,9 +682,10 @@ module _ (a : ReplayArguments) (fs : Files) (before now : Outside) (words : List
         };
         path_is = any.path_is;
         by_plan = whole.by_plan;
-        written = d.written;
-        put = d.shown;
+        written = d.written ∙ ap (λ (sample : List ℕ). Some (with_files (record { name = a.sample; bytes = sample } ∷ []) fs)) (sample_so drawn told.same.only_so);
+        reported = record { put = d.shown; tells = tells_balance drawn (drawable_of plan drawn any.same.by_plan whole.member) whole.by_plan };
         read = subst (IsReadPlan a.design a.frame fs) (sym any.same.by_plan) from;
+        accepted = subst IsAccepted (sym any.same.by_plan) (accepted_plan a.design a.frame fs plan (read a.design a.frame fs plan d.planned));
       }
 
   -- ---- of one stratum
@@ -561,9 +698,9 @@ module _ (a : ReplayArguments) (fs : Files) (before now : Outside) (words : List
       rows : (leaf : Progress AnyState) → IsSectionedGenuine (tree_of plan) (sections_of plan) (start_of plan) plan.head log leaf → length log < 2 ^ 64
           → drawn_rows drawn ≡ filter (is_of_section (parts plan) h) (selected_units (tree_of plan) leaf)
 
-    pub exact_section_replay : a.stratum ≡ Some (h + 1) → Done words before now → before.files ≡ Some fs → IsExactSection a h fs before now
-    exact_section_replay number done told_files =
-        let d = replay_drew (BySection a.log (h + 1)) (ap (log_source a.log) number) done told_files in
+    pub exact_section_replay : a.stratum ≡ Some (h + 1) → IsExact (job_of (commands.Replay a)) fs → Done words before now → before.files ≡ Some fs → IsExactSection a h fs before now
+    exact_section_replay number made done told_files =
+        let d = replay_drew (BySection a.log (h + 1)) (ap (log_source a.log) number) made done told_files in
         let plan = d.plan in
         let drawn = d.drawn in
         let from = read_plan a.design a.frame fs plan (read a.design a.frame fs plan d.planned) in
@@ -590,14 +727,15 @@ module _ (a : ReplayArguments) (fs : Files) (before now : Outside) (words : List
           written = d.written;
           put = d.shown;
           read = subst (IsReadPlan a.design a.frame fs) (sym lone.same.by_plan) from;
+          accepted = subst IsAccepted (sym lone.same.by_plan) (accepted_plan a.design a.frame fs plan (read a.design a.frame fs plan d.planned));
         }
 
 -- ---- a migration that ended well
 
 module _ (a : MigrateArguments) (fs : Files) (before now : Outside) (words : List (List ℕ)) (asked : command_of words ≡ Some (commands.Migrate a)) where
-  pub exact_migration : Done words before now → before.files ≡ Some fs → IsExactMigration a fs before now
-  exact_migration done told_files =
-      let d = drew words (job_of (commands.Migrate a)) fs before now (ap (option_map job_of) asked) refl done told_files in
+  pub exact_migration : IsExact (job_of (commands.Migrate a)) fs → Done words before now → before.files ≡ Some fs → IsExactMigration a fs before now
+  exact_migration made done told_files =
+      let d = drew words (job_of (commands.Migrate a)) fs before now (ap (option_map job_of) asked) refl made done told_files in
       let plan = d.plan in
       let drawn = d.drawn in
       let from = read_plan a.design a.frame fs plan (read a.design a.frame fs plan d.planned) in
@@ -616,22 +754,16 @@ module _ (a : MigrateArguments) (fs : Files) (before now : Outside) (words : Lis
         };
         path_is = old.path_is;
         by_plan = whole.by_plan;
-        written = d.written;
+        written = d.written ∙ ap (λ (log : List ℕ). Some (with_files (record { name = a.to; bytes = log } ∷ []) fs)) (log_so drawn told.same.only_so);
         genuine = log_genuine drawn whole.by_plan;
         same_path = log_path drawn whole.by_plan ∙ old.path_is;
         put = d.shown;
+        tells = tells_balance drawn (drawable_of plan drawn old.same.by_plan whole.member) whole.by_plan;
         read = subst (IsReadPlan a.design a.frame fs) (sym old.same.by_plan) from;
+        accepted = subst IsAccepted (sym old.same.by_plan) (accepted_plan a.design a.frame fs plan (read a.design a.frame fs plan d.planned));
       }
 
 -- ---- a log that was refused
-
--- the command of the words, and its job's refusal
-module _ (words : List (List ℕ)) (fs : Files) (line : ℕ) (told : Option Files) (held : told ≡ Some fs) (refuses : Refuses (status.LogDiffers line) words told) where
-  refused_by : (command : Command) → command_of words ≡ Some command → IsExactRefusal (job_of command) (status.LogDiffers line) fs
-  refused_by command asked =
-      let one : ◌≡◌ {A = Option Command} (Some refuses.command) (Some command) = sym refuses.asked ∙ asked in
-      let same : refuses.command ≡ command = cc in
-      subst (λ (c : Command). IsExactRefusal (job_of c) (status.LogDiffers line) fs) same (refuses.exact fs held)
 
 -- so the log that was read differs
 refused_log : (design frame log : List ℕ) (fs : Files) (line : ℕ) (job : Job) (Differs : Plan → List ℕ → Type 0) → job.design ≡ Held design → job.frame ≡ FrameHeld frame
@@ -641,25 +773,28 @@ refused_log design frame log fs line job Differs held frame_held differs refused
     record {
       plan = refused.plan;
       read = read_plan design frame fs refused.plan (read design frame fs refused.plan staged);
+      accepted = accepted_plan design frame fs refused.plan (read design frame fs refused.plan staged);
       refused = differs refused.plan refused.by_plan;
     }
 
-module _ (answer : Status) (words : List (List ℕ)) (before now : Outside) (fs : Files) (line : ℕ) (says : Says (class_of answer) answer words before now) where
-  refuses_line : answer ≡ status.LogDiffers line → Refuses (status.LogDiffers line) words before.files
-  refuses_line is = let r = subst (λ s. Says (class_of s) s words before now) is says in r.refused
+module _ (answer : Status) (words : List (List ℕ)) (before now : Outside) (fs : Files) (line : ℕ) (exact : ExactSays (class_of answer) answer words before.files) where
+  refused_by : (command : Command) → Ends answer words before (status.LogDiffers line) command fs → IsExactRefusal (job_of command) (status.LogDiffers line) fs
+  refused_by command ends =
+      let by = subst (λ s. ExactSays (class_of s) s words before.files) ends.answered exact in
+      by (job_of command) (ap (option_map job_of) ends.asked) fs (sees_told (inputs_of (job_of command)) before.files fs ends.told)
 
   replay_line : (a : ReplayArguments) → Ends answer words before (status.LogDiffers line) (commands.Replay a) fs → a.stratum ≡ None → IsRefusedLog a.design a.frame a.log fs (λ plan log. WholeDiffers plan log line)
   replay_line a ends none =
       let job : Job = replay_job a fs before now words ends.asked (ByLog a.log) in
-      let exact : IsExactRefusal (job_of (commands.Replay a)) (status.LogDiffers line) fs = refused_by words fs line before.files ends.told (refuses_line ends.answered) (commands.Replay a) ends.asked in
-      let refused : IsRefused job fs line = subst (λ (o : Option ℕ). IsExactRefusal (replay_job a fs before now words ends.asked (log_source a.log o)) (status.LogDiffers line) fs) none exact in
+      let refuses : IsExactRefusal (job_of (commands.Replay a)) (status.LogDiffers line) fs = refused_by (commands.Replay a) ends in
+      let refused : IsRefused job fs line = subst (λ (o : Option ℕ). IsExactRefusal (replay_job a fs before now words ends.asked (log_source a.log o)) (status.LogDiffers line) fs) none refuses in
       refused_log a.design a.frame a.log fs line job (λ plan log. WholeDiffers plan log line) refl refl (λ plan r. r) refused
 
   section_line : (a : ReplayArguments) (h : ℕ) → Ends answer words before (status.LogDiffers line) (commands.Replay a) fs → a.stratum ≡ Some (h + 1) → IsRefusedLog a.design a.frame a.log fs (λ plan log. StratumDiffers h plan log line)
   section_line a h ends number =
       let job : Job = replay_job a fs before now words ends.asked (BySection a.log (h + 1)) in
-      let exact : IsExactRefusal (job_of (commands.Replay a)) (status.LogDiffers line) fs = refused_by words fs line before.files ends.told (refuses_line ends.answered) (commands.Replay a) ends.asked in
-      let refused : IsRefused job fs line = subst (λ (o : Option ℕ). IsExactRefusal (replay_job a fs before now words ends.asked (log_source a.log o)) (status.LogDiffers line) fs) number exact in
+      let refuses : IsExactRefusal (job_of (commands.Replay a)) (status.LogDiffers line) fs = refused_by (commands.Replay a) ends in
+      let refused : IsRefused job fs line = subst (λ (o : Option ℕ). IsExactRefusal (replay_job a fs before now words ends.asked (log_source a.log o)) (status.LogDiffers line) fs) number refuses in
       let back : h + 1 - 1 ≡ h = omega arith in
       refused_log a.design a.frame a.log fs line job (λ plan log. StratumDiffers h plan log line) refl refl
       (λ plan r. subst (λ (k : ℕ). RefusesLog (λ bytes. StratumDiffers k plan bytes line) a.log fs) back r) refused
@@ -667,23 +802,36 @@ module _ (answer : Status) (words : List (List ℕ)) (before now : Outside) (fs 
   migrate_line : (a : MigrateArguments) → Ends answer words before (status.LogDiffers line) (commands.Migrate a) fs → IsRefusedLog a.design a.frame a.log fs (λ plan log. OldDiffers plan log line)
   migrate_line a ends =
       refused_log a.design a.frame a.log fs line (job_of (commands.Migrate a)) (λ plan log. OldDiffers plan log line) refl refl (λ plan r. r)
-      (refused_by words fs line before.files ends.told (refuses_line ends.answered) (commands.Migrate a) ends.asked)
+      (refused_by (commands.Migrate a) ends)
 
-pub headline : (answer : Status) (words : List (List ℕ)) (before now : Outside) → Says (class_of answer) answer words before now → Headline answer words before now
-headline answer words before now says = record {
-  draw = λ a fs ends. exact_draw a fs before now words ends.asked (done ends.answered) ends.told;
-  replayed = λ a fs ends exact. is_replayed a fs before now words ends.asked (done ends.answered) ends.told exact;
-  quick = λ a fs ends. exact_quick a fs before now words ends.asked (done ends.answered) ends.told;
-  replay = λ a fs ends none. exact_replay a fs before now words ends.asked none (done ends.answered) ends.told;
-  section = λ a h fs ends number. exact_section_replay a fs before now words ends.asked h number (done ends.answered) ends.told;
-  migrate = λ a fs ends. exact_migration a fs before now words ends.asked (done ends.answered) ends.told;
-  probs = λ a fs ends. exact_list probabilities_text a fs before now words (ap (option_map job_of) ends.asked) (done ends.answered) ends.told;
-  check = λ a fs ends. exact_list accepted_text a fs before now words (ap (option_map job_of) ends.asked) (done ends.answered) ends.told;
-  joint = λ a fs ends. exact_joint a fs before now words ends.asked (done ends.answered) ends.told;
-  replay_differs = λ a fs line ends none. replay_line answer words before now fs line says a ends none;
-  section_differs = λ a h fs line ends number. section_line answer words before now fs line says a h ends number;
-  migrate_differs = λ a fs line ends. migrate_line answer words before now fs line says a ends;
+pub headline : (answer : Status) (words : List (List ℕ)) (before now : Outside) → Says (class_of answer) answer words before now → ExactSays (class_of answer) answer words before.files → Headline answer words before now
+headline answer words before now says exact = record {
+  draw = λ a fs ends. exact_draw a fs before now words ends.asked (made (commands.Draw a) fs ends) (done ends.answered) ends.told;
+  accepted = λ a fs ends exact. is_accepted_plan a fs before now words ends.asked (made (commands.Draw a) fs ends) (done ends.answered) ends.told exact;
+  reported = λ a fs ends exact. is_reported a fs before now words ends.asked (made (commands.Draw a) fs ends) (done ends.answered) ends.told exact;
+  replayed = λ a fs ends exact. is_replayed a fs before now words ends.asked (made (commands.Draw a) fs ends) (done ends.answered) ends.told exact;
+  quick = λ a fs ends. exact_quick a fs before now words ends.asked (made (commands.Quick a) fs ends) (done ends.answered) ends.told;
+  replay = λ a fs ends none. exact_replay a fs before now words ends.asked none (made (commands.Replay a) fs ends) (done ends.answered) ends.told;
+  section = λ a h fs ends number. exact_section_replay a fs before now words ends.asked h number (made (commands.Replay a) fs ends) (done ends.answered) ends.told;
+  migrate = λ a fs ends. exact_migration a fs before now words ends.asked (made (commands.Migrate a) fs ends) (done ends.answered) ends.told;
+  demo = λ a is asked. exact_demo a before now words asked (demo_made a is asked) (done is);
+  probs = λ a fs ends. exact_list probabilities_text a fs before now words (ap (option_map job_of) ends.asked) (made (commands.Probs a) fs ends) (done ends.answered) ends.told;
+  check = λ a fs ends. exact_list accepted_text a fs before now words (ap (option_map job_of) ends.asked) (made (commands.Check a) fs ends) (done ends.answered) ends.told;
+  joint = λ a fs ends. exact_joint a fs before now words ends.asked (made (commands.Joint a) fs ends) (done ends.answered) ends.told;
+  replay_differs = λ a fs line ends none. replay_line answer words before now fs line exact a ends none;
+  section_differs = λ a h fs line ends number. section_line answer words before now fs line exact a h ends number;
+  migrate_differs = λ a fs line ends. migrate_line answer words before now fs line exact a ends;
 }
   where
     done : answer ≡ status.Done → Done words before now
     done is = subst (λ s. Says (class_of s) s words before now) is says
+
+    demo_made : (a : DemoArguments) → answer ≡ status.Done → command_of words ≡ Some (commands.Demo a) → IsExact (job_of (commands.Demo a)) (λ name. None)
+    demo_made a is asked =
+        let by = subst (λ s. ExactSays (class_of s) s words before.files) is exact in
+        by (job_of (commands.Demo a)) (ap (option_map job_of) asked) (λ name. None) tt
+
+    made : (command : Command) (fs : Files) → Ends answer words before status.Done command fs → IsExact (job_of command) fs
+    made command fs ends =
+        let by = subst (λ s. ExactSays (class_of s) s words before.files) ends.answered exact in
+        by (job_of command) (ap (option_map job_of) ends.asked) fs (sees_told (inputs_of (job_of command)) before.files fs ends.told)

@@ -25,14 +25,16 @@ use Rattle.smp_status.specs.Codes.{design_status, frame_status}
 use Rattle.smp_plan.specs.Plans.{Plan, parts}
 use Rattle.smp_app.specs.Texts.{joints_text}
 use Rattle.smp_plan.specs.Inputs.{HeldForJoint, FrameForJoint, ReadDesign, has_joints, most_joint_rows, unless_large, unless_no_joints, design_stage, frame_stage, plan_stage}
-use Rattle.smp_app.specs.Commands.{Lists, Job, job_of, job_for}
+use Rattle.smp_app.specs.Commands.{Lists, Job, inputs_of, job_of, job_for}
 use Rattle.smp_plan.specs.Stops.{Stop, Refused, content, or_fault}
 use Rattle.smp_app.specs.Verdict.{outputs_stage}
 use Rattle.smp_app.specs.Deliveries.{Outputs, with_files}
 use Rattle.smp_app.specs.Answers.{Outside, IsWork, Done}
+use Rattle.smp_app.specs.Kept.Exact.{IsExact}
 use Rattle.smp_app.specs.Headline.{IsExactJoint}
 use Rattle.smp_app.proofs.Ends.{verdict_of}
-use Rattle.smp_app.proofs.PlansRead.{Designed, Planned, content_is, frame_plan, ok_same, plan_is, read_is, read_plan, some_same, step}
+use Rattle.smp_plan.proofs.Steps.{sees_told}
+use Rattle.smp_app.proofs.PlansRead.{Designed, Planned, content_is, frame_accepted, frame_plan, ok_same, plan_is, read_is, read_plan, some_same, step}
 
 -- ---- joint probabilities that were listed
 
@@ -124,6 +126,7 @@ module _ (a : DesignArguments) (fs : Files) (before now : Outside) (words : List
       record {
         plan = plan;
         read = read_plan a.design a.frame fs plan (record { design = design.value; designed = designed_so.read; framed = planned_so.read });
+        accepted = frame_accepted design.value a.frame fs plan planned_so.read;
         systematic = systematic;
         few = planned_so.few;
         joints = joints_hold (parts plan) drawable systematic;
@@ -131,13 +134,13 @@ module _ (a : DesignArguments) (fs : Files) (before now : Outside) (words : List
         same = same;
       }
 
-  pub exact_joint : Done words before now → before.files ≡ Some fs → IsExactJoint a fs before now
-  exact_joint done told =
+  pub exact_joint : IsExact joint_job fs → Done words before now → before.files ≡ Some fs → IsExactJoint a fs before now
+  exact_joint made done told =
       let same : done.job ≡ joint_job = some_same _ _ (sym done.asked ∙ joint_asked) in
-      let work : IsWork words joint_job fs before now = subst (λ (j : Job). IsWork words j fs before now) same (done.done fs told) in
-      let plan = work.exact.plan in
-      let staged : outputs_stage joint_job fs ≡ Ok (record { files = []; put = joints_text plan }) = rw work.exact.planned refl in
+      let work : IsWork words joint_job fs before now = subst (λ (j : Job). IsWork words j fs before now) same (done.done fs (sees_told (inputs_of done.job) before.files fs told)) in
+      let plan = made.plan in
+      let staged : outputs_stage joint_job fs ≡ Ok (record { files = []; put = joints_text plan }) = rw made.planned refl in
       let outputs : work.outputs ≡ record { files = []; put = joints_text plan } = ok_same _ _ (sym work.accepted ∙ verdict_of words joint_job joint_asked fs ∙ staged) in
-      joint_of_plan plan work.exact.planned work.exact.from_plan.drawable
+      joint_of_plan plan made.planned made.from_plan.drawable
       (work.put ∙ ap (λ (o : Outputs). with_bytes o.put before.put) outputs)
-      (work.files ∙ ap (λ (o : Outputs). Some (with_files o.files fs)) outputs)
+      (work.files ∙ ap (option_map (with_files work.outputs.files)) told ∙ ap (λ (o : Outputs). Some (with_files o.files fs)) outputs)

@@ -7,7 +7,6 @@ pub mod Headline
 pub mod Joints
 pub mod PlansRead
 pub mod Refusals
-pub mod RowSums
 pub mod Selections
 pub mod Stages
 pub mod Together

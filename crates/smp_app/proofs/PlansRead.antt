@@ -12,12 +12,12 @@ use Rattle.smp_log.specs.Heads.{head_of}
 use Rattle.smp_status.specs.declared.status.Status.{Status}
 use Rattle.smp_status.specs.Codes.{design_status, frame_status}
 use Rattle.smp_plan.specs.Plans.{Plan}
-use Rattle.smp_plan.specs.Inputs.{Held, FrameHeld, ReadDesign, unless_misfit, design_stage, frame_stage}
+use Rattle.smp_plan.specs.Inputs.{Held, FrameHeld, FrameMade, Made, ReadDesign, unless_large, unless_misfit, design_stage, frame_stage, plan_of, plan_stage}
 use Rattle.smp_app.specs.Commands.{Job}
 use Rattle.smp_faults.specs.Steps.{◌>>=◌}
 use Rattle.smp_plan.specs.Stops.{Stop, content, or_fault}
 use Rattle.smp_app.specs.Deliveries.{Outputs}
-use Rattle.smp_app.specs.Headline.{IsReadFrame, IsReadPlan}
+use Rattle.smp_app.specs.Headline.{IsAccepted, IsReadFrame, IsReadPlan}
 
 -- ---- what a stage that goes on has read
 
@@ -108,7 +108,11 @@ read design_name frame_name fs plan h =
 pub frame_plan : (design : ReadDesign) (frame_name : List ℕ) (fs : Files) (plan : Plan) → Planned design frame_name fs plan → (plan.design ≡ design.design) × IsReadFrame frame_name design.bytes fs plan
 frame_plan design frame_name fs plan framed =
     subst (λ (p : Plan). (p.design ≡ design.design) × IsReadFrame frame_name design.bytes fs p) framed.is
-    (refl, record { frame_bytes = framed.bytes; frame_held = framed.held; frame_read = framed.read; served = framed.served; head = refl })
+    (refl, record { frame_bytes = framed.bytes; frame_held = framed.held; frame_read = framed.read; head = refl })
+
+-- and design and frame go together
+pub frame_accepted : (design : ReadDesign) (frame_name : List ℕ) (fs : Files) (plan : Plan) → Planned design frame_name fs plan → IsAccepted plan
+frame_accepted design frame_name fs plan framed = subst IsAccepted framed.is framed.served
 
 pub read_plan : (design_name frame_name : List ℕ) (fs : Files) (plan : Plan) → Read design_name frame_name fs plan → IsReadPlan design_name frame_name fs plan
 read_plan design_name frame_name fs plan from =
@@ -122,6 +126,47 @@ read_plan design_name frame_name fs plan from =
   where
     ok_design : Design → Result Design DesignFault
     ok_design d = Ok d
+
+pub accepted_plan : (design_name frame_name : List ℕ) (fs : Files) (plan : Plan) → Read design_name frame_name fs plan → IsAccepted plan
+accepted_plan design_name frame_name fs plan from = frame_accepted from.design frame_name fs plan from.framed
+
+-- what was made for a plan, of the bytes of a design and of a frame
+pub record MadePlan (design_bytes frame_bytes : List ℕ) (plan : Plan) : Type 0 where
+  pub design_read : design_of design_bytes ≡ Ok plan.design
+  pub frame_read : frame_of plan.design.columns frame_bytes ≡ Ok plan.units
+  pub head : plan.head ≡ head_of design_bytes frame_bytes
+  pub accepted : IsAccepted plan
+
+made_design : (bytes : List ℕ) (fs : Files) (read : ReadDesign) → design_stage (Made bytes) fs ≡ Ok read → (design_of bytes ≡ Ok read.design) × (read.bytes ≡ bytes)
+unfolding design_stage
+made_design bytes fs read h =
+    let design = step (or_fault design_status (design_of bytes)) _ read h in
+    let same : record { design = design.value; bytes = bytes } ≡ read = one_read _ _ design.then_is in
+    subst (λ (r : ReadDesign). (design_of bytes ≡ Ok r.design) × (r.bytes ≡ bytes)) same (read_is design_status (design_of bytes) design.value design.first_is, refl)
+  where
+    one_read : (x y : ReadDesign) → ◌≡◌ {A = Result ReadDesign Stop} (Ok x) (Ok y) → x ≡ y
+    one_read x y e = cc
+
+made_frame : (read : ReadDesign) (bytes : List ℕ) (fs : Files) (plan : Plan) → design_of read.bytes ≡ Ok read.design → frame_stage read (FrameMade bytes) fs ≡ Ok plan → MadePlan read.bytes bytes plan
+unfolding frame_stage
+made_frame read bytes fs plan designed h =
+    let units = step (or_fault frame_status (frame_of read.design.columns bytes))
+    (λ units. unless_large (FrameMade bytes) units >>= λ few. plan_of (record { design = read.design; units = few; head = head_of read.bytes bytes })) plan h in
+    let made = plan_is plan _ (misfit_of read.design units.value) units.then_is in
+    subst (MadePlan read.bytes bytes) made.1
+    (record {
+      design_read = designed;
+      frame_read = read_is frame_status (frame_of read.design.columns bytes) units.value units.first_is;
+      head = refl;
+      accepted = made.0;
+    })
+
+pub made_plan : (design_bytes frame_bytes : List ℕ) (fs : Files) (plan : Plan) → plan_stage (Made design_bytes) (FrameMade frame_bytes) fs ≡ Ok plan → MadePlan design_bytes frame_bytes plan
+made_plan design_bytes frame_bytes fs plan h =
+    let read = step (design_stage (Made design_bytes) fs) (λ r. frame_stage r (FrameMade frame_bytes) fs) plan h in
+    let designed = made_design design_bytes fs read.value read.first_is in
+    subst (λ bytes. MadePlan bytes frame_bytes plan) designed.1
+    (made_frame read.value frame_bytes fs plan (ap design_of designed.1 ∙ designed.0) read.then_is)
 
 -- the same files are read as one plan
 pub read_once : (design frame : List ℕ) (fs : Files) (p q : Plan) → IsReadPlan design frame fs p → IsReadPlan design frame fs q → p ≡ q

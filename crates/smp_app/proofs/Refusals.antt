@@ -39,7 +39,8 @@ use Rattle.smp_app.specs.declared.selection.Taken.TheVariants as takes
 use Rattle.smp_app.specs.Kept.Stages.{DiffersTaken, drawn_by_taken, only_of}
 use Rattle.smp_app.specs.Drawn.{Drawn, tree_of, start_of, sections_of}
 use Rattle.smp_app.specs.Commands.{Source}
-use Rattle.smp_app.specs.Draws.{IfLine, IsRefusedAt, IsRefusedBy, OldDiffers, RefusesLog, StratumDiffers, WholeDiffers}
+use Rattle.smp_app.specs.Draws.{OldDiffers, RefusesLog, StratumDiffers, WholeDiffers}
+use Rattle.smp_app.specs.Kept.Exact.{IfLine, IsRefusedAt, IsRefusedBy}
 use Rattle.smp_app.specs.Verdict.{alone, drawn_by_log, drawn_by_old_log, drawn_by_section, stratum_at, told_by}
 
 -- ---- a refusal that names a line is the stage's

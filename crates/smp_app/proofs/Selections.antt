@@ -18,8 +18,8 @@ use Rattle.smp_log.specs.Answers.{AnswersAs}
 use Rattle.smp_log.specs.Genuine.{DiffersAt, IsFullPath}
 use Rattle.smp_log.specs.declared.fault.ReplayFault.{ReplayFault}
 use Rattle.smp_log.specs.declared.fault.ReplayFault.TheVariants as replays
-use Rattle.smp_log.specs.SectionLogs.{HasLeaf, IsAnyGenuine, one_section_text, sectioned_log_text}
-use Rattle.smp_log.proofs.OneSection.{one_section_log}
+use Rattle.smp_log.specs.SectionLogs.{ArePlaced, IsAnyGenuine, RiseFrom, placed, sectioned_log_text, sections_text, steps_of}
+use Rattle.smp_log.proofs.Placed.{placed_as, placed_rise}
 use Rattle.smp_log.specs.declared.fault.LogFault.{LogFault}
 use Rattle.smp_log.specs.declared.fault.LogFault.TheVariants.{Differs}
 use Rattle.smp_split.specs.Paths.{Entry, Leads}
@@ -37,7 +37,7 @@ use Rattle.smp_strata.specs.declared.strata.FirstUnit.{FirstUnit}
 use Rattle.smp_strata.specs.declared.strata.Stratum.{Stratum}
 use Rattle.smp_twostage.specs.Selections as selections
 use Rattle.smp_twostage.specs.Selections.{BelongsToCovered, BelongsToWhole, Coverage, all_of, covered_start, covered_tree, one_of, place_of, section_count, strata_sections, whole_tree}
-use Rattle.smp_twostage.specs.Sides.{section_count_by}
+use Rattle.smp_twostage.specs.Kept.Sides.{section_count_by}
 use Rattle.smp_twostage.specs.Covered.{StartsAlone}
 use Rattle.smp_twostage.specs.Plans.{CanBeDrawn}
 use Rattle.smp_twostage.proofs.Wholes.{whole_starts}
@@ -50,8 +50,9 @@ use Rattle.smp_plan.specs.Planned.{IsPlanned, plan_view}
 use Rattle.smp_twostage.specs.declared.whole.StartedWhole.{StartedWhole}
 use Rattle.smp_app.specs.declared.selection.Taken.{Taken}
 use Rattle.smp_app.specs.declared.selection.Taken.TheVariants as takes
-use Rattle.smp_app.specs.Kept.Stages.{EndsAsTold, HasStratum, IsStart, IsWalked, RefusedAt, StartsOf, drawn_by_taken, end_told, only_of, path_by, reading_by}
-use Rattle.smp_app.specs.Draws.{IsDrawnBy, IsDrawnOf, IsDrawnWhole, IsListed, HasProbabilities}
+use Rattle.smp_app.specs.Kept.Stages.{EndsAsTold, HasStratum, IsStart, IsWalked, Lines, RefusedAt, StartsOf, drawn_by_taken, end_told, lines_of, only_of, path_by, reading_by}
+use Rattle.smp_app.specs.Draws.{IsDrawnBy, HasProbabilities}
+use Rattle.smp_app.specs.Kept.Exact.{IsDrawnOf, IsDrawnWhole, IsListed}
 use Rattle.smp_plan.specs.Plans.{Plan, parts, row_probability}
 use Rattle.smp_app.specs.Drawn.{tree_of, start_of, Drawn, covered}
 use Rattle.smp_app.specs.Texts.{log_text}
@@ -92,7 +93,7 @@ module _ {Rest : Type 0} (source : Source Rest) (plan : Plan) (tree : Tree (Prog
 
 -- the end of a replay is what its log tells, which has this path and this reading
 module _ (plan : Plan) (only : Option ℕ) (state : Progress AnyState) (stage : Result Drawn Stop) where
-  pub ends_told : (told : Result (Unit {0}) ReplayFault) (lines path : List Entry) (reading : Result (Progress AnyState) ℕ) → stage ≡ told_by plan only path reading → AnswersAs told state reading → OnOk told (Some lines ≡ Some path)
+  pub ends_told : (told : Result (Unit {0}) ReplayFault) (lines : Lines) (path : List Entry) (reading : Result (Progress AnyState) ℕ) → stage ≡ told_by plan only path reading → AnswersAs told state reading → OnOk told (Some (steps_of lines) ≡ Some path)
       → EndsAsTold plan only stage state (end_told told lines)
   ends_told (Ok done) lines path reading is reads tells =
       is ∙ ap (told_by plan only path) reads ∙ ap (λ (p : List Entry). Ok (record { plan = plan; only = only; leaf = state; path = p })) (sym (told_is tells))
@@ -100,7 +101,7 @@ module _ (plan : Plan) (only : Option ℕ) (state : Progress AnyState) (stage : 
   ends_told (Err replays.NoMemory) lines path reading is reads tells = tt
 
 -- what holds of the lines where all was told
-pub told_holds : (told : Result (Unit {0}) ReplayFault) (lines : List Entry) (P : List Entry → Type 0) → OnOk told (P lines) → IfOk (end_told told lines) P
+pub told_holds : (told : Result (Unit {0}) ReplayFault) (lines : Lines) (P : Lines → Type 0) → OnOk told (P lines) → IfOk (end_told told lines) P
 told_holds (Ok done) lines P p = p
 told_holds (Err (replays.Differs line)) lines P p = tt
 told_holds (Err replays.NoMemory) lines P p = tt
@@ -181,6 +182,17 @@ pub start_belongs : (plan : FramePlan) → IsPlanned plan → (only : Option ℕ
 start_belongs plan planned only started start =
     subst (λ (p : Parts). BelongsToCovered (record { plan = p; only = only }) (covered_start (record { plan = p; only = only }))) planned.parts_are
     (subst (λ (s : Progress AnyState). BelongsToCovered (record { plan = plan.plan; only = only }) s) start.state (starts_member plan.plan only started.state start.starts))
+
+-- the lines that a walk kept from such a start are those of what it came to
+pub lines_so : (plan : FramePlan) → IsPlanned plan → (only : Option ℕ) (started : StartedWhole) → IsStart plan.plan only started → (to : Progress AnyState) (path : List Entry) (lines : Lines)
+    → ArePlaced (covered_tree started.whole) (strata_sections started.whole) started.state to lines → steps_of lines ≡ path → lines ≡ lines_of (record { plan = plan_view plan; only = only; leaf = to; path = path })
+lines_so plan planned only started start to path lines so told =
+    let by : Coverage → Progress AnyState → Lines = λ c s. placed (covered_tree c) (strata_sections c) s path in
+    let all : Parts → Coverage = λ p. record { plan = p; only = only } in
+    placed_as (covered_tree started.whole) (strata_sections started.whole) started.state to lines path so told
+    ∙ ap (by started.whole) start.state
+    ∙ ap (λ (c : Coverage). by c (covered_start (all plan.plan))) start.whole
+    ∙ ap (λ (p : Parts). by (all p) (covered_start (all p))) planned.parts_are
 
 module _ (plan : FramePlan) (planned : IsPlanned plan) where
   pub own_is : (own : Coverage) → own ≡ all_of plan.plan → own ≡ all_of (parts (plan_view plan))
@@ -301,26 +313,27 @@ module _ (plan : FramePlan) (planned : IsPlanned plan) where
   view = plan_view plan
 
   -- a walk of all strata that came to a leaf
-  pub walked_all : (started : StartedWhole) → IsStart plan.plan None started → (to : Progress AnyState) → BelongsToCovered started.whole to → (path lines : List Entry) → IsFullPath (covered_tree started.whole) started.state path to → lines ≡ path
-      → IsWalked view started.whole (record { plan = view; only = None; leaf = to; path = lines })
-  walked_all started begun to here path lines full same =
+  pub walked_all : (started : StartedWhole) → IsStart plan.plan None started → (to : Progress AnyState) → BelongsToCovered started.whole to → (path : List Entry) (lines : Lines) → IsFullPath (covered_tree started.whole) started.state path to → steps_of lines ≡ path → lines ≡ lines_of (record { plan = view; only = None; leaf = to; path = path })
+      → IsWalked view started.whole lines (record { plan = view; only = None; leaf = to; path = steps_of lines })
+  walked_all started begun to here path lines full same own_lines =
       let own = started.whole in
       let is : own ≡ all_of plan.plan = begun.whole in
       let start = started.state in
       let starts : StartsWhole plan.plan start = begun.starts in
       let from : start ≡ selections.start_of plan.plan = begun.state in
-      subst (λ (p : List Entry). IsWalked view own (record { plan = view; only = None; leaf = to; path = p })) (sym same)
+      subst (λ (p : List Entry). IsWalked view own lines (record { plan = view; only = None; leaf = to; path = p })) (sym same)
       (record {
         whole = own_is own is;
         belongs = here;
         done = subst (λ (t : Tree (Progress AnyState)). t.done to ≡ true) (tree_is own is) full.done;
+        lines_are = own_lines;
         by_plan = drawn_by start starts (start_is start from) path to (subst (λ c. Leads (covered_tree c) start path to) is full.leads) (subst (λ c. (covered_tree c).done to ≡ true) is full.done);
       })
 
   -- a walk of one stratum alone that came to a leaf
-  walked_alone : (h : ℕ) → h < section_count (all_of plan.plan) → (started : StartedWhole) → IsStart plan.plan (Some h) started → (to : Progress AnyState) → BelongsToCovered started.whole to → (path lines : List Entry) → IsFullPath (covered_tree started.whole) started.state path to → lines ≡ path
-      → IsWalked view started.whole (record { plan = view; only = Some h; leaf = to; path = lines })
-  walked_alone h within started begun to here path lines full same =
+  walked_alone : (h : ℕ) → h < section_count (all_of plan.plan) → (started : StartedWhole) → IsStart plan.plan (Some h) started → (to : Progress AnyState) → BelongsToCovered started.whole to → (path : List Entry) (lines : Lines) → IsFullPath (covered_tree started.whole) started.state path to → steps_of lines ≡ path → lines ≡ lines_of (record { plan = view; only = Some h; leaf = to; path = path })
+      → IsWalked view started.whole lines (record { plan = view; only = Some h; leaf = to; path = steps_of lines })
+  walked_alone h within started begun to here path lines full same own_lines =
       let own = started.whole in
       let is : own ≡ one_of plan.plan h = begun.whole in
       let start = started.state in
@@ -329,11 +342,12 @@ module _ (plan : FramePlan) (planned : IsPlanned plan) where
       let seen : own ≡ alone view h = is ∙ ap (λ (p : Parts). one_of p h) planned.parts_are in
       let begins : start ≡ covered_start (alone view h) = from ∙ ap (λ (p : Parts). covered_start (one_of p h)) planned.parts_are in
       let own_starts : StartsAlone (parts view) h (covered_start (alone view h)) = subst (λ (p : Parts). StartsAlone p h (covered_start (one_of p h))) planned.parts_are (subst (StartsAlone plan.plan h) from starts) in
-      subst (λ (p : List Entry). IsWalked view own (record { plan = view; only = Some h; leaf = to; path = p })) (sym same)
+      subst (λ (p : List Entry). IsWalked view own lines (record { plan = view; only = Some h; leaf = to; path = p })) (sym same)
       (record {
         whole = seen;
         belongs = here;
         done = subst (λ (c : Coverage). (covered_tree c).done to ≡ true) seen full.done;
+        lines_are = own_lines;
         by_plan = record {
           plan_is = refl;
           only = refl;
@@ -344,11 +358,11 @@ module _ (plan : FramePlan) (planned : IsPlanned plan) where
         };
       })
 
-  pub taken_walked : (taken : Taken) → HasStratum plan.plan (only_of taken) → (started : StartedWhole) → IsStart plan.plan (only_of taken) started → (to : Progress AnyState) → BelongsToCovered started.whole to → (path lines : List Entry) → IsFullPath (covered_tree started.whole) started.state path to → lines ≡ path
-      → IsWalked view started.whole (record { plan = view; only = only_of taken; leaf = to; path = lines })
-  taken_walked takes.Either has started begun to here path lines full same = walked_all started begun to here path lines full same
-  taken_walked takes.Old has started begun to here path lines full same = walked_all started begun to here path lines full same
-  taken_walked (takes.Stratum h) has started begun to here path lines full same = walked_alone h has.0 started begun to here path lines full same
+  pub taken_walked : (taken : Taken) → HasStratum plan.plan (only_of taken) → (started : StartedWhole) → IsStart plan.plan (only_of taken) started → (to : Progress AnyState) → BelongsToCovered started.whole to → (path : List Entry) (lines : Lines) → IsFullPath (covered_tree started.whole) started.state path to → steps_of lines ≡ path → lines ≡ lines_of (record { plan = view; only = only_of taken; leaf = to; path = path })
+      → IsWalked view started.whole lines (record { plan = view; only = only_of taken; leaf = to; path = steps_of lines })
+  taken_walked takes.Either has started begun to here path lines full same own_lines = walked_all started begun to here path lines full same own_lines
+  taken_walked takes.Old has started begun to here path lines full same own_lines = walked_all started begun to here path lines full same own_lines
+  taken_walked (takes.Stratum h) has started begun to here path lines full same own_lines = walked_alone h has.0 started begun to here path lines full same own_lines
 
 -- ---- the log of what is drawn
 
@@ -376,12 +390,19 @@ module _ (plan : FramePlan) (planned : IsPlanned plan) (only : Option ℕ) (leaf
   pub own_strata : IfSome only (λ h. h < section_count (all_of plan.plan))
   own_strata = subst (λ (p : Parts). IfSome only (λ h. h < section_count (all_of p))) (sym planned.parts_are) (there_of (plan_view plan) leaf path only by)
 
-  -- where one stratum is drawn
-  pub one_log : (strata_sections (covered drawn_here)).count ≡ 1 → one_section_text plan.head path ≡ log_text drawn_here
-  one_log one =
+  -- the sections of its lines rise
+  pub own_rise : (lines : Lines) → lines ≡ lines_of drawn_here → (design : Coverage) → design ≡ covered drawn_here → (count : ℕ) → count ≡ (strata_sections design).count → RiseFrom count 0 lines
+  own_rise lines is design seen count counts =
       let own = covered drawn_here in
-      let has : HasLeaf (covered_tree own) (covered_start own) path = record { leaf = leaf; full = full_of (plan_view plan) leaf path only by } in
-      sym (one_section_log (covered_tree own) (BelongsToCovered own) (covered_lawful own) (strata_sections own) (strata_sectioned own) one (covered_start own) (member_of (plan_view plan) leaf path only by) plan.head path has)
+      let rise = placed_rise (covered_tree own) (BelongsToCovered own) (covered_lawful own) (strata_sections own) (strata_sectioned own) path (covered_start own) leaf 0 (member_of (plan_view plan) leaf path only by) (omega arith) (full_of (plan_view plan) leaf path only by).leads in
+      let here : (strata_sections own).count ≡ count = ap (λ (c : Coverage). (strata_sections c).count) (sym seen) ∙ sym counts in
+      subst (λ n. RiseFrom n 0 lines) here (subst (RiseFrom (strata_sections own).count 0) (sym is) rise)
+
+  -- and they make its log
+  pub own_log : (lines : Lines) → lines ≡ lines_of drawn_here → (design : Coverage) → design ≡ covered drawn_here → (count : ℕ) → count ≡ (strata_sections design).count → sections_text plan.head count lines ≡ log_text drawn_here
+  own_log lines is design seen count counts =
+      let here : count ≡ (strata_sections (covered drawn_here)).count = counts ∙ ap (λ (c : Coverage). (strata_sections c).count) seen in
+      ap (λ n. sections_text plan.head n lines) here ∙ ap (sections_text plan.head (strata_sections (covered drawn_here)).count) is
 
   -- in the selection that is made once more
   module _ (own : Coverage) (is : own ≡ record { plan = plan.plan; only = only }) (start : Progress AnyState) (from : start ≡ covered_start (record { plan = plan.plan; only = only })) where
@@ -395,9 +416,6 @@ module _ (plan : FramePlan) (planned : IsPlanned plan) (only : Option ℕ) (leaf
     own_path =
         subst (λ (s : Progress AnyState). IsFullPath (covered_tree own) s path leaf) (sym begins)
         (subst (λ (c : Coverage). IsFullPath (covered_tree c) (covered_start (covered drawn_here)) path leaf) (sym seen) (full_of (plan_view plan) leaf path only by))
-
-    pub own_leaf : HasLeaf (covered_tree own) start path
-    own_leaf = record { leaf = leaf; full = own_path }
 
     pub own_text : sectioned_log_text (covered_tree own) (strata_sections own) start plan.head path ≡ log_text drawn_here
     own_text =

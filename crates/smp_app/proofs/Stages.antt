@@ -6,7 +6,7 @@ use Rattle.smp_app.specs.Drawn.{Drawn}
 use Rattle.smp_plan.specs.Inputs.{plan_stage}
 use Rattle.smp_app.specs.Commands.{DrawnFile, Job, written_by}
 use Rattle.smp_status.specs.declared.status.Status.{Status}
-use Rattle.smp_app.specs.Draws.{EndsExact, EndsExactFrom, IsExactRefusal, IsRefused, IsRefusedFrom}
+use Rattle.smp_app.specs.Kept.Exact.{EndsExact, EndsExactFrom, IsExactRefusal, IsRefused, IsRefusedFrom}
 use Rattle.smp_plan.specs.Reads.{Follows}
 use Rattle.smp_app.proofs.Refusals.{line_more, plan_line}
 use Rattle.smp_app.specs.Deliveries.{names_of}

@@ -16,7 +16,7 @@ use Rattle.smp_strata.specs.Plans.{Parts}
 use Rattle.smp_strata.specs.Seats.{IsSeat, seat_fraction}
 use Rattle.smp_strata.specs.declared.strata.Seat.{Seat}
 use Rattle.smp_twostage.specs.Selections.{Coverage, covered_seats, covered_tree, is_of_section, place_of}
-use Rattle.smp_twostage.specs.Sides.{is_in_section}
+use Rattle.smp_twostage.specs.Kept.Sides.{is_in_section}
 use Rattle.smp_twostage.specs.Starts.{is_positive, row_fraction}
 use Rattle.smp_twostage.specs.Laws.Places.{place_is_seat}
 use Rattle.smp_twostage.proofs.Numbers.{passing}

@@ -1,5 +1,5 @@
 -- What each answer of a call says.
-use Rattle.std.specs.Prelude.{◌≡◌, ◌⊎◌, ℕ, List, Option, Some, None, is_ok, true, Result, Ok, Err}
+use Rattle.std.specs.Prelude.{◌≡◌, ◌⊎◌, ℕ, List, Option, Some, None, option_map, is_ok, true, Result, Ok, Err}
 use Rattle.smp_io.specs.Counts.{Rose}
 use Rattle.smp_io.specs.Sink.{with_bytes, AppendsFront}
 use Rattle.smp_io.specs.Store.{Files}
@@ -9,10 +9,10 @@ use Rattle.smp_status.specs.declared.status.Status.{Status}
 use Rattle.smp_status.specs.declared.status.Status.TheVariants.{Usage}
 use Rattle.smp_status.specs.Codes.{Class, IsDone, IsUsage, IsRefusal, IsReadFault, IsWriteFault, IsNoMemory, class_of}
 use Rattle.smp_status.specs.FaultLines.{fault_line}
-use Rattle.smp_app.specs.Commands.{Job, job_for, job_of, inputs_of, outputs_of}
+use Rattle.smp_app.specs.Commands.{Job, job_for, job_of, inputs_named, inputs_of, outputs_of}
+use Rattle.smp_plan.specs.Reads.{Sees}
 use Rattle.smp_plan.specs.Stops.{Stop, Refused, Missing, without}
 use Rattle.smp_app.specs.Verdict.{verdict}
-use Rattle.smp_app.specs.Draws.{IsExact, IsExactRefusal}
 use Rattle.smp_app.specs.Deliveries.{Outputs, SomeRose, names_of, with_files, StopsAt, AtPlace}
 
 -- What can be told of the outside: the files, and for each name the counts of failed reads, of failed writes and of writes that ended
@@ -49,28 +49,27 @@ pub record Untouched (before now : Outside) : Type 0 where
 
 -- ---- all was done
 
--- All outputs are written and put, and they are those that the verdict accepts. What is drawn has the requested probabilities.
+-- All outputs are written and put, and they are those that the verdict accepts of the files before.
 pub record IsWork (words : List (List ℕ)) (job : Job) (fs : Files) (before now : Outside)
     : Type 0 where
   pub outputs : Outputs
   pub accepted : verdict words fs ≡ Ok outputs
-  pub exact : IsExact job fs
-  pub files : now.files ≡ Some (with_files outputs.files fs)
+  pub files : now.files ≡ option_map (with_files outputs.files) before.files
   pub put : now.put ≡ with_bytes outputs.put before.put
 
 pub record Done (words : List (List ℕ)) (before now : Outside) : Type 0 where
   pub job : Job
   pub asked : job_for words ≡ Some job
-  pub done : (fs : Files) → before.files ≡ Some fs → IsWork words job fs before now
+  pub done : (fs : Files) → Sees (inputs_of job) before.files fs → IsWork words job fs before now
 
 -- ---- refusals
 
--- The words are those of a command, and its verdict is this refusal. Where it names a line of a log, the log differs there.
+-- The words are those of a command, and its verdict is this refusal.
 pub record Refuses (refusal : Status) (words : List (List ℕ)) (told : Option Files) : Type 0 where
   pub command : Command
   pub asked : command_of words ≡ Some command
-  pub verdict_is : (fs : Files) → told ≡ Some fs → verdict words fs ≡ Err (Refused refusal)
-  pub exact : (fs : Files) → told ≡ Some fs → IsExactRefusal (job_of command) refusal fs
+  pub verdict_is : (fs : Files) → Sees (inputs_of (job_of command)) told fs
+      → verdict words fs ≡ Err (Refused refusal)
 
 -- Usage is the refusal of words that are those of no command.
 abbrev pub RefusesBy : Class → Status → List (List ℕ) → Option Files → Type 0
@@ -105,7 +104,7 @@ pub record Stopped (words : List (List ℕ)) (before now : Outside) : Type 0 whe
   pub asked : job_for words ≡ Some job
   pub outputs : Outputs
   pub named : names_of outputs.files ≡ outputs_of job
-  pub accepted : (fs : Files) → before.files ≡ Some fs → verdict words fs ≡ Ok outputs
+  pub accepted : (fs : Files) → Sees (inputs_of job) before.files fs → verdict words fs ≡ Ok outputs
   pub stops : StopsAt outputs before.files now.files before.put now.put
 
 -- The outputs stopped, and this holds of the name of the file whose write stopped them, or of the put.
@@ -177,10 +176,10 @@ UsageOnly other = ⊥
 
 -- What a call answers, by its words and by what can be told of the outside before it and now: what the status says. From that it
 -- follows that words which are those of no command are answered by Usage, and that, where nothing outside fails, the answer is the
--- verdict's, or memory ran out.
+-- verdict's, or memory ran out. `demo` reads no file, so of it all this stands over any store.
 pub record IsAnswer (answer : Status) (words : List (List ℕ)) (before now : Outside) : Type 0 where
   pub says : Says (class_of answer) answer words before now
   pub usage : command_of words ≡ None → UsageOnly (class_of answer)
-  pub complete : (fs : Files) → before.files ≡ Some fs
+  pub complete : (fs : Files) → Sees (inputs_named words) before.files fs
       → ((job : Job) → job_for words ≡ Some job → Undisturbed job before now)
       → IsVerdict (class_of answer) answer (verdict words fs)

@@ -7,21 +7,21 @@ use Rattle.smp_split.specs.Counts.{selected_units}
 use Rattle.smp_split.specs.Sectioning.{Sectioning}
 use Rattle.smp_methods.specs.declared.any.AnyState.{AnyState}
 use Rattle.smp_stages.specs.Stages.{Progress}
-use Rattle.smp_twostage.specs.Selections.{Coverage, all_of, covered_start, covered_tree, is_of_section, strata_sections}
+use Rattle.smp_twostage.specs.Selections.{Coverage, covered_tree, is_of_section, start_of as whole_start, whole_sections, whole_tree}
 use Rattle.smp_plan.specs.Plans.{Plan, parts}
 
 -- the draw tree, of the plan alone, whose units are the rows of the frame
 abbrev pub tree_of : Plan → Tree (Progress AnyState)
-tree_of plan = covered_tree (all_of (parts plan))
+tree_of plan = whole_tree (parts plan)
 
 -- the state from which a draw starts, of the plan alone
 -- e.g. (1,2,3,4)/5, in the only stage
 abbrev pub start_of : Plan → Progress AnyState
-start_of plan = covered_start (all_of (parts plan))
+start_of plan = whole_start (parts plan)
 
 -- the sections of a plan's draw: the strata, or all of them where they are drawn together
 abbrev pub sections_of : Plan → Sectioning (Progress AnyState)
-sections_of plan = strata_sections (all_of (parts plan))
+sections_of plan = whole_sections (parts plan)
 
 -- what is drawn by a plan, of all strata or of one section alone: a leaf of the draw tree of these strata, and the path that leads there
 pub record Drawn : Type 0 where
@@ -40,7 +40,11 @@ rows_by plan None = length plan.units
 rows_by plan (Some h) =
     count_by (is_of_section (parts plan) h) (range_with_len 0 (length plan.units))
 
--- the rows that are drawn, in frame order
+-- the rows that are drawn of all strata, in frame order
 -- e.g. 2, 3
+abbrev pub selected_rows : Drawn → List ℕ
+selected_rows drawn = selected_units (tree_of drawn.plan) drawn.leaf
+
+-- the rows that are drawn of all strata, or of one section alone
 abbrev pub drawn_rows : Drawn → List ℕ
 drawn_rows drawn = selected_units (covered_tree (covered drawn)) drawn.leaf

@@ -1,18 +1,13 @@
 -- What holds of what a job draws.
-use Rattle.std.specs.Prelude.{◌≡◌, IfSome, ℕ, ◌+◌, ◌-◌, ◌<◌, true, false, ℤ}
-use Rattle.std.specs.Prelude.{List, [], ◌∷◌, length, Option, Some, None, Result}
-use Rattle.std.specs.Prelude.{Ok, Err}
+use Rattle.std.specs.Prelude.{◌≡◌, IfSome, ℕ, ◌+◌, ◌<◌, true, false, ℤ}
+use Rattle.std.specs.Prelude.{List, length, Some, None}
 use Rattle.std.specs.List.{count_by, range_with_len, slice_get}
 use Rattle.smp_io.specs.Store.{Files}
 use Rattle.smp_fractions.specs.Bounds.{IsAround}
 use Rattle.smp_fractions.specs.Fractions.{Same, integer, sum_below}
 use Rattle.smp_prob.specs.Given.{expected_size}
 use Rattle.smp_split.specs.Means.{mean, inclusion_probability}
-use Rattle.smp_values.specs.Values.{is_one}
-use Rattle.smp_moves.specs.Cubes.{left_in, values_in}
-use Rattle.smp_stratcube.specs.Values as together
 use Rattle.smp_balance.specs.Totals.{AreBalanced, IsBalancedFrame}
-use Rattle.smp_balance.specs.Reports.{TellsColumn}
 use Rattle.smp_design.specs.declared.design.Second as second
 use Rattle.smp_design.specs.Words.{balances, draws_together}
 use Rattle.smp_log.specs.Genuine.{DiffersAt, IsFullPath, IsGenuine}
@@ -20,31 +15,25 @@ use Rattle.smp_log.specs.LoneSections.{SectionDiffers}
 use Rattle.smp_log.specs.SectionLogs.{IsAnyGenuine}
 use Rattle.smp_split.specs.Paths.{IsReached}
 use Rattle.smp_split.specs.Trees.{Lawful}
-use Rattle.smp_status.specs.declared.status.Status.{Status}
-use Rattle.smp_status.specs.declared.status.Status.TheVariants as status
 use Rattle.smp_strata.specs.Draws.{AreAsked}
 use Rattle.smp_strata.specs.Plans.{first_probs}
 use Rattle.smp_strata.specs.declared.strata.FirstUnit as first
 use Rattle.smp_strata.specs.declared.strata.Stratum.{Stratum}
 use Rattle.smp_stages.specs.Paths.{GoesByStages}
-use Rattle.smp_twostage.specs.Cubes.{IsDrawnByCube, IsDrawnTogether, balancing, frame_of, leaf_of}
+use Rattle.smp_twostage.specs.Cubes.{IsDrawnByCube, IsDrawnTogether, balancing, frame_of}
 use Rattle.smp_twostage.specs.Covered.{StartsAlone}
-use Rattle.smp_twostage.specs.Lines.{told}
-use Rattle.smp_twostage.specs.Plans.{CanBeDrawn}
-use Rattle.smp_twostage.specs.Selections.{BelongsToWhole, all_of, covered_stages, covered_start, covered_states, covered_tree}
-use Rattle.smp_twostage.specs.Selections.{first_number, section_count, tree_of as stage_tree}
-use Rattle.smp_twostage.specs.Starts.{covered_first, known, second_selected, weighted}
+use Rattle.smp_twostage.specs.Selections.{all_of, covered_start, covered_tree}
+use Rattle.smp_twostage.specs.Selections.{first_number, section_count, tree_of as stage_tree, whole_stages, whole_states}
+use Rattle.smp_twostage.specs.Starts.{first_selected, known, second_selected, weighted}
 use Rattle.smp_plan.specs.Plans.{Plan, parts, row_probability}
-use Rattle.smp_app.specs.Drawn.{tree_of, start_of, sections_of, Drawn, covered}
-use Rattle.smp_app.specs.Commands.{Source, ByLog, ByOldLog, BySection, Work, Lists, Draws, Job}
-use Rattle.smp_app.specs.Verdict.{alone, drawn_stage}
-use Rattle.smp_plan.specs.Inputs.{plan_stage}
+use Rattle.smp_app.specs.Drawn.{tree_of, start_of, sections_of, Drawn}
+use Rattle.smp_app.specs.Verdict.{alone}
 
 -- how many of the first stage units of stratum h are drawn
 -- e.g. 2
 abbrev pub firsts_drawn : Drawn → ℕ → Stratum → ℕ
 firsts_drawn drawn h s =
-    let selected = covered_first (all_of (parts drawn.plan)) drawn.leaf.states h in
+    let selected = first_selected (parts drawn.plan) drawn.leaf.states h in
     count_by selected (range_with_len 0 (length s.units))
 
 -- ---- balance
@@ -53,22 +42,15 @@ firsts_drawn drawn h s =
 abbrev pub Goes : Drawn → Type 0
 Goes drawn =
     let plan = parts drawn.plan in
-    GoesByStages stage_tree (covered_stages (all_of plan)) (covered_states (all_of plan)) drawn.path
-    drawn.leaf.states
+    GoesByStages stage_tree (whole_stages plan) (whole_states plan) drawn.path drawn.leaf.states
 
 -- What is drawn of a stratum by the cube, or by the local cube. The part of the path that is drawn in it leads through the method's tree,
 -- from the requested probabilities to a leaf. On this part, as on every path of the method from there, each flight step keeps every
 -- balancing total in force exactly, and the landing begins only where no direction is left or the next step doesn't fit; `AreBalanced`
 -- says what else holds.
 pub record IsCubeDraw (drawn : Drawn) (goes : Goes drawn) (h : ℕ) (s : Stratum) : Type 0 where
-  pub drawn_so : IsDrawnByCube (parts drawn.plan) h s
-      (goes.part (first_number (parts drawn.plan) h)) drawn.leaf.states
+  pub drawn_so : IsDrawnByCube (parts drawn.plan) h s (goes.part (first_number (parts drawn.plan) h)) drawn.leaf.states
   pub balanced : AreBalanced (balancing (parts drawn.plan) s)
-  -- The report tells the estimates at that leaf and the known totals.
-  pub tells : (column : ℕ) → TellsColumn (told (covered drawn) drawn.leaf.states h)
-      (balancing (parts drawn.plan) s ∷ []) (is_one (values_in (leaf_of drawn_so))) column
-  -- and how many units were fractional where the landing began
-  pub left : (told (covered drawn) drawn.leaf.states h).left ≡ left_in (leaf_of drawn_so)
 
 -- What is drawn of all strata together. The path leads through the method's tree, from the requested probabilities to a leaf. On it, as on
 -- every path of the method from there, each flight step keeps every balancing total in force exactly, over all strata, and the landing
@@ -76,10 +58,6 @@ pub record IsCubeDraw (drawn : Drawn) (goes : Goes drawn) (h : ℕ) (s : Stratum
 pub record IsTogetherDraw (drawn : Drawn) (goes : Goes drawn) : Type 0 where
   pub drawn_so : IsDrawnTogether (parts drawn.plan) (goes.part 0) drawn.leaf.states
   pub balanced : IsBalancedFrame (frame_of (parts drawn.plan))
-  -- The report tells the estimates at that leaf and the known totals.
-  pub tells : (column : ℕ) → TellsColumn (told (covered drawn) drawn.leaf.states 0)
-      (frame_of (parts drawn.plan)) (together.is_one (values_in drawn_so.leaf)) column
-  pub left : (told (covered drawn) drawn.leaf.states 0).left ≡ left_in drawn_so.leaf
 
 -- The path is made of the stages' own paths; and where the method balances, each stratum is drawn so, or all strata together.
 pub record KeepsBalance (drawn : Drawn) : Type 0 where
@@ -110,8 +88,7 @@ pub record IsDrawnBy (drawn : Drawn) : Type 0 where
   -- The draw tree splits lawfully in each state to which a path leads from the start: where it isn't done the weights are at least 1,
   -- each part's rank is lower, and each row's value is the weighted mean of its values in the parts; where it is done, that is 1 for
   -- the rows that are selected, and 0 for the others.
-  pub lawful : Lawful (tree_of drawn.plan)
-      (IsReached (tree_of drawn.plan) (start_of drawn.plan))
+  pub lawful : Lawful (tree_of drawn.plan) (IsReached (tree_of drawn.plan) (start_of drawn.plan))
   -- The path of the draw leads from the start to a leaf, which is done.
   pub full : IsFullPath (tree_of drawn.plan) (start_of drawn.plan) drawn.path drawn.leaf
   -- Each row is selected with exactly the probability that is asked for it, and the weighted total has no bias.
@@ -131,7 +108,7 @@ pub record IsDrawnBy (drawn : Drawn) : Type 0 where
   pub seconds : (h k : ℕ) (s : Stratum) (u : first.FirstUnit) (asked : second.Second)
       → slice_get (parts drawn.plan).strata h ≡ Some s → slice_get s.units k ≡ Some u
       → drawn.plan.design.second ≡ Some asked
-      → covered_first (all_of (parts drawn.plan)) drawn.leaf.states h k ≡ true
+      → first_selected (parts drawn.plan) drawn.leaf.states h k ≡ true
       → count_by (second_selected (parts drawn.plan) drawn.leaf.states h k)
       (range_with_len 0 (length u.rows)) ≡ asked.n
   -- What the methods that balance keep; of a plan by any other method only that the path is made of the stages' own paths.
@@ -149,37 +126,6 @@ pub record IsDrawnAlone (plan : Plan) (h : ℕ) (drawn : Drawn) : Type 0 where
   pub starts : StartsAlone (parts plan) h (covered_start (alone plan h))
   pub full : IsFullPath (covered_tree (alone plan h)) (covered_start (alone plan h)) drawn.path
       drawn.leaf
-
--- what is drawn of all strata by this plan, from a state of the selection
-pub record IsDrawnWhole (plan : Plan) (drawn : Drawn) : Type 0 where
-  pub plan_is : drawn.plan ≡ plan
-  pub member : BelongsToWhole (parts plan) (start_of plan)
-  pub by_plan : IsDrawnBy drawn
-
-abbrev pub IsDrawnOf : Option ℕ → Plan → Drawn → Type 0
-IsDrawnOf None plan drawn = IsDrawnWhole plan drawn
-IsDrawnOf (Some h) plan drawn = IsDrawnAlone plan h drawn
-
--- what a source draws by a plan
-pub record IsDrawFrom (plan : Plan) (source : Source) (fs : Files) : Type 0 where
-  pub drawn : Drawn
-  pub is_drawn : drawn_stage plan source fs ≡ Ok drawn
-  pub by_plan : IsDrawnOf drawn.only plan drawn
-
--- What holds of a plan of which a job lists: it can be drawn, and by its draw tree each row has its probability.
-pub record IsListed (plan : Plan) : Type 0 where
-  pub drawable : CanBeDrawn (parts plan)
-  pub probabilities : HasProbabilities plan
-
-abbrev pub IsExactFrom : Plan → Work → Files → Type 0
-IsExactFrom plan (Lists text) fs = IsListed plan
-IsExactFrom plan (Draws source files put) fs = IsDrawFrom plan source fs
-
--- what a job draws by its plan is drawn with the requested probabilities
-pub record IsExact (job : Job) (fs : Files) : Type 0 where
-  pub plan : Plan
-  pub planned : plan_stage job.design job.frame fs ≡ Ok plan
-  pub from_plan : IsExactFrom plan job.work fs
 
 -- ---- a log that is refused
 
@@ -203,42 +149,3 @@ pub record RefusesLog (Differs : List ℕ → Type 0) (log : List ℕ) (fs : Fil
   pub bytes : List ℕ
   pub held : fs log ≡ Some bytes
   pub differs : Differs bytes
-
--- where a refusal names the line of a log, this holds of the line
-abbrev pub IfLine : Status → (ℕ → Type 0) → Type 0
-IfLine (status.LogDiffers line) holds = holds line
-IfLine other holds = Unit {0}
-
--- a plan and a source whose log is refused at a line
-abbrev pub IsRefusedAt : Plan → Source → Files → ℕ → Type 0
-IsRefusedAt plan (ByLog log) fs line = RefusesLog (λ bytes. WholeDiffers plan bytes line) log fs
-IsRefusedAt plan (ByOldLog log) fs line = RefusesLog (λ bytes. OldDiffers plan bytes line) log fs
-IsRefusedAt plan (BySection log number) fs line =
-    RefusesLog (λ bytes. StratumDiffers (number - 1) plan bytes line) log fs
-IsRefusedAt plan other fs line = Unit {0}
-
-abbrev pub IsRefusedBy : Plan → Source → Files → Status → Type 0
-IsRefusedBy plan source fs refusal = IfLine refusal (IsRefusedAt plan source fs)
-
--- ---- what a job ends with: what is drawn, or a refusal
-
-abbrev pub IsRefusedFrom : Plan → Work → Files → ℕ → Type 0
-IsRefusedFrom plan (Lists text) fs = λ line. Unit {0}
-IsRefusedFrom plan (Draws source files put) fs = IsRefusedAt plan source fs
-
--- what a job refuses at a line, by its plan
-pub record IsRefused (job : Job) (fs : Files) (line : ℕ) : Type 0 where
-  pub plan : Plan
-  pub planned : plan_stage job.design job.frame fs ≡ Ok plan
-  pub by_plan : IsRefusedFrom plan job.work fs line
-
-abbrev pub IsExactRefusal : Job → Status → Files → Type 0
-IsExactRefusal job refusal fs = IfLine refusal (IsRefused job fs)
-
-abbrev pub EndsExactFrom : {A : Type 0} → Plan → Work → Files → Result A Status → Type 0
-EndsExactFrom plan work fs (Ok outputs) = IsExactFrom plan work fs
-EndsExactFrom plan work fs (Err refusal) = IfLine refusal (IsRefusedFrom plan work fs)
-
-abbrev pub EndsExact : {A : Type 0} → Job → Files → Result A Status → Type 0
-EndsExact job fs (Ok outputs) = IsExact job fs
-EndsExact job fs (Err refusal) = IsExactRefusal job refusal fs

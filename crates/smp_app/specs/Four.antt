@@ -23,9 +23,9 @@ use Rattle.smp_stages.specs.Stages.{Progress}
 use Rattle.smp_twostage.specs.Starts.{known, weighted}
 use Rattle.smp_weights.specs.Sample.{sample_file, sample_row}
 use Rattle.smp_plan.specs.Plans.{Plan, quick_design, row_id, row_probability}
-use Rattle.smp_app.specs.Drawn.{Drawn, drawn_rows, start_of, tree_of}
+use Rattle.smp_app.specs.Drawn.{Drawn, selected_rows, start_of, tree_of}
 use Rattle.smp_app.specs.Draws.{firsts_drawn}
-use Rattle.smp_app.specs.Texts.{report_text, sample_text, weighted_row}
+use Rattle.smp_app.specs.Texts.{draw_sample, report_text, weighted_row}
 
 -- a row of the frame: its id and its size, of columns `id` and `size`
 abbrev pub unit_of : List ℕ → ℕ → unit.Unit
@@ -118,8 +118,8 @@ pub record IsFourDrawn : Type 0 where
   pub counts : Same (weighted (row_probability plan 2) (pos 1)) (over 5 3)
   -- firsts_drawn: 2
   pub firsts : firsts_drawn drawn 0 (stratum_of plan.design units 0) ≡ 2
-  -- drawn_rows: 2, 3
-  pub rows : drawn_rows drawn ≡ 2 ∷ 3 ∷ []
+  -- selected_rows: 2, 3
+  pub rows : selected_rows drawn ≡ 2 ∷ 3 ∷ []
   -- weighted_row: (`c`, 6/10)
   pub weighted_c : (weighted_row plan 2).0 ≡ codes "c"
       × Same (weighted_row plan 2).1 (over 6 10)
@@ -127,8 +127,8 @@ pub record IsFourDrawn : Type 0 where
   pub row : sample_row (codes "c") (over 6 10) ≡ codes "c,5/3\n"
   -- sample_file: of (`c`, 6/10) and (`d`, 8/10): `id,weight⏎c,5/3⏎d,5/4⏎`
   pub file : sample_file ((codes "c", over 6 10) ∷ (codes "d", over 8 10) ∷ []) ≡ sample_bytes
-  -- sample_text: `id,weight⏎c,5/3⏎d,5/4⏎`
-  pub sample : sample_text drawn ≡ sample_bytes
+  -- draw_sample: `id,weight⏎c,5/3⏎d,5/4⏎`
+  pub sample : draw_sample drawn ≡ sample_bytes
   -- these are 22 bytes
   pub long : length sample_bytes ≡ 22
   -- report_text: `selected 2 of 4⏎steps 3⏎`

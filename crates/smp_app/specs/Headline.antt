@@ -1,5 +1,6 @@
 -- The main statement: what a call that ended well has done, and where the log differs that a call has refused.
-use Rattle.std.specs.Prelude.{◌≡◌, ℕ, ◌+◌, ◌<◌, ◌≤◌, ◌^◌, List, [], ◌∷◌, length, Some, None, option_map, Ok, is_ok, true}
+use Rattle.std.specs.Prelude.{◌≡◌, ℕ, ◌+◌, ◌<◌, ◌≤◌, ◌^◌, List, [], ◌∷◌, length, Option, Some, None}
+use Rattle.std.specs.Prelude.{option_map, Ok, is_ok, true}
 use Rattle.std.specs.List.{filter}
 use Rattle.smp_io.specs.Sink.{with_bytes}
 use Rattle.smp_io.specs.Store.{Files}
@@ -15,6 +16,7 @@ use Rattle.smp_frame.specs.Frames.{frame_of}
 use Rattle.smp_strata.specs.Misfits.{misfit_of}
 use Rattle.smp_design.specs.Designs.{design_of}
 use Rattle.smp_words.specs.declared.command.Command.{Command}
+use Rattle.smp_words.specs.declared.command.DemoArguments.{DemoArguments}
 use Rattle.smp_words.specs.declared.command.DesignArguments.{DesignArguments}
 use Rattle.smp_words.specs.declared.command.DrawArguments.{DrawArguments}
 use Rattle.smp_words.specs.declared.command.MigrateArguments.{MigrateArguments}
@@ -24,6 +26,7 @@ use Rattle.smp_words.specs.declared.command.Command.TheVariants as commands
 use Rattle.smp_words.specs.declared.command.Chance.{Chance}
 use Rattle.smp_words.specs.declared.command.Chance.TheVariants.{Tape, Seed}
 use Rattle.smp_words.specs.Words.{command_of}
+use Rattle.smp_cases.specs.Demo.{demo_design_text, demo_frame_text, demo_key}
 use Rattle.smp_log.specs.Genuine.{IsGenuine}
 use Rattle.smp_log.specs.Heads.{head_of}
 use Rattle.smp_log.specs.LoneSections.{HasSection}
@@ -36,11 +39,12 @@ use Rattle.smp_plan.specs.Inputs.{most_joint_rows}
 use Rattle.smp_plan.specs.Plans.{Plan, parts, quick_design}
 use Rattle.smp_app.specs.Drawn.{Drawn, tree_of, start_of, sections_of, drawn_rows}
 use Rattle.smp_app.specs.Draws.{HasProbabilities, IsDrawnAlone, IsDrawnBy, OldDiffers, RefusesLog, StratumDiffers, WholeDiffers}
-use Rattle.smp_app.specs.Texts.{accepted_text, ids_text, joints_text, log_text, migrated_text, probabilities_text}
+use Rattle.smp_app.specs.Texts.{accepted_text, demo_text, ids_text, joints_text, draw_log, draw_sample, migrated_text, probabilities_text}
 use Rattle.smp_app.specs.Texts.{report_text, sample_text, steps_text}
 use Rattle.smp_app.specs.Verdict.{alone, drawn_by_log, drawn_by_section}
 use Rattle.smp_app.specs.Deliveries.{with_files}
 use Rattle.smp_app.specs.Answers.{Outside}
+use Rattle.smp_app.specs.Reports.{IsReported, TellsBalance}
 
 -- ---- where the draws come from
 
@@ -62,13 +66,12 @@ IsDrawnByChance (Seed seed) fs drawn = IsDrawnBySeed seed drawn
 
 -- ---- what was read
 
--- The bytes in the file of a frame are what the plan says: its rows, by the columns of the design, which they serve. The head names
--- these very bytes, and those of the design, by their digests.
+-- The bytes in the file of a frame are what the plan says: its rows, by the columns of the design. The head names these very bytes, and
+-- those of the design, by their digests.
 pub record IsReadFrame (frame design_bytes : List ℕ) (fs : Files) (plan : Plan) : Type 0 where
   pub frame_bytes : List ℕ
   pub frame_held : fs frame ≡ Some frame_bytes
   pub frame_read : frame_of plan.design.columns frame_bytes ≡ Ok plan.units
-  pub served : misfit_of plan.design plan.units ≡ None
   pub head : plan.head ≡ head_of design_bytes frame_bytes
 
 -- A plan is what the bytes in the files of a design and of a frame say.
@@ -78,11 +81,15 @@ pub record IsReadPlan (design frame : List ℕ) (fs : Files) (plan : Plan) : Typ
   pub design_read : design_of design_bytes ≡ Ok plan.design
   pub frame_is : IsReadFrame frame design_bytes fs plan
 
+-- The design and the frame go together: none of the misfits of the two is there.
+abbrev pub IsAccepted : Plan → Type 0
+IsAccepted plan = misfit_of plan.design plan.units ≡ None
+
 -- ---- a draw
 
--- What a `draw` that ended well has done, by the arguments `a` that its words say: `fs` are the files before it, and `before` and `now`
--- what is told of the outside before and after it.
-pub record IsExactDraw (a : DrawArguments) (fs : Files) (before now : Outside) : Type 0 where
+-- What a `draw` that ended well has done, by the arguments `a` that its words say: `fs` are the files before it, and `now` those after it,
+-- where they are told. `Headline` has beside it that design and frame were accepted, the report, and that `replay` takes the log.
+pub record IsExactDraw (a : DrawArguments) (fs : Files) (now : Option Files) : Type 0 where
   -- What is drawn, of all strata, with the values of the tape or the words of the seed; that these lead to its leaf is `full` of `by_plan`.
   pub drawn : Drawn
   pub is_drawn : IsDrawnByChance a.chance fs drawn
@@ -93,11 +100,9 @@ pub record IsExactDraw (a : DrawArguments) (fs : Files) (before now : Outside) :
   pub by_plan : IsDrawnBy drawn
   -- The log and the sample of that leaf are written, and no other file has changed. The log has the plan's head and, a stratum after the
   -- other, every step that leads to the leaf.
-  pub written : now.files ≡ Some (with_files
-      (record { name = a.log; bytes = log_text drawn }
-      ∷ record { name = a.sample; bytes = sample_text drawn } ∷ []) fs)
-  -- The report of that leaf was put.
-  pub put : now.put ≡ with_bytes (report_text drawn) before.put
+  pub written : now ≡ Some (with_files
+      (record { name = a.log; bytes = draw_log drawn }
+      ∷ record { name = a.sample; bytes = draw_sample drawn } ∷ []) fs)
   -- The plan is what was read.
   pub read : IsReadPlan a.design a.frame fs drawn.plan
 
@@ -106,10 +111,10 @@ pub record IsExactDraw (a : DrawArguments) (fs : Files) (before now : Outside) :
 pub record IsReplayed (drawn : Drawn) : Type 0 where
   -- the draw starts from a state of the selection by the plan
   pub start : BelongsToWhole (parts drawn.plan) (start_of drawn.plan)
-  pub same : drawn_by_log drawn.plan (log_text drawn) ≡ Ok drawn
+  pub same : drawn_by_log drawn.plan (draw_log drawn) ≡ Ok drawn
   pub sections : (h : ℕ) → h < section_count (all_of (parts drawn.plan))
-      → length (log_text drawn) < 2 ^ 64
-      → is_ok (drawn_by_section drawn.plan h (log_text drawn)) ≡ true
+      → length (draw_log drawn) < 2 ^ 64
+      → is_ok (drawn_by_section drawn.plan h (draw_log drawn)) ≡ true
 
 -- ---- a quick draw
 
@@ -127,6 +132,7 @@ pub record IsExactQuick (a : QuickArguments) (fs : Files) (before now : Outside)
   -- The plan is of the design of `quick`, of which there are no bytes, and of the frame that was read.
   pub design : drawn.plan.design ≡ quick_design a.n
   pub read : IsReadFrame a.frame [] fs drawn.plan
+  pub accepted : IsAccepted drawn.plan
 
 -- ---- a replay
 
@@ -143,10 +149,10 @@ pub record IsExactReplay (a : ReplayArguments) (fs : Files) (before now : Outsid
   pub by_plan : IsDrawnBy drawn
   -- The sample of that leaf is written, no other file has changed, and the report of it was put.
   pub written : now.files
-      ≡ Some (with_files (record { name = a.sample; bytes = sample_text drawn } ∷ []) fs)
-  pub put : now.put ≡ with_bytes (report_text drawn) before.put
-  -- The plan is what was read.
+      ≡ Some (with_files (record { name = a.sample; bytes = draw_sample drawn } ∷ []) fs)
+  pub reported : IsReported drawn by_plan.balance before now
   pub read : IsReadPlan a.design a.frame fs drawn.plan
+  pub accepted : IsAccepted drawn.plan
 
 -- Where the log is genuine as a whole, the rows that are drawn of section h alone are those of the section at its leaf. A file has less
 -- than 2^64 bytes.
@@ -176,8 +182,8 @@ pub record IsExactSection (a : ReplayArguments) (h : ℕ) (fs : Files) (before n
   pub written : now.files
       ≡ Some (with_files (record { name = a.sample; bytes = sample_text drawn } ∷ []) fs)
   pub put : now.put ≡ with_bytes (report_text drawn) before.put
-  -- The plan is what was read.
   pub read : IsReadPlan a.design a.frame fs drawn.plan
+  pub accepted : IsAccepted drawn.plan
 
 -- ---- a migration
 
@@ -194,15 +200,36 @@ pub record IsExactMigration (a : MigrateArguments) (fs : Files) (before now : Ou
   pub by_plan : IsDrawnBy drawn
   -- The log of version 2 of this path, as a draw writes it, is written, and no other file has changed.
   pub written : now.files
-      ≡ Some (with_files (record { name = a.to; bytes = log_text drawn } ∷ []) fs)
+      ≡ Some (with_files (record { name = a.to; bytes = draw_log drawn } ∷ []) fs)
   -- That log is genuine, of version 2, with the same path and leaf.
   pub genuine : IsSectionedGenuine (tree_of drawn.plan) (sections_of drawn.plan)
-      (start_of drawn.plan) drawn.plan.head (log_text drawn) drawn.leaf
+      (start_of drawn.plan) drawn.plan.head (draw_log drawn) drawn.leaf
   pub same_path : genuine.path ≡ old.path
-  -- The number of its steps was put.
   pub put : now.put ≡ with_bytes (migrated_text drawn) before.put
-  -- The plan is what was read.
+  -- What the report of the draw tells, which `replay` puts by that log.
+  pub tells : TellsBalance drawn by_plan.balance
   pub read : IsReadPlan a.design a.frame fs drawn.plan
+  pub accepted : IsAccepted drawn.plan
+
+-- ---- a demonstration
+
+-- What a `demo` that ended well has done, over any store: a draw by a design and a frame that it makes of N and SEED.
+pub record IsExactDemo (a : DemoArguments) (before now : Outside) : Type 0 where
+  -- What is drawn is the leaf to which the words of a seed made of SEED lead.
+  pub drawn : Drawn
+  pub is_drawn : IsDrawnBySeed (demo_key a.seed) drawn
+  pub by_plan : IsDrawnBy drawn
+  -- The plan is what these bytes of a design and of a frame say.
+  pub design_read : design_of (demo_design_text a.n) ≡ Ok drawn.plan.design
+  pub frame_read : frame_of drawn.plan.design.columns (demo_frame_text a.n a.seed)
+      ≡ Ok drawn.plan.units
+  pub head : drawn.plan.head ≡ head_of (demo_design_text a.n) (demo_frame_text a.n a.seed)
+  pub accepted : IsAccepted drawn.plan
+  -- Its log is accepted, as the summary says, which was put; and no file has changed.
+  pub replayed : IsReplayed drawn
+  pub tells : TellsBalance drawn by_plan.balance
+  pub put : now.put ≡ with_bytes (demo_text drawn) before.put
+  pub same : now.files ≡ before.files
 
 -- ---- probabilities
 
@@ -210,11 +237,10 @@ pub record IsExactMigration (a : MigrateArguments) (fs : Files) (before now : Ou
 pub record IsExactList (text : Plan → List ℕ) (a : DesignArguments) (fs : Files)
     (before now : Outside) : Type 0 where
   pub plan : Plan
-  -- The plan is what was read.
   pub read : IsReadPlan a.design a.frame fs plan
+  pub accepted : IsAccepted plan
   -- A draw by the plan selects each row with exactly the probability that is listed for it.
   pub probabilities : HasProbabilities plan
-  -- The text was put, and no file has changed.
   pub put : now.put ≡ with_bytes (text plan) before.put
   pub same : now.files ≡ Some fs
 
@@ -225,13 +251,13 @@ pub record IsExactJoint (a : DesignArguments) (fs : Files) (before now : Outside
   -- The plan is what was read. It draws systematically, in the order of the frame and in one stage, from 2,000 rows at most.
   pub plan : Plan
   pub read : IsReadPlan a.design a.frame fs plan
+  pub accepted : IsAccepted plan
   pub systematic : IsSystematicPlan (parts plan)
   pub few : length plan.units ≤ most_joint_rows
   -- Over draws that are uniform below each bound and independent of those before, each two rows are both selected with exactly the joint
   -- probability that is listed for them; and where the probabilities of a stratum's units add up to a whole number, those of a unit with
   -- all others of the stratum add up to one less than it times the unit's own.
   pub joints : HasJoints (parts plan)
-  -- They were put, and no file has changed.
   pub put : now.put ≡ with_bytes (joints_text plan) before.put
   pub same : now.files ≡ Some fs
 
@@ -242,6 +268,7 @@ pub record IsRefusedLog (design frame log : List ℕ) (fs : Files)
     (Differs : Plan → List ℕ → Type 0) : Type 0 where
   pub plan : Plan
   pub read : IsReadPlan design frame fs plan
+  pub accepted : IsAccepted plan
   pub refused : RefusesLog (Differs plan) log fs
 
 -- ---- the statement
@@ -253,17 +280,25 @@ pub record Ends (answer : Status) (words : List (List ℕ)) (before : Outside) (
   pub asked : command_of words ≡ Some command
   pub told : before.files ≡ Some fs
 
--- A call that answers Done has done what its command asks for: such a draw, whose log `replay` accepts; such a quick draw; such a replay,
--- of all strata or of the section whose number the words have, counted from 1; such a migration; such a list of probabilities, or of joint
--- ones. Where it answers that a log differs at a line, the lines before this one are the most whole lines with which some genuine log
--- begins, of either version for `replay`, of version 1 for `migrate`; with a section's number the line is the first with which no such
--- section goes on.
+-- A call that answers Done has done what its command asks for: such a draw, from a design and a frame that are accepted, whose
+-- report was put, and whose log `replay` accepts; such a quick draw; such a replay, of all strata or of the section whose number the
+-- words have, counted from 1; such a migration; such a demonstration; such a list of probabilities, or of joint ones. Where it
+-- answers that a log differs at a line, the lines before this one are the most whole lines with which some genuine log begins, of
+-- either version for `replay`, of version 1 for `migrate`; with a section's number the line is the first with which no such section
+-- goes on.
 pub record Headline (answer : Status) (words : List (List ℕ)) (before now : Outside) : Type 0 where
   pub draw : (a : DrawArguments) (fs : Files)
-      → Ends answer words before status.Done (commands.Draw a) fs → IsExactDraw a fs before now
+      → Ends answer words before status.Done (commands.Draw a) fs → IsExactDraw a fs now.files
+  pub accepted : (a : DrawArguments) (fs : Files)
+      → Ends answer words before status.Done (commands.Draw a) fs
+      → (exact : IsExactDraw a fs now.files) → IsAccepted exact.drawn.plan
+  pub reported : (a : DrawArguments) (fs : Files)
+      → Ends answer words before status.Done (commands.Draw a) fs
+      → (exact : IsExactDraw a fs now.files)
+      → IsReported exact.drawn exact.by_plan.balance before now
   pub replayed : (a : DrawArguments) (fs : Files)
       → Ends answer words before status.Done (commands.Draw a) fs
-      → (exact : IsExactDraw a fs before now) → IsReplayed exact.drawn
+      → (exact : IsExactDraw a fs now.files) → IsReplayed exact.drawn
   pub quick : (a : QuickArguments) (fs : Files)
       → Ends answer words before status.Done (commands.Quick a) fs → IsExactQuick a fs before now
   pub replay : (a : ReplayArguments) (fs : Files)
@@ -275,6 +310,8 @@ pub record Headline (answer : Status) (words : List (List ℕ)) (before now : Ou
   pub migrate : (a : MigrateArguments) (fs : Files)
       → Ends answer words before status.Done (commands.Migrate a) fs
       → IsExactMigration a fs before now
+  pub demo : (a : DemoArguments) → answer ≡ status.Done → command_of words ≡ Some (commands.Demo a)
+      → IsExactDemo a before now
   pub probs : (a : DesignArguments) (fs : Files)
       → Ends answer words before status.Done (commands.Probs a) fs
       → IsExactList probabilities_text a fs before now

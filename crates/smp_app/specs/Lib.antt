@@ -6,5 +6,6 @@ pub mod Draws
 pub mod Four
 pub mod Headline
 pub mod Kept
+pub mod Reports
 pub mod Texts
 pub mod Verdict

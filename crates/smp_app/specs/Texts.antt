@@ -13,7 +13,7 @@ use Rattle.smp_twostage.specs.Lines.{balance_lines}
 use Rattle.smp_twostage.specs.Selections.{covered_start, covered_tree, covers, strata_sections}
 use Rattle.smp_joint.specs.JointText.{joint_text}
 use Rattle.smp_plan.specs.Plans.{Plan, parts, row_id, row_probability}
-use Rattle.smp_app.specs.Drawn.{Drawn, covered, rows_by, drawn_rows}
+use Rattle.smp_app.specs.Drawn.{Drawn, covered, drawn_rows, rows_by, sections_of, selected_rows, start_of, tree_of}
 
 -- ---- texts of a plan
 
@@ -51,7 +51,12 @@ ids_text drawn = row (codes "id" ∷ []) ++ flat_map (id_row drawn.plan) (drawn_
 abbrev pub steps_text : Drawn → List ℕ
 steps_text drawn = logs.steps_text drawn.path
 
--- the log: its head, the steps of a stratum after the other, and its end
+-- the log of a draw of all strata: its head, the steps of a stratum after the other, and its end
+abbrev pub draw_log : Drawn → List ℕ
+draw_log drawn =
+    sectioned_log_text (tree_of drawn.plan) (sections_of drawn.plan) (start_of drawn.plan) drawn.plan.head drawn.path
+
+-- the log of a draw of all strata, or of one section alone
 abbrev pub log_text : Drawn → List ℕ
 log_text drawn =
     let own = covered drawn in
@@ -64,8 +69,12 @@ log_text drawn =
 abbrev pub weighted_row : Plan → ℕ → List ℕ × Fraction
 weighted_row plan r = (row_id plan r, row_probability plan r)
 
--- the sample: the drawn units with their design weights
+-- the sample of a draw of all strata: the drawn units with their design weights
 -- e.g. `id,weight⏎c,5/3⏎d,5/4⏎`
+abbrev pub draw_sample : Drawn → List ℕ
+draw_sample drawn = sample_file (map (weighted_row drawn.plan) (selected_rows drawn))
+
+-- the sample of a draw of all strata, or of one section alone
 abbrev pub sample_text : Drawn → List ℕ
 sample_text drawn = sample_file (map (weighted_row drawn.plan) (drawn_rows drawn))
 
@@ -83,15 +92,17 @@ report_text drawn =
     ++ (codes "\nsteps " ++ (decimal (length drawn.path) ++ codes "\n"))))))
     ++ balance_lines (covered drawn) drawn.leaf.states
 
--- the summary of the demonstration: how many units were drawn of how many, in how many steps, and how many units were fractional in each
--- stratum where its landing began; and that the log of the draw was replayed
+-- how many units were fractional in a stratum where its landing began, behind a space
 abbrev pub left_text : Drawn → ℕ → List ℕ
 left_text drawn h = codes " " ++ decimal (covered_left (covered drawn) drawn.leaf.states h)
 
+-- the same of each stratum that is drawn
 abbrev pub lefts_text : Drawn → List ℕ
 lefts_text drawn =
     flat_map (left_text drawn) (filter (covers (covered drawn)) (range_with_len 0 (length (parts drawn.plan).strata)))
 
+-- the summary of the demonstration: how many units were drawn of how many, in how many steps, and what was left to the landings; and that
+-- the log of the draw was replayed
 abbrev pub demo_text : Drawn → List ℕ
 demo_text drawn =
     codes "units " ++ (decimal (length drawn.plan.units)

@@ -5,6 +5,7 @@ ghost use Rattle.smp_app.specs.Answers.{IsAnswer, outside};
 ghost use Rattle.smp_app.specs.Headline.{Headline};
 ghost use Rattle.smp_status.specs.Codes.{class_of};
 ghost use Rattle.smp_app.specs.Commands.{files_named, files_of, inputs_named, inputs_of, job_for, job_of};
+ghost use Rattle.smp_app.specs.Kept.Exact.{ExactSays};
 ghost use Rattle.smp_app.specs.Kept.Stages.{IsJob, WorkSays, job_view};
 
 use crate::Status;
@@ -76,6 +77,8 @@ fn work<K: Store, S: Sink>(alloc: Global, words: &[String], store: &mut K, out: 
         S.written S.faults S.shortages store.old out.old)
         (outside K.files K.read_faults K.write_faults K.write_shortages
         S.written S.faults S.shortages store.new out.new) }
+    ensures exact { ExactSays (class_of result) result (map string_bytes words.now)
+        (K.files store.old) }
     ensures puts { S.faults out.old ≤ S.faults out.new }
     ensures shortages { S.shortages out.old ≤ S.shortages out.new }
     ensures asked { AsksOnly (inputs_named (map string_bytes words.now))
@@ -104,6 +107,8 @@ fn carry_out<K: Store, S: Sink>(
         S.written S.faults S.shortages store.old out.old)
         (outside K.files K.read_faults K.write_faults K.write_shortages
         S.written S.faults S.shortages store.new out.new) }
+    ensures exact { (words : List (List ℕ)) → command_of words ≡ Some command.now
+        → ExactSays (class_of result) result words (K.files store.old) }
     ensures puts { S.faults out.old ≤ S.faults out.new }
     ensures shortages { S.shortages out.old ≤ S.shortages out.new }
     ensures asked { AsksOnly (inputs_of (job_of command.now))
@@ -125,6 +130,8 @@ fn do_job<K: Store, S: Sink>(alloc: Global, job: &Job, store: &mut K, out: &mut 
         S.written S.faults S.shortages store.old out.old)
         (outside K.files K.read_faults K.write_faults K.write_shortages
         S.written S.faults S.shortages store.new out.new) }
+    ensures exact { (words : List (List ℕ)) → job_for words ≡ Some (job_view job.now)
+        → ExactSays (class_of result) result words (K.files store.old) }
     ensures puts { S.faults out.old ≤ S.faults out.new }
     ensures shortages { S.shortages out.old ≤ S.shortages out.new }
     ensures asked { AsksOnly (inputs_of (job_view job.now))

@@ -1,17 +1,18 @@
 ghost use Rattle.std.specs.Prelude.{◌≡◌, [], ◌^◌, ◌<◌, ◌≤◌, length, None, Some, IfOk, IfErr, IfSome, OnOk};
 ghost use Rattle.smp_tape.specs.TapeSources.{tape_source};
-ghost use Rattle.smp_split.specs.Runs.{and_then, run};
+ghost use Rattle.smp_split.specs.Runs.{KeepsOn, and_then, run};
 ghost use Rattle.smp_log.specs.Answers.{AnswersAs};
 ghost use Rattle.smp_log.specs.Genuine.{IsFullPath};
+ghost use Rattle.smp_log.specs.SectionLogs.{ArePlaced, steps_of};
 ghost use Rattle.smp_twostage.specs.Selections.{BelongsToCovered, all_of, covered_tree, section_count, strata_sections};
 ghost use Rattle.smp_app.specs.Commands.{source_names};
 ghost use Rattle.smp_app.specs.Drawn.{tree_of, start_of};
-ghost use Rattle.smp_app.specs.Draws.{IfLine, IsRefusedBy};
+ghost use Rattle.smp_app.specs.Kept.Exact.{IfLine, IsRefusedBy};
 ghost use Rattle.smp_io.specs.Store.{Files};
 ghost use Rattle.smp_app.specs.Verdict.{drawn_by_seed, drawn_from, drawn_stage, stratum_at};
 ghost use Rattle.smp_app.specs.Verdict.{values_left, values_taken};
 ghost use Rattle.smp_status.specs.Codes.{class_of};
-ghost use Rattle.smp_plan.specs.Reads.{Follows, Reads, told, result_view};
+ghost use Rattle.smp_plan.specs.Reads.{Follows, Reads, Sees, told, result_view};
 ghost use Rattle.smp_app.specs.Kept.Stages.{DiffersTaken, EndsAs, EndsAsTold, FollowsEnd, HasStratum, IsSelection};
 ghost use Rattle.smp_app.specs.Kept.Stages.{IsSourceInRanges, IsStart, IsWalked};
 ghost use Rattle.smp_app.specs.Kept.Stages.{draw_view, drawn_by_taken, end_told, only_of, path_by, reading_by};
@@ -23,11 +24,11 @@ use crate::Status;
 use crate::job::DrawSource;
 use smp_frac::NoMemory;
 use smp_io::Store;
-use smp_log::{Head, ReplayFault, old_replay_into, replay_into, replay_section_into};
+use smp_log::{Head, ReplayFault, SectionLines, old_replay_into, replay_into, replay_section_into};
 use smp_methods::AnyState;
 use smp_plan::{FramePlan, read_input};
 use smp_sieve::{ChaChaWords, Sieve};
-use smp_split::{Lines, Splitting, WalkFault, selected_units, walk};
+use smp_split::{Splitting, WalkFault, selected_units, walk};
 use smp_stages::StagesState;
 use smp_tape::{DrawFault, Draws, Tape};
 use smp_twostage::{StartedWhole, Whole, section_count};
@@ -74,7 +75,7 @@ pub struct Walked<'a> {
     pub whole: Whole<'a>,
     pub only: Option<usize>,
     pub state: StagesState<AnyState>,
-    pub end: Result<Lines, Stopped>,
+    pub end: Result<SectionLines, Stopped>,
 }
 
 /// What is drawn: the selection, of all strata or of the one with this number, the done state at which a walk ended,
@@ -85,7 +86,7 @@ pub struct Selection<'a> {
     pub only: Option<usize>,
     pub state: StagesState<AnyState>,
     pub rows: Vec<usize>,
-    pub lines: Lines,
+    pub lines: SectionLines,
 }
 
 /// The start of a selection of all strata, or of the one with this number.
@@ -117,11 +118,11 @@ fn walk_from<'a, D: Draws>(
     ensures ends { EndsAs (plan_view plan.now)
         (run D.source (tree_of (plan_view plan.now)) (start_of (plan_view plan.now)) draws.old)
         draws.new result.state result.end }
-    ensures walked { IfOk result.end (λ path. IsWalked (plan_view plan.now) result.whole
-        (walked_view (plan_view plan.now) result path)) }
+    ensures walked { IfOk result.end (λ lines. IsWalked (plan_view plan.now) result.whole lines
+        (walked_view (plan_view plan.now) result lines)) }
 {
     let StartedWhole { whole, mut state } = started;
-    let mut lines = Lines::new(alloc);
+    let mut lines = SectionLines::new(alloc);
     match walk(&whole, &mut state, draws, &mut lines) {
         Ok(()) => {
             let end = Ok(lines);
@@ -155,7 +156,7 @@ fn walk_from<'a, D: Draws>(
 }
 
 // The end of a replay, by its answer and the lines that it told.
-fn end_told(told: Result<(), ReplayFault>, lines: Lines) -> Result<Lines, Stopped>
+fn end_told(told: Result<(), ReplayFault>, lines: SectionLines) -> Result<SectionLines, Stopped>
     ensures { result ≡ end_told told lines }
 {
     match told {
@@ -172,15 +173,18 @@ fn replay_taken(
     head: &Head,
     taken: Taken,
     log: &[u8],
-    lines: &mut Lines,
+    lines: &mut SectionLines,
 ) -> Result<(), ReplayFault>
     requires belongs { BelongsToCovered whole.now state.old }
     requires one { IfSome (only_of taken) (λ h. (strata_sections whole.now).count ≡ 1) }
     requires room { IfSome (only_of taken) (λ h. h < 2 ^ 32) }
     ensures reading { AnswersAs result state.new
         (reading_by taken whole.now state.old head.now log.now) }
-    ensures told { OnOk result (Some lines.new
-        ≡ and_then (Some lines.old) (path_by taken whole.now state.old log.now)) }
+    ensures told { OnOk result (Some (steps_of lines.new)
+        ≡ and_then (Some (steps_of lines.old)) (path_by taken whole.now state.old log.now)) }
+    ensures kept { OnOk result
+        (KeepsOn (ArePlaced (covered_tree whole.now) (strata_sections whole.now))
+        state.old state.new lines.old lines.new) }
     ensures full { OnOk result (IsFullPath (covered_tree whole.now) state.old
         (path_by taken whole.now state.old log.now) state.new) }
     ensures belongs { BelongsToCovered whole.now state.new }
@@ -208,11 +212,11 @@ fn walk_by_log<'a>(
     ensures only { result.only ≡ only_of taken }
     ensures ends { EndsAsTold (plan_view plan.now) (only_of taken)
         (drawn_by_taken taken (plan_view plan.now) log.now) result.state result.end }
-    ensures walked { IfOk result.end (λ path. IsWalked (plan_view plan.now) result.whole
-        (walked_view (plan_view plan.now) result path)) }
+    ensures walked { IfOk result.end (λ lines. IsWalked (plan_view plan.now) result.whole lines
+        (walked_view (plan_view plan.now) result lines)) }
 {
     let StartedWhole { whole, mut state } = started;
-    let mut lines = Lines::new(alloc);
+    let mut lines = SectionLines::new(alloc);
     let told = replay_taken(&whole, &mut state, &plan.head, taken, log, &mut lines);
     Walked {
         whole,
@@ -256,8 +260,8 @@ fn selection_at<'a>(
     taken: u64,
     left: u64,
 ) -> Result<Selection<'a>, Status>
-    requires { IfOk walked.end (λ path. IsWalked (plan_view plan.now) walked.whole
-        (walked_view (plan_view plan.now) walked path)) }
+    requires { IfOk walked.end (λ lines. IsWalked (plan_view plan.now) walked.whole lines
+        (walked_view (plan_view plan.now) walked lines)) }
     ensures follows { FollowsEnd (plan_view plan.now) walked.entry.only
         (result_view (selection_view (plan_view plan.now)) result)
         walked.entry.state walked.entry.end taken left }
@@ -383,7 +387,8 @@ pub fn selection_from<'a, K: Store>(
         (told K.files K.read_faults K.write_faults K.write_shortages K.asked store.old)
         (told K.files K.read_faults K.write_faults K.write_shortages K.asked store.new) }
     ensures selection { IfOk result (IsSelection (plan_view plan.now)) }
-    ensures differs { (fs : Files) → K.files store.old ≡ Some fs
+    ensures differs { (fs : Files)
+        → Sees (source_names (draw_view from.entry)) (K.files store.old) fs
         → IfErr result (IsRefusedBy (plan_view plan.now) (draw_view from.entry) fs) }
     ensures idle { source_names (draw_view from.entry) ≡ [] → store.new ≡ store.old }
 {

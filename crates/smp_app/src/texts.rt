@@ -13,7 +13,7 @@ use crate::selection::{Selection, started_for};
 use smp_frac::{Bytes, Frac, NoMemory, Text};
 use smp_frame::Unit;
 use smp_joint::joint_bytes;
-use smp_log::{log_bytes, one_section_log_bytes, replay, step_lines};
+use smp_log::{log_bytes, replay, step_lines};
 use smp_plan::FramePlan;
 use smp_split::Sections;
 use smp_strata::asked;
@@ -55,23 +55,24 @@ impl DrawnText {
             DrawnText::Sample => sample_text(alloc, plan, selection),
             DrawnText::Report => report_text(alloc, plan, selection),
             DrawnText::Summary => demo_text(alloc, plan, selection),
-            DrawnText::Migrated => migrated_text(alloc, selection.lines.as_slice().len()),
+            DrawnText::Migrated => migrated_text(alloc, selection.lines.len()),
         }
     }
 }
 
-// The log: its head, the steps of a stratum after the other, and its end. Where one stratum is drawn, all steps are its own.
+// The log: its head, the steps of a stratum after the other, and its end.
 fn log_text(alloc: Global, plan: &FramePlan, selection: &Selection) -> Result<Bytes, NoMemory>
     requires planned { IsPlanned plan.now }
     requires selection { IsSelection (plan_view plan.now) selection.now }
     ensures { IfOk result (λ text. text
         ≡ Texts.log_text (selection_view (plan_view plan.now) selection.now)) }
 {
-    if selection.whole.sections() == 1 {
-        return one_section_log_bytes(alloc, &plan.head, &selection.lines);
-    }
-    let StartedWhole { whole, mut state } = started_for(alloc, plan, selection.only)?;
-    log_bytes(alloc, &whole, &mut state, &plan.head, &selection.lines)
+    log_bytes(
+        alloc,
+        &plan.head,
+        selection.whole.sections(),
+        &selection.lines,
+    )
 }
 
 // The ids of the drawn units: CSV with the header `id`, then an id a row, in frame order.
@@ -86,7 +87,7 @@ fn ids_text(alloc: Global, plan: &FramePlan, selection: &Selection) -> Result<By
     for row in selection.rows.as_slice() {
         push_id(&mut rows, &units[*row].id)?;
     }
-    rows.into_bytes(alloc)
+    rows.into_bytes()
 }
 
 fn push_id(rows: &mut CsvRows, id: &Text) -> Result<(), NoMemory>
@@ -107,7 +108,7 @@ fn sample_text(alloc: Global, plan: &FramePlan, selection: &Selection) -> Result
     for row in selection.rows.as_slice() {
         push_sample_row(&mut rows, &units[*row].id, asked(&plan.plan, *row))?;
     }
-    rows.into_bytes(alloc)
+    rows.into_bytes()
 }
 
 // The report of a draw: how many units were drawn of how many, and in how many steps; and the lines of the cube.
@@ -119,7 +120,7 @@ fn report_text(alloc: Global, plan: &FramePlan, selection: &Selection) -> Result
 {
     let drawn = selection.rows.as_slice().len();
     let units = row_count(plan, selection.only);
-    let steps = selection.lines.as_slice().len();
+    let steps = selection.lines.len();
     let mut report = format!(in alloc; "selected {drawn} of {units}\nsteps {steps}\n")?;
     let lines = balance_lines(alloc, &selection.whole, &selection.state)?;
     report.push_str(&lines)?;
@@ -171,7 +172,7 @@ fn demo_text(alloc: Global, plan: &FramePlan, selection: &Selection) -> Result<B
     replay_own_log(alloc, plan, selection)?;
     let units = plan.frame.units().len();
     let drawn = selection.rows.as_slice().len();
-    let steps = selection.lines.as_slice().len();
+    let steps = selection.lines.len();
     let lefts = lefts_text(alloc, plan, selection)?;
     let summary = format!(in alloc;
         "units {units}\nselected {drawn}\nsteps {steps}\nleft{lefts}\nreplay ok\n"
@@ -233,22 +234,16 @@ fn probabilities_text(alloc: Global, plan: &FramePlan) -> Result<Bytes, NoMemory
     let mut rows = CsvRows::new(alloc);
     rows.push(&[b"id", b"probability"])?;
     for row in 0..units.len() {
-        push_probability(alloc, &mut rows, &units[row].id, asked(&plan.plan, row))?;
+        push_probability(&mut rows, &units[row].id, asked(&plan.plan, row))?;
     }
-    rows.into_bytes(alloc)
+    rows.into_bytes()
 }
 
-fn push_probability(
-    alloc: Global,
-    rows: &mut CsvRows,
-    id: &Text,
-    probability: Frac,
-) -> Result<(), NoMemory>
+fn push_probability(rows: &mut CsvRows, id: &Text, probability: Frac) -> Result<(), NoMemory>
     ensures { OnOk result (AddsRow rows.old rows.new
         (row (id.now ∷ fraction_text (fraction probability) ∷ []))) }
 {
-    let mut fraction = Bytes::new(alloc);
-    probability.write(&mut fraction)?;
+    let fraction = probability.text();
     rows.push(&[id.as_str().as_bytes(), fraction.as_slice()])
 }
 

@@ -1,10 +1,10 @@
-ghost use Rattle.std.specs.Prelude.{◌≡◌, [], map, IfOk, Some, Ok};
+ghost use Rattle.std.specs.Prelude.{◌≡◌, [], map, IfOk, Ok};
 ghost use Rattle.smp_io.specs.Store.{Files};
 ghost use Rattle.smp_app.specs.Commands.{drawn_names, inputs_of, outputs_of, written_by, written_names, outputs_by};
 ghost use Rattle.smp_app.specs.Verdict.{outputs_stage, work_stage};
-ghost use Rattle.smp_app.specs.Draws.{EndsExact, EndsExactFrom};
+ghost use Rattle.smp_app.specs.Kept.Exact.{EndsExact, EndsExactFrom};
 ghost use Rattle.smp_app.specs.Deliveries.{outputs_view, names_of};
-ghost use Rattle.smp_plan.specs.Reads.{Reads, told, result_view};
+ghost use Rattle.smp_plan.specs.Reads.{Reads, Sees, told, result_view};
 ghost use Rattle.smp_app.specs.Kept.Stages.{IsJob, IsSelection, IsWorkInRanges, job_view, work_view, file_view, drawn_text, selection_view};
 ghost use Rattle.smp_plan.specs.Planned.{IsPlanned, plan_view};
 
@@ -23,7 +23,7 @@ pub fn outputs_from<K: Store>(alloc: Global, store: &mut K, job: &Job) -> Result
         (result_view outputs_view result)
         (told K.files K.read_faults K.write_faults K.write_shortages K.asked store.old)
         (told K.files K.read_faults K.write_faults K.write_shortages K.asked store.new) }
-    ensures exact { (fs : Files) → K.files store.old ≡ Some fs
+    ensures exact { (fs : Files) → Sees (inputs_of (job_view job.now)) (K.files store.old) fs
         → EndsExact (job_view job.now) fs result }
     ensures named { IfOk result (λ outputs. names_of (outputs_view outputs).files
         ≡ outputs_of (job_view job.now)) }
@@ -47,7 +47,7 @@ fn work_outputs<K: Store>(
         (work_stage (work_view work.now) (plan_view plan.now)) (result_view outputs_view result)
         (told K.files K.read_faults K.write_faults K.write_shortages K.asked store.old)
         (told K.files K.read_faults K.write_faults K.write_shortages K.asked store.new) }
-    ensures exact { (fs : Files) → K.files store.old ≡ Some fs
+    ensures exact { (fs : Files) → Sees (drawn_names (work_view work.now)) (K.files store.old) fs
         → EndsExactFrom (plan_view plan.now) (work_view work.now) fs result }
     ensures named { IfOk result (λ outputs. names_of (outputs_view outputs).files
         ≡ written_names (work_view work.now)) }

@@ -1,5 +1,5 @@
 -- What was read of a design and a frame.
-use Rattle.std.proofs.Common.{◌≡◌, ℕ, true, false, length, List, [], Some, Result, Ok, Err, refl, ap, ◌∙◌, arith}
+use Rattle.std.proofs.Common.{◌≡◌, ℕ, true, false, length, List, [], Result, Ok, Err, refl, ap, ◌∙◌, arith}
 use Rattle.smp_io.specs.Store.{Files}
 use Rattle.smp_io.proofs.Asked.{only_none}
 use Rattle.smp_log.specs.Heads.{head_of}
@@ -20,7 +20,7 @@ use Rattle.smp_faults.specs.Memory as memory
 use Rattle.smp_faults.specs.Steps.{◌>>=◌}
 use Rattle.smp_plan.specs.Stops.{Stop, Refused, without}
 use Rattle.smp_status.specs.Codes.{Class, IsRefusal, IsNoMemory, class_of, design_status, misfit_status}
-use Rattle.smp_plan.specs.Reads.{Told, IsErrorOf, IsCaused, ReadCause, Reads}
+use Rattle.smp_plan.specs.Reads.{Told, Sees, IsErrorOf, IsCaused, ReadCause, Reads}
 use Rattle.smp_plan.specs.Planned.{GivesPlan}
 use Rattle.smp_status.specs.Reports.{IsOfInputs}
 use Rattle.smp_plan.proofs.Steps.{Ignores, bind_same}
@@ -54,7 +54,7 @@ module _ (design : ReadDesign) (frame : FrameSource) (bytes : List ℕ) (units :
   abbrev pub made : Plan
   made = record { design = design.design; units = units; head = head_of design.bytes bytes }
 
-  staged : (fs : Files) → before.files ≡ Some fs → frame_stage design frame fs ≡ plan_of made
+  staged : (fs : Files) → Sees (frame_names frame) before.files fs → frame_stage design frame fs ≡ plan_of made
   unfolding frame_stage
   staged fs told = rw (read.follows fs told, framed, few) refl
 
@@ -73,7 +73,7 @@ module _ (design : ReadDesign) (frame : FrameSource) (bytes : List ℕ) (units :
   abbrev pub refusal_of : Misfit → Result Plan Status
   refusal_of misfit = Err (misfit_status misfit)
 
-  refused_so : (misfit : Misfit) (class : Class) → class_of (misfit_status misfit) ≡ class → IsOfInputs class (misfit_status misfit) → ((fs : Files) → before.files ≡ Some fs → IsErrorOf class (misfit_status misfit) (frame_stage design frame fs)) → IsCaused class (ReadCause (frame_names frame) (frame_stage design frame) before now)
+  refused_so : (misfit : Misfit) (class : Class) → class_of (misfit_status misfit) ≡ class → IsOfInputs class (misfit_status misfit) → ((fs : Files) → Sees (frame_names frame) before.files fs → IsErrorOf class (misfit_status misfit) (frame_stage design frame fs)) → IsCaused class (ReadCause (frame_names frame) (frame_stage design frame) before now)
       → Reads (frame_names frame) (frame_stage design frame) (refusal_of misfit) before now
   refused_so misfit class is kind follows cause = record {
     follows = λ fs told. rw is (follows fs told);
@@ -99,7 +99,7 @@ module _ (design : ReadDesign) (frame : FrameSource) (bytes : List ℕ) (units :
 
 -- of too many rows
 module _ (design : ReadDesign) (frame : FrameSource) (bytes : List ℕ) (units : List unit.Unit) (before now : Told) (read : Reads (frame_names frame) (frame_content frame) (Ok bytes) before now) (framed : frame_of design.design.columns bytes ≡ Ok units) (large : is_large frame (length units) ≡ true) where
-  large_staged : (fs : Files) → before.files ≡ Some fs → frame_stage design frame fs ≡ Err (Refused (status.JointLarge (length units)))
+  large_staged : (fs : Files) → Sees (frame_names frame) before.files fs → frame_stage design frame fs ≡ Err (Refused (status.JointLarge (length units)))
   unfolding frame_stage
   large_staged fs told = rw (read.follows fs told, framed, large) refl
 

@@ -1,5 +1,5 @@
 -- One stage of the work on the inputs after another.
-use Rattle.std.proofs.Common.{◌≡◌, ◌≤◌, ℕ, List, ◌++◌, Result, Ok, Err, refl, ap, ◌∙◌, arith, true, IfErr}
+use Rattle.std.proofs.Common.{◌≡◌, ◌≤◌, ℕ, List, [], ◌∷◌, ◌++◌, Option, Some, Result, Ok, Err, refl, ap, ◌∙◌, arith, true, IfErr}
 use Rattle.smp_io.specs.Counts.{Rose}
 use Rattle.smp_io.specs.Store.{Files}
 use Rattle.smp_io.proofs.Asked.{only_both, only_first}
@@ -8,7 +8,7 @@ use Rattle.smp_status.specs.declared.status.Status.{Status}
 use Rattle.smp_faults.specs.Steps.{◌>>=◌}
 use Rattle.smp_plan.specs.Stops.{Stop, without}
 use Rattle.smp_status.specs.Codes.{Class, IsDone, IsUsage, IsRefusal, IsReadFault, IsWriteFault, IsNoMemory, class_of}
-use Rattle.smp_plan.specs.Reads.{Told, IsErrorOf, IsCaused, ReadCause, Reads}
+use Rattle.smp_plan.specs.Reads.{Told, Sees, IsErrorOf, IsCaused, ReadCause, Reads}
 use Rattle.smp_plan.proofs.Names.{contains_left, contains_right, Apart, apart}
 
 pub rose_since : (first before now : ℕ) → first ≤ before → Rose before now → Rose first now
@@ -22,6 +22,22 @@ bind_same (Err e) f g h = refl
 
 abbrev pub Ignores : {A : Type 0} → (Files → Result A Stop) → List (List ℕ) → Type 0
 Ignores stage inputs = (name : List ℕ) → Apart name inputs → (fs : Files) → stage (without name fs) ≡ stage fs
+
+-- ---- the files that inputs are read from
+
+pub sees_told : (names : List (List ℕ)) (told : Option Files) (fs : Files) → told ≡ Some fs → Sees names told fs
+sees_told [] told fs is = tt
+sees_told (name ∷ names) told fs is = is
+
+pub sees_first : (xs ys : List (List ℕ)) (told : Option Files) (fs : Files) → Sees (xs ++ ys) told fs → Sees xs told fs
+sees_first [] ys told fs sees = tt
+sees_first (x ∷ xs) ys told fs sees = sees
+
+pub sees_second : (xs ys : List (List ℕ)) (told now : Option Files) (fs : Files) → now ≡ told → Sees (xs ++ ys) told fs → Sees ys now fs
+sees_second [] [] told now fs same sees = tt
+sees_second [] (y ∷ ys) told now fs same sees = same ∙ sees
+sees_second (x ∷ xs) [] told now fs same sees = tt
+sees_second (x ∷ xs) (y ∷ ys) told now fs same sees = same ∙ sees
 
 -- ---- a stage that goes on, and one that stops
 
@@ -51,7 +67,7 @@ module _ {A B : Type 0} (inputs others : List (List ℕ)) (stage : Files → Res
 
   pub stops : (error : Status) → Reads inputs stage (Err error) before mid → Reads (inputs ++ others) and_next (Err error) before mid
   stops error reads = record {
-    follows = λ fs told. error_of (class_of error) error (stage fs) (λ y. next y fs) (reads.follows fs told);
+    follows = λ fs sees. error_of (class_of error) error (stage fs) (λ y. next y fs) (reads.follows fs (sees_first inputs others before.files fs sees));
     kinds = reads.kinds;
     cause = caused (class_of error) (λ cause. record {
       name = cause.name;
@@ -69,13 +85,13 @@ module _ {A B : Type 0} (inputs others : List (List ℕ)) (stage : Files → Res
   pub goes_on : (now : Told) (x : A) (answer : Result B Status) → Reads inputs stage (Ok x) before mid → Reads others (next x) answer mid now → all_distinct (inputs ++ others) ≡ true → Ignores stage inputs
       → Reads (inputs ++ others) and_next answer before now
   goes_on now x answer first second distinct ignores = record {
-    follows = λ fs told. rw (first.follows fs told) (second.follows fs (first.same ∙ told));
+    follows = λ fs sees. rw (first.follows fs (sees_first inputs others before.files fs sees)) (second.follows fs (sees_second inputs others before.files mid.files fs first.same sees));
     kinds = second.kinds;
     cause = if_caused answer (λ (cause : ReadCause others (next x) mid now). record {
       name = cause.name;
       is_input = contains_right inputs others cause.name cause.is_input;
       rose = rose_since _ _ _ (first.reads cause.name) cause.rose;
-      first = λ fs told. rw (ignores cause.name (apart inputs others distinct cause.name cause.is_input) fs, first.follows fs told) (cause.first fs (first.same ∙ told));
+      first = λ fs told. rw (ignores cause.name (apart inputs others distinct cause.name cause.is_input) fs, first.follows fs (sees_told inputs before.files fs told)) (cause.first fs (first.same ∙ told));
     }) second.cause;
     same = second.same ∙ first.same;
     reads = λ name. omega (arith, first.reads name, second.reads name);

@@ -1,5 +1,5 @@
 -- What a function owes that reads inputs: it hands on a result that is a stage of the work.
-use Rattle.std.specs.Prelude.{◌≡◌, ℕ, List, Contains, Option, Some, Result, Ok, Err, IfErr}
+use Rattle.std.specs.Prelude.{◌≡◌, ℕ, List, [], ◌∷◌, Contains, Option, Some, Result, Ok, Err, IfErr}
 use Rattle.smp_io.specs.Counts.{Rose, NeverFalls}
 use Rattle.smp_io.specs.Store.{Files, AsksOnly}
 use Rattle.smp_status.specs.declared.status.Status.{Status}
@@ -29,6 +29,11 @@ told files read_faults write_faults write_shortages asked store = record {
   asked = asked store;
 }
 
+-- The files are told, and are these. Where none of them is named, these may be any.
+abbrev pub Sees : List (List ℕ) → Option Files → Files → Type 0
+Sees [] told fs = Unit {0}
+Sees (name ∷ names) told fs = told ≡ Some fs
+
 -- an error is the stage's refusal, unless a read failed or memory ran out
 abbrev pub IsErrorOf : {A : Type 0} → Class → Status → Result A Stop → Type 0
 IsErrorOf IsReadFault error stage = Unit {0}
@@ -57,7 +62,7 @@ IsCaused other cause = Unit {0}
 -- where a read of one of the inputs failed.
 pub record Reads {A : Type 0} (inputs : List (List ℕ)) (stage : Files → Result A Stop)
     (answer : Result A Status) (before now : Told) : Type 0 where
-  pub follows : (fs : Files) → before.files ≡ Some fs → Follows answer (stage fs)
+  pub follows : (fs : Files) → Sees inputs before.files fs → Follows answer (stage fs)
   pub kinds : IfErr answer (λ error. IsOfInputs (class_of error) error)
   pub cause : IfErr answer (λ error. IsCaused (class_of error) (ReadCause inputs stage before now))
   pub same : now.files ≡ before.files

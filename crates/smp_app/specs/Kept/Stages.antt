@@ -15,6 +15,7 @@ use Rattle.smp_twostage.specs.Covered.{StartsAlone}
 use Rattle.smp_twostage.specs.Selections.{BelongsToCovered, Coverage, all_of, covered_start, covered_tree, section_count, strata_sections}
 use Rattle.smp_log.specs.Answers.{log_reading}
 use Rattle.smp_log.specs.LoneSections.{section_reading, section_told}
+use Rattle.smp_log.specs.SectionLogs.{placed, steps_of}
 use Rattle.smp_log.specs.SectionReading.{any_reading}
 use Rattle.smp_log.specs.Told.{path_told}
 use Rattle.smp_twostage.specs.Starts.{StartsWhole}
@@ -45,7 +46,8 @@ use Rattle.smp_app.specs.Texts.{accepted_text, joints_text}
 use Rattle.smp_app.specs.Commands.{Source, ByTape, BySeed, ByLog, ByOldLog, BySection, DrawnFile, Work, Lists, Draws, Job, inputs_of}
 use Rattle.smp_plan.specs.Stops.{Stop, Refused}
 use Rattle.smp_app.specs.Verdict.{draw_status, drawn_at, drawn_by_log, drawn_by_old_log, drawn_by_section}
-use Rattle.smp_app.specs.Draws.{IsDrawnOf, OldDiffers, StratumDiffers, WholeDiffers}
+use Rattle.smp_app.specs.Draws.{OldDiffers, StratumDiffers, WholeDiffers}
+use Rattle.smp_app.specs.Kept.Exact.{IsDrawnOf}
 use Rattle.smp_app.specs.Answers.{Outside, Untouched, RefusesBy, Says}
 use Rattle.smp_status.specs.Reports.{HasLine}
 use Rattle.smp_plan.specs.Reads.{Follows}
@@ -53,13 +55,17 @@ use Rattle.smp_plan.specs.Planned.{source_view, frame_view, IsInRanges, IsFrameI
 
 -- ---- values of the code as the definitions see them
 
+-- the lines of a walk, each with its section
+abbrev pub Lines : Type 0
+Lines = List (ℕ × Entry)
+
 abbrev pub selection_view : Plan → Selection → Drawn
 selection_view plan selection =
-    record { plan = plan; only = selection.only; leaf = selection.state; path = selection.lines }
+    record { plan = plan; only = selection.only; leaf = selection.state; path = steps_of selection.lines }
 
-abbrev pub walked_view : Plan → Walked → List Entry → Drawn
-walked_view plan walked path =
-    record { plan = plan; only = walked.only; leaf = walked.state; path = path }
+abbrev pub walked_view : Plan → Walked → Lines → Drawn
+walked_view plan walked lines =
+    record { plan = plan; only = walked.only; leaf = walked.state; path = steps_of lines }
 
 abbrev pub plan_text : PlanText → Plan → List ℕ
 plan_text plan_texts.Probabilities = probabilities_text
@@ -147,24 +153,24 @@ pub record RefusedAt {Rest : Type 0} (plan : Plan) (outcome : Outcome (Progress 
 
 -- a walk ended as the run over its draws, unless memory ran out
 abbrev pub EndsAs : {Rest : Type 0} → Plan → Outcome (Progress AnyState) Rest → Rest
-    → Progress AnyState → Result (List Entry) Stopped → Type 0
-EndsAs plan outcome left state (Ok path) = outcome ≡ leaf state path left
+    → Progress AnyState → Result Lines Stopped → Type 0
+EndsAs plan outcome left state (Ok lines) = outcome ≡ leaf state (steps_of lines) left
 EndsAs plan outcome left state (Err (stops.Draw fault bound)) = RefusedAt plan outcome state fault bound left
 EndsAs plan outcome left state (Err (stops.Log line)) = ⊥
 EndsAs plan outcome left state (Err stops.NoMemory) = Unit {0}
 
 -- a replay of all strata or of one alone ended as the log tells, unless memory ran out
 abbrev pub EndsAsTold : Plan → Option ℕ → Result Drawn Stop → Progress AnyState
-    → Result (List Entry) Stopped → Type 0
-EndsAsTold plan only stage state (Ok path) =
-    stage ≡ Ok (record { plan = plan; only = only; leaf = state; path = path })
+    → Result Lines Stopped → Type 0
+EndsAsTold plan only stage state (Ok lines) =
+    stage ≡ Ok (record { plan = plan; only = only; leaf = state; path = steps_of lines })
 EndsAsTold plan only stage state (Err (stops.Log line)) =
     stage ≡ Err (Refused (status.LogDiffers line))
 EndsAsTold plan only stage state (Err (stops.Draw fault bound)) = ⊥
 EndsAsTold plan only stage state (Err stops.NoMemory) = Unit {0}
 
 -- the end of a replay, by its answer and the lines that it told
-abbrev pub end_told : Result (Unit {0}) ReplayFault → List Entry → Result (List Entry) Stopped
+abbrev pub end_told : Result (Unit {0}) ReplayFault → Lines → Result Lines Stopped
 end_told (Ok done) lines = Ok lines
 end_told (Err (replays.Differs line)) lines = Err (stops.Log line)
 end_told (Err replays.NoMemory) lines = Err stops.NoMemory
@@ -177,16 +183,23 @@ stopped_status stops.NoMemory taken = status.NoMemory
 
 -- What is answered follows from the end of a walk, where so many values are taken and so many left.
 abbrev pub FollowsEnd : Plan → Option ℕ → Result Drawn Status → Progress AnyState
-    → Result (List Entry) Stopped → (taken left : ℕ) → Type 0
-FollowsEnd plan only answer state (Ok path) taken left =
-    Follows answer (drawn_at (record { plan = plan; only = only; leaf = state; path = path }) left)
+    → Result Lines Stopped → (taken left : ℕ) → Type 0
+FollowsEnd plan only answer state (Ok lines) taken left =
+    Follows answer (drawn_at (record { plan = plan; only = only; leaf = state; path = steps_of lines }) left)
 FollowsEnd plan only answer state (Err stop) taken left = answer ≡ Err (stopped_status stop taken)
 
--- where a walk came to a leaf: a done state of the selection by the plan, and the path to it
-pub record IsWalked (plan : Plan) (design : Coverage) (drawn : Drawn) : Type 0 where
+-- the lines of what is drawn: the steps of its path, each with the section of the state at which it is asked
+abbrev pub lines_of : Drawn → Lines
+lines_of drawn =
+    let own = covered drawn in
+    placed (covered_tree own) (strata_sections own) (covered_start own) drawn.path
+
+-- where a walk came to a leaf: a done state of the selection by the plan, the path to it, and its lines
+pub record IsWalked (plan : Plan) (design : Coverage) (lines : Lines) (drawn : Drawn) : Type 0 where
   pub whole : design ≡ covered drawn
   pub belongs : BelongsToCovered design drawn.leaf
   pub done : (covered_tree (covered drawn)).done drawn.leaf ≡ true
+  pub lines_are : lines ≡ lines_of drawn
   pub by_plan : IsDrawnOf drawn.only plan drawn
 
 -- what is drawn by a plan: the rows of such a state
@@ -195,6 +208,7 @@ pub record IsSelection (plan : Plan) (selection : Selection) : Type 0 where
   pub belongs : BelongsToCovered selection.whole selection.state
   pub done : (covered_tree (covered (selection_view plan selection))).done selection.state ≡ true
   pub rows : selection.rows.items ≡ drawn_rows (selection_view plan selection)
+  pub lines_are : selection.lines ≡ lines_of (selection_view plan selection)
   pub drawn : IsDrawnOf selection.only plan (selection_view plan selection)
 
 -- ---- jobs

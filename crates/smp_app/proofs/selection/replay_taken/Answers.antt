@@ -14,12 +14,12 @@ full_told {tree = tree} {from = from} {to = to} is full = subst (λ (p : List En
 
 pub returns-in-Either-clause-full : goal.returns-in-Either-clause-full
 returns-in-Either-clause-full c =
-    rw c.in-Either.is (on_more c.replay_into.result _ _ (λ told. full_told told.told told.genuine.full) c.replay_into.ensures.genuine)
+    rw c.in-Either.is (on_more c.replay_into.result _ _ (λ told. full_told told.told told.genuine.full) c.replay_into.ensures.replays.genuine)
 
 pub returns-in-Old-clause-full : goal.returns-in-Old-clause-full
 returns-in-Old-clause-full c =
-    rw c.in-Old.is (on_more c.old_replay_into.result _ _ (λ told. full_told told.told told.genuine.full) c.old_replay_into.ensures.genuine)
+    rw c.in-Old.is (on_more c.old_replay_into.result _ _ (λ told. full_told told.told told.genuine.full) c.old_replay_into.ensures.replays.genuine)
 
 pub returns-in-Stratum-clause-full : goal.returns-in-Stratum-clause-full
 returns-in-Stratum-clause-full c =
-    rw c.in-Stratum.is (on_more c.replay_section_into.result _ _ (λ told. full_told told.told told.has.genuine.full) c.replay_section_into.ensures.genuine)
+    rw c.in-Stratum.is (on_more c.replay_section_into.result _ _ (λ told. full_told told.told told.has.genuine.full) c.replay_section_into.ensures.replays.genuine)

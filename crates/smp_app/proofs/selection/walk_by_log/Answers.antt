@@ -1,11 +1,12 @@
-use Rattle.std.proofs.Common.{List, Result, IfOk, sym, subst}
-use Rattle.smp_split.specs.Paths.{Entry}
+use Rattle.std.proofs.Common.{Result, IfOk, OnOk, sym, subst}
 use Rattle.smp_log.specs.Genuine.{IsFullPath}
-use Rattle.smp_twostage.specs.Selections.{covered_tree}
+use Rattle.smp_log.specs.SectionLogs.{ArePlaced, steps_of}
+use Rattle.smp_log.proofs.Placed.{none_placed}
+use Rattle.smp_twostage.specs.Selections.{covered_tree, strata_sections}
 use Rattle.smp_app.specs.declared.selection.Stopped.{Stopped}
-use Rattle.smp_app.specs.Kept.Stages.{EndsAsTold, IsWalked, drawn_by_taken, only_of, path_by}
+use Rattle.smp_app.specs.Kept.Stages.{EndsAsTold, IsWalked, Lines, drawn_by_taken, only_of, path_by}
 use Rattle.smp_plan.specs.Planned.{plan_view}
-use Rattle.smp_app.proofs.Selections.{belongs, ends_told, has_parts, is_one, on_both, taken_stage, taken_walked, told_holds, told_is}
+use Rattle.smp_app.proofs.Selections.{belongs, ends_told, has_parts, is_one, lines_so, on_both, on_more, taken_stage, taken_walked, told_holds, told_is}
 use Rattle.smp_app.proofs.selection.walk_by_log.Goals as goal
 
 pub replay_taken-told-requires-clause-belongs : goal.replay_taken-told-requires-clause-belongs
@@ -40,10 +41,14 @@ returns-clause-walked c =
     let state = c.replay_taken-told.new.state in
     let lines = c.replay_taken-told.new.lines in
     let path = path_by taken own from c.args.log.now in
-    let Walks : List Entry → Type 0 = λ path. IsWalked view own (record { plan = view; only = only_of taken; leaf = state; path = path }) in
+    let Walks : Lines → Type 0 = λ lines. IsWalked view own lines (record { plan = view; only = only_of taken; leaf = state; path = steps_of lines }) in
+    let Placed : Type 0 = ArePlaced (covered_tree own) (strata_sections own) from state lines in
+    let so : OnOk c.replay_taken-told.result Placed = on_more c.replay_taken-told.result _ Placed (λ kept. kept from (none_placed (covered_tree own) (strata_sections own) from c.new-lines.result c.new-lines.ensures)) c.replay_taken-told.ensures.kept in
     rw c.only.ensures
-    (subst (λ (end : Result (List Entry) Stopped). IfOk end Walks) (sym c.end_told.ensures)
+    (subst (λ (end : Result Lines Stopped). IfOk end Walks) (sym c.end_told.ensures)
     (told_holds c.replay_taken-told.result lines Walks
-    (on_both c.replay_taken-told.result (IsFullPath (covered_tree own) from path state) _ (Walks lines)
-    (λ full same. taken_walked plan c.requires.planned taken c.requires.only c.args.started c.requires.started state c.replay_taken-told.ensures.belongs path lines full (told_is same))
-    c.replay_taken-told.ensures.full (rw c.new-lines.ensures at c.replay_taken-told.ensures.told))))
+    (on_both c.replay_taken-told.result (IsFullPath (covered_tree own) from path state × Placed) _ (Walks lines)
+    (λ both same. taken_walked plan c.requires.planned taken c.requires.only c.args.started c.requires.started state c.replay_taken-told.ensures.belongs path lines both.0 (told_is same)
+    (lines_so plan c.requires.planned (only_of taken) c.args.started c.requires.started state path lines both.1 (told_is same)))
+    (on_both c.replay_taken-told.result (IsFullPath (covered_tree own) from path state) Placed (IsFullPath (covered_tree own) from path state × Placed) (λ full so. (full, so)) c.replay_taken-told.ensures.full so)
+    (rw c.new-lines.ensures at c.replay_taken-told.ensures.told))))

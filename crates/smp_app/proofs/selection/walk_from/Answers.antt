@@ -1,13 +1,15 @@
-use Rattle.std.proofs.Common.{Err, None, ap, sym, subst}
+use Rattle.std.proofs.Common.{◌≡◌, Err, None, ap, sym, subst}
 use Rattle.smp_tape.specs.declared.draws.DrawFault.{DrawFault}
+use Rattle.smp_log.specs.SectionLogs.{steps_of}
 use Rattle.smp_log.proofs.Paths.{run_full_path}
+use Rattle.smp_log.proofs.Placed.{none_placed}
 use Rattle.smp_split.specs.Runs.{run}
-use Rattle.smp_twostage.specs.Selections.{BelongsToCovered, covered_tree}
+use Rattle.smp_twostage.specs.Selections.{BelongsToCovered, covered_tree, strata_sections}
 use Rattle.smp_twostage.specs.Laws.Wholes.{covered_lawful}
 use Rattle.smp_app.specs.Drawn.{tree_of, start_of}
 use Rattle.smp_app.specs.Kept.Stages.{RefusedAt}
 use Rattle.smp_plan.specs.Planned.{plan_view}
-use Rattle.smp_app.proofs.Selections.{belongs, told_is, tree_is, start_is, stop_is, ends_at_leaf, ends_refused, walked_all}
+use Rattle.smp_app.proofs.Selections.{belongs, told_is, tree_is, start_is, stop_is, ends_at_leaf, ends_refused, lines_so, walked_all}
 use Rattle.smp_app.proofs.selection.walk_from.Goals as goal
 
 pub walk-requires : goal.walk-requires
@@ -28,8 +30,10 @@ returns-in-Ok-clause-walked g c =
     let start = c.args.started.state in
     let walked = c.in-Ok.ensures.arrived in
     let here = belongs plan.plan None c.args.started c.requires.started in
+    let told : steps_of c.walk.new.trace ≡ walked.path = told_is (rw c.new-lines.ensures at walked.told) in
     let full = run_full_path (covered_tree whole) (BelongsToCovered whole) (covered_lawful whole) start c.walk.new.state walked.path here g.D.Draws.source c.args.draws.now c.walk.new.draws walked.ran in
-    walked_all plan c.requires.planned c.args.started c.requires.started c.walk.new.state c.walk.ensures.belongs walked.path _ full (told_is (rw c.new-lines.ensures at walked.told))
+    walked_all plan c.requires.planned c.args.started c.requires.started c.walk.new.state c.walk.ensures.belongs walked.path c.walk.new.trace full told
+    (lines_so plan c.requires.planned None c.args.started c.requires.started c.walk.new.state walked.path c.walk.new.trace (c.in-Ok.ensures.kept start (none_placed (covered_tree whole) (strata_sections whole) start c.new-lines.result c.new-lines.ensures)) told)
 
 pub bound-bound-requires-clause-going : goal.bound-bound-requires-clause-going
 bound-bound-requires-clause-going g c =

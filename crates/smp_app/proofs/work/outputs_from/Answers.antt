@@ -3,7 +3,7 @@ use Rattle.smp_plan.specs.Inputs.{input_names, plan_stage}
 use Rattle.smp_plan.specs.Planned.{plan_view}
 use Rattle.smp_plan.proofs.Inputs.{plan_ignores}
 use Rattle.smp_plan.proofs.Names.{first_distinct, no_first, no_second}
-use Rattle.smp_plan.proofs.Steps.{goes_on, stops}
+use Rattle.smp_plan.proofs.Steps.{goes_on, sees_first, sees_second, stops}
 use Rattle.smp_app.specs.Commands.{drawn_names}
 use Rattle.smp_app.specs.Kept.Stages.{job_view}
 use Rattle.smp_app.specs.Verdict.{work_stage}
@@ -32,14 +32,17 @@ pub returns-clause-exact : goal.returns-clause-exact
 returns-clause-exact g c fs held =
     let job = job_view c.args.job.now in
     let reads = c.in_ok-plan.ensures.reads in
-    exact_end job (plan_view c.in_ok-plan.plan) fs c.work_outputs.result (reads.follows fs held) (c.work_outputs.ensures.exact fs (reads.same ∙ held))
+    let inputs = input_names job.design job.frame in
+    let drawn = drawn_names job.work in
+    exact_end job (plan_view c.in_ok-plan.plan) fs c.work_outputs.result (reads.follows fs (sees_first inputs drawn _ fs held))
+    (c.work_outputs.ensures.exact fs (sees_second inputs drawn _ _ fs reads.same held))
 
 pub returns-in_err-plan-clause-exact : goal.returns-in_err-plan-clause-exact
 returns-in_err-plan-clause-exact g c fs held =
     let job = job_view c.args.job.now in
     let error = c.in_err-plan.field-0.0 in
     let ends : c.from_residual.result ≡ Err error = search (rules, c.from_residual.ensures) in
-    rw ends (plan_refused job fs error (c.in_err-plan.ensures.reads.follows fs held))
+    rw ends (plan_refused job fs error (c.in_err-plan.ensures.reads.follows fs (sees_first (input_names job.design job.frame) (drawn_names job.work) _ fs held)))
 
 pub returns-clause-idle : goal.returns-clause-idle
 returns-clause-idle g c none =

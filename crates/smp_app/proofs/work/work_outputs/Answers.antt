@@ -51,7 +51,7 @@ returns-in_ok-drawn_outputs-in-Draws-clause-exact g c fs held =
     let selection = c.in_ok-selection-in-Draws.selection in
     rw c.in-Draws.is (record {
       drawn = selection_view (plan_view c.args.plan.now) selection;
-      is_drawn = c.in_ok-selection-in-Draws.ensures.reads.follows fs held;
+      is_drawn = c.in_ok-selection-in-Draws.ensures.reads.follows fs (rw c.in-Draws.is at held);
       by_plan = c.in_ok-selection-in-Draws.ensures.selection.drawn;
     })
 
