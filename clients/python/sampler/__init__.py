@@ -7,7 +7,7 @@
 It writes a design and a frame into a folder, calls the program there, without a shell, and reads what the program wrote and put. It computes no
 probability and no weight, and finds no fault of a design or a frame but a value that it can't write without a guess. `fit` and `trial` stand before a draw:
 the one makes a design and a frame near those that are wanted, with which a balanced draw doesn't go wide, and the other tries a design by seeds that are
-thrown away.
+thrown away. `promise` says of a design in which strata no draw can go wide, and by what.
 
 - A design is a dict of the keys in docs/formats.md, or the path of a TOML file.
 - A frame is a list of dicts, a pandas DataFrame, or the path of a CSV file. Of rows and of a DataFrame those columns are written that the design asks
@@ -22,13 +22,14 @@ from .commands import check, draw, joint, probs, replay, seed_of
 from .design import toml
 from .errors import BadValue, Refusal
 from .fit import Fitted, FittedColumn, FittedStratum, Unfit, fit
+from .promise import Promise, PromisedStratum, promise
 from .program import Program, VersionWarning, own_version, program
 from .result import Accepted, Balance, Draw, Left, Pair, Stratum, Unit, Wide, WideWarning
 from .trial import Trial, TrialColumn, TrialStratum, trial
 
 __version__ = own_version()
 __all__ = [
-    "check", "probs", "draw", "replay", "joint", "fit", "trial", "toml", "seed_of", "program", "Accepted", "Stratum", "Unit", "Pair", "Draw", "Left", "Balance",
+    "check", "probs", "draw", "replay", "joint", "fit", "promise", "trial", "toml", "seed_of", "program", "Accepted", "Stratum", "Unit", "Pair", "Draw", "Left", "Balance",
     "Wide", "Fitted", "FittedStratum", "FittedColumn", "Trial", "TrialStratum", "TrialColumn", "Program", "Refusal", "BadValue", "Unfit", "VersionWarning",
     "WideWarning",
 ]

@@ -1,11 +1,13 @@
-"""When no draw by a cube can go `wide`: the bound of docs/narrow.md, in whole numbers alone.
+"""When no draw by a cube can go `wide`, in whole numbers alone: by the theorem that is proved of the program, or by the sharper bound of docs/narrow.md.
 
 A *flight* is what is drawn in one: a stratum by the cube and the local cube, the whole frame by the stratified cube. Its probabilities are in proportion to
 whole *numerators* without a common divisor, and a fitted value is a numerator times a whole *level*."""
 from collections.abc import Callable, Iterable, Sequence
+from fractions import Fraction
 from math import gcd, prod
 
 MOST_OF_A_VECTOR = 2**44  # of an entry of a circuit, a direction or an elimination table, docs/formats.md
+MOST_OF_A_DENOMINATOR = 2**80  # of the common denominator of the values of a step
 MOST_OF_A_NUMBER = 2**31 - 1  # of a value and of a common denominator
 
 
@@ -63,6 +65,41 @@ def is_promised(numerators: Sequence[int], strata: Sequence, levels: Sequence[Se
     with_zero = [_range([[0, *column]]) for column in levels]
     divisor = max(gcd(*(numerators[place] for place in own)) for own in places.values())
     return holds(multiple, inside, len(places)) and holds(divisor, with_zero, len(places))
+
+
+def is_narrow(sizes: Sequence[int], columns: Sequence[Sequence[int]], denominator: int) -> bool:
+    """Whether the free units of a stratum are narrow, as the library's `is_narrow` says: no draw of theirs by the cube or the local cube goes wide, which is
+    proved of the program (docs/proved.md).
+
+    sizes: from 1 on. columns: the balancing values of each column. denominator: that of the requested probabilities together. A row is that of the sizes, or a
+    column, and is bounded by its greatest number, or 1. No minor of the rows passes half of their permutations times all bounds."""
+    rows = [sizes, *columns]
+    bounds = [max([1, *row]) for row in rows]
+    minor = prod(range(3, len(rows) + 1)) * prod(bounds)
+    multiple = multiple_within([denominator, *sizes], MOST_OF_A_DENOMINATOR)
+    if multiple is None or any(number < 0 for row in rows for number in row):
+        return False
+    return bounds[0] * minor <= MOST_OF_A_VECTOR and multiple * minor <= MOST_OF_A_DENOMINATOR
+
+
+def promised_by(probabilities: Sequence[Fraction], strata: Sequence, columns: Sequence[Sequence[int]], is_together: bool) -> str | None:
+    """By what it is promised that no draw of a flight goes wide: `proved` of the program, `on paper` in docs/narrow.md, or None, by nothing.
+
+    probabilities, strata: of each free unit. columns: the balancing values of each column. is_together: whether the strata are drawn in one, by the
+    stratified cube, of which nothing is proved."""
+    denominator = 1
+    for one in sorted({probability.denominator for probability in probabilities}):
+        denominator *= one // gcd(denominator, one)
+    over = [probability.numerator * (denominator // probability.denominator) for probability in probabilities]
+    divisor = gcd(*over) or 1
+    numerators = [number // divisor for number in over]
+    if not is_together and is_narrow(numerators, columns, denominator):
+        return "proved"
+    levels = [[value // numerator for value, numerator in zip(column, numerators)] for column in columns]
+    is_fitted = all(value == numerator * level for column, own in zip(columns, levels) for value, numerator, level in zip(column, numerators, own))
+    if is_fitted and denominator <= MOST_OF_A_NUMBER and is_promised(numerators, strata, levels):
+        return "on paper"
+    return None
 
 
 def _range(groups: Iterable[Sequence[int]]) -> int:

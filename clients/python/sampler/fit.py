@@ -7,7 +7,7 @@ from fractions import Fraction
 from math import floor, isfinite
 from typing import Any, NamedTuple
 
-from .bound import MOST_OF_A_NUMBER, factor_beside, multiple_within, steps_beside
+from .bound import MOST_OF_A_NUMBER, factor_beside, multiple_within, promised_by, steps_beside
 from .commands import probs
 from .errors import BadValue
 from .folder import is_path
@@ -29,7 +29,9 @@ class FittedStratum(NamedTuple):
     """A stratum by its name, None in a design without strata, with its numbers of units and of those that are neither certain nor without a chance.
 
     number: how many are drawn. asked: what the wanted probabilities add up to. multiple: what all numerators divide.
-    median, greatest: how far the probabilities of the free units moved, 0.05 for a twentieth more or less; None without free units."""
+    median, greatest: how far the probabilities of the free units moved, 0.05 for a twentieth more or less; None without free units.
+    by: `proved`, where a theorem that is proved of the program says that no draw goes wide (docs/proved.md); `on paper`, where the argument of docs/narrow.md
+    does; None where nothing does."""
 
     stratum: str | None
     units: int
@@ -39,6 +41,7 @@ class FittedStratum(NamedTuple):
     multiple: int
     median: float | None
     greatest: float | None
+    by: str | None
 
 
 class FittedColumn(NamedTuple):
@@ -62,7 +65,7 @@ class Fitted(NamedTuple):
     in `_fitted`; the design names these.
     strata: a FittedStratum for each. columns: a FittedColumn for each stratum and column of `balance`.
     forced: the ids, of first stage units with a second stage, whose numerator isn't one of the two next to the wanted one, since a whole sum asked for it.
-    tried: None where it is promised that no draw goes wide (docs/narrow.md); else the Trial that was made in place of a promise."""
+    tried: None where it is promised that no draw goes wide, by what `by` of each stratum says; else the Trial that was made in place of a promise."""
 
     design: dict[str, Any]
     frame: Any
@@ -72,7 +75,9 @@ class Fitted(NamedTuple):
     tried: Trial | None
 
     def __repr__(self) -> str:
-        lines = ["promised: no draw by this design goes wide, whatever its seed" if self.tried is None else "tried, not promised: see the trial"]
+        lines = ["tried, not promised: see the trial"]
+        if self.tried is None:
+            lines = ["promised: no draw by this design goes wide, whatever its seed", _by([one.by for one in self.strata])]
         lines += ["", f"{'stratum':<20} {'units':>7} {'free':>7} {'drawn':>6} {'asked':>10} {'numerators divide':>18} {'moved by':>9} {'at most':>9}"]
         for one in self.strata[:SHOWN]:
             moved = ["-", "-"] if one.median is None else [f"{100 * one.median:.2f} %", f"{100 * one.greatest:.2f} %"]
@@ -85,6 +90,15 @@ class Fitted(NamedTuple):
             lines.append(f"{one.stratum or 'all':<20.20} {one.column:<20.20} {one.steps or 'one level':>10} {one.unit:>14.6g} {one.beyond:>16}")
         lines += [f"and {len(self.columns) - SHOWN} lines more"] * (len(self.columns) > SHOWN)
         return "\n".join(lines + (["", repr(self.tried)] if self.tried is not None else []))
+
+
+def _by(each: list[str | None]) -> str:
+    """By what a promise holds in all strata."""
+    proved, paper = "a theorem that is proved of the program (docs/proved.md)", "an argument on paper (docs/narrow.md)"
+    count = each.count("proved")
+    if count == len(each):
+        return f"by {proved}"
+    return f"by {paper}" if count == 0 else f"by {proved} in {count} of {len(each)} strata, and by {paper} in the others"
 
 
 class Unfit(ValueError):
@@ -115,7 +129,7 @@ def fit(design: Any, frame: Any, levels: int | None = None, tries: int = 0) -> F
     for name in new:
         if name in rows.names:
             raise BadValue(name, None, "the frame has a column of this name already")
-    units = _units(design, rows)
+    units = units_of(design, rows)
     groups: dict[Any, list[int]] = {}
     for place, stratum in enumerate(units.strata):
         groups.setdefault("" if design["method"] == "stratified_cube" else stratum, []).append(place)
@@ -139,7 +153,7 @@ def fit(design: Any, frame: Any, levels: int | None = None, tries: int = 0) -> F
 # What is wanted
 
 
-class _Units(NamedTuple):
+class Units(NamedTuple):
     """The first stage units: their ids, the places of their rows, their strata, the wanted probabilities, exactly too or None, and the values of each column."""
 
     ids: list
@@ -150,18 +164,24 @@ class _Units(NamedTuple):
     values: list[list[float]]
 
 
-def _read(design: Any) -> dict[str, Any]:
+def design_in(design: Any) -> dict[str, Any]:
+    """A design as a dict, in which `balance` is a list."""
     if is_path(design):
         with open(design, "rb") as file:
             design = tomllib.load(file)
     if not isinstance(design, Mapping):
         raise TypeError(f"a design is a dict or the path of a file, not {shown(design)}")
+    return {**design, "balance": listed(design.get("balance"))}
+
+
+def _read(design: Any) -> dict[str, Any]:
+    design = design_in(design)
     if design.get("method") not in CUBES:
         raise Unfit("only a design by cube, local_cube or stratified_cube is fitted")
-    balance = listed(design.get("balance"))
+    balance = design["balance"]
     if not balance or len(balance) > 15 or len(set(balance)) < len(balance):
         raise Unfit("balance names 1 to 15 columns, each once")
-    return {**design, "balance": balance}
+    return design
 
 
 def _column(rows: Rows, name: Any) -> list:
@@ -201,7 +221,7 @@ def _probability(value: Any, column: str, row: int) -> tuple[float, Fraction | N
     return near, Fraction(*parts) if parts and parts[1] < 2**53 else None
 
 
-def _units(design: dict, rows: Rows) -> _Units:
+def units_of(design: dict, rows: Rows) -> Units:
     """The first stage units: the places of their rows, their ids and strata, and what is wanted of them."""
     ids = _column(rows, design.get("id"))
     strata = _column(rows, design["stratum"]) if "stratum" in design else [""] * len(ids)
@@ -220,7 +240,7 @@ def _units(design: dict, rows: Rows) -> _Units:
     for name in design["balance"]:
         numbers = [_number(value, name, row) for row, value in enumerate(_column(rows, name), 1)]
         values.append([sum(numbers[place] for place in places) for places in inside.values()])
-    return _Units(names, list(inside.values()), own, [near for near, _ in wanted], [exact for _, exact in wanted], values)
+    return Units(names, list(inside.values()), own, [near for near, _ in wanted], [exact for _, exact in wanted], values)
 
 
 def _by_size(design: dict, rows: Rows, inside: list[list[int]], strata: list) -> list[tuple[float, Fraction]]:
@@ -254,7 +274,7 @@ class _Number(NamedTuple):
 class _Flight:
     """What is drawn in one, and what it is fitted to: `found`, and `levels` for each column."""
 
-    def __init__(self, design: dict, units: _Units, places: list[int], levels: int | None, tries: int):
+    def __init__(self, design: dict, units: Units, places: list[int], levels: int | None, tries: int):
         self.design, self.units, self.places = design, units, places
         self.free = [place for place in places if 0.0 < units.wanted[place] < 1.0]
         self.others = [place for place in places if not 0.0 < units.wanted[place] < 1.0]
@@ -280,7 +300,7 @@ class _Flight:
         drawn = floor(asked + 0.5)
         if own and not 0 < drawn < len(own):
             reason = f"its {len(own)} probabilities between 0 and 1 add up to {asked:.6g}: no whole number of them can be drawn"
-            raise Unfit(reason, None, _name(self.design, name))
+            raise Unfit(reason, None, name_of(self.design, name))
         return _Number(len(own), asked, drawn)
 
     def _equal(self, number: int, of_stratum: _Number, exact: list) -> list:
@@ -302,7 +322,7 @@ class _Flight:
                 self.levels = levelled(self.values, self.found.numerators, self.own, self.far, forced)
                 if self.levels is not None and not self._short(levels):
                     return
-        name = _name(self.design, self.names[0]) if len(self.names) == 1 else None
+        name = name_of(self.design, self.names[0]) if len(self.names) == 1 else None
         if self.found is None:
             most = steps_beside(LEAST_MULTIPLE, columns, strata, MOST_OF_A_NUMBER)
             reason = f"no numerators were found beside {steps} steps of {columns} columns, of which the bound allows at most {most}"
@@ -315,12 +335,13 @@ class _Flight:
         return [place for place, one in enumerate(self.levels) if one.steps < (levels or 1) and not one.is_exact]
 
     def told_strata(self) -> Iterator[FittedStratum]:
+        by = self.by()
         for name in self.names:
             number = self.numbers[name]
             off = sorted(off for place, off in zip(self.free, self.found.off) if self.units.strata[place] == name)
             certain = sum(self.units.wanted[place] == 1.0 for place in self.others if self.units.strata[place] == name)
             yield FittedStratum(
-                stratum=_name(self.design, name),
+                stratum=name_of(self.design, name),
                 units=sum(self.units.strata[place] == name for place in self.places),
                 free=number.free,
                 number=number.drawn + certain,
@@ -328,12 +349,20 @@ class _Flight:
                 multiple=multiple_within(self.found.numerators, 2**53),
                 median=(off[(len(off) - 1) // 2] + off[len(off) // 2]) / 2.0 if off else None,
                 greatest=off[-1] if off else None,
+                by=by,
             )
 
     def told_columns(self) -> Iterator[FittedColumn]:
-        stratum = _name(self.design, self.names[0]) if self.design["method"] != "stratified_cube" else None
+        stratum = name_of(self.design, self.names[0]) if self.design["method"] != "stratified_cube" else None
         for name, one in zip(self.design["balance"], self.levels):
             yield FittedColumn(stratum, name, name + "_fitted", one.steps, one.unit, one.beyond)
+
+    def by(self) -> str | None:
+        """By what it is promised that no draw goes wide."""
+        if not self.is_promised:
+            return None
+        values = [[numerator * level for numerator, level in zip(self.found.numerators, one.levels)] for one in self.levels]
+        return promised_by(self.found.probabilities, self.own, values, self.design["method"] == "stratified_cube")
 
     def probabilities(self) -> dict[int, Fraction]:
         """The probability of each unit, by its place."""
@@ -354,7 +383,7 @@ class _Flight:
         return free | {place: floor(self.units.values[column][place] / one.unit + 0.5) for place in self.others}
 
 
-def _name(design: dict, stratum: Any) -> str | None:
+def name_of(design: dict, stratum: Any) -> str | None:
     """The name of a stratum as it is told, None in a design without strata."""
     return str(stratum) if "stratum" in design else None
 
@@ -379,7 +408,7 @@ def _fitted_design(design: dict, new: list[str]) -> dict[str, Any]:
     return fitted | {"balance": new[1:]} | {key: design[key] for key in ("near", "second") if key in design}
 
 
-def _fitted_columns(design: dict, units: _Units, flights: list[_Flight]) -> Iterator[list]:
+def _fitted_columns(design: dict, units: Units, flights: list[_Flight]) -> Iterator[list]:
     """The new columns, row by row. What a first stage unit has stands in its first row, and 0 in its others."""
     count = sum(map(len, units.rows))
     by_place = [(flight.sizes() if "second" in design else flight.probabilities(), *(flight.fitted(column) for column in range(len(units.values)))) for flight in flights]

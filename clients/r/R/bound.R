@@ -1,9 +1,10 @@
-# When no draw by a cube can go `wide`: the bound of docs/narrow.md, in whole numbers alone.
+# When no draw by a cube can go `wide`, in whole numbers alone: by the theorem that is proved of the program, or by the sharper bound of docs/narrow.md.
 #
 # A *flight* is what is drawn in one: a stratum by the cube and the local cube, the whole frame by the stratified cube. Its probabilities are in proportion to
 # whole *numerators* without a common divisor, and a fitted value is a numerator times a whole *level*.
 
 most_of_a_vector <- 2^44 # of an entry of a circuit, a direction or an elimination table, docs/formats.md
+most_of_a_denominator <- 2^80 # of the common denominator of the values of a step
 most_of_a_number <- 2^31 - 1 # of a value and of a common denominator
 
 # Whole numbers of any size, as their digits to the base 2^20, the lowest first.
@@ -127,4 +128,45 @@ is_promised <- function(numerators, strata, levels) {
   with_zero <- vapply(levels, function(column) max(1, max(0, column) - min(0, column)), 0)
   divisor <- max(vapply(places, function(own) gcd_all(numerators[own]), 0))
   holds_exactly(multiple, inside, length(places)) && holds_exactly(divisor, with_zero, length(places))
+}
+
+# The remainder of a number of any size by one up to 2^31.
+rest_of <- function(number, divisor) Reduce(function(rest, digit) (rest * digit_base + digit) %% divisor, rev(number), 0)
+
+# The least common multiple of a denominator below 2^53 and of sizes below 2^31, as its digits, or NULL where it passes 2^80; it is looked at as it grows.
+multiple_of_sizes <- function(denominator, sizes) {
+  multiple <- big(denominator)
+  for (size in sort(unique(sizes))) {
+    if (!at_most(multiple, big(most_of_a_denominator))) return(NULL)
+    multiple <- times(multiple, big(size / gcd_of(size, rest_of(multiple, size))))
+  }
+  if (at_most(multiple, big(most_of_a_denominator))) multiple
+}
+
+# Whether the free units of a stratum are narrow, as the library's `is_narrow` says: no draw of theirs by the cube or the local cube goes wide, which is proved of
+# the program (docs/proved.md).
+#
+# sizes: from 1 on. columns: a list of the balancing values of each column. denominator: that of the requested probabilities together. A row is that of the sizes,
+# or a column, and is bounded by its greatest number, or 1. No minor of the rows passes half of their permutations times all bounds.
+is_narrow <- function(sizes, columns, denominator) {
+  if (any(unlist(columns) < 0)) return(FALSE)
+  bounds <- vapply(c(list(sizes), columns), function(row) max(1, row), 0)
+  minor <- product(c(bounds, seq_along(bounds)[-(1:2)]))
+  multiple <- multiple_of_sizes(denominator, sizes)
+  !is.null(multiple) && at_most(times(big(bounds[1]), minor), big(most_of_a_vector)) && at_most(times(multiple, minor), big(most_of_a_denominator))
+}
+
+# By what it is promised that no draw of a flight goes wide: `proved` of the program, `on paper` in docs/narrow.md, or NA, by nothing.
+#
+# top, bottom: the probability of each free unit in lowest terms, below 2^31. strata: of each. columns: a list of the balancing values of each column. is_together:
+# whether the strata are drawn in one, by the stratified cube, of which nothing is proved.
+promised_by <- function(top, bottom, strata, columns, is_together) {
+  common <- multiple_within(c(1, bottom), 2^44)
+  if (is.null(common)) return(NA_character_)
+  over <- top * (common / bottom)
+  numerators <- over / max(1, gcd_all(over))
+  if (!is_together && is_narrow(numerators, columns, common)) return("proved")
+  levels <- lapply(columns, function(values) values / numerators)
+  is_fitted <- common <= most_of_a_number && all(vapply(columns, function(values) all(values %% numerators == 0), TRUE))
+  if (is_fitted && is_promised(numerators, strata, levels)) "on paper" else NA_character_
 }

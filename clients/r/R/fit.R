@@ -202,6 +202,8 @@ solved <- function(design, flight, units, numbers, levels, tries) {
 }
 
 told_strata <- function(flight, design, units) {
+  values <- lapply(flight$levels, function(one) flight$found$numerators * one$levels)
+  by <- if (flight$is_promised) promised_by(flight$found$top, flight$found$bottom, flight$own, values, design$method == "stratified_cube") else NA_character_
   of_each <- lapply(seq_along(flight$names), function(number) {
     name <- flight$names[number]
     off <- sort(flight$found$off[units$strata[flight$free] == name])
@@ -211,7 +213,7 @@ told_strata <- function(flight, design, units) {
       number = flight$numbers$drawn[number] + certain, asked = round(flight$numbers$asked[number] + certain, 6),
       multiple = multiple_within(flight$found$numerators, most_of_a_vector),
       median = if (length(off)) (off[(length(off) - 1) %/% 2 + 1] + off[length(off) %/% 2 + 1]) / 2 else NA_real_,
-      greatest = if (length(off)) off[length(off)] else NA_real_
+      greatest = if (length(off)) off[length(off)] else NA_real_, by = by
     )
   })
   do.call(rbind, of_each)
@@ -272,7 +274,11 @@ fitted_columns <- function(design, rows, units, flights, new) {
 }
 
 print.sampler_fitted <- function(x, ...) {
-  cat(if (is.null(x$tried)) "promised: no draw by this design goes wide, whatever its seed" else "tried, not promised: see the trial", "\n\n")
+  if (is.null(x$tried)) {
+    cat("promised: no draw by this design goes wide, whatever its seed\n", by_in_words(x$strata$by), "\n\n", sep = "")
+  } else {
+    cat("tried, not promised: see the trial\n\n")
+  }
   percent <- function(off) ifelse(is.na(off), "-", sprintf("%.2f %%", 100 * off))
   strata <- x$strata[seq_len(min(shown, nrow(x$strata))), ]
   print(data.frame(

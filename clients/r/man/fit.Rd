@@ -29,7 +29,8 @@ fit(design, frame, levels = NULL, tries = 0)
     \code{balance} one whose name ends in \code{_fitted}; the design names these.}
   \item{strata}{a row for each stratum: its name, its numbers of units and of those that are neither certain nor without a chance, how many are drawn
     (\code{number}), what the wanted probabilities add up to (\code{asked}), what all numerators divide (\code{multiple}), and how far the probabilities moved, in
-    the \code{median} and at the \code{greatest}, 0.05 for a twentieth more or less.}
+    the \code{median} and at the \code{greatest}, 0.05 for a twentieth more or less; and \code{by} what it is promised that no draw goes wide, as
+    \code{\link{promise}} says it.}
   \item{columns}{a row for each stratum, or for all where they are drawn in one, and column: the new column's name \code{fitted}, its number of \code{steps}, 0 where
     all units have one level, what 1 in it stands for (\code{unit}), and how many units have the last level though their value lies \code{beyond} it.}
   \item{forced}{the ids whose numerator isn't one of the two next to the wanted one, since a whole sum asked for it.}

@@ -8,6 +8,7 @@
   a design and a frame into a folder, calls the program there, and reads what the program wrote and put. It computes no probability and no weight, and finds no
   fault of a design or a frame but a value that it can't write without a guess. \code{fit} and \code{trial} stand before a draw: the one makes a design and a frame
   near those that are wanted, with which a balanced draw doesn't go wide, and the other tries a design by seeds that are thrown away.
+  \code{promise} says of a design in which strata no draw can go wide, and by what.
 }
 \section{Designs}{
   A design is a list of its keys, such as \code{list(version = 1, method = "pivotal", id = "farm", size = "area", n = 6)}, or the path of a TOML file. The keys are
@@ -32,5 +33,5 @@
   of a stratum, which are digits, and all files have fixed names in the folder in which the program is called.
 }
 \author{Gunwalesloe Maintainers}
-\seealso{\code{\link{check}}, \code{\link{probs}}, \code{\link{draw}}, \code{\link{replay}}, \code{\link{fit}}, \code{\link{trial}}, \code{\link{design_of}}, and \code{vignette("sampler")}}
+\seealso{\code{\link{check}}, \code{\link{probs}}, \code{\link{draw}}, \code{\link{replay}}, \code{\link{fit}}, \code{\link{promise}}, \code{\link{trial}}, \code{\link{design_of}}, and \code{vignette("sampler")}}
 \keyword{package}
