@@ -4,14 +4,19 @@ use std::test::Fail;
 
 #[test]
 fn divisors(rt: HostRuntime) -> Result<(), Fail> {
-    assert_eq!(rt; gcd(0, 0), 0);
-    assert_eq!(rt; gcd(u128::MAX, u128::MAX - 1), 1);
-    let greatest = lcm_within(u128::MAX, u128::MAX, u128::MAX);
-    assert_eq!(rt; greatest, Some(u128::MAX));
-    assert_eq!(rt; lcm_within(1 << 127, 3, u128::MAX), None);
-    assert_eq!(rt; content(&[]), 0);
-    assert_eq!(rt; content(&[-12, 0, 18]), 6);
-    assert_eq!(rt; content(&[i128::MIN + 1]), u128::MAX >> 1);
+    let divisors = [
+        gcd(0, 0),
+        gcd(u128::MAX, u128::MAX - 1),
+        content(&[]),
+        content(&[-12, 0, 18]),
+        content(&[i128::MIN + 1]),
+    ];
+    assert_eq!(rt; divisors, [0, 1, 0, 6, u128::MAX >> 1]);
+    let multiples = [
+        lcm_within(u128::MAX, u128::MAX, u128::MAX),
+        lcm_within(1 << 127, 3, u128::MAX),
+    ];
+    assert_eq!(rt; multiples, [Some(u128::MAX), None]);
     Ok(())
 }
 
@@ -65,42 +70,60 @@ fn orders(rt: HostRuntime) -> Result<(), Fail> {
 
 #[test]
 fn sums(rt: HostRuntime) -> Result<(), Fail> {
-    for (left, right, wanted) in [
-        ((LIMIT - 2, 1), (1, 1), Some((LIMIT - 1, 1))),
-        ((LIMIT - 1, 1), (1, 1), None),
-        ((LIMIT - 1, 2), (1, 2), None),
-        ((1, ROOT - 1), (1, ROOT + 1), Some((2 * ROOT, LIMIT - 1))),
-        ((1, LIMIT), (0, 1), None),
-    ] {
-        assert_eq!(rt; sum(left, right), wanted, "{left:?} {right:?}");
-    }
+    let sums = [
+        sum((LIMIT - 2, 1), (1, 1)),
+        sum((LIMIT - 1, 1), (1, 1)),
+        sum((LIMIT - 1, 2), (1, 2)),
+        sum((1, ROOT - 1), (1, ROOT + 1)),
+        sum((1, LIMIT), (0, 1)),
+    ];
+    let wanted = [
+        Some((LIMIT - 1, 1)),
+        None,
+        None,
+        Some((2 * ROOT, LIMIT - 1)),
+        None,
+    ];
+    assert_eq!(rt; sums, wanted);
     Ok(())
 }
 
 #[test]
 fn products(rt: HostRuntime) -> Result<(), Fail> {
-    for (left, right, wanted) in [
-        ((LIMIT, 3), (1, 2), Some((LIMIT / 2, 3))),
-        ((ROOT - 1, 1), (ROOT + 1, 1), Some((LIMIT - 1, 1))),
-        ((ROOT, 1), (ROOT, 1), None),
-        ((1, ROOT - 1), (1, ROOT + 1), Some((1, LIMIT - 1))),
-        ((1, ROOT), (1, ROOT), None),
-    ] {
-        assert_eq!(rt; product(left, right), wanted, "{left:?} {right:?}");
-    }
+    let products = [
+        product((LIMIT, 3), (1, 2)),
+        product((ROOT - 1, 1), (ROOT + 1, 1)),
+        product((ROOT, 1), (ROOT, 1)),
+        product((1, ROOT - 1), (1, ROOT + 1)),
+        product((1, ROOT), (1, ROOT)),
+    ];
+    let wanted = [
+        Some((LIMIT / 2, 3)),
+        Some((LIMIT - 1, 1)),
+        None,
+        Some((1, LIMIT - 1)),
+        None,
+    ];
+    assert_eq!(rt; products, wanted);
     Ok(())
 }
 
 #[test]
 fn differences(rt: HostRuntime) -> Result<(), Fail> {
-    for (left, right, wanted) in [
-        ((2, 3), (2, 3), Some((false, (0, 1)))),
-        ((0, 1), (LIMIT - 1, 1), Some((true, (LIMIT - 1, 1)))),
-        ((LIMIT, 1), (LIMIT, 1), None),
-        ((1, ROOT - 1), (1, ROOT + 1), Some((false, (2, LIMIT - 1)))),
-        ((1, ROOT), (1, ROOT + 1), None),
-    ] {
-        assert_eq!(rt; distance(left, right), wanted, "{left:?} {right:?}");
-    }
+    let distances = [
+        distance((2, 3), (2, 3)),
+        distance((0, 1), (LIMIT - 1, 1)),
+        distance((LIMIT, 1), (LIMIT, 1)),
+        distance((1, ROOT - 1), (1, ROOT + 1)),
+        distance((1, ROOT), (1, ROOT + 1)),
+    ];
+    let wanted = [
+        Some((false, (0, 1))),
+        Some((true, (LIMIT - 1, 1))),
+        None,
+        Some((false, (2, LIMIT - 1))),
+        None,
+    ];
+    assert_eq!(rt; distances, wanted);
     Ok(())
 }

@@ -1,7 +1,8 @@
 ghost use Rattle.std.specs.Prelude.{◌≤◌};
 
-use smp_frac::{Frac, Signed, Text, Wide};
+use smp_frac::{Bytes, Frac, Signed, Text, Wide};
 use smp_weights::{estimate, sample_bytes};
+use std::alloc::Global;
 use std::test::Fail;
 
 fn frac(num: u128, den: u128) -> Frac
@@ -41,11 +42,14 @@ fn totals(rt: HostRuntime) -> Result<(), Fail> {
     Ok(())
 }
 
+fn sample(alloc: Global) -> Result<Bytes, Fail> {
+    let ids = [Text::from_str(alloc, "x,1")?, Text::from_str(alloc, "y")?];
+    Ok(sample_bytes(alloc, &ids, &[frac(2, 3), frac(1, 3)], &[true, false])?)
+}
+
 #[test]
 fn samples(rt: HostRuntime) -> Result<(), Fail> {
-    let alloc = rt.alloc();
-    let ids = [Text::from_str(alloc, "x,1")?, Text::from_str(alloc, "y")?];
-    let text = sample_bytes(alloc, &ids, &[frac(2, 3), frac(1, 3)], &[true, false])?;
+    let text = sample(rt.alloc())?;
     assert_eq!(rt; text.as_slice(), b"id,weight\n\"x,1\",3/2\n".as_slice());
     Ok(())
 }

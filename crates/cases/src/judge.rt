@@ -20,7 +20,7 @@ pub fn differences(alloc: Global, case: Case) -> Result<Differences, NoMemory> {
     let tries = failing_calls.len() as u64 + 1;
     let store = MemStore::new(files, failing_calls);
     let sink = MemSink::new(alloc, failing_puts);
-    let mut seen = seen_of(alloc, words.as_slice(), store, sink, tries)?;
+    let mut seen = setting_of(alloc, words.as_slice(), store, sink, tries)?;
     compare(alloc, &wanted, before.as_slice(), &mut seen)
 }
 
@@ -33,7 +33,7 @@ struct Seen {
     sink: MemSink,
 }
 
-fn seen_of(
+fn setting_of(
     alloc: Global,
     words: &[String],
     store: MemStore,

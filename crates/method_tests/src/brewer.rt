@@ -28,17 +28,30 @@ fn offers_to_the_end(alloc: Global, sizes: &[u32], values: &[u128]) -> Result<bo
     Ok(is_short && is_taken && !design.done(&state) && design.kind(&state) == Kind::Offer)
 }
 
-// Each offer falls on the 100,000th unit. Of the 199,999 ^ 2 draws for a unit of size 1 the first 200,000 * 199,997 take it, which are
-// 39,999,400,000, so each offer is refused.
-#[test]
-fn two_million_offers_are_refused(rt: HostRuntime) -> Result<(), Fail> {
-    let alloc = rt.alloc();
+fn sizes(alloc: Global) -> Result<Vec<u32>, Fail> {
     let mut sizes = vec![in alloc; 1; 200_000]?;
     sizes[0] = 2;
+    Ok(sizes)
+}
+
+fn refused_offers(alloc: Global) -> Result<Vec<u128>, Fail> {
     let mut values = Vec::new(alloc);
     for _ in 0..2_000_000 {
         values.extend_from_slice(&[100_000, 39_999_600_000])?;
     }
-    assert!(rt; offers_to_the_end(alloc, sizes.as_slice(), values.as_slice())?);
+    Ok(values)
+}
+
+fn all_are_refused(alloc: Global) -> Result<bool, Fail> {
+    let sizes = sizes(alloc)?;
+    let values = refused_offers(alloc)?;
+    offers_to_the_end(alloc, sizes.as_slice(), values.as_slice())
+}
+
+// Each offer falls on the 100,000th unit. Of the 199,999 ^ 2 draws for a unit of size 1 the first 200,000 * 199,997 take it, which are
+// 39,999,400,000, so each offer is refused.
+#[test]
+fn two_million_offers_are_refused(rt: HostRuntime) -> Result<(), Fail> {
+    assert!(rt; all_are_refused(rt.alloc())?);
     Ok(())
 }

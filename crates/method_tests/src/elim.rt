@@ -4,14 +4,19 @@ use smp_elim::Elimination;
 use smp_prob::Request;
 use smp_split::Kind;
 use smp_walks::walks;
+use std::alloc::Global;
 use std::test::Fail;
+
+fn three_units_are_left(alloc: Global) -> Result<bool, Fail> {
+    let request = Request::all_free(alloc, &[1, 2, 3, 4], 2, 10)?;
+    let design = Elimination::to(alloc, &request, 3)?;
+    let mut state = design.start(alloc)?;
+    let path = [(Kind::Eliminate, 3, 0)];
+    Ok(walks(alloc, &design, &mut state, path.as_slice(), &[1, 2, 3])?)
+}
 
 #[test]
 fn three_units_of_a_request_of_two(rt: HostRuntime) -> Result<(), Fail> {
-    let request = Request::all_free(rt.alloc(), &[1, 2, 3, 4], 2, 10)?;
-    let design = Elimination::to(rt.alloc(), &request, 3)?;
-    let mut state = design.start(rt.alloc())?;
-    let path = [(Kind::Eliminate, 3, 0)];
-    assert!(rt; walks(rt.alloc(), &design, &mut state, path.as_slice(), &[1, 2, 3])?);
+    assert!(rt; three_units_are_left(rt.alloc())?);
     Ok(())
 }

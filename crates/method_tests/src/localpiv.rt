@@ -53,10 +53,14 @@ fn values_of_points(alloc: Global) -> Result<[Numbers; 3], NoMemory> {
     ])
 }
 
+fn walks_among_other_values(alloc: Global) -> Result<bool, Fail> {
+    let values = values_of_points(alloc)?;
+    let thirds = Request::all_free(alloc, &[1; 3], 1, 3)?;
+    walks_behind_a_value(alloc, &thirds, values.as_slice())
+}
+
 #[test]
 fn coordinates_among_other_values(rt: HostRuntime) -> Result<(), Fail> {
-    let values = values_of_points(rt.alloc())?;
-    let thirds = Request::all_free(rt.alloc(), &[1; 3], 1, 3)?;
-    assert!(rt; walks_behind_a_value(rt.alloc(), &thirds, values.as_slice())?);
+    assert!(rt; walks_among_other_values(rt.alloc())?);
     Ok(())
 }

@@ -61,21 +61,31 @@ fn drawn(alloc: Global, coords: &[[i32; 2]], n: u32) -> Result<Option<Vec<usize>
     selected_by(alloc, &design, &mut state, &mut draws)
 }
 
-// The units, and their numbers added up, are those of the same draw in another language.
-#[test]
-fn four_thousand_of_twenty_thousand(rt: HostRuntime) -> Result<(), Fail> {
-    let alloc = rt.alloc();
-    let points = cloud(alloc, 20_000)?;
-    let Some(units) = drawn(alloc, points.as_slice(), 4_000)? else {
-        assert!(rt; false);
-        return Ok(());
-    };
-    assert_eq!(rt; units.len(), 4_000);
-    assert_eq!(rt; units.first(), Some(&13));
-    assert_eq!(rt; units.last(), Some(&19_997));
+// How many units these are, the first and the last of them, and their numbers added up.
+type Summary = (usize, Option<usize>, Option<usize>, u64);
+
+fn summary(units: &[usize]) -> Summary {
     let sum = units
         .iter()
         .fold(0u64, |sum, &unit| sum.wrapping_add(unit as u64));
-    assert_eq!(rt; sum, 39_496_730);
+    (
+        units.len(),
+        units.first().copied(),
+        units.last().copied(),
+        sum,
+    )
+}
+
+fn drawn_summary(alloc: Global) -> Result<Option<Summary>, Fail> {
+    let points = cloud(alloc, 20_000)?;
+    let units = drawn(alloc, points.as_slice(), 4_000)?;
+    Ok(units.map(|units| summary(units.as_slice())))
+}
+
+// They are those of the same draw in another language.
+#[test]
+fn four_thousand_of_twenty_thousand(rt: HostRuntime) -> Result<(), Fail> {
+    let wanted = (4_000, Some(13), Some(19_997), 39_496_730);
+    assert_eq!(rt; drawn_summary(rt.alloc())?, Some(wanted));
     Ok(())
 }

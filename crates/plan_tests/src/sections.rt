@@ -1,114 +1,175 @@
-ghost use Rattle.smp_plan.specs.Planned.{IsPlanned};
-ghost use Rattle.std.specs.Prelude.{IfOk};
-
-use smp_frac::{Bytes, NoMemory};
-use smp_io::MemStore;
-use smp_log::{LogFault, ReplayFault, migrate, old_replay, replay_section};
-use smp_plan::{DesignSource, FramePlan, FrameSource, plan_from};
-use smp_status::Status;
-use smp_twostage::{StartedWhole, Whole, section_count};
+use crate::log::{FOUR_LOG, two_of_four};
+use smp_frac::Bytes;
+use smp_log::{LogFault, ReplayFault, log_head, migrate, replay_section};
+use smp_pivotal::{Pivotal, PivotalState};
+use smp_split::{Kind, Sections, Splitting};
 use std::alloc::Global;
+use std::marker::Model;
 use std::test::Fail;
 
-// The log of six of the 30 units of the demonstration of seed 1, of which each number is 0, as version 2 has it and as
-// version 1 had it. By the reference.
+// Two of four units of the sizes 1 to 4, by sequential pivotal steps, in each of two strata: by hand.
 const LOG: &[u8] =
-    b"sampler-log 2\ndesign a7b74f68064c351c5ad608494f9232331b146185c0baeb4604d60ba6e72200d8\nframe f95472fa04212b2558cd1b72fae64915597b235b8ed5cc4cd87705ee2fe609e3\nstratum 1 0\nflight 4976321 0\nflight 55762594493239 0\nflight 967227 0\nflight 3995216315157 0\nflight 108883676 0\nflight 48510597 0\ndrop 1 0\nflight 66901250 0\ndrop 1 0\nflight 20960287333 0\ndrop 1 0\nflight 46290 0\ndone 1 12\nstratum 2 9\nflight 12498847 0\nflight 13521674264033 0\nflight 7366651 0\nflight 2753097 0\nflight 5058721740550 0\nflight 59814179 0\ndrop 1 0\nflight 16194345 0\ndrop 1 0\nflight 23199589361 0\ndrop 1 0\nflight 19625 0\ndone 2 12\nstratum 3 18\nflight 2252150 0\nflight 15105539 0\nflight 3522130 0\nflight 3968937483571 0\nflight 21384752 0\nflight 1346962 0\ndrop 1 0\nflight 170527888227 0\ndrop 1 0\nflight 808870766 0\ndrop 1 0\nflight 18045 0\ndone 3 12\nend 36\n";
+    b"sampler-log 2\ndesign ba7816bf8f01cfea414140de5dae2223b00361a396177a9cb410ff61f20015ad\nframe e3b0c44298fc1c149afbf4c8996fb92427ae41e4649b934ca495991b7852b855\nstratum 1 0\npivot 3 0\npivot 4 3\npivot 5 4\ndone 1 3\nstratum 2 3\npivot 3 2\npivot 4 0\npivot 5 1\ndone 2 3\nend 6\n";
 
-const OLD: &[u8] =
-    b"sampler-log 1\ndesign a7b74f68064c351c5ad608494f9232331b146185c0baeb4604d60ba6e72200d8\nframe f95472fa04212b2558cd1b72fae64915597b235b8ed5cc4cd87705ee2fe609e3\nflight 4976321 0\nflight 55762594493239 0\nflight 967227 0\nflight 3995216315157 0\nflight 108883676 0\nflight 48510597 0\ndrop 1 0\nflight 66901250 0\ndrop 1 0\nflight 20960287333 0\ndrop 1 0\nflight 46290 0\nflight 12498847 0\nflight 13521674264033 0\nflight 7366651 0\nflight 2753097 0\nflight 5058721740550 0\nflight 59814179 0\ndrop 1 0\nflight 16194345 0\ndrop 1 0\nflight 23199589361 0\ndrop 1 0\nflight 19625 0\nflight 2252150 0\nflight 15105539 0\nflight 3522130 0\nflight 3968937483571 0\nflight 21384752 0\nflight 1346962 0\ndrop 1 0\nflight 170527888227 0\ndrop 1 0\nflight 808870766 0\ndrop 1 0\nflight 18045 0\nend 36\n";
+// The log of its first stratum alone.
+const FIRST_LOG: &[u8] =
+    b"sampler-log 2\ndesign ba7816bf8f01cfea414140de5dae2223b00361a396177a9cb410ff61f20015ad\nframe e3b0c44298fc1c149afbf4c8996fb92427ae41e4649b934ca495991b7852b855\nstratum 1 0\npivot 3 0\npivot 4 3\npivot 5 4\ndone 1 3\nend 3\n";
 
-// The plan of the 30 units.
-fn planned(alloc: Global) -> Result<FramePlan, Status>
-    ensures { IfOk result IsPlanned }
-{
-    let mut store = MemStore::new(Vec::new(alloc), Vec::new(alloc));
-    let frame = FrameSource::Demo { n: 30, seed: 1 };
-    plan_from(alloc, &mut store, &DesignSource::Demo(30), frame)
+// A design that is one section, as a stratum is of a draw in strata.
+#[derive(Drop)]
+struct Stratum {
+    design: Pivotal,
 }
 
-// What the replay of a log of version 1 answers.
-fn old_answer(alloc: Global, plan: &FramePlan, log: &[u8]) -> Result<Result<(), LogFault>, NoMemory>
-    requires { IsPlanned plan.now }
-{
-    let StartedWhole { whole, mut state } = Whole::start(alloc, &plan.plan)?;
-    Ok(old_replay(&whole, &mut state, &plan.head, log))
+impl Model for Stratum {
+    ghost use Rattle.smp_prob.specs.Shares.{Shares};
+    ghost use Rattle.smp_split.specs.Orders.{Ordered};
+
+    ghost Value = { Ordered Shares };
+
+    ghost view = { λ s. s.design };
 }
 
-// What a log of version 1 becomes.
-fn migrated(
+impl Splitting for Stratum {
+    ghost use Rattle.smp_pivotal.specs.Method.{method_of};
+
+    type State = PivotalState;
+
+    ghost method = { λ design. method_of design };
+
+    fn units(&self) -> usize {
+        self.design.units()
+    }
+
+    fn done(&self, state: &PivotalState) -> bool {
+        self.design.done(state)
+    }
+
+    fn kind(&self, state: &PivotalState) -> Kind {
+        self.design.kind(state)
+    }
+
+    fn bound(&self, state: &PivotalState) -> u128 {
+        self.design.bound(state)
+    }
+
+    fn advance(&self, state: &mut PivotalState, draw: u128) {
+        self.design.advance(state, draw);
+    }
+
+    fn selected(&self, state: &PivotalState, unit: usize) -> bool {
+        self.design.selected(state, unit)
+    }
+}
+
+impl Sections for Stratum {
+    ghost use Rattle.smp_pivotal.specs.Method.{method_of};
+    ghost use Rattle.plan_tests.specs.Sections.{one_section, one_sectioned};
+
+    ghost sectioning = { λ design. one_section (method_of design).tree };
+
+    ghost sectioned = { λ design. one_sectioned (method_of design).tree
+        (method_of design).belongs };
+
+    fn sections(&self) -> usize {
+        1
+    }
+
+    fn section(&self, state: &PivotalState) -> usize {
+        if self.design.done(state) { 1 } else { 0 }
+    }
+}
+
+fn stratum_of_four(alloc: Global) -> Result<Stratum, Fail> {
+    let design = two_of_four(alloc)?;
+    Ok(Stratum { design })
+}
+
+fn replayed(
     alloc: Global,
-    plan: &FramePlan,
-    log: &[u8],
-) -> Result<Result<Bytes, ReplayFault>, NoMemory>
-    requires { IsPlanned plan.now }
-{
-    let StartedWhole { whole, mut state } = Whole::start(alloc, &plan.plan)?;
-    let mut second = Whole::start(alloc, &plan.plan)?.state;
-    Ok(migrate(alloc, &whole, &mut state, &mut second, &plan.head, log))
-}
-
-// What the replay of one section answers, counted from 1; nothing where there is no such section.
-fn section_answer(
-    alloc: Global,
-    plan: &FramePlan,
+    stratum: &Stratum,
     number: usize,
     log: &[u8],
-) -> Result<Option<Result<(), LogFault>>, NoMemory>
-    requires { IsPlanned plan.now }
-{
-    if number == 0 || section_count(&plan.plan) < number {
-        return Ok(None);
+) -> Result<Result<(), LogFault>, Fail> {
+    let mut state = stratum.design.start(alloc)?;
+    let head = log_head(b"abc", b"");
+    Ok(replay_section(stratum, &mut state, &head, number, log))
+}
+
+// The line at which the replay of a section differs, where it isn't genuine.
+fn differs_at(alloc: Global, number: usize, log: &[u8]) -> Result<Option<u64>, Fail> {
+    let answer = {
+        let stratum = stratum_of_four(alloc)?;
+        replayed(alloc, &stratum, number, log)
+    };
+    match answer? {
+        Ok(()) => Ok(None),
+        Err(LogFault::Differs { line }) => Ok(Some(line)),
     }
-    let StartedWhole { whole, mut state } = Whole::only(alloc, &plan.plan, number - 1)?;
-    let answer = replay_section(&whole, &mut state, &plan.head, number, log);
-    Ok(Some(answer))
+}
+
+// The first length at which the log that is cut there isn't told to differ at the line that it breaks off in, where the
+// section ends at a later byte, or isn't accepted, where the section is whole.
+fn told_wrongly(alloc: Global, number: usize, end: usize) -> Result<Option<usize>, Fail> {
+    let mut line = 1u64;
+    for length in 0..LOG.len() {
+        let wanted = if length < end { Some(line) } else { None };
+        if differs_at(alloc, number, &LOG[..length])? != wanted {
+            return Ok(Some(length));
+        }
+        if LOG[length] == b'\n' {
+            line = line.wrapping_add(1);
+        }
+    }
+    Ok(None)
+}
+
+// The first section ends with the 8th line, at byte 208, and the second with the 13th, at byte 259.
+#[test]
+fn sections_are_cut_at_each_byte(rt: HostRuntime) -> Result<(), Fail> {
+    let alloc = rt.alloc();
+    assert_eq!(rt; told_wrongly(alloc, 1, 208)?, None);
+    assert_eq!(rt; told_wrongly(alloc, 2, 259)?, None);
+    Ok(())
 }
 
 #[test]
-fn a_log_of_version_1_is_replayed(rt: HostRuntime) -> Result<(), Fail> {
+fn sections_are_replayed(rt: HostRuntime) -> Result<(), Fail> {
     let alloc = rt.alloc();
-    let plan = planned(alloc)?;
-    assert_eq!(rt; old_answer(alloc, &plan, OLD)?, Ok(()));
-    assert_eq!(rt;
-        old_answer(alloc, &plan, LOG)?,
-        Err(LogFault::Differs { line: 1 })
-    );
-    // Without its last line, which is the 40th.
-    let cut = OLD.strip_suffix(b"end 36\n").unwrap_or(OLD);
-    assert_eq!(rt;
-        old_answer(alloc, &plan, cut)?,
-        Err(LogFault::Differs { line: 40 })
-    );
+    let lines = [
+        differs_at(alloc, 1, LOG)?,
+        differs_at(alloc, 2, LOG)?,
+        differs_at(alloc, 3, LOG)?,
+        differs_at(alloc, 1, FIRST_LOG)?,
+        differs_at(alloc, 2, FIRST_LOG)?,
+        differs_at(alloc, 1, FOUR_LOG)?,
+    ];
+    assert_eq!(rt; lines, [None, None, Some(15), None, Some(10), Some(1)]);
     Ok(())
+}
+
+fn migrated(
+    alloc: Global,
+    stratum: &Stratum,
+    log: &[u8],
+) -> Result<Result<Bytes, ReplayFault>, Fail> {
+    let mut state = stratum.design.start(alloc)?;
+    let head = log_head(b"abc", b"");
+    Ok(migrate(alloc, stratum, &mut state, &head, log))
+}
+
+// What a log of version 1 becomes.
+fn migrated_log(alloc: Global, log: &[u8]) -> Result<Bytes, Fail> {
+    let answer = {
+        let stratum = stratum_of_four(alloc)?;
+        migrated(alloc, &stratum, log)
+    };
+    Ok(answer??)
 }
 
 #[test]
 fn a_log_of_version_1_becomes_one_of_version_2(rt: HostRuntime) -> Result<(), Fail> {
-    let alloc = rt.alloc();
-    let plan = planned(alloc)?;
-    let text = migrated(alloc, &plan, OLD)??;
-    assert_eq!(rt; text.as_slice(), LOG);
-    Ok(())
-}
-
-#[test]
-fn a_section_is_replayed(rt: HostRuntime) -> Result<(), Fail> {
-    let alloc = rt.alloc();
-    let plan = planned(alloc)?;
-    for number in 1..4 {
-        assert_eq!(rt; section_answer(alloc, &plan, number, LOG)?, Some(Ok(())));
-    }
-    assert_eq!(rt; section_answer(alloc, &plan, 4, LOG)?, None);
-    // The first 17 lines are the head and the first section, whose last line is the 17th.
-    let first = LOG.get(..377).unwrap_or(LOG);
-    assert_eq!(rt; section_answer(alloc, &plan, 1, first)?, Some(Ok(())));
-    let missing = Some(Err(LogFault::Differs { line: 18 }));
-    assert_eq!(rt; section_answer(alloc, &plan, 2, first)?, missing);
-    let cut = LOG.get(..367).unwrap_or(LOG);
-    let ended = Some(Err(LogFault::Differs { line: 17 }));
-    assert_eq!(rt; section_answer(alloc, &plan, 1, cut)?, ended);
-    let other = Some(Err(LogFault::Differs { line: 1 }));
-    assert_eq!(rt; section_answer(alloc, &plan, 1, OLD)?, other);
+    let text = migrated_log(rt.alloc(), FOUR_LOG)?;
+    assert_eq!(rt; text.as_slice(), FIRST_LOG);
     Ok(())
 }
