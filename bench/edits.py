@@ -7,7 +7,7 @@
     bench/edits.py --look              only whether each can be applied: each `old:` text stands once in its file
     bench/edits.py --one smp_near      one check at a time, where as many as processors and memory allow run side by side
 
-A copy of a crate takes one edit for each of its functions, and one check of the copy says of each function whether goals stand open, and which. Since a
+A copy of a crate takes one edit for each of its functions, and one check of these functions says of each whether goals stand open, and which. Since a
 function is proved over the contracts of those that it calls, and not over their bodies, an edit of one leaves the goals of the others as they are. An edit
 that stands in no function, or leaves no goal of its own function open, is tried by itself: then any function may refuse it. The crates below, and the
 crate as it stands, are taken as `./build` keeps them, and proved as it does where they aren't kept. What is proved of a copy stays for the crate's next one.
@@ -124,19 +124,21 @@ class Trier:
         self.kit, self.crate, self.room = kit, crate, room
         self.kept, self.number = os.path.join(room, "kept"), 0
 
-    def check(self, texts):
-        """What a check says of each function, by its name, and all that it says; the first is None where the copy isn't read."""
+    def check(self, texts, functions=()):
+        """What a check says of each function, or of these and those that they call, by its name, and all that it says; the first is None where the copy
+        isn't read."""
         self.number += 1
         copy = os.path.join(self.room, str(self.number))
         for path, text in texts.items():
             os.makedirs(os.path.dirname(os.path.join(copy, path)), exist_ok=True)
             with open(os.path.join(copy, path), "w", encoding="utf-8") as file:
                 file.write(text)
-        words = self.crate.words(["--jobs", "1", "--allow-holes"], keeps=False)
+        only = [word for it in functions for word in ("--only", it.partition("::")[2])]
+        words = self.crate.words(["--jobs", "1", "--allow-holes", *only], keeps=False)
         ran = subprocess.run([self.kit.RATTLE, "check", *words, "--incremental", self.kept], cwd=copy, stdin=subprocess.DEVNULL,
                              stdout=subprocess.PIPE, stderr=subprocess.STDOUT, text=True, errors="replace")
         shutil.rmtree(copy)
-        is_read = re.search(r"^holes=\d+|^rattle: no verdict", ran.stdout, re.M)
+        is_read = re.search(r"^(only=\d+ )?holes=\d+|^rattle: no verdict", ran.stdout, re.M)
         return dict(re.findall(r"^fn (\S+): (.*)$", ran.stdout, re.M)) if is_read else None, ran.stdout
 
     def try_one(self, edit, texts):
@@ -153,7 +155,7 @@ class Trier:
     def try_all(self, edits, texts):
         results, alone = [], [it for it in edits if not it.function]
         for batch, made in batches(edits, texts):
-            found, _ = self.check(made)
+            found, _ = self.check(made, [it.function for it in batch])
             if found is None and len(batch) > 1:
                 # One of them doesn't compile, and hides the others.
                 alone += batch
@@ -226,7 +228,8 @@ def main():
         sys.exit(bool(bad))
     chosen = [it for it in of if of[it]]
     kit.guarded()
-    needed = [it for it in crates if any(it is crate or it in crate.below() for crate in chosen)]
+    # A program is no library that can be kept. The gate proves it.
+    needed = [it for it in crates if not it.is_program and any(it is crate or it in crate.below() for crate in chosen)]
     held = kit.lock(needed)
     if not all(it.is_built() for it in needed):
         build.prove(needed, 1 if "--one" in flags else kit.cores(), build.free_memory())
