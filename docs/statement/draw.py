@@ -94,8 +94,9 @@ class Draw:
         found = []
         for _, _, fields, _ in text.TABLE:
             for path in fields.replace("`", "").split(", ") if "@" not in fields else ():
-                at = self.statement.find("IsExactDraw")
-                for name in path.split("."):
+                record, names = ("Headline", path[9:]) if path.startswith("Headline.") else ("IsExactDraw", path)
+                at = self.statement.find(record)
+                for name in names.split("."):
                     told = records.fields_of(self.statement.whole(at)).get(name) if at else None
                     at = records.named_by(self.statement.modules, at[0], told.split()[0]) if told else None
                     at = at if at and self.statement.whole(at) else None

@@ -3,7 +3,7 @@
 TITLE = "What is proved of a draw: the page to sign"
 # The lines of the claim: what is proved, the pieces of README's sentence that say it, the fields, and where the page has it.
 TABLE = [
-    ("the bytes of D and F say this plan, of the rows 0, 1, .., N - 1", ["For every accepted frame and design,"], "`read`", "[bytes.md](bytes.md)"),
+    ("the bytes of D and F say this plan, of the rows 0, 1, .., N - 1", ["For every accepted frame and design,"], "`read`, `Headline.accepted`", "[bytes.md](bytes.md)"),
     ("one tree and one start are made **of the plan alone**, so before and without any number", [], "the types `@tree_of@`, `@start_of@`", "3"),
     ("the numbers of T, all and no more, lead from the start to one leaf; or those that the words of K give",
      ["with a full tape, or with a seed by whose words no draw is rejected,",
@@ -32,7 +32,7 @@ rows and no other.*
 Let `sampler draw --design D --frame F --tape T --log L --sample S` (or `--seed K` for `--tape T`) be called, with **names no two of which are the
 same**, let the store **tell its files** and the call **end with Done**. That is `Ends answer words before Done (Draw a) fs`, where `a` is what the
 words say, `fs` what the files were before, and `before` and `now` what is told of files and output before and after the call. Then `IsExactDraw a
-fs before now` holds (field `draw` of @headline@, clause `headline` of [`sampler`](../../crates/smp_app/src/call.rt), which the prover has checked):
+fs now.files` holds (field `draw` of @headline@, clause `headline` of [`sampler`](../../crates/smp_app/src/call.rt), which the prover has checked):
 
 @table@
 
@@ -90,7 +90,7 @@ SECTIONS = [
      "[proportional.rt](../../crates/smp_prob/src/proportional.rt)); that the rounds end there too isn't said in a record. With one stage a row is "
      "itself a first stage unit; with two it is in a psu, and π is the product of both.",
      [("requested_fraction", ""), ("row_probability", "Plans")]),
-    ("The sample file", "Its bytes: each selected row and no other, in frame order, with 1/π.", [("sample_row", ""), ("sample_text", "Texts")]),
+    ("The sample file", "Its bytes: each selected row and no other, in frame order, with 1/π.", [("sample_row", ""), ("draw_sample", "Texts")]),
     ("No bias, how many, and the records",
      "Lines 4 and 6 of the first table are `HasProbabilities`; `IsDrawnBy` and `IsExactDraw` stand without the comments of their fields.",
      [("HasProbabilities", ""), ("IsDrawnBy", ""), ("IsExactDraw", ""), ("Ends", "")]),
@@ -112,15 +112,11 @@ FILES = """
 CLOSED = {
     "tree_of": ("the draw tree of a plan, of the plan alone; its units are the rows", "smp_app.specs.Drawn"),
     "start_of": ("the state before the first number, of the plan alone", "smp_app.specs.Drawn"),
-    "covered_tree": ("of all strata it is `tree_of drawn.plan`: `covered drawn` is all strata where `only` is None (field `all`)", ""),
-    "covered": ("the strata that it is drawn from", "smp_app.specs.Drawn"),
     "parts": ("the strata of a plan, with their first stage units", "smp_plan.specs.Plans"),
-    "covered_first": ("whether unit k of stratum h is selected in the first stage, in these states", ""),
-    "all_of": ("all strata of a plan", ""),
+    "first_selected": ("whether unit k of stratum h is selected in the first stage, in these states", ""),
     "second_selected": ("whether a row within it is selected in the second stage", ""),
     "IsDrawnBySeed": ("the words of the seed give the values of the path; that they are uniform draws is `fair`", ""),
-    "log_text": ("the log's bytes: its head, each step of the path, its end", "smp_app.specs.Texts"),
-    "report_text": ("the report's bytes", ""),
+    "draw_log": ("the log's bytes: its head, each step of the path, its end", "smp_app.specs.Texts"),
     "IsReadPlan": ("the bytes of the design and of the frame say this plan", ""),
     "KeepsBalance": ("what the cube methods keep; of others nothing", ""),
     "command_of": ("the command that the words ask for; it is none where two of the five names are the same", ""),
@@ -150,7 +146,6 @@ CLOSED = {
     "LessThan": ("a < b", ""),
     "over_integer": ("d/z, of 0 it is d", FRACTIONS),
     "with_files": ("the files with these bytes under these names, and all others as they were", ""),
-    "with_bytes": ("what was put, and behind it these bytes", ""),
     "Outside": ("what is told of the outside: the files, and what was put", ""),
     "Files": ("of each name its bytes, if there is such a file", ""),
     "Progress": ("how far a selection in stages is: a state of each stage, and the stage that is under way", ""),

@@ -133,6 +133,8 @@ KIT = {
     'decimal': 'what `{}` writes for an unsigned integer',
     'digits_value': 'the number that the digits write',
     'find': 'the first element that does',
+    'to_le_bytes': 'the bytes of a whole number of so many bits, the lowest first',
+    'w64': '64 bits',
     'flat_map': '`xs.iter().flat_map(f)`, as a list',
     'fold': 'f over the items xs, from a',
     'is_bom': 'the bytes of the byte order mark, U+FEFF in UTF-8',

@@ -25,7 +25,7 @@ SHARED = [
     ("joint", "Joint probabilities", "What `joint` lists.", ["smp_joint", "IsExactJoint", "joints_text", "most_joint_rows"]),
     ("balance", "What balance is", "What the cube, the local cube and the stratified cube keep.",
      ["smp_moves.specs.Balances", "smp_moves.specs.Owed", "smp_balance.specs.Strata", "smp_balance.specs.Totals", "smp_twostage.specs.Cubes",
-      "KeepsBalance", "IsCubeDraw", "IsTogetherDraw", "Goes", "TellsColumn", "smp_stages.specs.Paths"]),
+      "KeepsBalance", "IsCubeDraw", "IsTogetherDraw", "Goes", "TellsColumn", "TellsSection", "TellsBalance", "smp_stages.specs.Paths"]),
     ("flight", "A step of the flight", "The direction of a flight step, and how far it is followed; by the cube, the local cube and the stratified "
                                        "cube.",
      ["smp_kernel", "smp_moves", "smp_flight"]),
@@ -35,16 +35,16 @@ SHARED = [
     ("seed", "Numbers by a seed", "How a seed's words make numbers below a bound.",
      ["smp_sieve", "smp_split.specs.Runs", "smp_tape.specs.Sources", "IsDrawnBySeed"]),
     ("bytes", "What the bytes say", "The design (TOML), the frame (CSV) and the tape, and what is refused.",
-     ["smp_design", "smp_frame", "smp_lines", "smp_strata.specs.Misfits", "smp_strata.specs.Bounds", "smp_tape", "IsReadPlan", "IsReadFrame",
+     ["smp_design", "smp_frame", "smp_lines", "smp_strata.specs.Misfits", "smp_strata.specs.Bounds", "smp_tape", "IsReadPlan", "IsReadFrame", "IsAccepted",
       "smp_plan.specs.Inputs", "smp_plan.specs.Stops", "smp_words"]),
     ("asked", "What is asked", "Strata, first stage units, how many of each are drawn, and what is asked of each.", ["smp_strata", "smp_prob", "smp_plan"]),
     ("written", "What is written", "The log, the report, and the texts they are made of.",
-     ["smp_weights", "smp_log.specs.Heads", "smp_log.specs.Logs", "smp_log.specs.SectionLogs", "smp_app.specs.Texts", "smp_balance",
+     ["smp_weights", "smp_log.specs.Heads", "smp_log.specs.Logs", "smp_log.specs.SectionLogs", "smp_app.specs.Texts", "IsReported", "smp_balance",
       "smp_twostage.specs.Lines", "smp_log.specs.Lines", "smp_split.specs.Kinds"]),
     ("plan", "The tree of a plan", "How the trees of the stages make that of a plan.",
      ["smp_rows", "smp_methods", "smp_stages", "smp_split", "smp_twostage", "smp_app.specs.Drawn"]),
     ("arithmetic", "Numbers", "Fractions, divisors, limits.", ["smp_fractions", "smp_frac", "smp_places", "smp_faults"]),
-    ("replay", "What else a call does", "The words of a call, a replay, a quick draw, a migration, a log that is refused.", []),
+    ("replay", "What else a call does", "The words of a call, a replay, a quick draw, a migration, a demonstration, a log that is refused.", []),
 ]
 WORDS = {page: words for page, words, _, _ in METHODS}
 VARIANTS = {page: variant for page, _, variant, _ in METHODS}
