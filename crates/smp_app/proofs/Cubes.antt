@@ -11,7 +11,7 @@ use Rattle.smp_moves.specs.Cubes.{left_in, values_in}
 use Rattle.smp_values.specs.Values.{is_one}
 use Rattle.smp_prob.specs.Inclusions.{asked_fraction, inclusion, is_taken}
 use Rattle.smp_frac.specs.LowestTerms.{lowest_terms}
-use Rattle.smp_balance.specs.Strata.{AreStratumUnits, column_count, free_values, values_of}
+use Rattle.smp_balance.specs.Strata.{AreStratumUnits, free_values, values_of}
 use Rattle.smp_balance.specs.Reports.{TellsOf}
 use Rattle.smp_balance.proofs.Balances.{each_is_balanced}
 use Rattle.smp_balance.proofs.Reports.{each_line_tells}
@@ -28,7 +28,7 @@ use Rattle.smp_strata.specs.declared.strata.Stratum.{Stratum}
 use Rattle.smp_twostage.specs.Covered.{covered_left}
 use Rattle.smp_twostage.specs.Laws.Numbering.{first_there}
 use Rattle.smp_twostage.specs.Cubes.{IsDrawnByCube, IsDrawnTogether, balancing, by_cube, by_local_cube, frame_of, leaf_of}
-use Rattle.smp_twostage.specs.Selections.{Selecting, all_of, balance_count, covered_stages, covered_states, first_number, first_stage, place_together, stage_of_strata, stages_of, tree_of as stage_tree, units_at, valued}
+use Rattle.smp_twostage.specs.Selections.{Selecting, all_of, covered_stages, covered_states, first_number, first_stage, place_together, stage_of_strata, stages_of, tree_of as stage_tree, units_at, valued}
 use Rattle.smp_strata.specs.Seats.{first_fraction, unit_fraction}
 use Rattle.smp_strata.specs.declared.strata.Seat.{Seat}
 use Rattle.smp_twostage.specs.Lines.{seat_values, told, told_seats}
@@ -50,7 +50,7 @@ use Rattle.smp_app.proofs.Together.{tells_together}
 map_same : {A : Type 0} (f g : ℕ → A) (xs : List ℕ) → ((k : ℕ) → f k ≡ g k) → map f xs ≡ map g xs
 map_same f g xs same = ap (λ h. map h xs) (fun_ext same)
 
-module _ (plan : Plan) (drawable : CanBeDrawn (parts plan)) (balance : balances plan.design.method ≡ true) (apart : draws_together plan.design.method ≡ false) (h : ℕ) (s : Stratum) (is : slice_get (parts plan).strata h ≡ Some s) where
+module _ (plan : Plan) (drawable : CanBeDrawn (parts plan)) (balance : balances plan.design.procedure.method ≡ true) (apart : draws_together plan.design.procedure.method ≡ false) (h : ℕ) (s : Stratum) (is : slice_get (parts plan).strata h ≡ Some s) where
   abbrev all : Parts
   all = parts plan
 
@@ -79,7 +79,7 @@ module _ (plan : Plan) (drawable : CanBeDrawn (parts plan)) (balance : balances 
     over_units says = ap (map says) seats ∙ map-map says seat units
 
     long : length (balancing all s).values ≡ length s.units
-    long = length-map s.units (λ u. take (balance_count all s) u.values)
+    long = length-map s.units (λ u. take all.procedure.balance u.values)
 
     tells_of : TellsOf (balancing all s) (is_one (values_in (leaf_of drawn))) (told (covered here) to.states h)
     tells_of = record {
@@ -102,10 +102,10 @@ module _ (plan : Plan) (drawable : CanBeDrawn (parts plan)) (balance : balances 
     left_by_cube : (d : IsDrawnByCube all h s part to.states) → left_by (Some (first_stage all s)) (slice_get to.states (first_number all h)) ≡ left_in (leaf_of d)
     left_by_cube (by_cube m d) =
         ap (left_by (Some (first_stage all s))) d.leaf_is
-        ∙ ap (λ way. left_at (design_by way all.order all.near (column_count (valued s)) s.request (free_values (valued s))) (states.Cube d.leaf)) m
+        ∙ ap (λ m. left_at (design_by m all.procedure s.request (free_values (valued s))) (states.Cube d.leaf)) m
     left_by_cube (by_local_cube m d) =
         ap (left_by (Some (first_stage all s))) d.leaf_is
-        ∙ ap (λ way. left_at (design_by way all.order all.near (column_count (valued s)) s.request (free_values (valued s))) (states.LocalCube d.leaf)) m
+        ∙ ap (λ m. left_at (design_by m all.procedure s.request (free_values (valued s))) (states.LocalCube d.leaf)) m
 
     left_is : (told (covered here) to.states h).left ≡ left_in (leaf_of drawn)
     left_is =
@@ -120,7 +120,7 @@ module _ (plan : Plan) (drawable : CanBeDrawn (parts plan)) (balance : balances 
       left = left_is;
     }
 
-left_together : (plan : Parts) → draws_together plan.method ≡ true → (part : List Entry) (ends : List AnyState) (drawn : IsDrawnTogether plan part ends)
+left_together : (plan : Parts) → draws_together plan.procedure.method ≡ true → (part : List Entry) (ends : List AnyState) (drawn : IsDrawnTogether plan part ends)
     → (told (all_of plan) ends 0).left ≡ left_in drawn.leaf
 left_together plan together part ends drawn =
     let one : covered_left (all_of plan) ends 0 ≡ left_by (slice_get (stage_of_strata plan ∷ []) (place_together plan.strata 0 0).stage) (slice_get ends 0) = rw together refl in
@@ -135,9 +135,9 @@ module _ (plan : FramePlan) (planned : IsPlanned plan) (path : List Entry) (to :
   -- what the start says of the path and of the leaf
   record Has (p : Parts) : Type 0 where
     goes : Goes p
-    cubes : balances p.method ≡ true → draws_together p.method ≡ false → (h : ℕ) (s : Stratum) → slice_get p.strata h ≡ Some s → IsDrawnByCube p h s (goes.part (first_number p h)) to.states
-    together : draws_together p.method ≡ true → IsDrawnTogether p (goes.part 0) to.states
-    balanced : draws_together p.method ≡ true → IsBalancedFrame (frame_of p)
+    cubes : balances p.procedure.method ≡ true → draws_together p.procedure.method ≡ false → (h : ℕ) (s : Stratum) → slice_get p.strata h ≡ Some s → IsDrawnByCube p h s (goes.part (first_number p h)) to.states
+    together : draws_together p.procedure.method ≡ true → IsDrawnTogether p (goes.part 0) to.states
+    balanced : draws_together p.procedure.method ≡ true → IsBalancedFrame (frame_of p)
 
   pub keeps_balance : (goes : Goes plan.plan) (start : Progress AnyState) → StartsWhole plan.plan start → KeepsBalance (record { plan = plan_view plan; only = None; leaf = to; path = path })
   keeps_balance goes start starts =

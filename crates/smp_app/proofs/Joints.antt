@@ -43,9 +43,9 @@ draws_so : (method : Method) (order : Order) (second : Option Second) → has_jo
 draws_so Systematic Frame None h = (refl, (refl, refl))
 draws_so method order second h = absurd (cc)
 
-joints_so : (made design : ReadDesign) → unless_no_joints made ≡ Ok design → (has_joints made.design.method made.design.order made.design.second ≡ true) × (made ≡ design)
+joints_so : (made design : ReadDesign) → unless_no_joints made ≡ Ok design → (has_joints made.design.procedure.method made.design.procedure.order made.design.second ≡ true) × (made ≡ design)
 joints_so made design h =
-    elim (cases_Bool (has_joints made.design.method made.design.order made.design.second)) [
+    elim (cases_Bool (has_joints made.design.procedure.method made.design.procedure.order made.design.second)) [
       | inl e ↦ (let same : ◌≡◌ {A = Result ReadDesign Stop} (Ok made) (Ok design) = rw e at h in (e, cc))
       | inr e ↦ absurd (let same : ◌≡◌ {A = Result ReadDesign Stop} (Err (Refused status.NoJoint)) (Ok design) = rw e at h in cc)
     ]
@@ -63,7 +63,7 @@ few_so name units few h =
 -- what was read for them
 record DesignedForJoint (name : List ℕ) (fs : Files) (design : ReadDesign) : Type 0 where
   read : Designed name fs design
-  has : has_joints design.design.method design.design.order design.design.second ≡ true
+  has : has_joints design.design.procedure.method design.design.procedure.order design.design.second ≡ true
 
 designed_for_joint : (name : List ℕ) (fs : Files) (design : ReadDesign) → design_stage (HeldForJoint name) fs ≡ Ok design → DesignedForJoint name fs design
 unfolding design_stage
@@ -121,7 +121,7 @@ module _ (a : DesignArguments) (fs : Files) (before now : Outside) (words : List
       let designed_so = designed_for_joint a.design fs design.value design.first_is in
       let planned_so = planned_for_joint design.value a.frame fs plan design.then_is in
       let framed = frame_plan design.value a.frame fs plan planned_so.read in
-      let so = draws_so plan.design.method plan.design.order plan.design.second (subst (λ (d : Design). has_joints d.method d.order d.second ≡ true) (sym framed.0) designed_so.has) in
+      let so = draws_so plan.design.procedure.method plan.design.procedure.order plan.design.second (subst (λ (d : Design). has_joints d.procedure.method d.procedure.order d.second ≡ true) (sym framed.0) designed_so.has) in
       let systematic : IsSystematicPlan (parts plan) = record { method = so.0; order = so.1.0; second = ap (option_map (λ (second : Second). second.method)) so.1.1 } in
       record {
         plan = plan;

@@ -185,7 +185,7 @@ module _ (line : ℕ) where
 
   joints_out : (read : ReadDesign) → unless_no_joints read ≡ Err (Refused (status.LogDiffers line)) → ⊥
   joints_out read h =
-      elim (cases_Bool (has_joints read.design.method read.design.order read.design.second)) [
+      elim (cases_Bool (has_joints read.design.procedure.method read.design.procedure.order read.design.second)) [
         | inl e ↦ (let ends : ◌≡◌ {A = Result ReadDesign Stop} (Ok read) (Err (Refused (status.LogDiffers line))) = rw e at h in cc)
         | inr e ↦ (let ends : ◌≡◌ {A = Result ReadDesign Stop} (Err (Refused status.NoJoint)) (Err (Refused (status.LogDiffers line))) = rw e at h in cc)
       ]

@@ -157,7 +157,7 @@ one_by false plan h = refl
 
 is_one_by : (only : Option ℕ) (plan : Parts) → IfSome only (λ h. (strata_sections (record { plan = plan; only = only })).count ≡ 1)
 is_one_by None plan = tt
-is_one_by (Some h) plan = one_by (draws_together plan.method) plan h
+is_one_by (Some h) plan = one_by (draws_together plan.procedure.method) plan h
 
 -- one section alone is one
 pub is_one : (plan : Parts) (only : Option ℕ) (started : StartedWhole) → IsStart plan only started → IfSome only (λ h. (strata_sections started.whole).count ≡ 1)
@@ -247,11 +247,11 @@ module _ (plan : FramePlan) (planned : IsPlanned plan) where
 
       abbrev AroundBy : Parts → Type 0
       AroundBy p =
-          balances plan.design.method ≡ false → (h : ℕ) (s : Stratum) → slice_get p.strata h ≡ Some s
+          balances plan.design.procedure.method ≡ false → (h : ℕ) (s : Stratum) → slice_get p.strata h ≡ Some s
           → IfSome plan.design.columns.prob (λ column. IsAround (count_by (covered_first (all_of p) to.states h) (range_with_len 0 (length s.units))) (expected_size (first_probs plan.design plan.frame h)))
 
-      method_is : plan.plan.method ≡ plan.design.method
-      method_is = ap (λ (p : Parts). p.method) planned.parts_are
+      method_is : plan.plan.procedure.method ≡ plan.design.procedure.method
+      method_is = ap (λ (p : Parts). p.procedure.method) planned.parts_are
 
       around_by : (prob : Option (List ℕ)) → (count : ℕ) (expected sum : Fraction) → IfSome prob (λ column. Same expected sum) → IsAround count expected → IfSome prob (λ column. IsAround count sum)
       around_by (Some column) count expected sum same is = around_same count (same_sym same) is

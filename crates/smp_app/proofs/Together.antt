@@ -34,7 +34,7 @@ use Rattle.smp_strata.specs.declared.strata.Stratum.{Stratum}
 use Rattle.smp_twostage.specs.Cubes.{IsDrawnTogether, balancing, frame_of}
 use Rattle.smp_twostage.specs.Lines.{seat_values, told, told_seats}
 use Rattle.smp_twostage.specs.Plans.{CanBeDrawn}
-use Rattle.smp_twostage.specs.Selections.{all_of, balance_count, place_of, units_at}
+use Rattle.smp_twostage.specs.Selections.{all_of, place_of, units_at}
 use Rattle.smp_twostage.specs.Starts.{covered_first}
 use Rattle.smp_twostage.specs.Laws.Places.{StandsIn, place_is_seat}
 use Rattle.smp_twostage.specs.Laws.Staged.{place_stands}
@@ -50,7 +50,7 @@ use Rattle.smp_split.specs.Paths.{Entry}
 abbrev pub HasLoneRows : List Stratum → Type 0
 HasLoneRows strata = All (λ (s : Stratum). All (λ (u : FirstUnit). length u.rows ≡ 1) s.units) strata
 
-module _ (plan : Parts) (drawable : CanBeDrawn plan) (together : draws_together plan.method ≡ true) (lone : HasLoneRows plan.strata) where
+module _ (plan : Parts) (drawable : CanBeDrawn plan) (together : draws_together plan.procedure.method ≡ true) (lone : HasLoneRows plan.strata) where
   abbrev rows : List ℕ
   rows = range_with_len 0 plan.rows
 
@@ -125,7 +125,7 @@ module _ (plan : Parts) (drawable : CanBeDrawn plan) (together : draws_together 
   width_is : (h : ℕ) → h < length plan.strata → width h ≡ length (stratum_at (frame_of plan) h).values
   width_is h l =
       let s = some_within plan.strata h l in
-      let units : length (balancing plan s.0).values ≡ length s.0.units = length-map s.0.units (λ u. take (balance_count plan s.0) u.values) in
+      let units : length (balancing plan s.0).values ≡ length s.0.units = length-map s.0.units (λ u. take plan.procedure.balance u.values) in
       ap (λ (o : Option Stratum). length (units_at o)) s.1
       ∙ sym (ap (λ (t : StratumUnits). length t.values) (stratum_is h s.0 s.1) ∙ units)
 
@@ -229,7 +229,7 @@ lone_rows plan one =
     All-map (λ (s : Stratum). All (λ (u : FirstUnit). length u.rows ≡ 1) s.units) (stratum_of plan.design plan.units) (strata_numbers plan.units) (λ k d l. lone_in plan.design plan.units one (get_or (strata_numbers plan.units) k d))
 
 -- what is told of a draw of all strata together
-pub tells_together : (plan : Plan) → CanBeDrawn (parts plan) → draws_together plan.design.method ≡ true → (part : List Entry) (ends : List AnyState) (drawn : IsDrawnTogether (parts plan) part ends)
+pub tells_together : (plan : Plan) → CanBeDrawn (parts plan) → draws_together plan.design.procedure.method ≡ true → (part : List Entry) (ends : List AnyState) (drawn : IsDrawnTogether (parts plan) part ends)
     → (column : ℕ) → TellsColumn (told (all_of (parts plan)) ends 0) (frame_of (parts plan)) (is_one (values_in drawn.leaf)) column
 tells_together plan drawable together part ends drawn column =
     tells_variable (parts plan) drawable together (lone_rows plan (drawable.together together).one_stage) ends drawn.leaf drawn.leaf_is column

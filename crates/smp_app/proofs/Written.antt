@@ -62,15 +62,15 @@ module _ (plan : Plan) (r : ℕ) (u : unit.Unit) (within : r < length plan.units
   id_is = sym (get_or-map (λ (v : unit.Unit). v.id) plan.units r u [] within ∙ ap (λ (v : unit.Unit). v.id) (sym is))
 
 module _ (plan : FramePlan) (planned : IsPlanned plan) (h r : ℕ) where
-  section_by : (together : Bool) → draws_together plan.plan.method ≡ together → is_of_section (parts (plan_view plan)) h r ≡ is_in_section together plan.plan h r
+  section_by : (together : Bool) → draws_together plan.plan.procedure.method ≡ together → is_of_section (parts (plan_view plan)) h r ≡ is_in_section together plan.plan h r
   section_by together is = ap (λ (p : Parts). is_of_section p h r) (sym planned.parts_are) ∙ ap (λ (b : Bool). is_in_section b plan.plan h r) is
 
   -- where all strata are drawn together, each row is of the section
-  pub stands_in_all : draws_together plan.plan.method ≡ true → is_of_section (parts (plan_view plan)) h r ≡ true
+  pub stands_in_all : draws_together plan.plan.procedure.method ≡ true → is_of_section (parts (plan_view plan)) h r ≡ true
   stands_in_all together = section_by true together
 
   -- else it is one of the stratum of its seat
-  pub stands_in_its : draws_together plan.plan.method ≡ false → r < length plan.frame → (seat : Seat) → ((other : Seat) → IsSeat plan.plan.strata r other → other ≡ seat)
+  pub stands_in_its : draws_together plan.plan.procedure.method ≡ false → r < length plan.frame → (seat : Seat) → ((other : Seat) → IsSeat plan.plan.strata r other → other ≡ seat)
       → is_of_section (parts (plan_view plan)) h r ≡ nat_eq seat.stratum h
   stands_in_its apart within seat once =
       let seated = planned.drawable.sound.seated.seats r (omega (arith, within, ap (λ (p : Parts). p.rows) planned.parts_are)) in

@@ -62,10 +62,10 @@ pub record IsTogetherDraw (drawn : Drawn) (goes : Goes drawn) : Type 0 where
 -- The path is made of the stages' own paths; and where the method balances, each stratum is drawn so, or all strata together.
 pub record KeepsBalance (drawn : Drawn) : Type 0 where
   pub goes : Goes drawn
-  pub cubes : balances drawn.plan.design.method ≡ true
-      → draws_together drawn.plan.design.method ≡ false → (h : ℕ) (s : Stratum)
+  pub cubes : balances drawn.plan.design.procedure.method ≡ true
+      → draws_together drawn.plan.design.procedure.method ≡ false → (h : ℕ) (s : Stratum)
       → slice_get (parts drawn.plan).strata h ≡ Some s → IsCubeDraw drawn goes h s
-  pub together : draws_together drawn.plan.design.method ≡ true → IsTogetherDraw drawn goes
+  pub together : draws_together drawn.plan.design.procedure.method ≡ true → IsTogetherDraw drawn goes
 
 -- ---- what is drawn by a plan
 
@@ -100,7 +100,7 @@ pub record IsDrawnBy (drawn : Drawn) : Type 0 where
       → firsts_drawn drawn h s ≡ n
   -- Where the design gives the probabilities, as many are drawn by every method that doesn't balance as these add up to, or, where that
   -- isn't a whole number, one of the two whole numbers around it.
-  pub around : balances drawn.plan.design.method ≡ false → (h : ℕ) (s : Stratum)
+  pub around : balances drawn.plan.design.procedure.method ≡ false → (h : ℕ) (s : Stratum)
       → slice_get (parts drawn.plan).strata h ≡ Some s
       → IfSome drawn.plan.design.columns.prob (λ column. IsAround (firsts_drawn drawn h s)
       (expected_size (first_probs drawn.plan.design drawn.plan.units h)))

@@ -28,13 +28,13 @@ pub record TellsSection (lines : balance.Drawn) (frame : List StratumUnits) (sel
 -- The report tells what was drawn where the method balances: of each stratum that is drawn by the cube or the local cube, or of all strata
 -- together, the estimates at their leaf and what was left to its landing.
 pub record TellsBalance (drawn : Drawn) (kept : KeepsBalance drawn) : Type 0 where
-  pub cubes : (balanced : balances drawn.plan.design.method ≡ true)
-      (apart : draws_together drawn.plan.design.method ≡ false) (h : ℕ) (s : Stratum)
+  pub cubes : (balanced : balances drawn.plan.design.procedure.method ≡ true)
+      (apart : draws_together drawn.plan.design.procedure.method ≡ false) (h : ℕ) (s : Stratum)
       (is : slice_get (parts drawn.plan).strata h ≡ Some s)
       → let leaf = leaf_of (kept.cubes balanced apart h s is).drawn_so in
       TellsSection (told (covered drawn) drawn.leaf.states h) (balancing (parts drawn.plan) s ∷ [])
       (is_one (values_in leaf)) (left_in leaf)
-  pub together : (all : draws_together drawn.plan.design.method ≡ true)
+  pub together : (all : draws_together drawn.plan.design.procedure.method ≡ true)
       → let leaf = (kept.together all).drawn_so.leaf in
       TellsSection (told (covered drawn) drawn.leaf.states 0) (frame_of (parts drawn.plan))
       (together.is_one (values_in leaf)) (left_in leaf)

@@ -146,7 +146,7 @@ fn rows_in(plan: &FramePlan, stratum: usize) -> usize
     let units = plan.frame.units().len();
     let mut rows = 0;
     for row in 0..units {
-        if plan.plan.method().draws_together() || plan.plan.seat(row).stratum == stratum {
+        if plan.plan.procedure().method.draws_together() || plan.plan.seat(row).stratum == stratum {
             rows += 1;
         }
     }

@@ -6,15 +6,14 @@ use Rattle.smp_split.specs.Counts.{selected_units}
 use Rattle.smp_split.specs.Runs.{Outcome, leaf, stopped, run}
 use Rattle.smp_split.specs.Trees.{Tree}
 use Rattle.smp_prob.specs.Requested.{positive_units, requested_of}
-use Rattle.smp_prob.specs.declared.orders.Order.TheVariants.{Frame}
 use Rattle.smp_prob.specs.declared.requests.Request.{Request}
 use Rattle.smp_rows.specs.Rows.{rows_tree}
+use Rattle.smp_design.specs.Procedures.{without_values}
 use Rattle.smp_design.specs.declared.method.Method.{Method}
 use Rattle.smp_methods.specs.declared.any.AnyDesign.{AnyDesign}
 use Rattle.smp_methods.specs.declared.any.AnyState.{AnyState}
 use Rattle.smp_methods.specs.Designs.{design_of, first_state}
 use Rattle.smp_methods.specs.Methods.{method_of}
-use Rattle.smp_methods.specs.Procedures.{procedure}
 use Rattle.smp_cases.specs.declared.fault.CaseFault.{CaseFault}
 use Rattle.smp_cases.specs.declared.fault.CaseFault.TheVariants.{TooMany, Draw, Long, NoMemory}
 
@@ -22,7 +21,7 @@ use Rattle.smp_cases.specs.declared.fault.CaseFault.TheVariants.{TooMany, Draw, 
 
 -- the design that draws the free units of a request by a method, without columns of values, in frame order
 abbrev pub design : Method → Request → AnyDesign
-design method request = design_of (procedure method Frame 0 0) request (map (λ _. []) request.free)
+design method request = design_of (without_values method) request (map (λ _. []) request.free)
 
 -- The draw tree of a case over all units. The certain ones are selected at each leaf, those of size 0 at none.
 abbrev pub case_tree : Method → List ℕ → ℕ → Tree AnyState

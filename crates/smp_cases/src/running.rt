@@ -3,21 +3,20 @@
 ghost use Rattle.std.specs.Prelude.{◌≡◌, ◌<◌, ◌≤◌, true, false, length, map, slice_index, EachIndex, IfOk, []};
 ghost use Rattle.smp_fractions.specs.Limits.{number_limit};
 ghost use Rattle.smp_cases.specs.Cases.{drawn, is_memory, mask, verdict};
+ghost use Rattle.smp_design.specs.Procedures.{without_values};
 ghost use Rattle.smp_design.specs.Words.{needs_columns};
 ghost use Rattle.smp_faults.specs.Memory.{Reads};
 ghost use Rattle.smp_methods.specs.Methods.{method_of};
-ghost use Rattle.smp_methods.specs.Procedures.{procedure};
 ghost use Rattle.smp_methods.specs.Starts.{IsStarted};
-ghost use Rattle.smp_prob.specs.declared.orders.Order.TheVariants.{Frame};
 ghost use Rattle.smp_prob.specs.Requests.{IsRequest};
 ghost use Rattle.smp_rows.specs.Rows.{BelongsToRows, rows_tree};
 ghost use Rattle.smp_split.specs.Counts.{selected_units};
 ghost use Rattle.smp_values.specs.Starts.{IsWhole};
 
 use crate::CaseFault;
-use smp_design::{Method, Order};
+use smp_design::{Method, Procedure};
 use smp_frac::NoMemory;
-use smp_methods::{Procedure, Started, no_values};
+use smp_methods::{Started, no_values};
 use smp_prob::{ProbFault, Request, requested};
 use smp_rows::Rows;
 use smp_split::{NoTrace, Splitting, WalkFault, walk};
@@ -31,28 +30,17 @@ pub fn needs_columns(method: Method) -> bool
     method.needs_columns()
 }
 
-// How a method without columns draws, in frame order.
-#[tactic(auto, using(smp_design::proofs::Rows::takes_unless_needed))]
-fn procedure(method: Method) -> Procedure
-    requires { needs_columns method ≡ false }
-    ensures { result ≡ procedure method Frame 0 0 }
-{
-    match Procedure::of_method(method, Order::Frame, 0, 0) {
-        Some(procedure) => procedure,
-        None => unreachable!(),
-    }
-}
-
 // Starts to draw the free units of a request by a method.
 fn start(alloc: Global, method: Method, request: &Request) -> Result<Started, NoMemory>
     requires method { needs_columns method ≡ false }
     requires request { IsRequest request.now }
     requires whole { IsWhole request.now }
     ensures { IfOk result
-        (IsStarted (procedure method Frame 0 0) request.now (map (λ _. []) request.now.free)) }
+        (IsStarted (without_values method) request.now (map (λ _. []) request.now.free)) }
 {
     let values = no_values(alloc, request)?;
-    Started::new(alloc, procedure(method), request, values.as_slice())
+    let procedure = Procedure::without_values(method);
+    Started::new(alloc, procedure, request, values.as_slice())
 }
 
 // The units that a done state selects, as a mask.

@@ -1,5 +1,5 @@
 -- Every design that was read keeps the ranges, and its parts go together.
-use Rattle.std.proofs.Common.{◌≡◌, ℕ, ◌≤◌, Bool, true, false, not, ◌&&◌, List, [], ◌++◌, length, Option, Some, None, IfSome, IfOk, Result, Ok, Err, codes, refl, sym, ap, ◌∙◌, subst, arith, inl, inr, length-append}
+use Rattle.std.proofs.Common.{◌≡◌, ℕ, ◌+◌, Bool, true, false, not, ◌&&◌, List, [], length, Option, Some, None, IfSome, IfOk, Result, Ok, Err, codes, refl, sym, ap, ◌∙◌, subst, inl, inr, length-append}
 use Rattle.std.specs.Prelude.{IfNone, OnSome, option_and_then, is_some, unwrap_or}
 use Rattle.std.proofs.lemmas.Bool.{cases_Bool}
 use Rattle.toml.specs.Data.{Members, get_member}
@@ -15,8 +15,9 @@ use Rattle.smp_design.specs.declared.reading.UnitColumns.{UnitColumns}
 use Rattle.smp_design.specs.declared.reading.SampleSize.{SampleSize}
 use Rattle.smp_design.specs.declared.reading.SecondStage.{SecondStage}
 use Rattle.smp_design.specs.declared.reading.ValueColumns.{ValueColumns}
-use Rattle.smp_design.specs.Bounds.{IsDesign, HasOnlyProbabilities, From1To, Ascend, AreNear, least_values, most_values}
+use Rattle.smp_design.specs.Bounds.{IsDesign, HasOnlyProbabilities, Ascend}
 use Rattle.smp_design.specs.Designs.{document, unit_columns, sample_size, value_columns, second_stage, values, design_of}
+use Rattle.smp_design.specs.Procedures.{AreNeeded, From1To}
 use Rattle.smp_design.specs.Keys
 use Rattle.smp_design.specs.Keys.{has, version_of, unknown_key, missing_key}
 use Rattle.smp_faults.specs.Steps.{or_fault}
@@ -29,29 +30,19 @@ use Rattle.smp_design.proofs.ValueBounds.{Few, version-range}
 use Rattle.smp_design.proofs.KnownKeys.{prob_in_2}
 use Rattle.smp_design.proofs.Stages.{NoneMissing, none_missing, NoClash, no_clash, UnitFacts, unit_facts, SampleFacts, sample_facts, ValueFacts, value_facts, SecondFacts, second_facts, needs-is}
 
--- the number of columns that a method with these needs takes
-record Fits (needs : Needs) (columns : ValueColumns) : Type 0 where
-  pub some : least_values needs ≤ length columns.names
-  pub few : length columns.names ≤ most_values needs
-  pub near : AreNear needs columns.near (length columns.names)
-
+-- the columns of a method with these needs are those that it needs
 fits : (needs : Needs) (b n : Option (List (List ℕ))) → IfSome b (Few 15) → IfSome n (Few 4) → (is_some b && not (is_balance needs)) ≡ false → (is_some n && not (is_near needs)) ≡ false
-    → (is_balance needs ≡ true → is_some b ≡ true) → (is_near needs ≡ true → is_some n ≡ true) → Fits needs (record { names = unwrap_or b [] ++ unwrap_or n []; near = length (unwrap_or n []) })
-fits Nothing None None few few' h k balance near = record { some = omega arith; few = omega arith; near = refl }
+    → (is_balance needs ≡ true → is_some b ≡ true) → (is_near needs ≡ true → is_some n ≡ true) → AreNeeded needs (length (unwrap_or b [])) (length (unwrap_or n []))
+fits Nothing None None few few' h k balance near = (refl, refl)
 fits Nothing (Some xs) n few few' h k balance near = absurd (cc)
 fits Nothing None (Some xs) few few' h k balance near = absurd (cc)
-fits Balance (Some xs) None few few' h k balance near =
-    record { some = omega (arith, few.0, length-append xs []); few = omega (arith, few.1, length-append xs []); near = refl }
+fits Balance (Some xs) None few few' h k balance near = (few, refl)
 fits Balance (Some xs) (Some ys) few few' h k balance near = absurd (cc)
 fits Balance None n few few' h k balance near = absurd (let there = balance refl in cc)
 fits Near (Some xs) n few few' h k balance near = absurd (cc)
-fits Near None (Some xs) few few' h k balance near = record { some = few'.0; few = few'.1; near = refl }
+fits Near None (Some xs) few few' h k balance near = (refl, few')
 fits Near None None few few' h k balance near = absurd (let there = near refl in cc)
-fits Both (Some xs) (Some ys) few few' h k balance near = record {
-  some = omega (arith, few.0, few'.0, length-append xs ys);
-  few = omega (arith, few.1, few'.1, length-append xs ys);
-  near = ((few'.0, few'.1), (omega (arith, few.0, length-append xs ys), omega (arith, few.1, length-append xs ys)));
-}
+fits Both (Some xs) (Some ys) few few' h k balance near = (few, few')
 fits Both (Some xs) None few few' h k balance near = absurd (let there = near refl in cc)
 fits Both None n few few' h k balance near = absurd (let there = balance refl in cc)
 
@@ -99,10 +90,8 @@ not_random o h k = absurd (cc)
 abbrev parts : ℕ → Method → UnitColumns → SampleSize → ValueColumns → SecondStage → Design
 parts version m unit sample columns second = record {
   version = version;
-  method = m;
-  order = sample.order;
+  procedure = record { method = m; order = sample.order; balance = columns.balance; near = columns.near };
   columns = record { id = unit.id; stratum = unit.stratum; psu = second.psu; size = unit.size; second_size = second.size; prob = sample.prob; values = columns.names };
-  near = columns.near;
   n = sample.n;
   sizes = sample.sizes;
   second = second.second;
@@ -129,7 +118,7 @@ parts_are_design : (version : ℕ) (t : Members) (m : Method) (unit : UnitColumn
     → NoClash t m → Ascend sample.sizes → IsDesign (parts version m unit sample columns second)
 parts_are_design version t m unit sample columns second is missing method_is u s v w clash ascend =
     let needs_is = needs-is version t m method_is in
-    let f = subst (λ (xs : ValueColumns). Fits (row m).needs xs) v.is (fits (row m).needs v.balance v.near v.balance_few v.near_few
+    let f = subst (λ (xs : ValueColumns). AreNeeded (row m).needs xs.balance xs.near) v.is (fits (row m).needs v.balance v.near v.balance_few v.near_few
     (ap (λ b. b && not (is_balance (row m).needs)) v.balance_there ∙ clash.balance)
     (ap (λ b. b && not (is_near (row m).needs)) v.near_there ∙ clash.near)
     (λ balance. v.balance_there ∙ both _ (has (codes "balance") t) missing.balance (ap is_balance needs_is ∙ balance))
@@ -145,13 +134,14 @@ parts_are_design version t m unit sample columns second is missing method_is u s
       prob = on_some sample.prob _ (λ there. only_probabilities version t m unit sample columns second is u s w clash (sym s.prob_there ∙ there));
       strata = if_none sample.n _ (λ no_n. if_none sample.prob _ (λ no_prob.
           u.stratum_there ∙ both (has (codes "sizes") t) (has (codes "stratum") t) clash.strata (one_of (has (codes "n") t) (has (codes "sizes") t) (has (codes "prob") t) missing.sized (sym s.n_there ∙ no_n) (sym s.prob_there ∙ no_prob))));
-      order = λ random. elim (cases_Bool (has (codes "order") t)) [
-        | inl there ↦ both (has (codes "order") t) (row m).takes_order clash.order there
-        | inr none ↦ absurd (not_random sample.order (s.no_order none) random)
-      ];
-      some_values = f.some;
-      few_values = f.few;
-      near_values = f.near;
+      procedure = record {
+        order = λ random. elim (cases_Bool (has (codes "order") t)) [
+          | inl there ↦ both (has (codes "order") t) (row m).takes_order clash.order there
+          | inr none ↦ absurd (not_random sample.order (s.no_order none) random)
+        ];
+        columns = f;
+      };
+      values = subst (λ (xs : ValueColumns). length xs.names ≡ xs.balance + xs.near) v.is (length-append (unwrap_or v.balance []) (unwrap_or v.near []));
       second_size = w.size;
       second_method = w.method;
       second_first = on_some second.second _ (λ there. (takes_one there).0);
@@ -160,7 +150,7 @@ parts_are_design version t m unit sample columns second is missing method_is u s
       second_sizes = w.sizes;
     }
 
-values_are_design : (version : ℕ) (t : Members) (d : Design) → IsVersionOf version t → NoneMissing version t → values version t ≡ Ok d → NoClash t d.method → Ascend d.sizes → IsDesign d
+values_are_design : (version : ℕ) (t : Members) (d : Design) → IsVersionOf version t → NoneMissing version t → values version t ≡ Ok d → NoClash t d.procedure.method → Ascend d.sizes → IsDesign d
 unfolding values
 values_are_design version t d is_version missing h clash ascend =
     let m = went (good (codes "method") (option_and_then (method version) (get_member (codes "method") t))) _ d h in
@@ -172,7 +162,7 @@ values_are_design version t d is_version missing h clash ascend =
     let v = value_facts t columns.value columns.is in
     let w = second_facts version (get_member (codes "second") t) second.value second.is in
     let is : parts version m.value unit.value sample.value columns.value second.value ≡ d = (let same : ◌≡◌ {A = Result Design _} (Ok (parts version m.value unit.value sample.value columns.value second.value)) (Ok d) = second.gives in cc) in
-    subst (λ (e : Design). NoClash t e.method → Ascend e.sizes → IsDesign e) is
+    subst (λ (e : Design). NoClash t e.procedure.method → Ascend e.sizes → IsDesign e) is
     (parts_are_design version t m.value unit.value sample.value columns.value second.value is_version missing (is_good (codes "method") (option_and_then (method version) (get_member (codes "method") t)) m.value m.is) (unit_facts t unit.value unit.is) s v w) clash ascend
 
 pub is_design : (bytes : List ℕ) (d : Design) → design_of bytes ≡ Ok d → Ascend d.sizes → IsDesign d
@@ -183,12 +173,12 @@ is_design bytes d h ascend =
     let unknown = went (none_found UnknownKey (unknown_key v.value t.value)) _ d v.gives in
     let missing = went (none_found MissingKey (missing_key v.value t.value)) _ d unknown.gives in
     let design = went (values v.value t.value) _ d missing.gives in
-    let clash = went (none_found (λ keys. Clash keys.0 keys.1) (Keys.clash t.value design.value.method)) _ d design.gives in
+    let clash = went (none_found (λ keys. Clash keys.0 keys.1) (Keys.clash t.value design.value.procedure.method)) _ d design.gives in
     let is : design.value ≡ d = (let same : ◌≡◌ {A = Result Design _} (Ok design.value) (Ok d) = clash.gives in cc) in
     let number = goes_on version (get_member (codes "version") t.value) v.value (is_there Version (version_of t.value) v.value v.is) in
     let is_version : IsVersionOf v.value t.value = record { within = version-range number.value v.value number.gives; known = found_none UnknownKey (unknown_key v.value t.value) unknown.value unknown.is } in
     subst (λ (e : Design). Ascend e.sizes → IsDesign e) is
-    (values_are_design v.value t.value design.value is_version (none_missing v.value t.value (found_none MissingKey (missing_key v.value t.value) missing.value missing.is)) design.is (no_clash t.value design.value.method (found_none (λ keys. Clash keys.0 keys.1) (Keys.clash t.value design.value.method) clash.value clash.is))) ascend
+    (values_are_design v.value t.value design.value is_version (none_missing v.value t.value (found_none MissingKey (missing_key v.value t.value) missing.value missing.is)) design.is (no_clash t.value design.value.procedure.method (found_none (λ keys. Clash keys.0 keys.1) (Keys.clash t.value design.value.procedure.method) clash.value clash.is))) ascend
 
 -- what was read is a design
 pub read_is_design : (bytes : List ℕ) (result : Result Design DesignFault) → Reads is_memory result (design_of bytes) → IfOk result (λ d. Ascend d.sizes) → IfOk result IsDesign

@@ -6,7 +6,7 @@ use Rattle.std.specs.Cmp.Lexicographic.{slice_cmp}
 use Rattle.std.proofs.lemmas.Map.Text.{is_eq-slice_cmp}
 use Rattle.std.proofs.lemmas.Slice.Eq.{bytes_eq-Decides}
 use Rattle.toml.specs.Data.{Data, Members, no_members, member, get_member}
-use Rattle.smp_design.specs.Bounds.{From1To}
+use Rattle.smp_design.specs.Procedures.{From1To}
 use Rattle.smp_design.specs.Values.{last_version}
 use Rattle.smp_design.specs.Keys.{first_key, is_among, keys_of, first_unknown, has, known_keys, unknown_key}
 use Rattle.smp_design.proofs.Went.{neither}

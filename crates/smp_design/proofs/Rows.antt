@@ -1,72 +1,39 @@
 -- What the columns of a method's row say.
-use Rattle.std.proofs.Common.{◌≡◌, ◌⊎◌, ℕ, ◌+◌, ◌-◌, ◌≤◌, true, false, nat_eq, nat_le, refl, ap, inl, inr, arith}
-use Rattle.std.specs.Prelude.{◌&&◌, not}
-use Rattle.std.proofs.lemmas.Bool.{and_from, and_parts, eq-eqb, le-leb, leb-true}
+use Rattle.std.proofs.Common.{◌≡◌, ◌⊎◌, ℕ, ◌+◌, ◌≤◌, true, false, refl, ap, inl, inr, arith}
+use Rattle.std.specs.Prelude.{not}
 use Rattle.smp_design.specs.declared.method.Method.{Method}
 use Rattle.smp_design.specs.declared.method.Method.TheVariants.{Cube, LocalCube, StratifiedCube, Systematic}
 use Rattle.smp_design.specs.declared.method.Needs.{Needs}
 use Rattle.smp_design.specs.declared.method.Needs.TheVariants.{Nothing, Balance, Near, Both}
-use Rattle.smp_design.specs.Bounds.{AreNear, least_values, most_values}
-use Rattle.smp_design.specs.Words.{row, balances, draws_together, fits_columns, in_second, is_balance, is_nothing, most_balance, most_near, needs_columns, takes_columns}
+use Rattle.smp_design.specs.Procedures.{AreNeeded, From1To, IsProcedure, without_values}
+use Rattle.smp_design.specs.Words.{row, balances, draws_together, in_second, is_balance, is_nothing, most_balance, most_near, needs_columns}
 
--- what a method with both needs takes
-pub record TakesBoth (near columns : ℕ) : Type 0 where
-  pub some : 1 ≤ near
-  pub few : near ≤ most_near
-  pub within : near ≤ columns
-  pub balance : columns - near ≤ most_balance
+-- ---- the columns of a procedure
 
-pub takes_both : (near columns : ℕ) → fits_columns Both near columns ≡ true → TakesBoth near columns
-takes_both near columns fits =
-    let a = and_parts (nat_le 1 near && nat_le near most_near && nat_le near columns) (nat_le (columns - near) most_balance) fits in
-    let b = and_parts (nat_le 1 near && nat_le near most_near) (nat_le near columns) a.0 in
-    let c = and_parts (nat_le 1 near) (nat_le near most_near) b.0 in
-    record {
-      some = leb-true 1 near c.0;
-      few = leb-true near most_near c.1;
-      within = leb-true near columns b.1;
-      balance = leb-true (columns - near) most_balance a.1;
-    }
+-- a method that balances has balancing columns, and few
+pub balance_columns : (needs : Needs) (balance near : ℕ) → is_balance needs ≡ true → AreNeeded needs balance near → From1To most_balance balance
+balance_columns Nothing balance near h are = absurd (cc)
+balance_columns Balance balance near h are = are.0
+balance_columns Near balance near h are = absurd (cc)
+balance_columns Both balance near h are = are.0
 
-balance_few : (needs : Needs) (near columns : ℕ) → is_balance needs ≡ true → fits_columns needs near columns ≡ true → columns - near ≤ most_balance
-balance_few Nothing near columns balance fits = absurd (cc)
-balance_few Balance near columns balance fits =
-    (let parts = and_parts (nat_eq near 0) (nat_le columns most_balance) fits in omega (arith, leb-true columns most_balance parts.1))
-balance_few Near near columns balance fits = absurd (cc)
-balance_few Both near columns balance fits = (takes_both near columns fits).balance
+-- in all they are few
+pub few_columns : (needs : Needs) (balance near : ℕ) → AreNeeded needs balance near → balance + near ≤ most_balance + most_near
+few_columns Nothing balance near are = omega (arith, are.0, are.1)
+few_columns Balance balance near are = omega (arith, are.0.1, are.1)
+few_columns Near balance near are = omega (arith, are.0, are.1.1)
+few_columns Both balance near are = omega (arith, are.0.1, are.1.1)
 
--- the columns on which a method balances are few
-pub balances_few : (method : Method) (near columns : ℕ) → balances method ≡ true → takes_columns method near columns ≡ true → columns - near ≤ most_balance
-balances_few method near columns = balance_few (row method).needs near columns
+none_needed : (needs : Needs) → is_nothing needs ≡ true → AreNeeded needs 0 0
+none_needed Nothing nothing = (refl, refl)
+none_needed other nothing = absurd (cc)
 
-fit : (needs : Needs) (near columns : ℕ) → least_values needs ≤ columns → columns ≤ most_values needs → AreNear needs near columns → fits_columns needs near columns ≡ true
-fit Nothing near columns some few are = refl
-fit Balance near columns some few are = and_from (nat_eq near 0) (nat_le columns most_balance) (eq-eqb near 0 are) (le-leb columns most_balance few)
-fit Near near columns some few are = and_from (nat_le 1 columns) (nat_le columns most_near) (le-leb 1 columns some) (le-leb columns most_near few)
-fit Both near columns some few are =
-    and_from (nat_le 1 near && nat_le near most_near && nat_le near columns) (nat_le (columns - near) most_balance)
-    (and_from (nat_le 1 near && nat_le near most_near) (nat_le near columns)
-    (and_from (nat_le 1 near) (nat_le near most_near) (le-leb 1 near are.0.0) (le-leb near most_near are.0.1))
-    (le-leb near columns (omega (arith, are.1.0))))
-    (le-leb (columns - near) most_balance are.1.1)
+-- a method that needs no columns, over units without values
+pub bare : (method : Method) → in_second method ≡ true → IsProcedure (without_values method)
+bare method nothing = record { order = λ random. absurd (cc); columns = none_needed (row method).needs nothing }
 
--- a method can be used with as many columns as a design has for it
-pub takes_own : (method : Method) (near columns : ℕ) → least_values (row method).needs ≤ columns → columns ≤ most_values (row method).needs → AreNear (row method).needs near columns →
-    takes_columns method near columns ≡ true
-takes_own method near columns = fit (row method).needs near columns
-
-none_fit : (needs : Needs) → is_nothing needs ≡ true → fits_columns needs 0 0 ≡ true
-none_fit Nothing nothing = refl
-none_fit Balance nothing = refl
-none_fit Near nothing = absurd (cc)
-none_fit Both nothing = absurd (cc)
-
--- a method that needs no columns can be used without any
-pub takes_nothing : (method : Method) → in_second method ≡ true → takes_columns method 0 0 ≡ true
-takes_nothing method = none_fit (row method).needs
-
-pub takes_unless_needed : (method : Method) → needs_columns method ≡ false → takes_columns method 0 0 ≡ true
-takes_unless_needed method needed = takes_nothing method (nothing_is (row method).needs needed)
+pub bare_unless_needed : (method : Method) → needs_columns method ≡ false → IsProcedure (without_values method)
+bare_unless_needed method needed = bare method (nothing_is (row method).needs needed)
   where
     nothing_is : (needs : Needs) → not (is_nothing needs) ≡ false → is_nothing needs ≡ true
     nothing_is Nothing e = refl
@@ -101,10 +68,3 @@ second_apart other second = refl
 pub systematic_apart : (method : Method) → method ≡ Systematic → draws_together method ≡ false
 unfolding row
 systematic_apart method is = ap draws_together is
-
--- a design has few columns of values
-pub few_columns : (needs : Needs) → most_values needs ≤ most_balance + most_near
-few_columns Nothing = omega arith
-few_columns Balance = omega arith
-few_columns Near = omega arith
-few_columns Both = omega arith

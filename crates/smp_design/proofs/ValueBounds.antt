@@ -7,7 +7,8 @@ use Rattle.smp_fractions.specs.Limits.{most_rows}
 use Rattle.toml.specs.Data.{Data, Members, no_members, member, as_integer, as_array, as_table}
 use Rattle.smp_design.specs.declared.design.Quota as quota
 use Rattle.smp_design.specs.declared.method.Method.{Method}
-use Rattle.smp_design.specs.Bounds.{From1To, InRange}
+use Rattle.smp_design.specs.Bounds.{InRange}
+use Rattle.smp_design.specs.Procedures.{From1To}
 use Rattle.smp_design.specs.Values.{last_version, from_1_to, integer_to, version, number, method, second_method, names, strings, quotas_of, quotas, optional}
 use Rattle.smp_design.specs.Words.{in_second}
 use Rattle.smp_design.proofs.Went.{goes_on, mapped, passes}

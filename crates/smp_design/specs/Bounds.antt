@@ -1,46 +1,18 @@
 -- What is true of every design that was read.
-use Rattle.std.specs.Prelude.{◌≡◌, ℕ, ◌+◌, ◌-◌, ◌≤◌, List, [], length, map, None, IsSome, IfSome, IfNone, OnSome, IsTrue, All, is_some}
-use Rattle.std.specs.Prelude.{false}
+use Rattle.std.specs.Prelude.{◌≡◌, ℕ, ◌+◌, false, List, [], length, map, None, IsSome, IfSome, IfNone, OnSome, IsTrue, All, is_some}
 use Rattle.std.specs.Ordering.{nat_cmp}
 use Rattle.std.specs.Cmp.Lexicographic.{slice_cmp}
 use Rattle.std.specs.List.Sorted.{IsStrictlySortedBy}
 use Rattle.smp_fractions.specs.Limits.{most_rows}
-use Rattle.smp_prob.specs.declared.orders.Order.TheVariants as the_order
-use Rattle.smp_design.specs.declared.method.Needs.{Needs}
-use Rattle.smp_design.specs.declared.method.Needs.TheVariants.{Nothing, Balance, Near, Both}
 use Rattle.smp_design.specs.declared.design.Design.{Design}
 use Rattle.smp_design.specs.declared.design.Quota as quota
+use Rattle.smp_design.specs.Procedures.{From1To, IsProcedure}
 use Rattle.smp_design.specs.Values.{last_version}
-use Rattle.smp_design.specs.Words.{row, draws_together, in_second, is_near, most_balance, most_near}
-
--- a whole number from 1 to `most`
-abbrev pub From1To : ℕ → ℕ → Type 0
-From1To most n = (1 ≤ n) × (n ≤ most)
+use Rattle.smp_design.specs.Words.{row, draws_together, in_second, is_near}
 
 -- a number of units
 abbrev pub InRange : ℕ → Type 0
 InRange n = From1To most_rows n
-
--- the least number of columns of values, by what a method needs
-abbrev pub least_values : Needs → ℕ
-least_values Nothing = 0
-least_values Balance = 1
-least_values Near = 1
-least_values Both = 2
-
--- the greatest number of columns of values, by what a method needs
-abbrev pub most_values : Needs → ℕ
-most_values Nothing = 0
-most_values Balance = most_balance
-most_values Near = most_near
-most_values Both = most_balance + most_near
-
--- so many columns of `near` among so many columns of values, by what a method needs: none, all, or those behind the ones of `balance`
-abbrev pub AreNear : Needs → ℕ → ℕ → Type 0
-AreNear Nothing near columns = near ≡ 0
-AreNear Balance near columns = near ≡ 0
-AreNear Near near columns = near ≡ columns
-AreNear Both near columns = From1To most_near near × From1To most_balance (columns - near)
 
 -- quotas in byte order of their strata's names, which differ
 abbrev pub Ascend : List quota.Quota → Type 0
@@ -65,15 +37,13 @@ pub record IsDesign (d : Design) : Type 0 where
   pub one_size : OnSome d.n (d.sizes ≡ [])
   pub prob : OnSome d.columns.prob (HasOnlyProbabilities d)
   pub strata : IfNone d.n (IfNone d.columns.prob (IsSome d.columns.stratum))
-  -- what the method takes
-  pub order : d.order ≡ the_order.Random → IsTrue (row d.method).takes_order
-  pub some_values : least_values (row d.method).needs ≤ length d.columns.values
-  pub few_values : length d.columns.values ≤ most_values (row d.method).needs
-  pub near_values : AreNear (row d.method).needs d.near (length d.columns.values)
+  -- what the method takes, and the columns of its values: those of `balance`, and then those of `near`
+  pub procedure : IsProcedure d.procedure
+  pub values : length d.columns.values ≡ d.procedure.balance + d.procedure.near
   -- the second stage, whose first stage units stand in a column
   pub second_size : IfSome d.second (λ s. InRange s.n)
   pub second_method : IfSome d.second (λ s. IsTrue (in_second s.method))
-  pub second_first : OnSome d.second (is_near (row d.method).needs ≡ false)
-  pub second_apart : OnSome d.second (draws_together d.method ≡ false)
+  pub second_first : OnSome d.second (is_near (row d.procedure.method).needs ≡ false)
+  pub second_apart : OnSome d.second (draws_together d.procedure.method ≡ false)
   pub psu : is_some d.columns.psu ≡ is_some d.second
   pub second_sizes : IfNone d.second (d.columns.second_size ≡ None)

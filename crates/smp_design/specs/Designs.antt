@@ -42,7 +42,11 @@ unfoldable pub value_columns : Members → Result ValueColumns DesignFault
 value_columns t = do
   balance ← good (codes "balance") (optional (names 15) (get_member (codes "balance") t))
   near ← good (codes "near") (optional (names 4) (get_member (codes "near") t))
-  Ok (record { names = unwrap_or balance [] ++ unwrap_or near []; near = length (unwrap_or near []) })
+  Ok (record {
+    names = unwrap_or balance [] ++ unwrap_or near [];
+    balance = length (unwrap_or balance []);
+    near = length (unwrap_or near []);
+  })
 
 -- the second stage of the table `second`, in a design of this version
 unfoldable pub second_stage_of : ℕ → Members → Result SecondStage DesignFault
@@ -68,8 +72,12 @@ values version t = do
   second ← second_stage version (get_member (codes "second") t)
   Ok (record {
     version = version;
-    method = method;
-    order = sample.order;
+    procedure = record {
+      method = method;
+      order = sample.order;
+      balance = columns.balance;
+      near = columns.near;
+    };
     columns = record {
       id = unit.id;
       stratum = unit.stratum;
@@ -79,7 +87,6 @@ values version t = do
       prob = sample.prob;
       values = columns.names;
     };
-    near = columns.near;
     n = sample.n;
     sizes = sample.sizes;
     second = second.second;
@@ -93,5 +100,5 @@ design_of bytes = do
   _ ← none_found UnknownKey (unknown_key version t)
   _ ← none_found MissingKey (missing_key version t)
   design ← values version t
-  _ ← none_found (λ keys. Clash keys.0 keys.1) (clash t design.method)
+  _ ← none_found (λ keys. Clash keys.0 keys.1) (clash t design.procedure.method)
   Ok design

@@ -1,4 +1,5 @@
 pub mod Words
+pub mod Procedures
 pub mod Keys
 pub mod Values
 pub mod Faults

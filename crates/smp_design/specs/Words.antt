@@ -1,5 +1,5 @@
 -- The table of the methods, and the words of a design for methods and orders.
-use Rattle.std.specs.Prelude.{ℕ, ◌-◌, nat_eq, nat_le, ◌&&◌, not, List, [], ◌∷◌, Bool, true, false, Option, codes, find}
+use Rattle.std.specs.Prelude.{ℕ, ◌&&◌, not, List, [], ◌∷◌, Bool, true, false, Option, codes, find}
 use Rattle.std.specs.Str.{bytes_eq}
 use Rattle.smp_prob.specs.declared.orders.Order.{Order}
 use Rattle.smp_prob.specs.declared.orders.Order.TheVariants.{Frame, Random}
@@ -82,18 +82,6 @@ most_balance = 15
 -- the most columns of `near`
 abbrev pub most_near : ℕ
 most_near = 4
-
--- so many columns, so many of which are those of `near`, are what is needed: where nothing is, any columns are left alone
-abbrev pub fits_columns : Needs → ℕ → ℕ → Bool
-fits_columns Nothing near columns = true
-fits_columns Balance near columns = nat_eq near 0 && nat_le columns most_balance
-fits_columns Near near columns = nat_le 1 columns && nat_le columns most_near
-fits_columns Both near columns =
-    nat_le 1 near && nat_le near most_near && nat_le near columns && nat_le (columns - near) most_balance
-
--- whether a method can be used with so many columns of values, so many of which are those of `near`
-abbrev pub takes_columns : Method → ℕ → ℕ → Bool
-takes_columns method near columns = fits_columns (row method).needs near columns
 
 -- whether the method needs columns of values
 abbrev pub needs_columns : Method → Bool

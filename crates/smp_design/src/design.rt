@@ -1,9 +1,8 @@
 //! A design and its parts.
 
-use crate::Method;
+use crate::{Method, Procedure};
 use smp_frac::{Items, Text};
 use smp_frame::Columns;
-use smp_prob::Order;
 
 /// The design of a sample.
 #[derive(Drop)]
@@ -11,14 +10,10 @@ pub struct Design {
     /// The version, 1 or 2.
     pub version: u32,
     /// How the first stage units of each stratum are drawn.
-    pub method: Method,
-    /// In which order the method takes the units.
-    pub order: Order,
+    pub procedure: Procedure,
     /// The columns of the frame. The values are those on which the method balances, and then the coordinates of its
     /// points.
     pub columns: Columns,
-    /// How many of the columns of values are coordinates, from 0 to 4.
-    pub near: u32,
     /// How many first stage units are drawn from all strata together, from 1 to 200,000; `None` where it is said for
     /// each stratum, or where the columns name one of probabilities.
     pub n: Option<u32>,

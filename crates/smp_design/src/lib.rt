@@ -10,11 +10,13 @@ mod entries;
 mod fault;
 mod keys;
 mod method;
+mod procedure;
 mod reading;
 mod values;
 
 pub use design::{Design, Quota, Quotas, Second};
 pub use fault::DesignFault;
 pub use method::Method;
+pub use procedure::Procedure;
 pub use reading::read_design;
 pub use smp_prob::Order;

@@ -107,21 +107,6 @@ impl Needs {
     {
         matches!(self, Needs::Near | Needs::Both)
     }
-
-    // Whether so many columns, so many of which are those of `near`, are what is needed. Where nothing is needed, any
-    // columns are left alone.
-    fn fits(self, near: usize, columns: usize) -> bool
-        ensures { result ≡ Words.fits_columns self near columns }
-    {
-        match self {
-            Needs::Nothing => true,
-            Needs::Balance => near == 0 && columns <= MAX_BALANCE,
-            Needs::Near => 1 <= columns && columns <= MAX_NEAR,
-            Needs::Both => {
-                1 <= near && near <= MAX_NEAR && near <= columns && columns - near <= MAX_BALANCE
-            }
-        }
-    }
 }
 
 // What a design may say of a method.
@@ -204,15 +189,6 @@ impl Method {
         ensures { result ≡ (row self).draws_whole }
     {
         self.row().draws_whole
-    }
-
-    /// Whether the method can be used with so many columns of values: those on which it balances, or
-    /// the coordinates of its points, or those and then these, so many of which are coordinates. A method
-    /// that needs no columns leaves any alone.
-    pub fn takes_columns(self, near: usize, columns: usize) -> bool
-        ensures { result ≡ Words.takes_columns self near columns }
-    {
-        self.row().needs.fits(near, columns)
     }
 
     /// Whether the method needs columns of values.

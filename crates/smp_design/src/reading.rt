@@ -18,7 +18,7 @@ use crate::entries::{
 use crate::keys::value_at;
 use crate::method::{MAX_BALANCE, MAX_NEAR};
 use crate::values::{method, number, second_method};
-use crate::{Design, DesignFault, Quotas, Second};
+use crate::{Design, DesignFault, Procedure, Quotas, Second};
 use smp_frac::{NoMemory, Text};
 use smp_frame::{Columns, Names};
 use smp_prob::Order;
@@ -46,7 +46,7 @@ fn checked_design(alloc: Global, bytes: &[u8]) -> Result<Design, DesignFault>
     check_known(alloc, &table, version)?;
     check_needed(alloc, &table, version)?;
     let design = values(alloc, &table, version)?;
-    check_clash(alloc, &table, design.method)?;
+    check_clash(alloc, &table, design.procedure.method)?;
     Ok(design)
 }
 
@@ -84,8 +84,12 @@ fn values(alloc: Global, table: &Table, version: u32) -> Result<Design, DesignFa
     let second = second_stage(alloc, table, version)?;
     Ok(Design {
         version,
-        method,
-        order: sample.order,
+        procedure: Procedure {
+            method,
+            order: sample.order,
+            balance: values.balance,
+            near: values.near,
+        },
         columns: Columns {
             id: unit.id,
             stratum: unit.stratum,
@@ -95,7 +99,6 @@ fn values(alloc: Global, table: &Table, version: u32) -> Result<Design, DesignFa
             prob: sample.prob,
             values: values.names,
         },
-        near: values.near,
         n: sample.n,
         sizes: sample.sizes,
         second: second.second,
@@ -155,11 +158,12 @@ fn quotas_or_none(alloc: Global, quotas: Option<Quotas>) -> Quotas
     }
 }
 
-/// The columns of values, and how many of them are those of `near`, which come last.
+/// The columns of values: so many of `balance`, and then so many of `near`.
 #[derive(Drop)]
 struct ValueColumns {
     names: Names,
-    near: u32,
+    balance: usize,
+    near: usize,
 }
 
 #[tactic(auto, unfolding(crate::specs::Designs::value_columns))]
@@ -180,7 +184,8 @@ fn value_columns(alloc: Global, table: &Table) -> Result<ValueColumns, DesignFau
     let near = names_or_none(alloc, near);
     Ok(ValueColumns {
         names: joined(alloc, balance.as_slice(), near.as_slice())?,
-        near: near.as_slice().len() as u32,
+        balance: balance.as_slice().len(),
+        near: near.as_slice().len(),
     })
 }
 

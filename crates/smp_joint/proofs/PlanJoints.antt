@@ -1,5 +1,5 @@
 -- The joint probabilities of the rows of a plan that draws systematically, in the order of the frame and in one stage.
-use Rattle.std.proofs.Common.{◌≡◌, ◌≢◌, ℕ, zero, suc, ◌<◌, ◌≤◌, Bool, false, cond, List, [], ◌∷◌, ◌++◌, length, map, take, Option, Some, None, arith, refl, sym, ap, subst, ◌∙◌, inl, inr}
+use Rattle.std.proofs.Common.{◌≡◌, ◌≢◌, ℕ, zero, suc, ◌<◌, ◌≤◌, Bool, false, ℤ, cond, List, [], ◌∷◌, ◌++◌, length, map, take, Option, Some, None, arith, refl, sym, ap, subst, ◌∙◌, inl, inr}
 use Rattle.std.specs.Prelude.{option_map}
 use Rattle.std.specs.List.{slice_get}
 use Rattle.std.proofs.Math.Seq.{take-suc, take-length}
@@ -8,16 +8,21 @@ use Rattle.std.proofs.lemmas.List.{length-map, length-take-le, map-append}
 use Rattle.std.proofs.lemmas.Option.{get_or_from_slice_get, same_Some, slice_get-map, slice_get_within}
 use Rattle.smp_fractions.specs.Fractions.{Fraction, Same, times}
 use Rattle.smp_fractions.proofs.Fractions.{same_trans, times_same}
+use Rattle.smp_prob.specs.declared.orders.Order.{Order}
 use Rattle.smp_prob.specs.declared.orders.Order.TheVariants.{Frame}
 use Rattle.smp_prob.specs.declared.requests.Request.{Request}
 use Rattle.smp_split.specs.Means.{joint_probability}
+use Rattle.smp_design.specs.declared.method.Method.{Method}
+use Rattle.smp_design.specs.declared.method.Method.TheVariants.{Systematic}
+use Rattle.smp_design.specs.declared.procedure.Procedure.{Procedure}
 use Rattle.smp_design.specs.Words.{draws_together}
 use Rattle.smp_design.proofs.Rows.{systematic_apart}
+use Rattle.smp_methods.specs.declared.any.AnyDesign.{AnyDesign}
 use Rattle.smp_methods.specs.declared.any.AnyState.{AnyState}
 use Rattle.smp_values.proofs.Requests.{adds_to_draws}
 use Rattle.smp_values.specs.InOrder.{started}
 use Rattle.smp_methods.specs.declared.any.AnyDesign.TheVariants as designs
-use Rattle.smp_methods.specs.Designs.{first_state}
+use Rattle.smp_methods.specs.Designs.{design_by, design_of, first_state}
 use Rattle.smp_methods.specs.Methods.{method_of}
 use Rattle.smp_stages.specs.declared.places.Place.{Place}
 use Rattle.smp_stages.specs.declared.places.Seat.TheVariants as seat
@@ -94,6 +99,12 @@ module _ (plan : Parts) (one : plan.second ≡ None) where
         is = same_Some stage (first_stage plan s.0) (sym is ∙ ap (λ xs. slice_get xs i) stages_are ∙ slice_get-map (first_stage plan) plan.strata i ∙ ap (option_map (first_stage plan)) s.1);
       }
 
+-- by systematic selection in the order of the frame, the design takes no values
+systematic_is : (way : Procedure) (request : Request) (values : List (List ℤ)) → way.method ≡ Systematic → way.order ≡ Frame
+    → design_of way request values ≡ designs.Systematic (started request Frame)
+systematic_is way request values method order =
+    ap (λ (m : Method). design_by m way request values) method ∙ ap (λ (o : Order). designs.Systematic (started request o)) order
+
 module _ (plan : Parts) (drawable : CanBeDrawn plan) (so : IsSystematicPlan plan) where
   -- ---- the stage of a stratum
 
@@ -101,8 +112,11 @@ module _ (plan : Parts) (drawable : CanBeDrawn plan) (so : IsSystematicPlan plan
   abbrev systematic : ℕ → Request → Selecting
   systematic units request = record { units = units; request = request; design = designs.Systematic (started request Frame) }
 
+  abbrev drawn_by : Stratum → AnyDesign → Selecting
+  drawn_by s design = record { units = length s.units; request = s.request; design = design }
+
   design_is : (s : Stratum) → (first_stage plan s).design ≡ systematic (length s.units) s.request
-  design_is s = rw (so.method, so.order) refl
+  design_is s = ap (drawn_by s) (systematic_is plan.procedure s.request _ so.method so.order)
 
   module _ (h : ℕ) (s : Stratum) (is : slice_get plan.strata h ≡ Some s) where
     abbrev own : Selecting
@@ -219,8 +233,8 @@ module _ (plan : Parts) (drawable : CanBeDrawn plan) (so : IsSystematicPlan plan
     joint_rows = elim (cases_eq p.stratum q.stratum) [ inl same ↦ joint_one same | inr differ ↦ joint_two differ ]
 
   -- systematic selection draws each stratum by itself
-  apart : draws_together plan.method ≡ false
-  apart = systematic_apart plan.method so.method
+  apart : draws_together plan.procedure.method ≡ false
+  apart = systematic_apart plan.procedure.method so.method
 
   pub has_joints : HasJoints plan
   has_joints = record {

@@ -32,8 +32,8 @@ joint_fraction plan j k =
 
 -- the plan draws systematically, in the order of the frame and in one stage
 pub record IsSystematicPlan (plan : Parts) : Type 0 where
-  pub method : plan.method ≡ Systematic
-  pub order : plan.order ≡ Frame
+  pub method : plan.procedure.method ≡ Systematic
+  pub order : plan.procedure.order ≡ Frame
   pub second : plan.second ≡ None
 
 -- the joint probability of a unit with another unit of its stratum, and 0 with itself

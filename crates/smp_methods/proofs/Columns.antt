@@ -1,24 +1,18 @@
 -- A procedure takes the values that a frame has for it.
-use Rattle.std.proofs.Common.{◌≡◌, ℕ, zero, suc, ◌-◌, ◌^◌, ◌<◌, ◌≤◌, true, ℤ, List, [], ◌∷◌, length, map, take, get_or, Some, All, arith, refl, sym, ap, ap₂, subst, ◌∙◌, suc-le-suc, length-take}
-use Rattle.std.specs.Prelude.{◌&&◌, nat_eq, nat_le}
+use Rattle.std.proofs.Common.{◌≡◌, ℕ, zero, suc, ◌+◌, ◌-◌, ◌^◌, ◌<◌, ◌≤◌, ℤ, List, [], ◌∷◌, length, map, take, get_or, All, arith, refl, sym, ap₂, subst, ◌∙◌, suc-le-suc, length-take}
 use Rattle.std.specs.Int.RustNames.{unsigned_abs}
-use Rattle.std.proofs.lemmas.Bool.{and_parts, eqb-true, leb-true}
 use Rattle.std.proofs.lemmas.List.{take_all}
 use Rattle.std.proofs.lemmas.List.Elements.{All-get_or, All-map, All-take}
 use Rattle.smp_kernel.specs.Vectors.{Within}
 use Rattle.smp_design.specs.declared.method.Method.{Method}
-use Rattle.smp_design.specs.declared.method.Method.TheVariants.{Cube, LocalCube}
-use Rattle.smp_design.specs.Words.{row, balances, fits_columns, is_balance, most_balance, takes_columns}
-use Rattle.smp_design.proofs.Rows.{TakesBoth, balances_few, takes_both}
-use Rattle.smp_prob.specs.declared.orders.Order.{Order}
+use Rattle.smp_design.specs.declared.method.Method.TheVariants.{Cube, LocalCube, LocalPivotal}
+use Rattle.smp_design.specs.Words.{row, balances, is_balance}
+use Rattle.smp_design.proofs.Rows.{balance_columns}
 use Rattle.smp_flight.specs.Requests.{AreValues}
-use Rattle.smp_methods.specs.declared.procedure.Procedure.{Procedure}
-use Rattle.smp_methods.specs.Procedures.{NeededIf, TakesValues, balancing_values, procedure, procedure_of}
-use Rattle.smp_methods.proofs.Wholes.{needed_if, takes_of, way_of}
-
--- the coordinates of points are few
-pub few_points : (columns : ℕ) → (nat_le 1 columns && nat_le columns 4) ≡ true → (1 ≤ columns) × (columns ≤ 4)
-few_points columns h = let parts = and_parts (nat_le 1 columns) (nat_le columns 4) h in (leb-true 1 columns parts.0, leb-true columns 4 parts.1)
+use Rattle.smp_design.specs.declared.procedure.Procedure.{Procedure}
+use Rattle.smp_design.specs.Procedures.{AreNeeded, IsProcedure, without_values}
+use Rattle.smp_methods.specs.Procedures.{NeededIf, TakesValues, balancing_values}
+use Rattle.smp_methods.proofs.Wholes.{needed_if}
 
 module _ (columns : ℕ) (values : List (List ℤ)) (counted : All (λ v. length v ≡ columns) values) (small : All (Within (2 ^ 31 - 1)) values) where
   length_at : (k : ℕ) → k < length values → length (get_or values k []) ≡ columns
@@ -39,72 +33,66 @@ module _ (columns : ℕ) (values : List (List ℤ)) (counted : All (λ v. length
     within = λ k l. All-get_or (Within (2 ^ 31 - 1)) values k [] l small;
   }
 
--- the values before the coordinates
-module _ (near columns : ℕ) (values : List (List ℤ)) (counted : All (λ v. length v ≡ columns) values) (small : All (Within (2 ^ 31 - 1)) values) where
-  cut_counted : All (λ v. length v ≡ columns - near) (balancing_values near columns values)
+-- ---- the values of a frame that was read with the columns of a procedure
+
+module _ (way : Procedure) (values : List (List ℤ)) (counted : All (λ v. length v ≡ way.balance + way.near) values) (small : All (Within (2 ^ 31 - 1)) values) where
+  cut_counted : All (λ v. length v ≡ way.balance) (balancing_values way.balance values)
   cut_counted =
-      All-map (λ (v : List ℤ). length v ≡ columns - near) (take (columns - near)) values
-      (λ k d l. omega (arith, length-take (columns - near) (get_or values k d), counted k d l))
+      All-map (λ (v : List ℤ). length v ≡ way.balance) (take way.balance) values
+      (λ k d l. omega (arith, length-take way.balance (get_or values k d), counted k d l))
 
-  cut_small : All (Within (2 ^ 31 - 1)) (balancing_values near columns values)
+  cut_small : All (Within (2 ^ 31 - 1)) (balancing_values way.balance values)
   cut_small =
-      All-map (Within (2 ^ 31 - 1)) (take (columns - near)) values
-      (λ k d l. All-take (λ z. unsigned_abs z ≤ 2 ^ 31 - 1) (columns - near) (get_or values k d) (small k d l))
+      All-map (Within (2 ^ 31 - 1)) (take way.balance) values
+      (λ k d l. All-take (λ z. unsigned_abs z ≤ 2 ^ 31 - 1) way.balance (get_or values k d) (small k d l))
 
-  -- the values of a frame that was read with so many columns
-  pub procedure_takes : (m : Method) (order : Order) (way : Procedure) → procedure_of m order near columns ≡ Some way → TakesValues way values
-  procedure_takes m order way is =
-      let takes = takes_of m order near columns way is in
-      subst (λ (w : Procedure). TakesValues w values) (way_of m order near columns way is) (record {
-        columns = takes;
-        each = needed_if (balances m) (All (λ v. length v ≡ columns) values) (λ balance. counted);
-        balancing = needed_if (balances m) (AreValues (balancing_values near columns values))
-            (λ balance. are_values (columns - near) (balancing_values near columns values) cut_counted cut_small (balances_few m near columns balance takes));
-      })
+  pub procedure_takes : IsProcedure way → TakesValues way values
+  procedure_takes is = record {
+    columns = is.columns;
+    each = needed_if (balances way.method) (All (λ v. length v ≡ way.balance + way.near) values) (λ balance. counted);
+    balancing = needed_if (balances way.method) (AreValues (balancing_values way.balance values))
+        (λ balance. are_values way.balance (balancing_values way.balance values) cut_counted cut_small (balance_columns (row way.method).needs way.balance way.near balance is.columns).1);
+  }
 
 -- units that have no values
-pub takes_none : (m : Method) (order : Order) (units : List ℕ) → takes_columns m 0 0 ≡ true → TakesValues (procedure m order 0 0) (map (λ _. []) units)
-takes_none m order units takes =
-    procedure_takes 0 0 (map (λ _. []) units) (All-map (λ (v : List ℤ). length v ≡ 0) (λ _. []) units (λ k d l. refl))
-    (All-map (Within (2 ^ 31 - 1)) (λ _. []) units (λ k d l i e m. absurd (omega (arith, m)))) m order (procedure m order 0 0) (rw takes refl)
+pub takes_none : (m : Method) (units : List ℕ) → IsProcedure (without_values m) → TakesValues (without_values m) (map (λ _. []) units)
+takes_none m units is =
+    procedure_takes (without_values m) (map (λ _. []) units) (All-map (λ (v : List ℤ). length v ≡ 0) (λ _. []) units (λ k d l. refl))
+    (All-map (Within (2 ^ 31 - 1)) (λ _. []) units (λ k d l i e m. absurd (omega (arith, m)))) is
 
 -- ---- where no column is a coordinate
 
 -- all values are balanced
-no_cut : (columns : ℕ) (values : List (List ℤ)) → All (λ v. length v ≡ columns) values → balancing_values 0 columns values ≡ values
+no_cut : (columns : ℕ) (values : List (List ℤ)) → All (λ v. length v ≡ columns) values → balancing_values columns values ≡ values
 no_cut columns [] counted = refl
 no_cut columns (v ∷ values) counted =
-    ap₂ (λ (w : List ℤ) rest. w ∷ rest) (take_all (columns - 0) v (omega (arith, counted 0 [] (omega arith))))
+    ap₂ (λ (w : List ℤ) rest. w ∷ rest) (take_all columns v (omega (arith, counted 0 [] (omega arith))))
     (no_cut columns values (λ k d l. counted (suc k) d (suc-le-suc l)))
 
 module _ (way : Procedure) (values : List (List ℤ)) (takes : TakesValues way values) (is : (row way.method).needs ≡ (row Cube).needs) where
-  pub balanced_whole : balancing_values way.near way.columns values ≡ values
+  pub balanced_whole : balancing_values way.balance values ≡ values
   unfolding row
   balanced_whole =
-      let fits : (nat_eq way.near 0 && nat_le way.columns most_balance) ≡ true = subst (λ needs. fits_columns needs way.near way.columns ≡ true) is takes.columns in
-      let parts = and_parts (nat_eq way.near 0) (nat_le way.columns most_balance) fits in
-      let none : way.near ≡ 0 = eqb-true way.near 0 parts.0 in
-      let each : All (λ v. length v ≡ way.columns) values = subst (λ needs. NeededIf (is_balance needs) (All (λ v. length v ≡ way.columns) values)) is takes.each in
-      ap (λ near. balancing_values near way.columns values) none ∙ no_cut way.columns values each
+      let none : way.near ≡ 0 = (subst (λ needs. AreNeeded needs way.balance way.near) is takes.columns).1 in
+      let each : All (λ v. length v ≡ way.balance + way.near) values = subst (λ needs. NeededIf (is_balance needs) (All (λ v. length v ≡ way.balance + way.near) values)) is takes.each in
+      no_cut way.balance values (λ k d l. omega (arith, each k d l, none))
 
   pub whole_values : AreValues values
   unfolding row
   whole_values =
-      subst AreValues balanced_whole (subst (λ needs. NeededIf (is_balance needs) (AreValues (balancing_values way.near way.columns values))) is takes.balancing)
+      subst AreValues balanced_whole (subst (λ needs. NeededIf (is_balance needs) (AreValues (balancing_values way.balance values))) is takes.balancing)
 
--- ---- what the local cube needs of them
+-- ---- what the local methods need of them
+
+pub few_points : (way : Procedure) (values : List (List ℤ)) → TakesValues way values → way.method ≡ LocalPivotal → (1 ≤ way.near) × (way.near ≤ 4)
+unfolding row
+few_points way values takes is = (subst (λ m. AreNeeded (row m).needs way.balance way.near) is takes.columns).1
 
 module _ (way : Procedure) (values : List (List ℤ)) (takes : TakesValues way values) (is : way.method ≡ LocalCube) where
-  both : TakesBoth way.near way.columns
-  unfolding row
-  both = takes_both way.near way.columns (subst (λ m. takes_columns m way.near way.columns ≡ true) is takes.columns)
-
   pub local_near : (1 ≤ way.near) × (way.near ≤ 4)
-  local_near = (both.some, both.few)
-
-  pub local_within : way.near ≤ way.columns
-  local_within = both.within
-
-  pub local_values : AreValues (balancing_values way.near way.columns values)
   unfolding row
-  local_values = subst (λ m. NeededIf (balances m) (AreValues (balancing_values way.near way.columns values))) is takes.balancing
+  local_near = (subst (λ m. AreNeeded (row m).needs way.balance way.near) is takes.columns).1
+
+  pub local_values : AreValues (balancing_values way.balance values)
+  unfolding row
+  local_values = subst (λ m. NeededIf (balances m) (AreValues (balancing_values way.balance values))) is takes.balancing

@@ -1,5 +1,5 @@
 -- A design starts so, whoever starts it: as a lemma, without a call.
-use Rattle.std.proofs.Common.{◌≡◌, ℕ, zero, suc, ◌-◌, ◌^◌, ◌<◌, true≢false, ℤ, List, [], ◌∷◌, length, get_or, arith, refl, ◌∙◌}
+use Rattle.std.proofs.Common.{◌≡◌, ℕ, zero, suc, ◌^◌, ◌<◌, true≢false, ℤ, List, [], ◌∷◌, length, get_or, arith, refl, ◌∙◌}
 use Rattle.std.proofs.lemmas.List.{length-map}
 use Rattle.smp_fractions.specs.Fractions.{Same}
 use Rattle.smp_fractions.proofs.Fractions.{same_refl}
@@ -39,20 +39,19 @@ use Rattle.smp_brewer.proofs.First.{first_offers}
 use Rattle.smp_brewer.proofs.Starts.{brewing_starts, starts_requested as brewing_requested}
 use Rattle.smp_elim.proofs.Starting.{are_sizes, begun_at, drawn_within, starts_requested as elimination_requested}
 use Rattle.smp_methods.specs.declared.any.AnyDesign.{AnyDesign}
-use Rattle.smp_methods.specs.declared.procedure.Procedure.{Procedure}
-use Rattle.smp_methods.specs.Designs.{design_by, first_state}
-use Rattle.smp_methods.specs.Procedures.{NeedsWhole, TakesValues, balancing_values, procedure}
+use Rattle.smp_design.specs.declared.procedure.Procedure.{Procedure}
+use Rattle.smp_methods.specs.Designs.{design_of, first_state}
+use Rattle.smp_methods.specs.Procedures.{NeedsWhole, TakesValues, balancing_values}
 use Rattle.smp_methods.specs.Starts.{IsStarted}
-use Rattle.smp_methods.proofs.Columns.{few_points}
 use Rattle.smp_methods.proofs.OneStratum.{are_layers, are_numbers, one_requested}
 use Rattle.smp_methods.proofs.Starts.{is_started}
 
-module _ (order : Order) (near columns : ℕ) (request : Request) (values : List (List ℤ)) (is : IsRequest request) (one_each : length values ≡ length request.free) where
-  abbrev so : Method → AnyDesign
-  so m = design_by m order near columns request values
-
+module _ (order : Order) (balance near : ℕ) (request : Request) (values : List (List ℤ)) (is : IsRequest request) (one_each : length values ≡ length request.free) where
   abbrev way : Method → Procedure
-  way m = procedure m order near columns
+  way m = record { method = m; order = order; balance = balance; near = near }
+
+  abbrev so : Method → AnyDesign
+  so m = design_of (way m) request values
 
   abbrev First : Method → Type 0
   First m = NeedsWhole (way m) request → TakesValues (way m) values → IsStarted (way m) request values (record { design = so m; state = first_state (so m) })
@@ -64,7 +63,7 @@ module _ (order : Order) (near columns : ℕ) (request : Request) (values : List
   units = length (numerators request)
 
   abbrev balanced : List (List ℤ)
-  balanced = balancing_values near columns values
+  balanced = balancing_values balance values
 
   balanced_each : length balanced ≡ length request.free
   balanced_each = length-map values _ ∙ one_each
@@ -119,12 +118,12 @@ module _ (order : Order) (near columns : ℕ) (request : Request) (values : List
   by_local : First method.LocalPivotal
   unfolding row
   by_local whole takes =
-      let coords : List (List ℤ) = points_from columns 0 values in
-      let opens = starts_open request is coords columns (few_points columns takes.columns) (length-map values _ ∙ one_each) in
-      let starts = local_starts columns coords shares opens in
+      let coords : List (List ℤ) = points_from near 0 values in
+      let opens = starts_open request is coords near takes.columns.1 (length-map values _ ∙ one_each) in
+      let starts = local_starts near coords shares opens in
       is_started (way method.LocalPivotal) request values (so method.LocalPivotal) (first_state (so method.LocalPivotal)) whole refl
       (local_requested request is coords) refl
-      starts.means.member (λ _. starts.count) tt (λ _ _. local_around columns coords shares opens)
+      starts.means.member (λ _. starts.count) tt (λ _ _. local_around near coords shares opens)
 
   by_cube : First method.Cube
   unfolding row
@@ -137,7 +136,7 @@ module _ (order : Order) (near columns : ℕ) (request : Request) (values : List
   by_local_cube : First method.LocalCube
   unfolding row
   by_local_cube whole takes =
-      let coords : List (List ℤ) = points_from near (columns - near) values in
+      let coords : List (List ℤ) = points_from near balance values in
       let starts = local_cube_starts (record { units = units_of request balanced; coords = coords }) (flies takes.balancing) in
       is_started (way method.LocalCube) request values (so method.LocalCube) (first_state (so method.LocalCube)) whole refl
       (local_cube_requested request balanced coords is) refl
@@ -159,13 +158,18 @@ module _ (order : Order) (near columns : ℕ) (request : Request) (values : List
       one_layer count are zero l = layer_is request is balanced count (are_numbers balanced are)
       one_layer count are (suc h) l = absurd (omega (arith, l))
 
-  pub is_first : (m : Method) → First m
-  is_first method.Pivotal = by_pivotal
-  is_first method.Systematic = by_systematic
-  is_first method.MinimumSupport = by_support
-  is_first method.Brewer = by_brewer
-  is_first method.LocalPivotal = by_local
-  is_first method.Cube = by_cube
-  is_first method.Elimination = by_elimination
-  is_first method.LocalCube = by_local_cube
-  is_first method.StratifiedCube = by_strata
+  first_by : (m : Method) → First m
+  first_by method.Pivotal = by_pivotal
+  first_by method.Systematic = by_systematic
+  first_by method.MinimumSupport = by_support
+  first_by method.Brewer = by_brewer
+  first_by method.LocalPivotal = by_local
+  first_by method.Cube = by_cube
+  first_by method.Elimination = by_elimination
+  first_by method.LocalCube = by_local_cube
+  first_by method.StratifiedCube = by_strata
+
+-- the design of a request by a procedure, at its first state
+pub is_first : (way : Procedure) (request : Request) (values : List (List ℤ)) → IsRequest request → length values ≡ length request.free
+    → NeedsWhole way request → TakesValues way values → IsStarted way request values (record { design = design_of way request values; state = first_state (design_of way request values) })
+is_first way request values is one_each = first_by way.order way.balance way.near request values is one_each way.method

@@ -26,7 +26,7 @@ use Rattle.smp_design.proofs.Rows.{is_together}
 use Rattle.smp_methods.specs.declared.any.AnyDesign.{AnyDesign}
 use Rattle.smp_methods.specs.declared.any.AnyState.{AnyState}
 use Rattle.smp_methods.specs.declared.any.AnyState.TheVariants as states
-use Rattle.smp_methods.specs.declared.procedure.Procedure.{Procedure}
+use Rattle.smp_design.specs.declared.procedure.Procedure.{Procedure}
 use Rattle.smp_methods.specs.Designs.{Variant, design_by, design_of, design_of_strata, drawn_by, first_state, name_of, state_among, tree_among, variant, variant_of}
 use Rattle.smp_methods.specs.Methods.{method_of}
 use Rattle.smp_methods.specs.Kept.Alone.{AroundAlone, CountAlone, RequestedAlone, StrataAlone}
@@ -91,8 +91,8 @@ one_stratum layer member strata =
 module _ (way : Procedure) (request : Request) (values : List (List ℤ)) (design : AnyDesign) (made : design ≡ design_of way request values) (member : (method_of design).belongs (first_state design)) where
   by_strata : StrataAlone design (first_state design) → way.method ≡ StratifiedCube → HasCount (method_of design).tree (first_state design)
   by_strata strata is =
-      let layer : Layer = layer_of request (balancing_values way.near way.columns values) in
-      let same : design ≡ design_of_strata (layer ∷ []) = made ∙ ap (λ m. design_by m way.order way.near way.columns request values) is in
+      let layer : Layer = layer_of request (balancing_values way.balance values) in
+      let same : design ≡ design_of_strata (layer ∷ []) = made ∙ ap (λ m. design_by m way request values) is in
       subst (λ (d : AnyDesign). HasCount (method_of d).tree (first_state d)) (sym same)
       (one_stratum layer (subst (λ (d : AnyDesign). (method_of d).belongs (first_state d)) same member) (subst (λ (d : AnyDesign). StrataAlone d (first_state d)) same strata))
 
@@ -103,7 +103,7 @@ module _ (way : Procedure) (request : Request) (values : List (List ℤ)) (desig
       | inl together ↦ by_strata strata (is_together way.method together)
       | inr apart ↦
           count_among (variant_of design) count
-          (ap draws_together (ap drawn_by made ∙ drawn_by_method way.method way.order way.near way.columns request values) ∙ apart)
+          (ap draws_together (ap drawn_by made ∙ drawn_by_method way.method way request values) ∙ apart)
     ];
   }
 
@@ -119,7 +119,7 @@ is_started way request values design state whole made requested there member cou
     let asked : IsRequested (method_of own).tree request (first_state own) =
     subst (λ (d : AnyDesign). IsRequested (method_of d).tree request (first_state d)) made (requested_among (variant_of design) request requested) in
     let same : state ≡ first_state own = there ∙ ap first_state made in
-    let by_way : drawn_by own ≡ way.method = drawn_by_method way.method way.order way.near way.columns request values in
+    let by_way : drawn_by own ≡ way.method = drawn_by_method way.method way request values in
     record {
       design = made;
       state = same;

@@ -1,24 +1,23 @@
 -- The design of a request by a method is drawn by that method.
-use Rattle.std.proofs.Common.{◌≡◌, ℕ, false, ℤ, List, refl, ap, ◌∙◌}
-use Rattle.smp_prob.specs.declared.orders.Order.{Order}
+use Rattle.std.proofs.Common.{◌≡◌, false, ℤ, List, refl, ap, ◌∙◌}
 use Rattle.smp_prob.specs.declared.requests.Request.{Request}
 use Rattle.smp_split.specs.Counts.{LeavesSelectAround}
 use Rattle.smp_design.specs.declared.method.Method.{Method}
 use Rattle.smp_design.specs.declared.method.Method.TheVariants.{Pivotal}
 use Rattle.smp_design.specs.Words.{balances}
 use Rattle.smp_methods.specs.declared.any.AnyState.{AnyState}
-use Rattle.smp_methods.specs.declared.procedure.Procedure.{Procedure}
+use Rattle.smp_design.specs.declared.procedure.Procedure.{Procedure}
 use Rattle.smp_methods.specs.Designs.{design_by, design_of, drawn_by}
 use Rattle.smp_methods.specs.Methods.{method_of}
 use Rattle.smp_methods.specs.Starts.{SelectsAround}
 
 -- this is checked method by method
-pub drawn_by_method : (m : Method) (order : Order) (near columns : ℕ) (request : Request) (values : List (List ℤ)) → drawn_by (design_by m order near columns request values) ≡ m
-drawn_by_method Pivotal order near columns request values = refl
-drawn_by_method other order near columns request values = refl
+pub drawn_by_method : (m : Method) (way : Procedure) (request : Request) (values : List (List ℤ)) → drawn_by (design_by m way request values) ≡ m
+drawn_by_method Pivotal way request values = refl
+drawn_by_method other way request values = refl
 
 -- by a method that doesn't balance
 pub around_unless : (way : Procedure) (request : Request) (values : List (List ℤ)) (state : AnyState) → balances way.method ≡ false → SelectsAround (design_of way request values) state
     → LeavesSelectAround (method_of (design_of way request values)).tree state
 around_unless way request values state unbalanced around =
-    around (ap balances (drawn_by_method way.method way.order way.near way.columns request values) ∙ unbalanced)
+    around (ap balances (drawn_by_method way.method way request values) ∙ unbalanced)

@@ -1,7 +1,6 @@
 -- The design of a request by any procedure, its draw tree, and its first state. Each method has a row in each of two
 -- lists: how it starts, and by which tree it is drawn. What it owes stands in Methods.
-use Rattle.std.specs.Prelude.{◌≡◌, ℕ, ◌-◌, ℤ, List, [], ◌∷◌, length, Option, Some, None, refl}
-use Rattle.smp_prob.specs.declared.orders.Order.{Order}
+use Rattle.std.specs.Prelude.{◌≡◌, ℕ, ℤ, List, [], ◌∷◌, length, Option, Some, None, refl}
 use Rattle.smp_prob.specs.declared.requests.Request.{Request}
 use Rattle.smp_split.specs.Embeds.{embedded}
 use Rattle.smp_split.specs.Trees.{Tree}
@@ -32,7 +31,7 @@ use Rattle.smp_stratcube.specs.Layers.{Layer, layer_of}
 use Rattle.smp_stratcube.specs.Cube.{strat_tree}
 use Rattle.smp_stratcube.specs.Units as strata
 use Rattle.smp_methods.specs.Procedures.{balancing_values}
-use Rattle.smp_methods.specs.declared.procedure.Procedure.{Procedure}
+use Rattle.smp_design.specs.declared.procedure.Procedure.{Procedure}
 use Rattle.smp_methods.specs.declared.any.AnyDesign.{AnyDesign}
 use Rattle.smp_methods.specs.declared.any.AnyDesign.TheVariants as designs
 use Rattle.smp_methods.specs.declared.any.AnyState.{AnyState}
@@ -42,33 +41,32 @@ use Rattle.smp_methods.specs.declared.any.AnyState.TheVariants as states
 abbrev pub design_of_strata : List Layer → AnyDesign
 design_of_strata layers = designs.StratifiedCube (strata.units_of layers)
 
--- The design of a request by a method, with the requested values: with the units in this order, where so many columns of values are
--- read, the last `near` of them as coordinates. The values of the free units serve as coordinates, or as balancing values, or as
--- these and then those. By the cube over all strata it is that of one stratum.
-abbrev pub design_by : named.Method → Order → ℕ → ℕ → Request → List (List ℤ) → AnyDesign
-design_by method.Pivotal order near columns request values =
-    designs.Pivotal (pivotal.started request order)
-design_by method.Systematic order near columns request values =
-    designs.Systematic (systematic.started request order)
-design_by method.MinimumSupport order near columns request values =
+-- The design of a request by a method, with the requested values. The values of the free units serve as balancing values, or as
+-- coordinates, or as these behind those, so many of each as the procedure says. By the cube over all strata it is that of one stratum.
+abbrev pub design_by : named.Method → Procedure → Request → List (List ℤ) → AnyDesign
+design_by method.Pivotal way request values =
+    designs.Pivotal (pivotal.started request way.order)
+design_by method.Systematic way request values =
+    designs.Systematic (systematic.started request way.order)
+design_by method.MinimumSupport way request values =
     designs.MinimumSupport (support.started request)
-design_by method.Brewer order near columns request values = designs.Brewer (brewer.started request)
-design_by method.LocalPivotal order near columns request values =
-    designs.LocalPivotal (local.started request (points_from columns 0 values))
-design_by method.Cube order near columns request values =
-    designs.Cube (units_of request (balancing_values near columns values))
-design_by method.Elimination order near columns request values =
+design_by method.Brewer way request values = designs.Brewer (brewer.started request)
+design_by method.LocalPivotal way request values =
+    designs.LocalPivotal (local.started request (points_from way.near 0 values))
+design_by method.Cube way request values =
+    designs.Cube (units_of request (balancing_values way.balance values))
+design_by method.Elimination way request values =
     designs.Elimination (elimination.started request)
-design_by method.LocalCube order near columns request values = designs.LocalCube (record {
-  units = units_of request (balancing_values near columns values);
-  coords = points_from near (columns - near) values;
+design_by method.LocalCube way request values = designs.LocalCube (record {
+  units = units_of request (balancing_values way.balance values);
+  coords = points_from way.near way.balance values;
 })
-design_by method.StratifiedCube order near columns request values =
-    design_of_strata (layer_of request (balancing_values near columns values) ∷ [])
+design_by method.StratifiedCube way request values =
+    design_of_strata (layer_of request (balancing_values way.balance values) ∷ [])
 
 -- the same, by a procedure
 abbrev pub design_of : Procedure → Request → List (List ℤ) → AnyDesign
-design_of way request values = design_by way.method way.order way.near way.columns request values
+design_of way request values = design_by way.method way request values
 
 -- One method's design among all: its method's name; its draw tree; the design, which is seen as its first state; `into`, which puts
 -- the method's states among those of all methods, and `out`, which gives them back; and that it gives back what was put there.

@@ -13,7 +13,7 @@ use Rattle.smp_stratcube.specs.Requests.{AreRequested}
 use Rattle.smp_stratcube.specs.Units.{units_of}
 use Rattle.smp_methods.specs.declared.any.AnyDesign.{AnyDesign}
 use Rattle.smp_methods.specs.declared.any.AnyState.{AnyState}
-use Rattle.smp_methods.specs.declared.procedure.Procedure.{Procedure}
+use Rattle.smp_design.specs.declared.procedure.Procedure.{Procedure}
 use Rattle.smp_methods.specs.declared.start.Started.{Started}
 use Rattle.smp_methods.specs.Designs.{design_of, design_of_strata, drawn_by, first_state}
 use Rattle.smp_methods.specs.Methods.{method_of}

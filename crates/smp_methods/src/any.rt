@@ -12,10 +12,10 @@ ghost use Rattle.smp_methods.specs.Methods.{method_of};
 ghost use Rattle.smp_methods.specs.Kept.Alone.{AroundAlone, CountAlone, RequestedAlone, StepsAlone, StrataAlone};
 ghost use Rattle.smp_methods.specs.Procedures.{NeedsWhole, TakesValues};
 
+use crate::Boxed;
 use crate::local::local_cube;
 use crate::stratified::stratified_cube;
-use crate::{Boxed, Procedure};
-use smp_design::{Method, each_method};
+use smp_design::{Method, Procedure, each_method};
 use smp_frac::NoMemory;
 use smp_frame::Numbers;
 use smp_prob::Request;
@@ -81,7 +81,7 @@ macro_rules! by_method {
 
 impl AnyDesign {
     /// The design of a request by a procedure. Each free unit has the value that is requested.
-    #[tactic(auto, using(crate::proofs::Columns::few_points, crate::proofs::Columns::whole_values, crate::proofs::Columns::local_near, crate::proofs::Columns::local_within, crate::proofs::Columns::local_values, crate::proofs::Columns::balanced_whole), unfolding(smp_design::specs::Words::row))]
+    #[tactic(auto, using(crate::proofs::Columns::few_points, crate::proofs::Columns::whole_values, crate::proofs::Columns::local_near, crate::proofs::Columns::local_values, crate::proofs::Columns::balanced_whole), unfolding(smp_design::specs::Words::row))]
     pub(crate) fn new(
         alloc: Global,
         procedure: Procedure,
@@ -99,8 +99,8 @@ impl AnyDesign {
     {
         let Procedure {
             order,
+            balance,
             near,
-            columns,
             ..
         } = procedure;
         Ok(match procedure.method {
@@ -115,14 +115,14 @@ impl AnyDesign {
             }
             Method::Brewer => AnyDesign::Brewer(smp_brewer::Brewer::new(alloc, request)?),
             Method::LocalPivotal => AnyDesign::LocalPivotal(
-                smp_localpiv::AnyLocalPivotal::on_columns(alloc, request, columns, values)?,
+                smp_localpiv::AnyLocalPivotal::on_columns(alloc, request, near, values)?,
             ),
             Method::Cube => AnyDesign::Cube(smp_landing::Cube::new(alloc, request, values)?),
             Method::Elimination => {
                 AnyDesign::Elimination(smp_elim::Elimination::new(alloc, request)?)
             }
             Method::LocalCube => {
-                AnyDesign::LocalCube(local_cube(alloc, request, near, columns, values)?)
+                AnyDesign::LocalCube(local_cube(alloc, request, balance, near, values)?)
             }
             Method::StratifiedCube => {
                 AnyDesign::StratifiedCube(stratified_cube(alloc, request, values)?)

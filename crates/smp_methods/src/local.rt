@@ -1,6 +1,6 @@
 //! The local cube over the values of units.
 
-ghost use Rattle.std.specs.Prelude.{◌≡◌, ◌-◌, ◌≤◌, IfOk, length, map, take};
+ghost use Rattle.std.specs.Prelude.{◌≡◌, ◌≤◌, IfOk, length, map, take};
 ghost use Rattle.smp_prob.specs.Requests.{IsRequest};
 ghost use Rattle.smp_values.specs.Starts.{IsRequested};
 ghost use Rattle.smp_flight.specs.Requests.{AreValues, units_of};
@@ -15,35 +15,33 @@ use smp_localpiv::points;
 use smp_prob::Request;
 use std::alloc::Global;
 
-/// The design of a request by the local cube: the last `near` of so many values of a unit are the
-/// coordinates of its point, and it balances on the others.
+/// The design of a request by the local cube, which balances on so many values of a unit: the `near` behind them are
+/// the coordinates of its point.
 pub(crate) fn local_cube(
     alloc: Global,
     request: &Request,
+    balance: usize,
     near: usize,
-    columns: usize,
     values: &[Numbers],
 ) -> Result<AnyLocalCube, NoMemory>
     requires request { IsRequest request.now }
     requires near { (1 ≤ near) × (near ≤ 4) }
-    requires columns { near ≤ columns }
     requires paired { length values.now ≡ length request.now.free }
-    requires balancing { AreValues (balancing_values near columns values.now) }
+    requires balancing { AreValues (balancing_values balance values.now) }
     ensures design { IfOk result (λ design. design ≡ record {
-      units = units_of request.now (balancing_values near columns values.now);
-      coords = points_from near (columns - near) values.now;
+      units = units_of request.now (balancing_values balance values.now);
+      coords = points_from near balance values.now;
     }) }
     ensures requested { IfOk result (λ design.
         IsRequested (method_of design).tree request.now (started design)) }
 {
-    let place = columns - near;
-    let balancing = fronts(alloc, place, values)?;
+    let balancing = fronts(alloc, balance, values)?;
     let xs = balancing.as_slice();
     Ok(match near {
-        1 => AnyLocalCube::one(located::<1>(alloc, request, xs, place, values)?),
-        2 => AnyLocalCube::two(located::<2>(alloc, request, xs, place, values)?),
-        3 => AnyLocalCube::three(located::<3>(alloc, request, xs, place, values)?),
-        _ => AnyLocalCube::four(located::<4>(alloc, request, xs, place, values)?),
+        1 => AnyLocalCube::one(located::<1>(alloc, request, xs, balance, values)?),
+        2 => AnyLocalCube::two(located::<2>(alloc, request, xs, balance, values)?),
+        3 => AnyLocalCube::three(located::<3>(alloc, request, xs, balance, values)?),
+        _ => AnyLocalCube::four(located::<4>(alloc, request, xs, balance, values)?),
     })
 }
 

@@ -6,7 +6,8 @@ ghost use Rattle.smp_stratcube.specs.Layers.{AreLayers};
 ghost use Rattle.smp_methods.specs.Procedures.{NeedsWhole, TakesValues};
 ghost use Rattle.smp_methods.specs.Starts.{AreStarted, IsStarted};
 
-use crate::{AnyDesign, AnyState, Procedure};
+use crate::{AnyDesign, AnyState};
+use smp_design::Procedure;
 use smp_frac::NoMemory;
 use smp_frame::Numbers;
 use smp_prob::Request;
@@ -60,8 +61,9 @@ impl Started {
 pub fn no_values(alloc: Global, request: &Request) -> Result<Vec<Numbers>, NoMemory>
     ensures { IfOk result (λ values. values.items ≡ map (λ _. []) request.now.free) }
 {
-    let mut values = Vec::new(alloc);
-    for _ in request.free.as_slice() {
+    let free = request.free.as_slice();
+    let mut values = Vec::with_capacity(alloc, free.len())?;
+    for _ in free {
         values.push(Numbers::from_slice(alloc, &[])?)?;
     }
     Ok(values)

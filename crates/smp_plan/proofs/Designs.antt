@@ -1,21 +1,21 @@
 -- The plan of a design can be drawn, and the design of `quick` is one.
 use Rattle.std.proofs.Common.{◌≡◌, ℕ, ◌+◌, ◌≤◌, Bool, true, false, true≢false, List, [], ◌∷◌, length, Option, Some, None, IfSome, arith, refl, sym, subst, ◌∙◌}
-use Rattle.std.specs.Prelude.{OnSome, is_some, nat_lt, option_map}
+use Rattle.std.specs.Prelude.{OnSome, nat_lt, option_map}
 use Rattle.std.proofs.lemmas.Bool.{ltb-false}
 use Rattle.std.proofs.lemmas.List.{length-map}
 use Rattle.std.proofs.lemmas.List.FromFn.{length-range_with_len}
-use Rattle.smp_prob.specs.declared.orders.Order.{Order}
 use Rattle.smp_frame.specs.declared.frame.Unit as unit
 use Rattle.std.specs.List.Sorted.{IsStrictlySortedBy}
 use Rattle.smp_fractions.specs.Limits.{most_rows}
-use Rattle.smp_design.specs.Bounds.{AreNear, Ascend, IsDesign, least_values, most_values}
+use Rattle.smp_design.specs.Bounds.{Ascend, IsDesign}
+use Rattle.smp_design.specs.Procedures.{AreNeeded, IsProcedure}
 use Rattle.smp_design.specs.Words.{row, draws_together, in_second}
-use Rattle.smp_design.proofs.Rows.{is_together, takes_nothing, takes_own}
+use Rattle.smp_design.proofs.Rows.{bare, is_together}
 use Rattle.smp_design.specs.declared.design.Design.{Design}
 use Rattle.smp_design.specs.declared.design.Second.{Second}
 use Rattle.smp_design.specs.declared.method.Method.{Method}
-use Rattle.smp_design.specs.declared.method.Method.TheVariants.{StratifiedCube}
-use Rattle.smp_methods.specs.Procedures.{procedure_of}
+use Rattle.smp_design.specs.declared.procedure.Procedure.{Procedure}
+use Rattle.smp_design.specs.declared.method.Method.TheVariants.{Pivotal, StratifiedCube}
 use Rattle.smp_strata.specs.Bounds.{IsPlan}
 use Rattle.smp_strata.specs.Clusters.{strata_numbers, stratum_names}
 use Rattle.smp_strata.specs.Misfits.{misfit_of, row_limit_by}
@@ -26,14 +26,8 @@ use Rattle.smp_strata.proofs.MisfitOrder.{served}
 use Rattle.smp_twostage.specs.Plans.{CanBeDrawn, IsTogether, TakesRows}
 use Rattle.smp_plan.specs.Plans.{quick_design}
 
-takes : (m : Method) (order : Order) (near columns : ℕ) → least_values (row m).needs ≤ columns → columns ≤ most_values (row m).needs → AreNear (row m).needs near columns → is_some (procedure_of m order near columns) ≡ true
-takes m order near columns some few are = rw (takes_own m near columns some few are) refl
-
-takes_rows : (m : Method) → in_second m ≡ true → TakesRows m
-takes_rows m second = rw (takes_nothing m second) refl
-
 second_takes : (second : Option Second) → IfSome second (λ s. in_second s.method ≡ true) → IfSome (option_map (λ s. s.method) second) TakesRows
-second_takes (Some second) h = takes_rows second.method h
+second_takes (Some second) h = h
 second_takes None h = tt
 
 no_second : (m : Method) (second : Option Second) → OnSome second (draws_together m ≡ false) → draws_together m ≡ true → option_map (λ s. s.method) second ≡ None
@@ -46,13 +40,14 @@ few_rows true strata variables fits joined =
     ltb-false 16 (strata + variables) (when_false (nat_lt 16 (strata + variables)) (RowLimit strata variables) fits)
 few_rows false strata variables fits joined = absurd (cc)
 
--- a method that draws all strata together has a column
-one_column : 1 ≤ least_values (row StratifiedCube).needs
+-- a method that draws all strata together has no coordinates
+no_near : (balance near : ℕ) → AreNeeded (row StratifiedCube).needs balance near → near ≡ 0
 unfolding row
-one_column = omega arith
+no_near balance near are = are.1
 
-some_column : (m : Method) → draws_together m ≡ true → 1 ≤ least_values (row m).needs
-some_column m together = subst (λ m. 1 ≤ least_values (row m).needs) (sym (is_together m together)) one_column
+no_coordinates : (way : Procedure) → draws_together way.method ≡ true → IsProcedure way → way.near ≡ 0
+no_coordinates way together is =
+    no_near way.balance way.near (subst (λ m. AreNeeded (row m).needs way.balance way.near) (is_together way.method together) is.columns)
 
 -- a frame has a stratum
 some_names : (units : List unit.Unit) → 1 ≤ length units → 1 ≤ length (stratum_names units)
@@ -64,29 +59,27 @@ module _ (design : Design) (units : List unit.Unit) (is : IsDesign design) (some
   strata_count =
       length-map (strata_numbers units) (stratum_of design units) ∙ length-range_with_len 0 (length (stratum_names units))
 
-  together : draws_together design.method ≡ true → IsTogether (length design.columns.values) (parts_of design units)
+  together : draws_together design.procedure.method ≡ true → IsTogether (parts_of design units)
   together joined = record {
-    one_stage = no_second design.method design.second is.second_apart joined;
+    one_stage = no_second design.procedure.method design.second is.second_apart joined;
     some = (let names = some_names units some in omega (arith, names, strata_count));
-    values = omega (arith, is.some_values, some_column design.method joined);
     rows =
-        (let few = few_rows (draws_together design.method) (length (stratum_names units)) (length design.columns.values) (served design units fits).rows joined in
-        omega (arith, few, strata_count));
+        (let few = few_rows (draws_together design.procedure.method) (length (stratum_names units)) (length design.columns.values) (served design units fits).rows joined in
+        omega (arith, few, strata_count, is.values, no_coordinates design.procedure joined is.procedure));
     few = few;
   }
 
-  parts_drawn : IsPlan (length design.columns.values) (parts_of design units) → CanBeDrawn (parts_of design units)
+  parts_drawn : IsPlan (parts_of design units) → CanBeDrawn (parts_of design units)
   parts_drawn sound = record {
-    columns = length design.columns.values;
     sound = sound;
-    method = takes design.method design.order design.near (length design.columns.values) is.some_values is.few_values is.near_values;
+    procedure = is.procedure;
     second = second_takes design.second is.second_method;
     together = together;
   }
 
   -- the plan of a design and a frame
-  pub can_be_drawn : (plan : Parts) → plan ≡ parts_of design units → IsPlan (length design.columns.values) plan → CanBeDrawn plan
-  can_be_drawn plan are sound = subst CanBeDrawn (sym are) (parts_drawn (subst (IsPlan (length design.columns.values)) are sound))
+  pub can_be_drawn : (plan : Parts) → plan ≡ parts_of design units → IsPlan plan → CanBeDrawn plan
+  can_be_drawn plan are sound = subst CanBeDrawn (sym are) (parts_drawn (subst IsPlan are sound))
 
 none_ascend : Ascend []
 unfolding IsStrictlySortedBy
@@ -102,10 +95,8 @@ quick_is_design n some few = record {
   one_size = refl;
   prob = tt;
   strata = tt;
-  order = λ e. absurd (cc);
-  some_values = omega arith;
-  few_values = omega arith;
-  near_values = refl;
+  procedure = bare Pivotal refl;
+  values = refl;
   second_size = tt;
   second_method = tt;
   second_first = tt;

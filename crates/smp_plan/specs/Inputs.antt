@@ -73,7 +73,7 @@ has_joints method order second = false
 
 abbrev pub unless_no_joints : ReadDesign → Result ReadDesign Stop
 unless_no_joints read =
-    if has_joints read.design.method read.design.order read.design.second then Ok read
+    if has_joints read.design.procedure.method read.design.procedure.order read.design.second then Ok read
     else Err (Refused status.NoJoint)
 
 -- they are listed for so many rows at most, of which there are 1,999,000 pairs

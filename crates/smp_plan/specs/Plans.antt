@@ -3,9 +3,9 @@ use Rattle.std.specs.Prelude.{ℕ, List, [], map, slice_index_or, Some, None, co
 use Rattle.smp_fractions.specs.Fractions.{Fraction}
 use Rattle.smp_frame.specs.declared.columns.Columns.{Columns}
 use Rattle.smp_frame.specs.declared.frame.Unit as unit
-use Rattle.smp_prob.specs.declared.orders.Order.TheVariants.{Frame}
 use Rattle.smp_design.specs.declared.design.Design.{Design}
 use Rattle.smp_design.specs.declared.method.Method.TheVariants.{Pivotal}
+use Rattle.smp_design.specs.Procedures.{without_values}
 use Rattle.smp_strata.specs.Asked.{row_fraction}
 use Rattle.smp_strata.specs.Plans.{Parts, parts_of}
 
@@ -25,10 +25,8 @@ quick_columns = record {
 abbrev pub quick_design : ℕ → Design
 quick_design n = record {
   version = 1;
-  method = Pivotal;
-  order = Frame;
+  procedure = without_values Pivotal;
   columns = quick_columns;
-  near = 0;
   n = Some n;
   sizes = [];
   second = None;

@@ -102,9 +102,11 @@ fn design_from<K: Store>(
 
 // Whether a design draws systematically, in the order of the frame and in one stage.
 fn has_joints(design: &Design) -> bool
-    ensures { result ≡ Inputs.has_joints design.now.method design.now.order design.now.second }
+    ensures { let way = design.now.procedure in
+        result ≡ Inputs.has_joints way.method way.order design.now.second }
 {
-    match (design.method, design.order, &design.second) {
+    let procedure = design.procedure;
+    match (procedure.method, procedure.order, &design.second) {
         (Method::Systematic, Order::Frame, None) => true,
         _ => false,
     }

@@ -3,7 +3,7 @@
 ghost use Rattle.std.specs.Prelude.{◌≡◌, IfOk};
 ghost use Rattle.smp_plan.specs.Plans.{quick_columns, quick_design};
 
-use smp_design::{Design, Method, Order, Quotas};
+use smp_design::{Design, Method, Procedure, Quotas};
 use smp_frac::{NoMemory, Text};
 use smp_frame::{Columns, Names};
 use std::alloc::Global;
@@ -14,10 +14,8 @@ pub(crate) fn quick_design(alloc: Global, n: u32) -> Result<Design, NoMemory>
 {
     Ok(Design {
         version: 1,
-        method: Method::Pivotal,
-        order: Order::Frame,
+        procedure: Procedure::without_values(Method::Pivotal),
         columns: quick_columns(alloc)?,
-        near: 0,
         n: Some(n),
         sizes: Quotas::from_vec(Vec::new(alloc)),
         second: None,

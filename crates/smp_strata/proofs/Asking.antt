@@ -77,7 +77,7 @@ module _ (design : Design) (units : List unit.Unit) (rows : All (AreRows (length
   pub are_strata : All (IsStratum (second_method design)) strata
   are_strata k d l = (listed.each k d (omega (arith, l, listed.long))).stratum
 
-  pub are_whole : IsTrue (row design.method).draws_whole → All (λ s. IsWhole s.request) strata
+  pub are_whole : IsTrue (row design.procedure.method).draws_whole → All (λ s. IsWhole s.request) strata
   are_whole needed k d l = (listed.each k d (omega (arith, l, listed.long))).request.whole needed
 
   pub draws_as_asked : (k : ℕ) (s : stratum.Stratum) → slice_get strata k ≡ Some s → DrawsInStratum design units k s

@@ -131,7 +131,7 @@ module _ (design : Design) (units : List unit.Unit) (column : List ℕ) (is : de
       (when_false _ (Denominator (stratum_name units k))
       (none_at (λ j. when (nat_lt largest_multiple (common_multiple (first_probs design units j))) (Denominator (stratum_name units j))) (length (stratum_names units)) probs.denominators k here))
 
-  whole_size : IsTrue (row design.method).draws_whole → (k : ℕ) → k < length (stratum_names units) → IsWholeNumber (expected_size (first_probs design units k))
+  whole_size : IsTrue (row design.procedure.method).draws_whole → (k : ℕ) → k < length (stratum_names units) → IsWholeNumber (expected_size (first_probs design units k))
   whole_size needed k here =
       let sum : Frac = sum_of (first_probs design units k) in
       let none = rw needed at probs.whole in

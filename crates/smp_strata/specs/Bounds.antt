@@ -1,5 +1,5 @@
 -- What is true of every plan.
-use Rattle.std.specs.Prelude.{◌≡◌, ℕ, ◌<◌, ◌≤◌, List, length, is_some, Option, IfSome, IsTrue, All}
+use Rattle.std.specs.Prelude.{◌≡◌, ℕ, ◌+◌, ◌<◌, ◌≤◌, List, length, is_some, Option, IfSome, IsTrue, All}
 use Rattle.smp_fractions.specs.Limits.{most_rows}
 use Rattle.smp_frame.specs.Bounds.{AreNear}
 use Rattle.smp_prob.specs.declared.requests.Request.{Request}
@@ -47,10 +47,11 @@ pub record AreSeated (rows : ℕ) (strata : List stratum.Stratum) : Type 0 where
   pub once : (row : ℕ) (s t : seat.Seat) → IsSeat strata row s → IsSeat strata row t → s ≡ t
   pub below : (row : ℕ) (s : seat.Seat) → IsSeat strata row s → row < rows
 
--- a plan over so many columns of values
-pub record IsPlan (count : ℕ) (plan : Parts) : Type 0 where
+-- a plan, whose first stage units have a value in each of the procedure's columns
+pub record IsPlan (plan : Parts) : Type 0 where
   pub strata : All (IsStratum plan.second) plan.strata
   -- where the method draws a whole number of units alone, a whole number is asked of each stratum
-  pub whole : IsTrue (row plan.method).draws_whole → All (λ s. IsWhole s.request) plan.strata
-  pub columns : All (λ s. All (λ f. length f.values ≡ count) s.units) plan.strata
+  pub whole : IsTrue (row plan.procedure.method).draws_whole → All (λ s. IsWhole s.request) plan.strata
+  pub columns : All (λ s. All (λ f.
+      length f.values ≡ plan.procedure.balance + plan.procedure.near) s.units) plan.strata
   pub seated : AreSeated plan.rows plan.strata

@@ -113,7 +113,7 @@ unwhole name sum = when (not (sum.den == 1)) (NotWhole name sum)
 -- the first stratum with such probabilities, where the method draws a whole number of units
 abbrev pub not_whole : Design → List unit.Unit → Option Misfit
 not_whole design units =
-    if (row design.method).draws_whole
+    if (row design.procedure.method).draws_whole
     then first_found (λ stratum.
     unwhole (stratum_name units stratum) (sum_of (first_probs design units stratum)))
     (strata_numbers units)
@@ -133,7 +133,7 @@ row_limit_by together strata variables =
 -- the misfit that strata and variables make more balancing equations than there may be
 abbrev pub row_limit : Design → List unit.Unit → Option Misfit
 row_limit design units =
-    row_limit_by (draws_together design.method) (length (stratum_names units)) (length design.columns.values)
+    row_limit_by (draws_together design.procedure.method) (length (stratum_names units)) (length design.columns.values)
 
 -- ---- the first
 

@@ -1,7 +1,6 @@
 -- The plan of a frame and a design: its strata, their first stage units and the requests over them.
 use Rattle.std.specs.Prelude.{ℕ, List, Option, Some, None, map, length, option_map, find, unwrap_or, slice_index}
 use Rattle.std.specs.Str.{bytes_eq}
-use Rattle.smp_prob.specs.declared.orders.Order.{Order}
 use Rattle.smp_prob.specs.declared.requests.Request.{Request}
 use Rattle.smp_prob.specs.Requested.{requested_of}
 use Rattle.smp_prob.specs.Given.{given_of}
@@ -10,6 +9,7 @@ use Rattle.smp_design.specs.declared.method.Method.{Method}
 use Rattle.smp_design.specs.declared.design.Design.{Design}
 use Rattle.smp_design.specs.declared.design.Quota as quota
 use Rattle.smp_design.specs.declared.design.Second as second
+use Rattle.smp_design.specs.declared.procedure.Procedure.{Procedure}
 use Rattle.smp_frame.specs.declared.frame.Unit as unit
 use Rattle.smp_strata.specs.Allocations.{allocation}
 use Rattle.smp_strata.specs.Clusters.{clusters_in, first_row, stratum_names, stratum_name, strata_numbers}
@@ -17,13 +17,10 @@ use Rattle.smp_strata.specs.Rows.{prob_at, size_of, second_size_at, values_of}
 use Rattle.smp_strata.specs.declared.strata.FirstUnit as first
 use Rattle.smp_strata.specs.declared.strata.Stratum as stratum
 
--- What a plan says: by which method and in which order the first stage units of each stratum are drawn, and how many of their values
--- are coordinates, which are the last ones; by which method the rows within them, where there is a second stage; how many rows the
--- frame has; and the strata.
+-- What a plan says: by which procedure the first stage units of each stratum are drawn; by which method the rows within them, where
+-- there is a second stage; how many rows the frame has; and the strata.
 pub record Parts : Type 0 where
-  pub method : Method
-  pub order : Order
-  pub near : ℕ
+  pub procedure : Procedure
   pub second : Option Method
   pub rows : ℕ
   pub strata : List stratum.Stratum
@@ -104,9 +101,7 @@ stratum_of design units stratum = record {
 -- the plan of a frame that has no misfit
 abbrev pub parts_of : Design → List unit.Unit → Parts
 parts_of design units = record {
-  method = design.method;
-  order = design.order;
-  near = design.near;
+  procedure = design.procedure;
   second = option_map (λ second. second.method) design.second;
   rows = length units;
   strata = map (stratum_of design units) (strata_numbers units);

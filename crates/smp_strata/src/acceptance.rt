@@ -30,7 +30,7 @@ pub fn accept(alloc: Global, frame: &Frame, design: &Design) -> Result<Plan, Mis
     ensures plan { IfOk result (λ plan. plan ≡ parts_of design.now frame.now) }
 
     // what is true of every plan
-    ensures sound { IfOk result (IsPlan (length design.now.columns.values)) }
+    ensures sound { IfOk result IsPlan }
     // each row has the inclusion probability that is asked for it
     ensures asked { IfOk result (AsksAsFrame design.now frame.now) }
     // each stratum draws its sample size of first stage units, each second stage its n of the rows

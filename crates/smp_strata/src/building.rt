@@ -288,7 +288,7 @@ pub(crate) fn planned(
     requires row_groups { AreGroups clusters.now.homes.items (length clusters.now.rows.items)
         clusters.now.rows.items clusters.now.places.items }
     ensures plan { IfOk result (λ plan. plan ≡ parts_of design.now units.now) }
-    ensures sound { IfOk result (IsPlan (length design.now.columns.values)) }
+    ensures sound { IfOk result IsPlan }
     ensures asked { IfOk result (AsksAsFrame design.now units.now) }
     ensures drawn { IfOk result (DrawsAsAsked design.now units.now) }
 {
@@ -296,9 +296,7 @@ pub(crate) fn planned(
     let seats = seats_of(alloc, clusters, strata)?;
     let second = second_method(design);
     Ok(Plan {
-        method: design.method,
-        order: design.order,
-        near: design.near as usize,
+        procedure: design.procedure,
         second,
         strata: list,
         seats,

@@ -278,7 +278,7 @@ fn probs_fit(
     ensures { Reports result (probs_misfit design.now units.now) }
 {
     strata_pass(alloc, units, clusters, strata, false)?;
-    if design.method.draws_whole() {
+    if design.procedure.method.draws_whole() {
         strata_pass(alloc, units, clusters, strata, true)?;
     }
     Ok(())
@@ -380,6 +380,10 @@ pub(crate) fn checked(
     no_unit_in_two(alloc, units, design.second, clusters)?;
     none_too_large(alloc, units, columns, &clusters.rows)?;
     let sizes = sizes_by(alloc, units, design, &clusters.rows, strata)?;
-    rows_fit(design.method.draws_together(), strata.names.len(), columns)?;
+    rows_fit(
+        design.procedure.method.draws_together(),
+        strata.names.len(),
+        columns,
+    )?;
     Ok(sizes)
 }

@@ -10,7 +10,7 @@ ghost use Rattle.smp_strata.specs.Seats.{IsSeat, first_fraction, seat_fraction};
 ghost use Rattle.smp_strata.specs.declared.strata.Seat.{Seat};
 
 use crate::{Seat, Stratum};
-use smp_design::{Method, Order};
+use smp_design::{Method, Procedure};
 use smp_frac::Frac;
 use smp_prob::{Inclusion, Request};
 use std::marker::Model;
@@ -18,9 +18,7 @@ use std::marker::Model;
 /// A plan: the strata of a frame, and what is asked of each.
 #[derive(Drop)]
 pub struct Plan {
-    pub(crate) method: Method,
-    pub(crate) order: Order,
-    pub(crate) near: usize,
+    pub(crate) procedure: Procedure,
     pub(crate) second: Option<Method>,
     pub(crate) strata: Vec<Stratum>,
     pub(crate) seats: Vec<Seat>,
@@ -35,9 +33,7 @@ impl Model for Plan {
     ghost Value = { Parts };
 
     ghost view = { λ p. record {
-      method = p.method;
-      order = p.order;
-      near = p.near;
+      procedure = p.procedure;
       second = p.second;
       rows = length p.seats.items;
       strata = p.strata.items;
@@ -48,25 +44,11 @@ impl Model for Plan {
 }
 
 impl Plan {
-    /// How the first stage units of each stratum are drawn.
-    pub fn method(&self) -> Method
-        ensures { result ≡ self.now.method }
+    /// How the first stage units of each stratum are drawn: the procedure of the design.
+    pub fn procedure(&self) -> Procedure
+        ensures { result ≡ self.now.procedure }
     {
-        self.method
-    }
-
-    /// In which order the method takes the units.
-    pub fn order(&self) -> Order
-        ensures { result ≡ self.now.order }
-    {
-        self.order
-    }
-
-    /// How many of the values of a first stage unit are the coordinates of its point, from 0 to 4: the last ones.
-    pub fn near(&self) -> usize
-        ensures { result ≡ self.now.near }
-    {
-        self.near
+        self.procedure
     }
 
     /// How rows are drawn from a first stage unit, where there is a second stage.

@@ -166,7 +166,7 @@ module _ (plan : Parts) (drawable : CanBeDrawn plan) (h : ℕ) (s : Stratum) (is
     others = λ row l other. no_seat row (omega (arith, l, length_seats plan drawable)) other;
   }
 
-  pub alone_part : draws_together plan.method ≡ false → IsPartOf (tree_so false plan) (BelongsToWhole plan) (sections_by (stages_before_by false (all_of plan)) (section_count_by false (all_of plan))) h (tree_alone false plan h) (own_state false plan h) (is_of_stratum plan h)
+  pub alone_part : draws_together plan.procedure.method ≡ false → IsPartOf (tree_so false plan) (BelongsToWhole plan) (sections_by (stages_before_by false (all_of plan)) (section_count_by false (all_of plan))) h (tree_alone false plan h) (own_state false plan h) (is_of_stratum plan h)
   alone_part apart =
       let size : first_number plan (suc h) ≡ number + length part = omega (arith, length-append (stages_below plan h) (stages_in plan number (slice_get plan.strata h)), part_length) in
       is_part tree_of belongs_to (stages_of plan) (seats_of plan) (BelongsToWhole plan) (λ state here. subst (λ b. IsUnderWay tree_of belongs_to (stages_by b (all_of plan)) state) apart here.member) (first_number plan) (length plan.strata) (strata_are plan None) h within
@@ -196,7 +196,7 @@ module _ (plan : Parts) (drawable : CanBeDrawn plan) (h : ℕ) (s : Stratum) (is
           | inr other ↦ rw (no_seat row l other, other) (same_refl (whole 0))
         ]
 
-    starts_at : StartsInStages tree_of belongs_to part (seats_by plan (Some h)) (states_of (parts_by plan (Some h))) (progress tree_of part (states_of (parts_by plan (Some h)))) → draws_together plan.method ≡ false → AloneBy false plan h (progress tree_of part (states_of (parts_by plan (Some h))))
+    starts_at : StartsInStages tree_of belongs_to part (seats_by plan (Some h)) (states_of (parts_by plan (Some h))) (progress tree_of part (states_of (parts_by plan (Some h)))) → draws_together plan.procedure.method ≡ false → AloneBy false plan h (progress tree_of part (states_of (parts_by plan (Some h))))
     starts_at starts apart = record {
       member = starts.member;
       values = values;
@@ -206,7 +206,7 @@ module _ (plan : Parts) (drawable : CanBeDrawn plan) (h : ℕ) (s : Stratum) (is
       state = ap (progress tree_of part) (sym states_run);
     }
 
-    pub starts_alone : (start : Progress AnyState) → start ≡ progress tree_of part (states_of (parts_by plan (Some h))) → StartsInStages tree_of belongs_to part (seats_by plan (Some h)) (states_of (parts_by plan (Some h))) start → draws_together plan.method ≡ false → StartsAlone plan h start
+    pub starts_alone : (start : Progress AnyState) → start ≡ progress tree_of part (states_of (parts_by plan (Some h))) → StartsInStages tree_of belongs_to part (seats_by plan (Some h)) (states_of (parts_by plan (Some h))) start → draws_together plan.procedure.method ≡ false → StartsAlone plan h start
     starts_alone start at starts apart =
         starts_alone_by plan (start_belongs plan drawable) h start
         (subst (λ b. AloneBy b plan h start) (sym apart)

@@ -1,6 +1,5 @@
 -- A plan's method takes the values that its units have.
-use Rattle.std.proofs.Common.{◌≡◌, ℕ, ◌-◌, ◌^◌, ◌<◌, ◌≤◌, true, ℤ, List, [], ◌∷◌, length, map, take, get_or, Option, Some, None, All, arith, refl, sym, ap, subst, ◌∙◌, length-take}
-use Rattle.std.specs.Prelude.{is_some, unwrap_or}
+use Rattle.std.proofs.Common.{◌≡◌, ℕ, ◌+◌, ◌-◌, ◌^◌, ◌<◌, ℤ, List, [], length, get_or, Option, Some, None, All, arith, refl, sym, ap, subst, ◌∙◌}
 use Rattle.std.specs.List.{slice_get}
 use Rattle.std.proofs.lemmas.List.{get_or-map}
 use Rattle.std.proofs.lemmas.List.Elements.{All-get_or, All-map, All-weaker}
@@ -8,12 +7,8 @@ use Rattle.std.proofs.lemmas.Option.{slice_get_read, slice_get_within, get_or_fr
 use Rattle.smp_stages.specs.Laws.Reads.{some_within}
 use Rattle.smp_frame.specs.Bounds.{AreNear}
 use Rattle.smp_kernel.specs.Vectors.{Within}
-use Rattle.smp_prob.specs.declared.requests.Request.{Request}
-use Rattle.smp_prob.specs.declared.orders.Order.TheVariants.{Frame}
 use Rattle.smp_values.specs.Starts.{IsWhole}
-use Rattle.smp_design.specs.declared.method.Method.{Method}
-use Rattle.smp_methods.specs.declared.procedure.Procedure.{Procedure}
-use Rattle.smp_methods.specs.Procedures.{procedure_of, TakesValues}
+use Rattle.smp_methods.specs.Procedures.{TakesValues}
 use Rattle.smp_methods.proofs.Columns.{procedure_takes}
 use Rattle.smp_strata.specs.Bounds.{IsFirst, IsOver, IsStratum}
 use Rattle.smp_strata.specs.Plans.{Parts}
@@ -21,42 +16,23 @@ use Rattle.smp_strata.specs.declared.strata.FirstUnit.{FirstUnit}
 use Rattle.smp_strata.specs.declared.strata.Stratum.{Stratum}
 use Rattle.smp_twostage.specs.Kept.Stages.{IsPlanned}
 use Rattle.smp_twostage.specs.Plans.{CanBeDrawn}
-use Rattle.smp_balance.specs.Strata.{column_count, free_values, values_of}
-use Rattle.smp_twostage.specs.Selections.{balance_count, balancing, valued}
+use Rattle.smp_balance.specs.Strata.{free_values, values_of}
+use Rattle.smp_twostage.specs.Selections.{valued}
 
 -- a stratum that is read at its number
 pub stratum_at : (strata : List Stratum) (h : ℕ) (s : Stratum) → h < length strata → s ≡ get_or strata h s → slice_get strata h ≡ Some s
 stratum_at strata h s within is = slice_get_read strata (length strata) h s refl within is
 
--- a procedure that is there
-given : (way : Option Procedure) (other : Procedure) → is_some way ≡ true → way ≡ Some (unwrap_or way other)
-given (Some way) other some = refl
-given None other some = absurd (cc)
-
-first_long : (units : List FirstUnit) (n : ℕ) → 1 ≤ length units → All (λ u. length u.values ≡ n) units → length (get_or (map (λ u. u.values) units) 0 []) ≡ n
-first_long [] n some all = absurd (omega (arith, some))
-first_long (u ∷ us) n some all = All-get_or (λ (v : FirstUnit). length v.values ≡ n) (u ∷ us) 0 u (omega arith) all
-
 pub near_within : (values : List ℤ) → AreNear values → Within (2 ^ 31 - 1) values
 near_within values near k d l = let h = near k d l in omega (arith, h)
 
--- as many values are balanced as stand before the coordinates
-pub balanced_count : (plan : Parts) (s : Stratum) → column_count (balancing plan s) ≡ balance_count plan s
-balanced_count plan s = counted s.units plan.near
-  where
-    counted : (units : List FirstUnit) (near : ℕ) → length (get_or (map (λ u. take (length (get_or (map (λ v. v.values) units) 0 []) - near) u.values) units) 0 []) ≡ length (get_or (map (λ v. v.values) units) 0 []) - near
-    counted [] near = omega arith
-    counted (u ∷ units) near = omega (arith, length-take (length u.values - near) u.values)
-
 module _ (plan : Parts) (s : Stratum) (planned : IsPlanned plan s) where
-  pub columns_are : column_count (valued s) ≡ planned.columns
-  columns_are = first_long s.units planned.columns planned.stratum.some planned.counted
-
-  pub has_procedure : is_some (procedure_of plan.method plan.order plan.near (column_count (valued s))) ≡ true
-  has_procedure = ap (λ n. is_some (procedure_of plan.method plan.order plan.near n)) columns_are ∙ planned.method
+  -- how many values each of its units has
+  abbrev count : ℕ
+  count = plan.procedure.balance + plan.procedure.near
 
   -- the values of a free unit
-  free_at : (P : List ℤ → Type 0) → ((u : FirstUnit) → IsFirst plan.second u → length u.values ≡ planned.columns → P u.values) → All P (free_values (valued s))
+  free_at : (P : List ℤ → Type 0) → ((u : FirstUnit) → IsFirst plan.second u → length u.values ≡ count → P u.values) → All P (free_values (valued s))
   free_at P holds =
       All-map P (values_of (valued s)) s.request.free
       (All-weaker (λ k. k < length s.units) (λ k. P (values_of (valued s) k)) (λ k l. at k l) s.request.free planned.stratum.over.free)
@@ -66,28 +42,21 @@ module _ (plan : Parts) (s : Stratum) (planned : IsPlanned plan s) where
           let here : get_or s.units k u ≡ u = get_or_from_slice_get s.units k u u is in
           let value : values_of (valued s) k ≡ u.values = get_or-map (λ (v : FirstUnit). v.values) s.units k u [] l ∙ ap (λ (v : FirstUnit). v.values) here in
           let first : IsFirst plan.second u = subst (IsFirst plan.second) here (All-get_or (IsFirst plan.second) s.units k u l planned.stratum.firsts) in
-          let counted : length u.values ≡ planned.columns = subst (λ (v : FirstUnit). length v.values ≡ planned.columns) here (All-get_or (λ (v : FirstUnit). length v.values ≡ planned.columns) s.units k u l planned.counted) in
+          let counted : length u.values ≡ count = subst (λ (v : FirstUnit). length v.values ≡ count) here (All-get_or (λ (v : FirstUnit). length v.values ≡ count) s.units k u l planned.counted) in
           subst P (sym value) (holds u first counted)
       by_unit k None is l = let some = some_within s.units k l in absurd (let none : None ≡ Some some.0 = sym is ∙ some.1 in cc)
 
       at : (k : ℕ) → k < length s.units → P (values_of (valued s) k)
       at k l = by_unit k (slice_get s.units k) refl l
 
-  pub free_counted : All (λ v. length v ≡ planned.columns) (free_values (valued s))
-  free_counted = free_at (λ v. length v ≡ planned.columns) (λ u first counted. counted)
+  pub free_counted : All (λ v. length v ≡ count) (free_values (valued s))
+  free_counted = free_at (λ v. length v ≡ count) (λ u first counted. counted)
 
   pub free_near : All (Within (2 ^ 31 - 1)) (free_values (valued s))
   free_near = free_at (Within (2 ^ 31 - 1)) (λ u first counted. near_within u.values first.near)
 
-  pub takes_free : (way : Procedure) → procedure_of plan.method plan.order plan.near (column_count (valued s)) ≡ Some way → TakesValues way (free_values (valued s))
-  takes_free way is =
-      procedure_takes plan.near planned.columns (free_values (valued s)) free_counted free_near
-      plan.method plan.order way (ap (procedure_of plan.method plan.order plan.near) (sym columns_are) ∙ is)
-
--- rows have no values
-pub takes_rows : (method : Method) (request : Request) (way : Procedure) → procedure_of method Frame 0 0 ≡ Some way → TakesValues way (map (λ _. []) request.free)
-takes_rows method request way is =
-    procedure_takes 0 0 (map (λ _. []) request.free) (All-map (λ (v : List ℤ). length v ≡ 0) (λ _. []) request.free (λ k d l. refl)) (All-map (Within (2 ^ 31 - 1)) (λ _. []) request.free (λ k d l i e m. absurd (omega (arith, m)))) method Frame way is
+  pub takes_free : TakesValues plan.procedure (free_values (valued s))
+  takes_free = procedure_takes plan.procedure (free_values (valued s)) free_counted free_near planned.procedure
 
 -- ---- the strata of a plan that can be drawn
 
@@ -97,21 +66,12 @@ module _ (plan : Parts) (drawable : CanBeDrawn plan) (h : ℕ) (s : Stratum) (is
       let within = slice_get_within plan.strata h s is in
       let here : get_or plan.strata h s ≡ s = get_or_from_slice_get plan.strata h s s is in
       record {
-        columns = drawable.columns;
-        method = drawable.method;
+        procedure = drawable.procedure;
         second = drawable.second;
         stratum = subst (IsStratum plan.second) here (All-get_or (IsStratum plan.second) plan.strata h s within drawable.sound.strata);
         whole = λ needed. subst (λ (t : Stratum). IsWhole t.request) here (All-get_or (λ (t : Stratum). IsWhole t.request) plan.strata h s within (drawable.sound.whole needed));
-        counted = subst (λ (t : Stratum). All (λ u. length u.values ≡ drawable.columns) t.units) here (All-get_or (λ (t : Stratum). All (λ u. length u.values ≡ drawable.columns) t.units) plan.strata h s within drawable.sound.columns);
+        counted = subst (λ (t : Stratum). All (λ u. length u.values ≡ plan.procedure.balance + plan.procedure.near) t.units) here (All-get_or (λ (t : Stratum). All (λ u. length u.values ≡ plan.procedure.balance + plan.procedure.near) t.units) plan.strata h s within drawable.sound.columns);
       }
-
-  pub has_columns : column_count (valued s) ≡ drawable.columns
-  unfolding is_planned
-  has_columns = columns_are plan s is_planned
-
-  pub planned_columns : is_planned.columns ≡ drawable.columns
-  unfolding is_planned
-  planned_columns = refl
 
 -- the request of each stratum is over its units
 pub are_over : (plan : Parts) → CanBeDrawn plan → All (λ (s : Stratum). IsOver (length s.units) s.request) plan.strata

@@ -27,10 +27,9 @@ use Rattle.smp_design.proofs.Rows.{is_cube}
 use Rattle.smp_methods.specs.declared.any.AnyDesign.{AnyDesign}
 use Rattle.smp_methods.specs.declared.any.AnyState.{AnyState}
 use Rattle.smp_methods.specs.declared.any.AnyState.TheVariants as states
-use Rattle.smp_methods.specs.declared.procedure.Procedure.{Procedure}
-use Rattle.smp_methods.specs.Designs.{design_by, design_of, first_state}
+use Rattle.smp_methods.specs.Designs.{design_by, first_state}
 use Rattle.smp_methods.specs.Methods.{method_of}
-use Rattle.smp_methods.specs.Procedures.{balancing_values, procedure}
+use Rattle.smp_methods.specs.Procedures.{balancing_values}
 use Rattle.smp_stages.specs.Paths.{GoesByStages, IsStagePath}
 use Rattle.smp_stages.specs.Stages.{drawn_within, is_drawn, read, unit_selected, within_of}
 use Rattle.smp_stages.specs.Laws.Reads.{some_within}
@@ -39,8 +38,8 @@ use Rattle.smp_strata.specs.declared.strata.FirstUnit.{FirstUnit}
 use Rattle.smp_strata.specs.declared.strata.Stratum.{Stratum}
 use Rattle.smp_twostage.specs.Cubes.{IsDrawnByCube, IsDrawnFrom, balancing, by_cube, by_local_cube, leaf_of, local_units}
 use Rattle.smp_twostage.specs.Plans.{CanBeDrawn}
-use Rattle.smp_balance.specs.Strata.{column_count, free_units, free_values, values_of}
-use Rattle.smp_twostage.specs.Selections.{balance_count, tree_of, first_number, first_stage, stages_of, valued}
+use Rattle.smp_balance.specs.Strata.{free_units, free_values, values_of}
+use Rattle.smp_twostage.specs.Selections.{tree_of, first_number, first_stage, stages_of, valued}
 use Rattle.smp_twostage.specs.Kept.Sides.{states_of}
 use Rattle.smp_twostage.specs.Laws.Numbering.{first_there}
 use Rattle.smp_twostage.proofs.Columns.{is_planned}
@@ -57,18 +56,15 @@ cut_at m [] k = cut_none m
 cut_at m (u ∷ units) zero = refl
 cut_at m (u ∷ units) (suc k) = cut_at m units k
 
-cut_all : (plan : Parts) (s : Stratum) (free : List ℕ) → map (take (balance_count plan s)) (map (values_of (valued s)) free) ≡ map (values_of (balancing plan s)) free
+cut_all : (plan : Parts) (s : Stratum) (free : List ℕ) → map (take plan.procedure.balance) (map (values_of (valued s)) free) ≡ map (values_of (balancing plan s)) free
 cut_all plan s [] = refl
-cut_all plan s (k ∷ free) = ap₂ (λ (v : List ℤ) vs. v ∷ vs) (cut_at (balance_count plan s) s.units k) (cut_all plan s free)
+cut_all plan s (k ∷ free) = ap₂ (λ (v : List ℤ) vs. v ∷ vs) (cut_at plan.procedure.balance s.units k) (cut_all plan s free)
 
 module _ (plan : Parts) (s : Stratum) where
-  abbrev columns : ℕ
-  columns = column_count (valued s)
-
   abbrev design_so : Method → AnyDesign
-  design_so m = design_by m plan.order plan.near columns s.request (free_values (valued s))
+  design_so m = design_by m plan.procedure s.request (free_values (valued s))
 
-  same_values : balancing_values plan.near columns (free_values (valued s)) ≡ free_values (balancing plan s)
+  same_values : balancing_values plan.procedure.balance (free_values (valued s)) ≡ free_values (balancing plan s)
   same_values = cut_all plan s s.request.free
 
   abbrev cube_out : AnyState → Option Balancing
@@ -78,23 +74,23 @@ module _ (plan : Parts) (s : Stratum) where
   local_out = elim [ states.LocalCube state ↦ Some state | other ↦ None ]
 
   -- the tree of the first stage, and where it starts
-  cube_tree_is : plan.method ≡ Cube → (method_of (design_so plan.method)).tree ≡ embedded states.Cube cube_out (cube_of (free_units (balancing plan s))).tree
+  cube_tree_is : plan.procedure.method ≡ Cube → (method_of (design_so plan.procedure.method)).tree ≡ embedded states.Cube cube_out (cube_of (free_units (balancing plan s))).tree
   cube_tree_is is =
       ap (λ m. (method_of (design_so m)).tree) is
       ∙ ap (λ vs. embedded states.Cube cube_out (cube_of (units_of s.request vs)).tree) same_values
 
-  cube_start_is : plan.method ≡ Cube → first_state (design_so plan.method) ≡ states.Cube (starting (free_units (balancing plan s)))
+  cube_start_is : plan.procedure.method ≡ Cube → first_state (design_so plan.procedure.method) ≡ states.Cube (starting (free_units (balancing plan s)))
   cube_start_is is = ap (λ m. first_state (design_so m)) is ∙ ap (λ vs. states.Cube (starting (units_of s.request vs))) same_values
 
-  local_tree_is : plan.method ≡ LocalCube → (method_of (design_so plan.method)).tree ≡ embedded states.LocalCube local_out (local_of (free_units (balancing plan s))).tree
+  local_tree_is : plan.procedure.method ≡ LocalCube → (method_of (design_so plan.procedure.method)).tree ≡ embedded states.LocalCube local_out (local_of (free_units (balancing plan s))).tree
   local_tree_is is =
       ap (λ m. (method_of (design_so m)).tree) is
       ∙ ap (λ vs. embedded states.LocalCube local_out (local_of (units_of s.request vs)).tree) same_values
 
   abbrev local_so : List (List ℤ) → LocalUnits
-  local_so vs = record { units = units_of s.request vs; coords = points_from plan.near (balance_count plan s) (free_values (valued s)) }
+  local_so vs = record { units = units_of s.request vs; coords = points_from plan.procedure.near plan.procedure.balance (free_values (valued s)) }
 
-  local_start_is : plan.method ≡ LocalCube → first_state (design_so plan.method) ≡ states.LocalCube (started (local_units plan s))
+  local_start_is : plan.procedure.method ≡ LocalCube → first_state (design_so plan.procedure.method) ≡ states.LocalCube (started (local_units plan s))
   local_start_is is = ap (λ m. first_state (design_so m)) is ∙ ap (λ vs. states.LocalCube (started (local_so vs))) same_values
 
 -- ---- the part of a path
@@ -104,7 +100,7 @@ module _ (plan : Parts) (drawable : CanBeDrawn plan) (path : List Entry) (ends :
   at = first_number plan h
 
   abbrev start_so : AnyState
-  start_so = first_state (design_so plan s plan.method)
+  start_so = first_state (design_so plan s plan.procedure.method)
 
   there : slice_get (stages_of plan) at ≡ Some (first_stage plan s)
   there = first_there plan h s is
@@ -122,7 +118,7 @@ module _ (plan : Parts) (drawable : CanBeDrawn plan) (path : List Entry) (ends :
       (goes.each at (first_stage plan s) start_so last.0 there begins last.1)
 
   module _ {State : Type 0} (tree : Tree State) (from : State) (into : State → AnyState) (out : AnyState → Option State) (back : (i : State) → out (into i) ≡ Some i)
-      (tree_is : (method_of (design_so plan s plan.method)).tree ≡ embedded into out tree) (start_is : start_so ≡ into from)
+      (tree_is : (method_of (design_so plan s plan.procedure.method)).tree ≡ embedded into out tree) (start_is : start_so ≡ into from)
       (closed : (i : State) → (embedded into out tree).done (into i) ≡ tree.done i) (count : tree.units ≡ length s.request.shape) where
     abbrev outer : Tree AnyState
     outer = embedded into out tree
@@ -148,9 +144,9 @@ module _ (plan : Parts) (drawable : CanBeDrawn plan) (path : List Entry) (ends :
           ended = sym (closed cubes.inside) ∙ subst (λ (t : AnyState). outer.done t ≡ true) same done;
         }
 
-  pub drawn_by_cube : balances plan.method ≡ true → draws_together plan.method ≡ false → IsDrawnByCube plan h s (goes.part at) ends
+  pub drawn_by_cube : balances plan.procedure.method ≡ true → draws_together plan.procedure.method ≡ false → IsDrawnByCube plan h s (goes.part at) ends
   drawn_by_cube balance apart =
-      elim (is_cube plan.method balance apart) [
+      elim (is_cube plan.procedure.method balance apart) [
         | inl m ↦ by_cube m (drawn_from (cube_tree (free_units (balancing plan s))) (starting (free_units (balancing plan s))) states.Cube (cube_out plan s) (λ _. refl) (cube_tree_is plan s m) (cube_start_is plan s m) (λ _. refl) refl)
         | inr m ↦ by_local_cube m (drawn_from (local_tree (free_units (balancing plan s))) (started (local_units plan s)) states.LocalCube (local_out plan s) (λ _. refl) (local_tree_is plan s m) (local_start_is plan s m) (λ _. refl) refl)
       ]
@@ -162,7 +158,7 @@ module _ (plan : Parts) (ends : List AnyState) (h : ℕ) (s : Stratum) (is : sli
     abbrev selected_by : Tree AnyState → ℕ → Bool
     selected_by tree k = is_taken (tree.selected state) (inclusion s.request k)
 
-    read_there : (k : ℕ) → unit_selected tree_of (stages_of plan) ends (record { stage = first_number plan h; unit = k }) ≡ selected_by (method_of (design_so plan s plan.method)).tree k
+    read_there : (k : ℕ) → unit_selected tree_of (stages_of plan) ends (record { stage = first_number plan h; unit = k }) ≡ selected_by (method_of (design_so plan s plan.procedure.method)).tree k
     read_there k =
         ap (λ o. read tree_of false (λ tree t. tree.selected t k) o (slice_get ends (first_number plan h))) (first_there plan h s is)
         ∙ ap (λ o. read tree_of false (λ tree t. tree.selected t k) (Some (first_stage plan s)) o) state_is
@@ -170,7 +166,7 @@ module _ (plan : Parts) (ends : List AnyState) (h : ℕ) (s : Stratum) (is : sli
     is_first : is_drawn tree_of (stages_of plan) ends (first_number plan h) ≡ true
     is_first = ap (λ o. drawn_within tree_of (stages_of plan) ends (within_of o)) (first_there plan h s is)
 
-    selected_so : (k : ℕ) → first_so false plan ends h k ≡ selected_by (method_of (design_so plan s plan.method)).tree k
+    selected_so : (k : ℕ) → first_so false plan ends h k ≡ selected_by (method_of (design_so plan s plan.procedure.method)).tree k
     selected_so k =
         ap (λ b. b && unit_selected tree_of (stages_of plan) ends (record { stage = first_number plan h; unit = k })) is_first
         ∙ read_there k

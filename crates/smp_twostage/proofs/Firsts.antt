@@ -7,26 +7,27 @@ use Rattle.std.proofs.lemmas.List.{length-map}
 use Rattle.std.proofs.lemmas.List.Elements.{All-append, All-cons, All-drop, All-get_or, All-map, All-nil, All-take, All-weaker}
 use Rattle.std.proofs.lemmas.Option.{get_or_from_slice_get, same_Some, slice_get-get_or, slice_get-map, slice_get_within}
 use Rattle.smp_prob.specs.declared.requests.Request.{Request}
-use Rattle.smp_prob.specs.declared.orders.Order.TheVariants.{Frame}
 use Rattle.smp_prob.specs.Inclusions.{IsRising}
 use Rattle.smp_values.proofs.Requests.{adds_to_draws}
 use Rattle.smp_design.specs.declared.method.Method.{Method}
+use Rattle.smp_design.specs.Procedures.{without_values}
 use Rattle.smp_design.specs.Words.{draws_together}
-use Rattle.smp_methods.specs.declared.procedure.Procedure.{Procedure}
+use Rattle.smp_design.proofs.Rows.{bare}
+use Rattle.smp_design.specs.declared.procedure.Procedure.{Procedure}
 use Rattle.smp_methods.specs.Designs.{design_of, design_of_strata, first_state}
 use Rattle.smp_methods.specs.Methods.{method_of}
 use Rattle.smp_methods.specs.Starts.{AreStarted, IsStarted}
-use Rattle.smp_methods.specs.Procedures.{procedure, procedure_of}
+use Rattle.smp_methods.proofs.Columns.{takes_none}
 use Rattle.smp_methods.proofs.Firsts.{is_first}
 use Rattle.smp_methods.proofs.Starts.{are_started}
-use Rattle.smp_methods.proofs.Wholes.{needs_of, needs_whole, takes_some}
+use Rattle.smp_methods.proofs.Wholes.{needs_of, needs_whole}
 use Rattle.smp_stages.specs.declared.places.Stage.{Stage}
 use Rattle.smp_stages.specs.Stages.{EachBelongs}
 use Rattle.smp_strata.specs.Bounds.{IsFirst, IsWholeOver}
 use Rattle.smp_strata.specs.Plans.{Parts}
 use Rattle.smp_strata.specs.declared.strata.FirstUnit.{FirstUnit}
 use Rattle.smp_strata.specs.declared.strata.Stratum.{Stratum}
-use Rattle.smp_balance.specs.Strata.{StratumUnits, column_count, free_values, values_of}
+use Rattle.smp_balance.specs.Strata.{StratumUnits, free_values, values_of}
 use Rattle.smp_stratcube.specs.Layers.{IsLayer, layer_of, no_layer}
 use Rattle.smp_stratcube.specs.Units.{IsUnits, units_of}
 use Rattle.smp_stratcube.proofs.BySteps.{counts_so, is_balanced}
@@ -37,7 +38,7 @@ use Rattle.smp_twostage.specs.Kept.Stages.{EachStarts, IsPlanned, StageStarts}
 use Rattle.smp_twostage.specs.Plans.{CanBeDrawn, TakesRows}
 use Rattle.smp_twostage.specs.Selections.{BelongsToCovered, BelongsToWhole, Selecting, balancing, belongs_to, covered_stages, covered_start, covered_states, first_stage, layers_of, parts_by, second_stage, stage_by, stage_of_strata, stage_within, stages_below, stages_in, stages_of, stages_within, start_of, tree_of, valued}
 use Rattle.smp_twostage.specs.Kept.Sides.{states_of}
-use Rattle.smp_twostage.proofs.Columns.{has_procedure, is_planned, takes_free, takes_rows}
+use Rattle.smp_twostage.proofs.Columns.{is_planned, takes_free}
 use Rattle.smp_twostage.proofs.Layers.{are_layers, numbers, one_each, same_units}
 use Rattle.smp_twostage.proofs.Starts.{each_belongs}
 use Rattle.smp_twostage.proofs.Together.{stage_first}
@@ -63,22 +64,17 @@ module _ (plan : Parts) where
 
   first_own : (s : Stratum) → IsPlanned plan s → Own (first_stage plan s)
   first_own s planned =
-      let columns : ℕ = column_count (valued s) in
-      let given : procedure_of plan.method plan.order plan.near columns ≡ Some (procedure plan.method plan.order plan.near columns) =
-      rw (takes_some plan.method plan.order plan.near columns (has_procedure plan s planned)) refl in
-      stage_starts (procedure plan.method plan.order plan.near columns) (length s.units) s.request (free_values (valued s)) planned.stratum.over.rising
-      (is_first plan.order plan.near columns s.request (free_values (valued s)) planned.stratum.over.sound (length-map s.request.free (values_of (valued s))) plan.method
-      (needs_of plan.method plan.order plan.near columns (procedure plan.method plan.order plan.near columns) s.request given planned.whole)
-      (takes_free plan s planned (procedure plan.method plan.order plan.near columns) given))
+      stage_starts plan.procedure (length s.units) s.request (free_values (valued s)) planned.stratum.over.rising
+      (is_first plan.procedure s.request (free_values (valued s)) planned.stratum.over.sound (length-map s.request.free (values_of (valued s)))
+      (needs_of plan.procedure s.request planned.whole) (takes_free plan s planned))
 
   -- ---- a second stage
 
   second_own : (method : Method) (request : Request) (rows at k : ℕ) → TakesRows method → IsWholeOver rows request → Own (second_stage method request rows at k)
   second_own method request rows at k takes over =
-      let given : procedure_of method Frame 0 0 ≡ Some (procedure method Frame 0 0) = rw (takes_some method Frame 0 0 takes) refl in
-      stage_starts (procedure method Frame 0 0) rows request (map (λ _. []) request.free) over.over.rising
-      (is_first Frame 0 0 request (map (λ _. []) request.free) over.over.sound (length-map request.free (λ _. [])) method
-      (needs_whole (procedure method Frame 0 0) request over.whole) (takes_rows method request (procedure method Frame 0 0) given))
+      stage_starts (without_values method) rows request (map (λ _. []) request.free) over.over.rising
+      (is_first (without_values method) request (map (λ _. []) request.free) over.over.sound (length-map request.free (λ _. []))
+      (needs_whole (without_values method) request over.whole) (takes_none method request.free (bare method takes)))
 
   by_request : (method : Option Method) (request : Option Request) (rows at k : ℕ) → IfSome method TakesRows → IfSome request (IsWholeOver rows) → All Own (stage_by method request rows at k)
   by_request (Some method) (Some request) rows at k takes over =
@@ -132,12 +128,12 @@ module _ (plan : Parts) (drawable : CanBeDrawn plan) where
   -- so are those of a part of the plan
   part_planned : (h : ℕ) → All (IsPlanned (parts_by plan (Some h))) (parts_by plan (Some h)).strata
   part_planned h =
-      All-weaker (IsPlanned plan) (IsPlanned (parts_by plan (Some h))) (λ s p. record { columns = p.columns; method = p.method; second = p.second; stratum = p.stratum; whole = p.whole; counted = p.counted }) (take 1 (drop h plan.strata))
+      All-weaker (IsPlanned plan) (IsPlanned (parts_by plan (Some h))) (λ s p. record { procedure = p.procedure; second = p.second; stratum = p.stratum; whole = p.whole; counted = p.counted }) (take 1 (drop h plan.strata))
       (All-take (IsPlanned plan) 1 (drop h plan.strata) (All-drop (IsPlanned plan) h plan.strata all_planned))
 
   -- ---- the stage of all strata
 
-  module _ (same : draws_together plan.method ≡ true) where
+  module _ (same : draws_together plan.procedure.method ≡ true) where
     stratum_layer : (h : ℕ) (s : Stratum) → slice_get plan.strata h ≡ Some s → IsLayer (layer_of s.request (free_values (balancing plan s)))
     stratum_layer h s is =
         subst (λ (u : StratumUnits). IsLayer (layer_of s.request (free_values u))) (sym (same_units plan drawable same h s is))
@@ -172,7 +168,7 @@ module _ (plan : Parts) (drawable : CanBeDrawn plan) where
   part_starts h = each_own (stages_of (parts_by plan (Some h))) (stages_own (parts_by plan (Some h)) (part_planned h))
 
   covered_own : (only : Option ℕ) → EachBelongs tree_of belongs_to (covered_stages (record { plan = plan; only = only })) (covered_states (record { plan = plan; only = only }))
-  covered_own only = elim (cases_Bool (draws_together plan.method)) [
+  covered_own only = elim (cases_Bool (draws_together plan.procedure.method)) [
     | inl same ↦ rw same (together_belongs same)
     | inr apart ↦ rw apart (by_number only)
   ]

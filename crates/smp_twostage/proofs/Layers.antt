@@ -1,19 +1,20 @@
 -- All strata that are drawn together, as the code goes over them: how many units they have, and what is balanced of each.
-use Rattle.std.proofs.Common.{◌≡◌, ℕ, zero, suc, ◌+◌, ◌-◌, ◌*◌, ◌^◌, ◌<◌, ◌≤◌, Bool, true, false, ℤ, List, [], ◌∷◌, ◌++◌, length, map, take, drop, get_or, Some, All, arith, refl, sym, ap, ap₂, subst, ◌∙◌, inl, inr, append_assoc}
-use Rattle.std.specs.Prelude.{◌&&◌, nat_eq, nat_le}
+use Rattle.std.proofs.Common.{◌≡◌, ℕ, zero, suc, ◌+◌, ◌-◌, ◌*◌, ◌^◌, ◌<◌, ◌≤◌, true, false, ℤ, List, [], ◌∷◌, ◌++◌, length, map, take, drop, get_or, Some, All, arith, refl, sym, ap, ap₂, subst, ◌∙◌, inl, inr, append_assoc}
+use Rattle.std.specs.Prelude.{nat_eq}
 use Rattle.std.specs.List.{slice_get}
 use Rattle.std.proofs.Math.Seq.{drop-cons}
-use Rattle.std.proofs.lemmas.Bool.{and_parts, cases_Bool, eqb-true}
+use Rattle.std.proofs.lemmas.Bool.{cases_Bool, eqb-true}
 use Rattle.std.proofs.lemmas.List.{append-nil, drop_all, length-map, take_all}
 use Rattle.std.proofs.lemmas.List.Elements.{All-get_or, All-head, All-map, All-tail, All-weaker}
 use Rattle.std.proofs.lemmas.Option.{get_or_from_slice_get, slice_get-get_or, slice_get_within}
-use Rattle.smp_design.specs.declared.method.Method.{Method}
+use Rattle.smp_design.specs.declared.procedure.Procedure.{Procedure}
 use Rattle.smp_design.specs.declared.method.Method.TheVariants.{StratifiedCube}
-use Rattle.smp_design.specs.Words.{row, draws_together, most_balance, takes_columns}
+use Rattle.smp_design.specs.Procedures.{AreNeeded, IsProcedure}
+use Rattle.smp_design.specs.Words.{row, draws_together}
+use Rattle.smp_design.proofs.Rows.{balance_columns, is_together, together_balances}
 use Rattle.smp_methods.proofs.Columns.{are_values}
 use Rattle.smp_methods.proofs.OneStratum.{are_numbers}
-use Rattle.smp_methods.proofs.Wholes.{takes_some}
-use Rattle.smp_balance.specs.Strata.{StratumUnits, column_count, free_values, values_of}
+use Rattle.smp_balance.specs.Strata.{StratumUnits, free_values, values_of}
 use Rattle.smp_stratcube.specs.Layers.{AreLayers, AreNumbers, Layer, layer_of, no_layer, variables, width}
 use Rattle.smp_prob.specs.declared.requests.Request.{Request}
 use Rattle.smp_strata.specs.Bounds.{IsStratum}
@@ -22,8 +23,8 @@ use Rattle.smp_strata.specs.declared.strata.FirstUnit.{FirstUnit}
 use Rattle.smp_strata.specs.declared.strata.Stratum.{Stratum}
 use Rattle.smp_twostage.specs.Kept.Stages.{IsPlanned}
 use Rattle.smp_twostage.specs.Plans.{CanBeDrawn, IsTogether}
-use Rattle.smp_twostage.specs.Selections.{balance_count, balancing, layers_of, numbers_from, units_before, valued}
-use Rattle.smp_twostage.proofs.Columns.{columns_are, free_counted, free_near, is_planned, planned_columns, stratum_at}
+use Rattle.smp_twostage.specs.Selections.{balancing, layers_of, numbers_from, units_before, valued}
+use Rattle.smp_twostage.proofs.Columns.{free_counted, free_near, is_planned, stratum_at}
 use Rattle.smp_twostage.proofs.OverAll.{numbers_next, one_before}
 
 -- ---- how many units there are
@@ -75,10 +76,13 @@ last_numbers counted strata h before all done whole so_far =
 -- ---- what is balanced
 
 -- a method that draws all strata together takes no coordinates
-no_coordinates : (m : Method) (near columns : ℕ) → draws_together m ≡ true → takes_columns m near columns ≡ true → near ≡ 0
+no_near : (balance near : ℕ) → AreNeeded (row StratifiedCube).needs balance near → near ≡ 0
 unfolding row
-no_coordinates StratifiedCube near columns together takes = eqb-true near 0 (and_parts (nat_eq near 0) (nat_le columns most_balance) takes).0
-no_coordinates other near columns together takes = absurd (cc)
+no_near balance near are = are.1
+
+no_coordinates : (way : Procedure) → draws_together way.method ≡ true → IsProcedure way → way.near ≡ 0
+no_coordinates way together is =
+    no_near way.balance way.near (subst (λ m. AreNeeded (row m).needs way.balance way.near) (is_together way.method together) is.columns)
 
 -- where no value is cut off
 cut : (n m : ℕ) (units : List FirstUnit) → All (λ (u : FirstUnit). length u.values ≡ n) units → n ≤ m → map (λ (u : FirstUnit). take m u.values) units ≡ map (λ (u : FirstUnit). u.values) units
@@ -88,33 +92,41 @@ cut n m (u ∷ units) counted l =
     ap₂ (λ v vs. v ∷ vs) (take_all m u.values (omega (arith, own, l)))
     (cut n m units (All-tail (λ (v : FirstUnit). length v.values ≡ n) u units counted) l)
 
-module _ (plan : Parts) (drawable : CanBeDrawn plan) (together : draws_together plan.method ≡ true) where
-  abbrev its : IsTogether drawable.columns plan
+module _ (plan : Parts) (drawable : CanBeDrawn plan) (together : draws_together plan.procedure.method ≡ true) where
+  abbrev its : IsTogether plan
   its = drawable.together together
 
-  none_near : plan.near ≡ 0
-  none_near = no_coordinates plan.method plan.near drawable.columns together (takes_some plan.method plan.order plan.near drawable.columns drawable.method)
+  abbrev balance : ℕ
+  balance = plan.procedure.balance
+
+  none_near : plan.procedure.near ≡ 0
+  none_near = no_coordinates plan.procedure together drawable.procedure
+
+  some_balance : 1 ≤ balance
+  some_balance = (balance_columns (row plan.procedure.method).needs balance plan.procedure.near (together_balances plan.procedure.method together) drawable.procedure.columns).0
 
   pub few_strata : length plan.strata ≤ 15
-  few_strata = omega (arith, its.rows, its.values)
+  few_strata = omega (arith, its.rows, some_balance)
 
-  pub few_columns : drawable.columns ≤ 15
+  few_columns : balance ≤ 15
   few_columns = omega (arith, its.rows, its.some)
 
   module _ (h : ℕ) (s : Stratum) (is : slice_get plan.strata h ≡ Some s) where
     abbrev planned : IsPlanned plan s
     planned = is_planned plan drawable h s is
 
+    counted : All (λ (u : FirstUnit). length u.values ≡ balance) s.units
+    counted = All-weaker (λ (u : FirstUnit). length u.values ≡ balance + plan.procedure.near) (λ (u : FirstUnit). length u.values ≡ balance) (λ u long. omega (arith, long, none_near)) s.units planned.counted
+
     -- all values of a unit are balanced
     pub same_units : balancing plan s ≡ valued s
-    same_units =
-        let all : planned.columns ≤ balance_count plan s = omega (arith, columns_are plan s planned, none_near) in
-        ap (λ vs. record { request = s.request; values = vs }) (cut planned.columns (balance_count plan s) s.units planned.counted all)
+    same_units = ap (λ vs. record { request = s.request; values = vs }) (cut balance balance s.units counted (omega arith))
+
+    pub whole_counted : All (λ v. length v ≡ balance) (free_values (valued s))
+    whole_counted = All-weaker (λ v. length v ≡ balance + plan.procedure.near) (λ v. length v ≡ balance) (λ v long. omega (arith, long, none_near)) (free_values (valued s)) (free_counted plan s planned)
 
     pub numbers : AreNumbers (free_values (valued s))
-    numbers =
-        let few : planned.columns ≤ 15 = omega (arith, few_columns, planned_columns plan drawable h s is) in
-        are_numbers (free_values (valued s)) (are_values planned.columns (free_values (valued s)) (free_counted plan s planned) (free_near plan s planned) few)
+    numbers = are_numbers (free_values (valued s)) (are_values balance (free_values (valued s)) whole_counted (free_near plan s planned) few_columns)
 
     pub one_each : length (free_values (valued s)) ≡ length s.request.free
     one_each = length-map s.request.free (values_of (valued s))
@@ -192,29 +204,28 @@ module _ (columns : ℕ) where
       some_at zero other = absurd (cc)
       some_at (suc n) other = omega arith
 
-module _ (plan : Parts) (drawable : CanBeDrawn plan) (together : draws_together plan.method ≡ true) where
-  filled : (h : ℕ) (s : Stratum) → slice_get plan.strata h ≡ Some s → IsFilled drawable.columns (layer_of s.request (free_values (balancing plan s)))
+module _ (plan : Parts) (drawable : CanBeDrawn plan) (together : draws_together plan.procedure.method ≡ true) where
+  filled : (h : ℕ) (s : Stratum) → slice_get plan.strata h ≡ Some s → IsFilled plan.procedure.balance (layer_of s.request (free_values (balancing plan s)))
   filled h s is =
       let planned : IsPlanned plan s = is_planned plan drawable h s is in
-      subst (λ (u : StratumUnits). IsFilled drawable.columns (layer_of s.request (free_values u))) (sym (same_units plan drawable together h s is))
+      subst (λ (u : StratumUnits). IsFilled plan.procedure.balance (layer_of s.request (free_values u))) (sym (same_units plan drawable together h s is))
       (record {
         paired = one_each plan drawable together h s is ∙ sym planned.stratum.over.sound.paired;
-        wide = λ some. All-get_or (λ v. length v ≡ drawable.columns) (free_values (valued s)) 0 [] some
-            (subst (λ n. All (λ v. length v ≡ n) (free_values (valued s))) (planned_columns plan drawable h s is) (free_counted plan s planned));
+        wide = λ some. All-get_or (λ v. length v ≡ plan.procedure.balance) (free_values (valued s)) 0 [] some (whole_counted plan drawable together h s is);
       })
 
   pub are_layers : AreLayers (layers_of plan)
   are_layers =
-      let its : IsTogether drawable.columns plan = drawable.together together in
+      let its : IsTogether plan = drawable.together together in
       let count : length (layers_of plan) ≡ length plan.strata = length-map plan.strata (λ (s : Stratum). layer_of s.request (free_values (balancing plan s))) in
-      let all : All (IsFilled drawable.columns) (layers_of plan) =
-      All-map (IsFilled drawable.columns) (λ (s : Stratum). layer_of s.request (free_values (balancing plan s))) plan.strata
+      let all : All (IsFilled plan.procedure.balance) (layers_of plan) =
+      All-map (IsFilled plan.procedure.balance) (λ (s : Stratum). layer_of s.request (free_values (balancing plan s))) plan.strata
       (λ k d l. filled k (get_or plan.strata k d) (slice_get-get_or plan.strata k d l)) in
       record {
         some = omega (arith, its.some, count);
         few = omega (arith, few_strata plan drawable together, count);
-        rows = omega (arith, variables_most drawable.columns (layers_of plan) all, its.rows, count);
+        rows = omega (arith, variables_most plan.procedure.balance (layers_of plan) all, its.rows, count);
         same = λ h l some.
-            (let own : IsFilled drawable.columns (get_or (layers_of plan) h no_layer) = All-get_or (IsFilled drawable.columns) (layers_of plan) h no_layer l all in
-            own.wide (omega (arith, own.paired, some)) ∙ sym (variables_wide drawable.columns (layers_of plan) all h l some));
+            (let own : IsFilled plan.procedure.balance (get_or (layers_of plan) h no_layer) = All-get_or (IsFilled plan.procedure.balance) (layers_of plan) h no_layer l all in
+            own.wide (omega (arith, own.paired, some)) ∙ sym (variables_wide plan.procedure.balance (layers_of plan) all h l some));
       }

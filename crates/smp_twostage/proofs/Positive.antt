@@ -172,7 +172,7 @@ module _ (plan : Parts) (drawable : CanBeDrawn plan) (leaf : Progress AnyState) 
         | inr other ↦ absurd (true≢false (sym (let no : false ≡ true = rw other at seated in no)))
       ]
 
-  by_test : (together : Bool) → draws_together plan.method ≡ together → (only : Option ℕ) → IsSelected together only → is_positive (row_fraction plan row).num ≡ true
+  by_test : (together : Bool) → draws_together plan.procedure.method ≡ together → (only : Option ℕ) → IsSelected together only → is_positive (row_fraction plan row).num ≡ true
   by_test true is only selected =
       positive_together plan drawable row stands leaf.states (drawable.together is).one_stage
       (ap (seat_selected (unit_selected tree_of (stage_of_strata plan ∷ []) leaf.states)) (sym (made_at (seat_together plan) plan.rows row l)) ∙ selected)

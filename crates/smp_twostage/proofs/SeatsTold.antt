@@ -16,7 +16,7 @@ use Rattle.smp_kernel.specs.Vectors.{Within}
 use Rattle.smp_prob.specs.Inclusions.{asked_fraction, inclusion}
 use Rattle.smp_balance.specs.Lines as balance
 use Rattle.smp_balance.specs.Lines.{AreTold}
-use Rattle.smp_balance.specs.Strata.{column_count, values_of}
+use Rattle.smp_balance.specs.Strata.{values_of}
 use Rattle.smp_balance.specs.Totals.{can_be_selected}
 use Rattle.smp_balance.proofs.Told.{asked_is, asked_positive}
 use Rattle.smp_design.specs.Words.{balances, draws_together}
@@ -31,12 +31,12 @@ use Rattle.smp_strata.specs.declared.strata.Stratum.{Stratum}
 use Rattle.smp_twostage.specs.Kept.Stages.{IsThere, each_told, told_count, told_seat}
 use Rattle.smp_twostage.specs.Lines.{seat_values, told, told_seats}
 use Rattle.smp_twostage.specs.Plans.{CanBeDrawn}
-use Rattle.smp_twostage.specs.Selections.{Coverage, balance_count, balancing, covers, is_together, place_of, units_at}
+use Rattle.smp_twostage.specs.Selections.{Coverage, balancing, covers, is_together, place_of, units_at}
 use Rattle.smp_twostage.specs.Starts.{covered_first}
 use Rattle.smp_twostage.specs.Laws.Places.{StandsIn, place_is_seat}
 use Rattle.smp_twostage.specs.Laws.Staged.{first_is, place_stands}
-use Rattle.smp_twostage.proofs.Columns.{balanced_count, has_columns, is_planned, near_within, stratum_at}
-use Rattle.smp_twostage.proofs.Told.{covered_open, few_columns}
+use Rattle.smp_twostage.proofs.Columns.{is_planned, near_within, stratum_at}
+use Rattle.smp_twostage.proofs.Told.{balance_few, covered_open}
 
 -- one more
 pub next_told : {A : Type 0} (f : ℕ → A) (i : ℕ) (done new : List A) (x : A) → done ≡ map f (range_with_len 0 i) → x ≡ f i → new ≡ done ++ x ∷ [] → new ≡ map f (range_with_len 0 (i + 1))
@@ -59,12 +59,12 @@ stands plan p there =
 
 module _ (plan : Parts) (p : Seat) (s : Stratum) (u : FirstUnit) (is_stratum : slice_get plan.strata p.stratum ≡ Some s) (is_unit : slice_get s.units p.unit ≡ Some u) where
   abbrev cut : FirstUnit → List ℤ
-  cut v = take (balance_count plan s) v.values
+  cut v = take plan.procedure.balance v.values
 
-  pub values_there : seat_values plan p ≡ take (balance_count plan s) u.values
+  pub values_there : seat_values plan p ≡ take plan.procedure.balance u.values
   values_there =
       ap (λ (o : Option Stratum). unwrap_or (option_map (λ (t : Stratum). values_of (balancing plan t) p.unit) o) []) is_stratum
-      ∙ get_or_from_slice_get (map cut s.units) p.unit (take (balance_count plan s) u.values) [] (slice_get-map cut s.units p.unit ∙ ap (option_map cut) is_unit)
+      ∙ get_or_from_slice_get (map cut s.units) p.unit (take plan.procedure.balance u.values) [] (slice_get-map cut s.units p.unit ∙ ap (option_map cut) is_unit)
 
   pub fraction_there : first_fraction plan.strata p.stratum p.unit ≡ asked_fraction s.request p.unit
   fraction_there = rw is_stratum refl
@@ -84,11 +84,11 @@ module _ (plan : Parts) (p : Seat) (there : IsThere plan p) (s : Stratum) (is_s 
   pub unit_there : p.unit < length s.units
   unit_there = subst (λ (o : Option Stratum). p.unit < length (units_at o)) own there.unit
 
-  pub value_is : (u : FirstUnit) → u ≡ get_or s.units p.unit u → take (balance_count plan s) u.values ≡ seat_values plan p
+  pub value_is : (u : FirstUnit) → u ≡ get_or s.units p.unit u → take plan.procedure.balance u.values ≡ seat_values plan p
   value_is u is_u =
       let v = some_within s.units p.unit unit_there in
       let same : u ≡ v.0 = is_u ∙ get_or_from_slice_get s.units p.unit v.0 u v.1 in
-      ap (λ (w : FirstUnit). take (balance_count plan s) w.values) same ∙ sym (values_there plan p s v.0 own v.1)
+      ap (λ (w : FirstUnit). take plan.procedure.balance w.values) same ∙ sym (values_there plan p s v.0 own v.1)
 
 -- ---- where those of a section stand
 
@@ -142,24 +142,12 @@ module _ (c : Coverage) (h : ℕ) where
 
     -- ---- all of it
 
-    module _ (balanced : balances c.plan.method ≡ true) (states : List AnyState) where
+    module _ (balanced : balances c.plan.procedure.method ≡ true) (states : List AnyState) where
       abbrev own_stratum : (s : Stratum) × (slice_get c.plan.strata h ≡ Some s)
       own_stratum = some_within c.plan.strata h l
 
-      columns_there : (s : Stratum) → slice_get c.plan.strata h ≡ Some s → (told c states h).columns ≡ drawable.columns - c.plan.near
-      columns_there s is =
-          let columns = has_columns c.plan drawable h s is in
-          rw is (balanced_count c.plan s ∙ ap (λ n. n - c.plan.near) columns)
-
-      columns_are : (told c states h).columns ≡ drawable.columns - c.plan.near
-      columns_are = columns_there own_stratum.0 own_stratum.1
-
       narrow_columns : (told c states h).columns ≤ 15
-      narrow_columns =
-          let s = own_stratum in
-          let few = few_columns c.plan drawable balanced h s.0 s.1 in
-          let columns = has_columns c.plan drawable h s.0 s.1 in
-          omega (arith, few, columns, columns_are)
+      narrow_columns = (balance_few c.plan drawable balanced h own_stratum.0 own_stratum.1).1
 
       few_by : (b : Bool) → is_together c ≡ b → (if b then c.plan.rows else length (units_at (slice_get c.plan.strata h))) ≤ 200000
       few_by true one = (drawable.together one).few
@@ -175,28 +163,30 @@ module _ (c : Coverage) (h : ℕ) where
         at : Stands c.plan seat
         at = stands c.plan seat (seat_here i m).0
 
-        values_at : seat_values c.plan seat ≡ take (balance_count c.plan at.stratum) at.unit.values
+        values_at : seat_values c.plan seat ≡ take c.plan.procedure.balance at.unit.values
         values_at = values_there c.plan seat at.stratum at.unit at.is_stratum at.is_unit
 
-        counted_at : length at.unit.values ≡ drawable.columns
-        counted_at =
-            let counted : All (λ u. length u.values ≡ drawable.columns) at.stratum.units =
-            subst (λ (s : Stratum). All (λ u. length u.values ≡ drawable.columns) s.units) (get_or_from_slice_get c.plan.strata seat.stratum at.stratum at.stratum at.is_stratum)
-            (All-get_or (λ (s : Stratum). All (λ u. length u.values ≡ drawable.columns) s.units) c.plan.strata seat.stratum at.stratum (slice_get_within c.plan.strata seat.stratum at.stratum at.is_stratum) drawable.sound.columns) in
-            subst (λ (u : FirstUnit). length u.values ≡ drawable.columns) (get_or_from_slice_get at.stratum.units seat.unit at.unit at.unit at.is_unit)
-            (All-get_or (λ (u : FirstUnit). length u.values ≡ drawable.columns) at.stratum.units seat.unit at.unit (slice_get_within at.stratum.units seat.unit at.unit at.is_unit) counted)
+        abbrev count : ℕ
+        count = c.plan.procedure.balance + c.plan.procedure.near
 
-        long_at : (told c states h).columns ≤ length (seat_values c.plan seat)
+        counted_at : length at.unit.values ≡ c.plan.procedure.balance + c.plan.procedure.near
+        counted_at =
+            let counted : All (λ u. length u.values ≡ count) at.stratum.units =
+            subst (λ (s : Stratum). All (λ u. length u.values ≡ count) s.units) (get_or_from_slice_get c.plan.strata seat.stratum at.stratum at.stratum at.is_stratum)
+            (All-get_or (λ (s : Stratum). All (λ u. length u.values ≡ count) s.units) c.plan.strata seat.stratum at.stratum (slice_get_within c.plan.strata seat.stratum at.stratum at.is_stratum) drawable.sound.columns) in
+            subst (λ (u : FirstUnit). length u.values ≡ count) (get_or_from_slice_get at.stratum.units seat.unit at.unit at.unit at.is_unit)
+            (All-get_or (λ (u : FirstUnit). length u.values ≡ count) at.stratum.units seat.unit at.unit (slice_get_within at.stratum.units seat.unit at.unit at.is_unit) counted)
+
+        long_at : c.plan.procedure.balance ≤ length (seat_values c.plan seat)
         long_at =
-            let n : ℕ = balance_count c.plan at.stratum in
-            let columns = has_columns c.plan drawable seat.stratum at.stratum at.is_stratum in
-            omega (arith, ap length values_at, length-take n at.unit.values, counted_at, columns, columns_are)
+            let n : ℕ = c.plan.procedure.balance in
+            omega (arith, ap length values_at, length-take n at.unit.values, counted_at)
 
         small_at : Within (2 ^ 31 - 1) (seat_values c.plan seat)
         small_at =
             let first : IsFirst c.plan.second at.unit = first_is c.plan drawable seat.stratum seat.unit at.stratum at.unit at.is_stratum at.is_unit in
             subst (Within (2 ^ 31 - 1)) (sym values_at)
-            (All-take (λ z. unsigned_abs z ≤ 2 ^ 31 - 1) (balance_count c.plan at.stratum) at.unit.values (near_within at.unit.values first.near))
+            (All-take (λ z. unsigned_abs z ≤ 2 ^ 31 - 1) c.plan.procedure.balance at.unit.values (near_within at.unit.values first.near))
 
         positive_at : covered_first c states seat.stratum seat.unit ≡ true → 1 ≤ (lowest_terms (first_fraction c.plan.strata seat.stratum seat.unit)).num
         positive_at chosen =
@@ -231,17 +221,15 @@ module _ (c : Coverage) (h : ℕ) where
           }
 
       -- what the code says of it
-      pub told_found : (plan : Parts) → plan ≡ c.plan → (s : Stratum) → s ≡ get_or plan.strata h s
-          → (left columns : ℕ) (values : List (List ℤ)) (asked : List Frac) (chosen : List Bool) → left ≡ (told c states h).left → columns ≡ column_count (balancing plan s)
+      pub told_found : (plan : Parts) → plan ≡ c.plan
+          → (left columns : ℕ) (values : List (List ℤ)) (asked : List Frac) (chosen : List Bool) → left ≡ (told c states h).left → columns ≡ plan.procedure.balance
           → values ≡ each_told (seat_values c.plan) c h (told_count c h) → asked ≡ each_told asked_in c h (told_count c h) → chosen ≡ each_told chosen_in c h (told_count c h)
           → ◌≡◌ {A = balance.Drawn} (record { number = h + 1; left = left; columns = columns; values = values; asked = asked; chosen = chosen }) (told c states h)
-      told_found plan plan_is s is left columns values asked chosen left_is columns_is values_are asked_are chosen_are =
+      told_found plan plan_is left columns values asked chosen left_is columns_is values_are asked_are chosen_are =
           let d : balance.Drawn = told c states h in
-          let own : slice_get c.plan.strata h ≡ Some s = stratum_at c.plan.strata h s l (is ∙ ap (λ (p : Parts). get_or p.strata h s) plan_is) in
-          let count : column_count (balancing c.plan s) ≡ d.columns = ap (λ (o : Option Stratum). unwrap_or (option_map (λ (t : Stratum). column_count (balancing c.plan t)) o) 0) (sym own) in
           ap (λ (n : ℕ). record { number = h + 1; left = n; columns = columns; values = values; asked = asked; chosen = chosen }) left_is
           ∙ ap (λ (n : ℕ). record { number = h + 1; left = d.left; columns = n; values = values; asked = asked; chosen = chosen })
-          (columns_is ∙ ap (λ (p : Parts). column_count (balancing p s)) plan_is ∙ count)
+          (columns_is ∙ ap (λ (p : Parts). p.procedure.balance) plan_is)
           ∙ ap (λ (vs : List (List ℤ)). record { number = h + 1; left = d.left; columns = d.columns; values = vs; asked = asked; chosen = chosen }) (values_are ∙ sym (each_is (seat_values c.plan)))
           ∙ ap (λ (ps : List Frac). record { number = h + 1; left = d.left; columns = d.columns; values = d.values; asked = ps; chosen = chosen }) (asked_are ∙ sym (each_is asked_in))
           ∙ ap (λ (bs : List Bool). record { number = h + 1; left = d.left; columns = d.columns; values = d.values; asked = d.asked; chosen = bs }) (chosen_are ∙ sym (each_is chosen_in))

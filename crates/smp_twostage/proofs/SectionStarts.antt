@@ -30,7 +30,7 @@ record StartBy (together : Bool) (plan : Parts) (h : ℕ) : Type 0 where
   state : progress tree_of (stages_by together (one_of plan h)) (map (λ stage. first_state stage.design.design) (stages_by together (one_of plan h))) ≡ own_state together plan h (progress tree_of (stages_so together plan) (states_so together plan))
 
 module _ (plan : Parts) (drawable : CanBeDrawn plan) where
-  start_by : (together : Bool) → draws_together plan.method ≡ together → (h : ℕ) → h < section_count_by together (all_of plan) → StartBy together plan h
+  start_by : (together : Bool) → draws_together plan.procedure.method ≡ together → (h : ℕ) → h < section_count_by together (all_of plan) → StartBy together plan h
   start_by true same h within =
       let first : h ≡ 0 = omega (arith, within) in
       subst (StartBy true plan) (sym first) (record { part = together_part plan drawable same; state = refl })
@@ -43,7 +43,7 @@ module _ (plan : Parts) (drawable : CanBeDrawn plan) where
 
   pub section_start : (h : ℕ) → h < section_count (all_of plan) → IsSectionStart plan h
   section_start h within =
-      let here = start_by (draws_together plan.method) refl h within in
+      let here = start_by (draws_together plan.procedure.method) refl h within in
       record {
         member = covered_belongs plan drawable (Some h);
         part = reached_part plan (start_belongs plan drawable) h here.part;

@@ -14,9 +14,7 @@ use Rattle.smp_rows.proofs.Around.{rows_around}
 use Rattle.smp_rows.proofs.Asked.{value_is_asked}
 use Rattle.smp_design.specs.Words.{balances}
 use Rattle.smp_methods.specs.declared.any.AnyState.{AnyState}
-use Rattle.smp_methods.specs.declared.procedure.Procedure.{Procedure}
 use Rattle.smp_methods.specs.Methods.{method_of}
-use Rattle.smp_methods.specs.Procedures.{procedure}
 use Rattle.smp_methods.proofs.Ways.{around_unless}
 use Rattle.smp_stages.specs.Paths.{GoesByStages, IsStagePath}
 use Rattle.smp_stages.specs.Stages.{is_drawn, progress}
@@ -26,13 +24,13 @@ use Rattle.smp_strata.specs.Plans.{Parts}
 use Rattle.smp_strata.specs.declared.strata.Stratum.{Stratum}
 use Rattle.smp_twostage.specs.Kept.Stages.{EachStarts, StageStarts}
 use Rattle.smp_twostage.specs.Plans.{CanBeDrawn}
-use Rattle.smp_balance.specs.Strata.{column_count, free_values}
+use Rattle.smp_balance.specs.Strata.{free_values}
 use Rattle.smp_twostage.specs.Selections.{Selecting, first_number, first_stage, stages_of, tree_of, valued}
 use Rattle.smp_twostage.specs.Laws.Numbering.{first_there}
 use Rattle.smp_twostage.proofs.Columns.{is_planned}
 use Rattle.smp_twostage.proofs.StartsBy.{FirstSelectsAroundSo, tree_so}
 
-module _ (plan : Parts) (drawable : CanBeDrawn plan) (other : balances plan.method ≡ false) (states : List AnyState) (each : EachStarts (stages_of plan) states)
+module _ (plan : Parts) (drawable : CanBeDrawn plan) (other : balances plan.procedure.method ≡ false) (states : List AnyState) (each : EachStarts (stages_of plan) states)
     (h : ℕ) (s : Stratum) (is : slice_get plan.strata h ≡ Some s) where
   abbrev at : ℕ
   at = first_number plan h
@@ -58,9 +56,8 @@ module _ (plan : Parts) (drawable : CanBeDrawn plan) (other : balances plan.meth
   own_around : LeavesSelectAround (tree_of own) first.0
   own_around =
       let over = (is_planned plan drawable h s is).stratum.over in
-      let way : Procedure = procedure plan.method plan.order plan.near (column_count (valued s)) in
       rows_around (length s.units) s.request (λ u l. over.free u 0 l) over.apart (method_of own.design).tree starts.member.paired (method_of own.design).belongs first.0
-      (around_unless way s.request (free_values (valued s)) first.0 other starts.around)
+      (around_unless plan.procedure s.request (free_values (valued s)) first.0 other starts.around)
 
   module _ (start_paths : AtEachLeaf (tree_so false plan) (progress tree_of (stages_of plan) states) (λ path leaf. GoesByStages tree_of (stages_of plan) states path leaf.states)) where
     pub firsts_around : FirstSelectsAroundSo false plan (progress tree_of (stages_of plan) states) h s

@@ -166,7 +166,7 @@ module _ (plan : Parts) (drawable : CanBeDrawn plan) (states : List AnyState) (e
   known_term asked same x row l =
       weighs_row plan row (asked row) (seat_value (unit_value tree_of (stages_of plan) states) (slice_get (seats_of plan) row)) (x row) (same row l) (row_value_is plan drawable states each row l)
 
-  starts_at : states ≡ states_of plan → draws_together plan.method ≡ false → StartsBy false plan start
+  starts_at : states ≡ states_of plan → draws_together plan.procedure.method ≡ false → StartsBy false plan start
   starts_at states_are apart = record {
     member = starts.member;
     values = row_value_is plan drawable states each;
@@ -200,7 +200,7 @@ pub each_first : (stages : List (Stage Selecting)) (states : List AnyState) → 
 each_first stages states each = record { are = states_are stages states each; belong = each_belongs stages states each }
 
 pub starts_whole : (plan : Parts) → CanBeDrawn plan → (states : List AnyState) → EachStarts (stages_of plan) states
-    → (state : Progress AnyState) → state ≡ progress tree_of (stages_of plan) states → StartsInStages tree_of belongs_to (stages_of plan) (seats_of plan) states state → draws_together plan.method ≡ false → StartsWhole plan state
+    → (state : Progress AnyState) → state ≡ progress tree_of (stages_of plan) states → StartsInStages tree_of belongs_to (stages_of plan) (seats_of plan) states state → draws_together plan.procedure.method ≡ false → StartsWhole plan state
 starts_whole plan drawable states each state is starts apart =
     starts_whole_by plan drawable state
     (subst (λ b. StartsBy b plan state) (sym apart)

@@ -64,13 +64,13 @@ module _ (together : Bool) (plan : Parts) where
     pub firsts : (h n : ℕ) (s : Stratum) → slice_get plan.strata h ≡ Some s → IsFor s.request (length s.units) n → FirstSelectsSo start h s n
     pub seconds : (h k n : ℕ) (s : Stratum) (u : FirstUnit) (request : Request) → slice_get plan.strata h ≡ Some s → slice_get s.units k ≡ Some u → u.second ≡ Some request
         → IsFor request (length u.rows) n → SecondSelectsSo start h k u n
-    pub around : balances plan.method ≡ false → (h : ℕ) (s : Stratum) → slice_get plan.strata h ≡ Some s → FirstSelectsAroundSo start h s
+    pub around : balances plan.procedure.method ≡ false → (h : ℕ) (s : Stratum) → slice_get plan.strata h ≡ Some s → FirstSelectsAroundSo start h s
     pub paths : AtEachLeaf tree_so start (λ path leaf. GoesByStages tree_of stages_so states_so path leaf.states)
-    pub cubes : balances plan.method ≡ true → draws_together plan.method ≡ false → (path : List Entry) (ends : List AnyState) (goes : GoesByStages tree_of stages_so states_so path ends)
+    pub cubes : balances plan.procedure.method ≡ true → draws_together plan.procedure.method ≡ false → (path : List Entry) (ends : List AnyState) (goes : GoesByStages tree_of stages_so states_so path ends)
         → (h : ℕ) (s : Stratum) → slice_get plan.strata h ≡ Some s → IsDrawnByCube plan h s (goes.part (first_number plan h)) ends
-    pub drawn : draws_together plan.method ≡ true → (path : List Entry) (ends : List AnyState) (goes : GoesByStages tree_of stages_so states_so path ends)
+    pub drawn : draws_together plan.procedure.method ≡ true → (path : List Entry) (ends : List AnyState) (goes : GoesByStages tree_of stages_so states_so path ends)
         → IsDrawnTogether plan (goes.part 0) ends
-    pub balanced : draws_together plan.method ≡ true → IsBalancedFrame (frame_of plan)
+    pub balanced : draws_together plan.procedure.method ≡ true → IsBalancedFrame (frame_of plan)
 
 -- as it is by the plan's method
 pub starts_whole_by : (plan : Parts) → CanBeDrawn plan → (start : Progress AnyState) → StartsBy (is_together (all_of plan)) plan start → StartsWhole plan start

@@ -33,7 +33,7 @@ use Rattle.smp_twostage.proofs.Starts.{weighs_row}
 use Rattle.smp_twostage.proofs.StartsBy.{FirstSelectsSo, StartsBy, starts_whole_by}
 use Rattle.smp_twostage.proofs.Together.{layer_in, row_value_is, run_counts, stage_member, target_adds, together_part}
 
-module _ (plan : Parts) (drawable : CanBeDrawn plan) (yes : draws_together plan.method ≡ true)
+module _ (plan : Parts) (drawable : CanBeDrawn plan) (yes : draws_together plan.procedure.method ≡ true)
     (started : AreStarted (layers_of plan) (record { design = design_of_strata (layers_of plan); state = first_state (design_of_strata (layers_of plan)) }))
     (starts : StartsInStages tree_of belongs_to (stage_of_strata plan ∷ []) (seats_together plan) (first_state (stage_of_strata plan).design.design ∷ [])
     (progress tree_of (stage_of_strata plan ∷ []) (first_state (stage_of_strata plan).design.design ∷ []))) where
@@ -77,7 +77,7 @@ module _ (plan : Parts) (drawable : CanBeDrawn plan) (yes : draws_together plan.
     firsts = firsts;
     seconds = λ h k n s u request is_s is_u asks fills.
         absurd (let some : is_some u.second ≡ true = ap is_some asks in true≢false (sym some ∙ none_in plan drawable one_stage h k s u is_s is_u));
-    around = λ other. absurd (true≢false (sym (together_balances plan.method yes) ∙ other));
+    around = λ other. absurd (true≢false (sym (together_balances plan.procedure.method yes) ∙ other));
     paths = starts.paths;
     cubes = λ balance apart. absurd (true≢false (sym yes ∙ apart));
     drawn = λ _ path ends goes. drawn_together plan path ends goes (stage_member plan drawable started.means).paired;

@@ -266,7 +266,7 @@ their_own plan = record {
   others = λ row l other. absurd (true≢false other);
 }
 
-pub together_part : (plan : Parts) → CanBeDrawn plan → draws_together plan.method ≡ true
+pub together_part : (plan : Parts) → CanBeDrawn plan → draws_together plan.procedure.method ≡ true
     → IsPartOf (tree_so true plan) (BelongsToWhole plan) (sections_by (stages_before_by true (all_of plan)) (section_count_by true (all_of plan))) 0 (tree_alone true plan 0) (own_state true plan 0) (is_in_section true plan 0)
 together_part plan drawable together =
     is_part tree_of belongs_to (stage_of_strata plan ∷ []) (seats_together plan) (BelongsToWhole plan)

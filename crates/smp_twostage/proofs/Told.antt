@@ -1,23 +1,22 @@
 -- A first stage unit that is selected can be, and a stratum is one that the cube draws from.
-use Rattle.std.proofs.Common.{◌≡◌, ℕ, ◌+◌, ◌-◌, ◌^◌, ◌<◌, ◌≤◌, Bool, true, false, true≢false, ℤ, List, [], ◌∷◌, length, map, get_or, take, Option, Some, None, refl, sym, ap, ◌∙◌, subst, arith, length-take}
+use Rattle.std.proofs.Common.{◌≡◌, ℕ, ◌+◌, ◌-◌, ◌^◌, ◌<◌, ◌≤◌, Bool, true, false, true≢false, ℤ, List, [], ◌∷◌, All, length, map, take, Option, Some, None, refl, sym, ap, ◌∙◌, arith, length-take}
 use Rattle.std.specs.Prelude.{◌||◌}
 use Rattle.std.specs.List.{slice_get}
 use Rattle.std.specs.Int.RustNames.{unsigned_abs}
 use Rattle.std.proofs.lemmas.Bool.{and_parts, eqb-true}
 use Rattle.std.proofs.lemmas.List.{length-map}
-use Rattle.std.proofs.lemmas.List.Elements.{All-from_get_or, All-map, All-take, All-weaker}
+use Rattle.std.proofs.lemmas.List.Elements.{All-get_or, All-map, All-take, All-weaker}
 use Rattle.smp_prob.specs.declared.inclusions.Inclusion.{Inclusion}
 use Rattle.smp_prob.specs.declared.inclusions.Inclusion.TheVariants.{Certain, Free, Never}
 use Rattle.smp_prob.specs.Inclusions.{is_taken, inclusion}
 use Rattle.smp_kernel.specs.Vectors.{Within}
 use Rattle.smp_flight.specs.Requests.{AreValues}
-use Rattle.smp_balance.specs.Strata.{AreStratumUnits}
+use Rattle.smp_balance.specs.Strata.{AreStratumUnits, column_count}
 use Rattle.smp_balance.specs.Totals.{can_be_selected}
-use Rattle.smp_design.specs.Words.{balances}
-use Rattle.smp_design.proofs.Rows.{balances_few}
+use Rattle.smp_design.specs.Words.{row, balances}
+use Rattle.smp_design.proofs.Rows.{balance_columns}
 use Rattle.smp_methods.specs.declared.any.AnyState.{AnyState}
 use Rattle.smp_methods.specs.Methods.{method_of}
-use Rattle.smp_methods.proofs.Wholes.{takes_some}
 use Rattle.smp_methods.proofs.Columns.{are_values}
 use Rattle.smp_stages.specs.declared.places.Stage.{Stage}
 use Rattle.smp_stages.specs.declared.places.Place.{Place}
@@ -29,12 +28,12 @@ use Rattle.smp_strata.specs.declared.strata.Stratum.{Stratum}
 use Rattle.smp_twostage.specs.Cubes.{balancing}
 use Rattle.smp_twostage.specs.Kept.Stages.{IsPlanned}
 use Rattle.smp_twostage.specs.Plans.{CanBeDrawn}
-use Rattle.smp_twostage.specs.Selections.{Coverage, Selecting, balance_count, covered_number, covered_parts, covers, first_number, first_stage, is_only, is_together, parts_by, place_together, stage_of_strata, stages_of, tree_of}
+use Rattle.smp_twostage.specs.Selections.{Coverage, Selecting, covered_number, covered_parts, covers, first_number, first_stage, is_only, is_together, parts_by, place_together, stage_of_strata, stages_of, tree_of}
 use Rattle.smp_twostage.specs.Kept.Sides.{first_place_by, stages_by}
 use Rattle.smp_twostage.specs.Starts.{covered_first}
 use Rattle.smp_twostage.specs.Laws.Covered.{alone_there}
 use Rattle.smp_twostage.specs.Laws.Numbering.{first_there}
-use Rattle.smp_twostage.proofs.Columns.{are_over, columns_are, is_planned, near_within}
+use Rattle.smp_twostage.proofs.Columns.{are_over, is_planned, near_within}
 use Rattle.smp_twostage.proofs.OverAll.{free_before, stands_behind, stands_over}
 
 -- ---- a first stage unit that is selected can be
@@ -86,24 +85,40 @@ module _ (c : Coverage) (drawable : CanBeDrawn c.plan) (states : List AnyState) 
 
 -- ---- the stratum, as the cube draws from it
 
-module _ (plan : Parts) (drawable : CanBeDrawn plan) (balance : balances plan.method ≡ true) (h : ℕ) (s : Stratum) (is : slice_get plan.strata h ≡ Some s) where
+module _ (plan : Parts) (drawable : CanBeDrawn plan) (balance : balances plan.procedure.method ≡ true) (h : ℕ) (s : Stratum) (is : slice_get plan.strata h ≡ Some s) where
   abbrev own : IsPlanned plan s
   own = is_planned plan drawable h s is
 
+  abbrev balance_count : ℕ
+  balance_count = plan.procedure.balance
+
   abbrev cut : FirstUnit → List ℤ
-  cut u = take (balance_count plan s) u.values
+  cut u = take balance_count u.values
 
-  pub few_columns : balance_count plan s ≤ 15
-  few_columns =
-      subst (λ n. n - plan.near ≤ 15) (sym (columns_are plan s own))
-      (balances_few plan.method plan.near own.columns balance (takes_some plan.method plan.order plan.near own.columns own.method))
+  -- the columns on which it balances are 1 to 15
+  pub balance_few : (1 ≤ balance_count) × (balance_count ≤ 15)
+  balance_few = balance_columns (row plan.procedure.method).needs balance_count plan.procedure.near balance drawable.procedure.columns
 
-  values_are : AreValues (map (λ u. take (balance_count plan s) u.values) s.units)
+  cut_counted : All (λ u. length (cut u) ≡ balance_count) s.units
+  cut_counted =
+      All-weaker (λ u. length u.values ≡ balance_count + plan.procedure.near) (λ u. length (cut u) ≡ balance_count)
+      (λ u counted. omega (arith, length-take balance_count u.values, counted)) s.units own.counted
+
+  values_counted : All (λ (v : List ℤ). length v ≡ balance_count) (map cut s.units)
+  values_counted = All-map (λ (v : List ℤ). length v ≡ balance_count) cut s.units cut_counted
+
+  -- so many values are balanced of each unit
+  pub balanced_count : column_count (balancing plan s) ≡ balance_count
+  balanced_count =
+      All-get_or (λ (v : List ℤ). length v ≡ balance_count) (map cut s.units) 0 []
+      (omega (arith, own.stratum.some, length-map s.units cut)) values_counted
+
+  values_are : AreValues (map (λ u. take balance_count u.values) s.units)
   values_are =
-      are_values (balance_count plan s) (map (λ u. take (balance_count plan s) u.values) s.units)
-      (All-map (λ (v : List ℤ). length v ≡ balance_count plan s) cut s.units (All-weaker (λ u. length u.values ≡ own.columns) (λ u. length (cut u) ≡ balance_count plan s) (λ u counted. omega (arith, length-take (balance_count plan s) u.values, counted, columns_are plan s own)) s.units own.counted))
-      (All-map (Within (2 ^ 31 - 1)) cut s.units (All-weaker (IsFirst plan.second) (λ u. Within (2 ^ 31 - 1) (cut u)) (λ u first. All-take (λ z. unsigned_abs z ≤ 2 ^ 31 - 1) (balance_count plan s) u.values (near_within u.values first.near)) s.units own.stratum.firsts))
-      few_columns
+      are_values balance_count (map (λ u. take balance_count u.values) s.units)
+      values_counted
+      (All-map (Within (2 ^ 31 - 1)) cut s.units (All-weaker (IsFirst plan.second) (λ u. Within (2 ^ 31 - 1) (cut u)) (λ u first. All-take (λ z. unsigned_abs z ≤ 2 ^ 31 - 1) balance_count u.values (near_within u.values first.near)) s.units own.stratum.firsts))
+      balance_few.1
 
   pub is_stratum : AreStratumUnits (balancing plan s)
   is_stratum = record {

@@ -18,7 +18,7 @@ use Rattle.smp_twostage.proofs.StartsBy.{stages_so, states_so}
 use Rattle.smp_twostage.proofs.StartsTogether.{whole_together}
 
 module _ (plan : Parts) (drawable : CanBeDrawn plan) where
-  start_by : (together : Bool) → draws_together plan.method ≡ together → StartsWhole plan (progress tree_of (stages_so together plan) (states_so together plan))
+  start_by : (together : Bool) → draws_together plan.procedure.method ≡ together → StartsWhole plan (progress tree_of (stages_so together plan) (states_so together plan))
   start_by true same =
       let states = first_state (stage_of_strata plan).design.design ∷ [] in
       whole_together plan drawable same (together_started plan drawable same)
@@ -31,4 +31,4 @@ module _ (plan : Parts) (drawable : CanBeDrawn plan) where
       (progress tree_of (stages_of plan) (states_of plan)) refl) apart
 
   pub whole_starts : StartsWhole plan (start_of plan)
-  whole_starts = start_by (draws_together plan.method) refl
+  whole_starts = start_by (draws_together plan.procedure.method) refl

@@ -17,7 +17,7 @@ use Rattle.smp_methods.specs.declared.any.AnyState.{AnyState}
 use Rattle.smp_methods.specs.declared.any.AnyState.TheVariants as states
 use Rattle.smp_strata.specs.Plans.{Parts}
 use Rattle.smp_strata.specs.declared.strata.Stratum.{Stratum}
-use Rattle.smp_twostage.specs.Selections.{balance_count, first_number, layers_of, valued}
+use Rattle.smp_twostage.specs.Selections.{first_number, layers_of, valued}
 pub use Rattle.smp_twostage.specs.Selections.{balancing}
 
 -- A part of a path leads through the tree of a selection, from a state to a leaf, at which the stage of this number ends.
@@ -32,15 +32,15 @@ pub record IsDrawnFrom {State : Type 0} (tree : Tree State) (from : State) (into
 abbrev pub local_units : Parts → Stratum → LocalUnits
 local_units plan s = record {
   units = free_units (balancing plan s);
-  coords = points_from plan.near (balance_count plan s) (free_values (valued s));
+  coords = points_from plan.procedure.near plan.procedure.balance (free_values (valued s));
 }
 
 -- The stratum is drawn so from the requested probabilities, by the cube or by the local cube.
 pub data IsDrawnByCube (plan : Parts) (h : ℕ) (s : Stratum) (part : List Entry) (ends : List AnyState) : Type 0 where
-  by_cube : plan.method ≡ method.Cube
+  by_cube : plan.procedure.method ≡ method.Cube
       → IsDrawnFrom (cube_tree (free_units (balancing plan s))) (starting (free_units (balancing plan s)))
       states.Cube (first_number plan h) part ends → IsDrawnByCube plan h s part ends
-  by_local_cube : plan.method ≡ method.LocalCube
+  by_local_cube : plan.procedure.method ≡ method.LocalCube
       → IsDrawnFrom (local_tree (free_units (balancing plan s))) (started (local_units plan s))
       states.LocalCube (first_number plan h) part ends → IsDrawnByCube plan h s part ends
 

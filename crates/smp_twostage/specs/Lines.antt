@@ -2,7 +2,7 @@
 use Rattle.std.specs.Prelude.{ℕ, ◌+◌, if◌then◌else◌, ℤ, List, [], length, map, option_map, unwrap_or}
 use Rattle.std.specs.List.{filter, flat_map, range_with_len, slice_get}
 use Rattle.smp_balance.specs.Lines as balance
-use Rattle.smp_balance.specs.Strata.{column_count, values_of}
+use Rattle.smp_balance.specs.Strata.{values_of}
 use Rattle.smp_design.specs.Words.{balances}
 use Rattle.smp_frac.specs.LowestTerms.{lowest_terms}
 use Rattle.smp_methods.specs.declared.any.AnyState.{AnyState}
@@ -36,7 +36,7 @@ abbrev pub told : Coverage → List AnyState → ℕ → balance.Drawn
 told c states h = record {
   number = h + 1;
   left = covered_left c states h;
-  columns = unwrap_or (option_map (λ s. column_count (balancing c.plan s)) (slice_get c.plan.strata h)) 0;
+  columns = c.plan.procedure.balance;
   values = map (seat_values c.plan) (told_seats c h);
   asked = map (λ p. lowest_terms (first_fraction c.plan.strata p.stratum p.unit)) (told_seats c h);
   chosen = map (λ p. covered_first c states p.stratum p.unit) (told_seats c h);
@@ -45,4 +45,4 @@ told c states h = record {
 -- the lines of the sections that are told, in their order, where the method balances, and none by any other method
 abbrev pub balance_lines : Coverage → List AnyState → List ℕ
 balance_lines c states =
-    if balances c.plan.method then flat_map (λ h. balance.balance_lines (told c states h)) (told_sections c) else []
+    if balances c.plan.procedure.method then flat_map (λ h. balance.balance_lines (told c states h)) (told_sections c) else []

@@ -1,21 +1,21 @@
 -- The whole selection by a plan, in stages. Strata are drawn in order of first appearance. In each its first stage units are drawn,
 -- and then, where there is a second stage, rows within each of those that were drawn, certain ones among them (Särndal, Swensson and
 -- Wretman 1992). A method that draws all strata together has one stage for them.
-use Rattle.std.specs.Prelude.{ℕ, zero, Bool, true, suc, ◌+◌, ◌-◌, nat_eq, nat_lt, ◌&&◌, ◌||◌, if◌then◌else◌}
+use Rattle.std.specs.Prelude.{ℕ, zero, Bool, true, suc, ◌+◌, nat_eq, nat_lt, ◌&&◌, ◌||◌, if◌then◌else◌}
 use Rattle.std.specs.Prelude.{List, [], ◌∷◌}
 use Rattle.std.specs.Prelude.{◌++◌, length, map, take, drop, Option, Some, None, option_map, unwrap_or}
 use Rattle.std.specs.List.{slice_get, list_any, position_or_len, range_with_len}
-use Rattle.smp_balance.specs.Strata.{StratumUnits, column_count, free_values}
-use Rattle.smp_prob.specs.declared.orders.Order.TheVariants.{Frame}
+use Rattle.smp_balance.specs.Strata.{StratumUnits, free_values}
 use Rattle.smp_prob.specs.declared.requests.Request.{Request}
 use Rattle.smp_split.specs.Sectioning.{Sectioning}
 use Rattle.smp_split.specs.Trees.{Tree}
 use Rattle.smp_rows.specs.Rows.{rows_tree, BelongsToRows}
 use Rattle.smp_design.specs.declared.method.Method.{Method}
+use Rattle.smp_design.specs.Procedures.{without_values}
 use Rattle.smp_design.specs.Words.{draws_together}
 use Rattle.smp_methods.specs.declared.any.AnyDesign.{AnyDesign}
 use Rattle.smp_methods.specs.declared.any.AnyState.{AnyState}
-use Rattle.smp_methods.specs.Designs.{design_by, design_of_strata, design_tree, first_state}
+use Rattle.smp_methods.specs.Designs.{design_of, design_of_strata, design_tree, first_state}
 use Rattle.smp_methods.specs.Methods.{method_of}
 use Rattle.smp_strata.specs.Plans.{Parts}
 use Rattle.smp_strata.specs.declared.strata.FirstUnit as unit
@@ -52,25 +52,20 @@ belongs_to s = BelongsToRows s.request (design_tree s.design) (method_of s.desig
 abbrev pub valued : stratum.Stratum → StratumUnits
 valued s = record { request = s.request; values = map (λ u. u.values) s.units }
 
--- how many columns of values stand before those of coordinates
-abbrev pub balance_count : Parts → stratum.Stratum → ℕ
-balance_count plan s = column_count (valued s) - plan.near
-
 -- a stratum as it is balanced: its request, and of the values of its first stage units those that aren't coordinates
 abbrev pub balancing : Parts → stratum.Stratum → StratumUnits
 balancing plan s = record {
   request = s.request;
-  values = map (λ u. take (balance_count plan s) u.values) s.units;
+  values = map (λ u. take plan.procedure.balance u.values) s.units;
 }
 
--- the first stage of a stratum: its first stage units, by the plan's method and in its order
+-- the first stage of a stratum: its first stage units, by the plan's procedure
 abbrev pub first_stage : Parts → stratum.Stratum → Stage Selecting
 first_stage plan s = record {
   design = record {
     units = length s.units;
     request = s.request;
-    design = design_by plan.method plan.order plan.near (column_count (valued s))
-        s.request (free_values (valued s));
+    design = design_of plan.procedure s.request (free_values (valued s));
   };
   within = None;
 }
@@ -81,7 +76,7 @@ second_stage method request rows at k = record {
   design = record {
     units = rows;
     request = request;
-    design = design_by method Frame 0 0 request (map (λ _. []) request.free);
+    design = design_of (without_values method) request (map (λ _. []) request.free);
   };
   within = Some (record { stage = at; unit = k });
 }
@@ -222,7 +217,7 @@ seats_together plan = map (seat_together plan) (range_with_len 0 plan.rows)
 
 -- the stages: one of all strata where these are drawn together, or those of each stratum
 abbrev pub whole_stages : Parts → List (Stage Selecting)
-whole_stages plan = if draws_together plan.method then stage_of_strata plan ∷ [] else stages_of plan
+whole_stages plan = if draws_together plan.procedure.method then stage_of_strata plan ∷ [] else stages_of plan
 
 -- the states from which they start
 abbrev pub whole_states : Parts → List AnyState
@@ -230,12 +225,12 @@ whole_states plan = map (λ stage. first_state stage.design.design) (whole_stage
 
 -- the seats of all rows in them
 abbrev pub whole_seats : Parts → List Seat
-whole_seats plan = if draws_together plan.method then seats_together plan else seats_of plan
+whole_seats plan = if draws_together plan.procedure.method then seats_together plan else seats_of plan
 
 -- where unit k of stratum h stands in them
 abbrev pub whole_place : Parts → ℕ → ℕ → Place
 whole_place plan h k =
-    if draws_together plan.method then place_together plan.strata h k
+    if draws_together plan.procedure.method then place_together plan.strata h k
     else record { stage = first_number plan h; unit = k }
 
 -- the draw tree, whose units are the rows of the frame
@@ -248,8 +243,8 @@ start_of plan = progress tree_of (whole_stages plan) (whole_states plan)
 
 -- the sections of the draw, by how many stages stand before each and how many they are: each stratum is one, or all strata together
 abbrev pub whole_sections : Parts → Sectioning (Progress AnyState)
-whole_sections plan = sections_by (λ h. if draws_together plan.method then h else first_number plan h)
-    (if draws_together plan.method then 1 else length plan.strata)
+whole_sections plan = sections_by (λ h. if draws_together plan.procedure.method then h else first_number plan h)
+    (if draws_together plan.procedure.method then 1 else length plan.strata)
 
 -- ---- all strata, or one alone
 
@@ -274,7 +269,7 @@ is_only (Some only) h = nat_eq h only
 
 -- whether all strata are drawn together
 abbrev pub is_together : Coverage → Bool
-is_together c = draws_together c.plan.method
+is_together c = draws_together c.plan.procedure.method
 
 -- whether stratum h of the plan is drawn: where all strata are drawn together, each is
 abbrev pub covers : Coverage → ℕ → Bool
@@ -333,7 +328,7 @@ is_of_stratum plan h row = nat_eq (place_of plan.strata row).stratum h
 -- whether a row is one of section h: of its stratum, or any where all strata are drawn together
 abbrev pub is_of_section : Parts → ℕ → ℕ → Bool
 is_of_section plan h row =
-    if draws_together plan.method then true else is_of_stratum plan h row
+    if draws_together plan.procedure.method then true else is_of_stratum plan h row
 
 -- the seat of a row where stratum h is drawn alone, whose first stage has the number 0; rows of other strata have none
 abbrev pub seat_alone : Parts → ℕ → ℕ → Seat

@@ -113,21 +113,21 @@ pub record StartsWhole (plan : Parts) (start : Progress AnyState) : Type 0 where
       → IsFor request (length u.rows) n → SecondSelects plan start h k u n
   -- By every method that doesn't balance, as many of a stratum's first stage units are selected as their probabilities add up to,
   -- and where these have no whole sum, one of the two whole numbers around it.
-  pub around : balances plan.method ≡ false → (h : ℕ) (s : stratum.Stratum) → slice_get plan.strata h ≡ Some s
+  pub around : balances plan.procedure.method ≡ false → (h : ℕ) (s : stratum.Stratum) → slice_get plan.strata h ≡ Some s
       → FirstSelectsAround plan start h s
   -- A path to a leaf is made of the stages' own paths, one after another.
   pub paths : AtEachLeaf (whole_tree plan) start
       (λ path leaf. GoesByStages tree_of (whole_stages plan) (whole_states plan) path leaf.states)
   -- Where the method balances, each stratum's part of it is one of the method's own paths.
-  pub cubes : balances plan.method ≡ true → draws_together plan.method ≡ false
+  pub cubes : balances plan.procedure.method ≡ true → draws_together plan.procedure.method ≡ false
       → (path : List Entry) (ends : List AnyState)
       (goes : GoesByStages tree_of (whole_stages plan) (whole_states plan) path ends)
       → (h : ℕ) (s : stratum.Stratum) → slice_get plan.strata h ≡ Some s
       → IsDrawnByCube plan h s (goes.part (first_number plan h)) ends
   -- Where it draws all strata together, the whole path is one of its own, and it is balanced over all strata.
-  pub together : draws_together plan.method ≡ true
+  pub together : draws_together plan.procedure.method ≡ true
       → (path : List Entry) (ends : List AnyState)
       (goes : GoesByStages tree_of (whole_stages plan) (whole_states plan) path ends)
       → IsDrawnTogether plan (goes.part 0) ends
-  pub balanced : draws_together plan.method ≡ true
+  pub balanced : draws_together plan.procedure.method ≡ true
       → IsBalancedFrame (frame_of plan)

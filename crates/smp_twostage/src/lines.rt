@@ -3,22 +3,20 @@
 ghost use Rattle.std.specs.Prelude.{◌≡◌, ◌++◌, ◌+◌, ◌^◌, ◌<◌, true, length, map, IfOk, OnOk, string_bytes};
 ghost use Rattle.std.specs.List.{flat_map, slice_get};
 ghost use Rattle.smp_design.specs.Words.{balances};
-ghost use Rattle.smp_balance.specs.Strata.{column_count};
 ghost use Rattle.smp_frac.specs.LowestTerms.{lowest_terms};
 ghost use Rattle.smp_strata.specs.Seats.{first_fraction};
 ghost use Rattle.smp_twostage.specs.Kept.Stages.{IsThere, each_told, section_lines, told_count, told_seat};
 ghost use Rattle.smp_twostage.specs.Lines.{balance_lines, seat_values, told_sections};
 ghost use Rattle.smp_twostage.specs.Plans.{CanBeDrawn};
-ghost use Rattle.smp_twostage.specs.Selections.{BelongsToCovered, balance_count, balancing, covered_tree, covers};
+ghost use Rattle.smp_twostage.specs.Selections.{BelongsToCovered, covered_tree, covers};
 ghost use Rattle.smp_twostage.specs.Starts.{covered_first};
 
-use crate::made::column_count;
 use crate::{Whole, section_count};
 use smp_balance::DrawnUnits;
 use smp_frac::{Frac, NoMemory};
 use smp_methods::AnyState;
 use smp_stages::StagesState;
-use smp_strata::{Plan, Seat, Stratum, first_asked};
+use smp_strata::{Plan, Seat, first_asked};
 use std::alloc::Global;
 
 /// What the cube, or the local cube, kept and gave up in each stratum that is covered (Deville and Tillé 2004), in a done state; no text
@@ -42,7 +40,7 @@ pub fn balance_lines(
     requires done { (covered_tree whole.now).done state.now ≡ true }
     ensures { IfOk result (λ text. string_bytes text ≡ balance_lines whole.now state.now.states) }
 {
-    if whole.plan().method().balances() {
+    if whole.plan().procedure().method.balances() {
         all_lines(alloc, whole, state)
     } else {
         Ok(String::new(alloc))
@@ -57,7 +55,7 @@ fn all_lines(
 ) -> Result<String, NoMemory>
     requires state { BelongsToCovered whole.now state.now }
     requires done { (covered_tree whole.now).done state.now ≡ true }
-    requires balance { balances whole.now.plan.method ≡ true }
+    requires balance { balances whole.now.plan.procedure.method ≡ true }
     ensures { IfOk result (λ text. string_bytes text
         ≡ flat_map (section_lines whole.now state.now.states) (told_sections whole.now)) }
 {
@@ -80,7 +78,7 @@ fn push_lines(
 ) -> Result<(), NoMemory>
     requires state { BelongsToCovered whole.now state.now }
     requires done { (covered_tree whole.now).done state.now ≡ true }
-    requires balance { balances whole.now.plan.method ≡ true }
+    requires balance { balances whole.now.plan.procedure.method ≡ true }
     requires within { section < length whole.now.plan.strata }
     requires covered { covers whole.now section ≡ true }
     requires room { section + 1 < 2 ^ 64 }
@@ -101,7 +99,7 @@ fn section_lines(
 ) -> Result<String, NoMemory>
     requires state { BelongsToCovered whole.now state.now }
     requires done { (covered_tree whole.now).done state.now ≡ true }
-    requires balance { balances whole.now.plan.method ≡ true }
+    requires balance { balances whole.now.plan.procedure.method ≡ true }
     requires within { section < length whole.now.plan.strata }
     requires covered { covers whole.now section ≡ true }
     requires room { section + 1 < 2 ^ 64 }
@@ -115,7 +113,7 @@ fn section_lines(
     let drawn = DrawnUnits {
         number: section + 1,
         left: whole.left(state, section),
-        columns: balance_count(plan, plan.stratum(section)),
+        columns: plan.procedure().balance,
         values: values.as_slice(),
         asked: asked.as_slice(),
         chosen: chosen.as_slice(),
@@ -131,7 +129,7 @@ fn told_count(whole: &Whole, section: usize) -> usize
     ensures { result ≡ told_count whole.now section }
 {
     let plan = whole.plan();
-    if plan.method().draws_together() {
+    if plan.procedure().method.draws_together() {
         plan.rows()
     } else {
         plan.stratum(section).units.as_slice().len()
@@ -149,7 +147,7 @@ fn told_seat(whole: &Whole, section: usize, number: usize) -> Seat
     ensures covered { covers whole.now result.stratum ≡ true }
 {
     let plan = whole.plan();
-    if plan.method().draws_together() {
+    if plan.procedure().method.draws_together() {
         plan.seat(number)
     } else {
         Seat {
@@ -187,7 +185,7 @@ fn values_at<'a>(plan: &'a Plan, seat: Seat) -> &'a [i32]
 {
     let stratum = plan.stratum(seat.stratum);
     let all = stratum.units.as_slice()[seat.unit].values.as_slice();
-    &all[..balance_count(plan, stratum).min(all.len())]
+    &all[..plan.procedure().balance.min(all.len())]
 }
 
 // The probabilities that are asked for them.
@@ -237,12 +235,4 @@ fn told_chosen(
         chosen.push(whole.first(state, seat.stratum, seat.unit))?;
     }
     Ok(chosen)
-}
-
-// How many columns of values stand before those of coordinates.
-fn balance_count(plan: &Plan, stratum: &Stratum) -> usize
-    ensures is { result ≡ balance_count plan.now stratum.now }
-    ensures counted { result ≡ column_count (balancing plan.now stratum.now) }
-{
-    column_count(stratum).saturating_sub(plan.near())
 }

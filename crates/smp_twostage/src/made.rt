@@ -1,13 +1,13 @@
 //! The stages of a plan, each with the state that it starts from.
 
-ghost use Rattle.std.specs.Prelude.{◌≡◌, ◌<◌, ◌≤◌, ◌+◌, ◌^◌, suc, ◌++◌, ◌∷◌, [], true, is_some, None};
+ghost use Rattle.std.specs.Prelude.{◌≡◌, ◌<◌, ◌≤◌, ◌+◌, ◌^◌, suc, ◌++◌, ◌∷◌, [], true, None};
 ghost use Rattle.std.specs.Prelude.{Some, All, IfOk, OnOk, length, map, slice_index_or};
 ghost use Rattle.std.specs.List.{range_with_len};
 ghost use Rattle.smp_prob.specs.Requests.{IsRequest};
 ghost use Rattle.smp_prob.specs.Inclusions.{IsRising};
 ghost use Rattle.smp_design.specs.Words.{draws_together};
 ghost use Rattle.smp_methods.specs.Designs.{design_of, design_of_strata, first_state};
-ghost use Rattle.smp_methods.specs.Procedures.{NeedsWhole, procedure, procedure_of, TakesValues};
+ghost use Rattle.smp_methods.specs.Procedures.{NeedsWhole, TakesValues};
 ghost use Rattle.smp_methods.specs.Starts.{AreStarted};
 ghost use Rattle.smp_strata.specs.Bounds.{IsFirst};
 ghost use Rattle.smp_twostage.specs.Kept.Stages.{EachFirst, EachStarts, IsPlanned, StageStarts};
@@ -18,10 +18,10 @@ ghost use Rattle.smp_twostage.specs.Selections.{first_number, first_stage, layer
 ghost use Rattle.smp_twostage.specs.Selections.{stage_by, stages_in, stages_of, stages_within};
 
 use crate::StageDesign;
-use smp_design::{Method, Order};
+use smp_design::{Method, Procedure};
 use smp_frac::NoMemory;
 use smp_frame::Numbers;
-use smp_methods::{AnyState, Procedure, Started, no_values};
+use smp_methods::{AnyState, Started, no_values};
 use smp_prob::{Places, Request, Shapes};
 use smp_stages::{Place, Stage};
 use smp_strata::{FirstUnit, Plan, Stratum};
@@ -42,18 +42,6 @@ pub(crate) struct Made<'a> {
     pub states: Vec<AnyState>,
 }
 
-// The procedure of a method that takes so many columns.
-fn procedure(method: Method, order: Order, near: usize, columns: usize) -> Procedure
-    requires { is_some (procedure_of method order near columns) ≡ true }
-    ensures is { result ≡ procedure method order near columns }
-    ensures given { procedure_of method order near columns ≡ Some result }
-{
-    match Procedure::of_method(method, order, near, columns) {
-        Some(procedure) => procedure,
-        None => unreachable!(),
-    }
-}
-
 // The values of a first stage unit; none past the last one.
 fn values_at(alloc: Global, units: &[FirstUnit], unit: usize) -> Result<Numbers, NoMemory>
     ensures { IfOk result (λ values. values
@@ -69,27 +57,18 @@ fn values_at(alloc: Global, units: &[FirstUnit], unit: usize) -> Result<Numbers,
 fn free_values(alloc: Global, stratum: &Stratum) -> Result<Vec<Numbers>, NoMemory>
     ensures { IfOk result (λ values. values.items ≡ Strata.free_values (valued stratum.now)) }
 {
-    let mut values = Vec::new(alloc);
-    for unit in stratum.request.free.as_slice() {
+    let free = stratum.request.free.as_slice();
+    let mut values = Vec::with_capacity(alloc, free.len())?;
+    for unit in free {
         values.push(values_at(alloc, stratum.units.as_slice(), *unit)?)?;
     }
     Ok(values)
 }
 
-// How many columns of values the units of a stratum have.
-pub(crate) fn column_count(stratum: &Stratum) -> usize
-    ensures { result ≡ Strata.column_count (valued stratum.now) }
-{
-    match stratum.units.as_slice().first() {
-        Some(first) => first.values.as_slice().len(),
-        None => 0,
-    }
-}
-
 // The free units of each stratum, with their values.
 fn layers_of(alloc: Global, plan: &Plan) -> Result<Layers, NoMemory>
     requires plan { CanBeDrawn plan.now }
-    requires together { draws_together plan.now.method ≡ true }
+    requires together { draws_together plan.now.procedure.method ≡ true }
     ensures { IfOk result (λ layers. layers ≡ Selections.layers_of plan.now) }
 {
     let mut layers = Layers::new(alloc);
@@ -216,13 +195,8 @@ impl<'a> Made<'a> {
     {
         let units = stratum.units.as_slice().len();
         let values = free_values(alloc, stratum)?;
-        let procedure = procedure(
-            plan.method(),
-            plan.order(),
-            plan.near(),
-            column_count(stratum),
-        );
-        let started = start_stage(alloc, procedure, units, &stratum.request, values.as_slice())?;
+        let request = &stratum.request;
+        let started = start_stage(alloc, plan.procedure(), units, request, values.as_slice())?;
         self.push(started, None)
     }
 
@@ -247,7 +221,7 @@ impl<'a> Made<'a> {
         };
         let rows = first.rows.as_slice().len();
         let values = no_values(alloc, request)?;
-        let procedure = procedure(method, Order::Frame, 0, 0);
+        let procedure = Procedure::without_values(method);
         let started = start_stage(alloc, procedure, rows, request, values.as_slice())?;
         self.push(started, Some(within))
     }
@@ -299,7 +273,7 @@ impl<'a> Made<'a> {
         requires none { self.old.stages.items ≡ [] }
         requires no_states { self.old.states.items ≡ [] }
         requires plan { CanBeDrawn plan.now }
-        requires together { draws_together plan.now.method ≡ true }
+        requires together { draws_together plan.now.procedure.method ≡ true }
         ensures stages { OnOk result (self.new.stages.items ≡ stage_of_strata plan.now ∷ []) }
         ensures each { OnOk result (EachFirst self.new.stages.items self.new.states.items) }
         ensures starts { OnOk result (AreStarted (layers_of plan.now) (record {

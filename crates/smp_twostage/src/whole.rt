@@ -160,7 +160,7 @@ fn together<'a>(
     only: Option<usize>,
 ) -> Result<StartedWhole<'a>, NoMemory>
     requires plan { CanBeDrawn plan.now }
-    requires together { draws_together plan.now.method ≡ true }
+    requires together { draws_together plan.now.procedure.method ≡ true }
     ensures whole { IfOk result (λ started.
         started.whole ≡ record { plan = plan.now; only = only }) }
     ensures state { IfOk result (λ started.
@@ -226,7 +226,7 @@ impl<'a> Whole<'a> {
         ensures state { IfOk result (λ started. started.state ≡ start_of plan.now) }
         ensures starts { IfOk result (λ started. StartsWhole plan.now started.state) }
     {
-        if plan.method().draws_together() {
+        if plan.procedure().method.draws_together() {
             return together(alloc, plan, None);
         }
         let mut made = Made {
@@ -253,7 +253,7 @@ impl<'a> Whole<'a> {
             (λ started. started.state ≡ covered_start (one_of plan.now stratum)) }
         ensures starts { IfOk result (λ started. StartsAlone plan.now stratum started.state) }
     {
-        if plan.method().draws_together() {
+        if plan.procedure().method.draws_together() {
             return together(alloc, plan, Some(stratum));
         }
         let mut made = Made {
@@ -278,7 +278,7 @@ impl<'a> Whole<'a> {
         ensures { result ≡ covers self.now stratum }
     {
         stratum < self.plan.strata()
-            && (self.plan.method().draws_together() || self.is_only(stratum))
+            && (self.plan.procedure().method.draws_together() || self.is_only(stratum))
     }
 
     // Whether a stratum is drawn, where they are drawn one by one.
@@ -298,7 +298,7 @@ impl<'a> Whole<'a> {
         requires unit { unit < 2 ^ 32 }
         ensures { result ≡ first_place self.now stratum unit }
     {
-        if self.plan.method().draws_together() {
+        if self.plan.procedure().method.draws_together() {
             let unit = units_before(self.plan, stratum) + unit;
             return Place { stage: 0, unit };
         }
@@ -371,7 +371,7 @@ impl<'a> Splitting for Whole<'a> {
 pub fn section_count(plan: &Plan) -> usize
     ensures { result ≡ section_count (all_of plan.now) }
 {
-    if plan.method().draws_together() {
+    if plan.procedure().method.draws_together() {
         1
     } else {
         plan.strata()

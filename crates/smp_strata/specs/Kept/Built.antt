@@ -57,7 +57,7 @@ pub record IsFirstRequest (design : Design) (units : List unit.Unit) (number : �
   pub some : 1 ≤ length (clusters_in design units number)
   pub value : request ≡ request_by design.columns.prob design units number
   pub over : IsOver (length (clusters_in design units number)) request
-  pub whole : IsTrue (row design.method).draws_whole → IsWhole request
+  pub whole : IsTrue (row design.procedure.method).draws_whole → IsWhole request
   pub asks : FirstAsks design units number request
   pub draws : (n : ℕ) → AreAsked design.columns.prob design units number n
       → IsFor request (length (clusters_in design units number)) n

@@ -1,9 +1,10 @@
 -- What the code keeps of the stages that it makes and of what is told of them.
-use Rattle.std.specs.Prelude.{◌≡◌, ℕ, suc, ◌<◌, true, if◌then◌else◌, All, IfSome, IsTrue}
-use Rattle.std.specs.Prelude.{is_some, List, Some, length, map}
+use Rattle.std.specs.Prelude.{◌≡◌, ℕ, suc, ◌+◌, ◌<◌, if◌then◌else◌, All, IfSome, IsTrue}
+use Rattle.std.specs.Prelude.{List, Some, length, map}
 use Rattle.std.specs.List.{range_with_len, slice_get}
 use Rattle.smp_split.specs.Counts.{AddsUp}
 use Rattle.smp_values.specs.Starts.{IsWhole}
+use Rattle.smp_design.specs.Procedures.{IsProcedure}
 use Rattle.smp_design.specs.Words.{row}
 use Rattle.smp_rows.specs.Rows.{SelectsAsRequested}
 use Rattle.smp_methods.specs.declared.any.AnyState.{AnyState}
@@ -11,7 +12,6 @@ use Rattle.smp_methods.specs.Designs.{first_state}
 use Rattle.smp_methods.specs.Methods.{method_of}
 use Rattle.smp_stages.specs.declared.places.Stage.{Stage}
 use Rattle.smp_stages.specs.Stages.{EachBelongs}
-use Rattle.smp_methods.specs.Procedures.{procedure_of}
 use Rattle.smp_methods.specs.Starts.{SelectsAround}
 use Rattle.smp_strata.specs.Bounds.{IsStratum}
 use Rattle.smp_strata.specs.Plans.{Parts}
@@ -33,12 +33,11 @@ asked_view (asked.Strata request) = request
 
 -- a stratum of a plan that can be drawn
 pub record IsPlanned (plan : Parts) (s : Stratum) : Type 0 where
-  pub columns : ℕ
-  pub method : is_some (procedure_of plan.method plan.order plan.near columns) ≡ true
+  pub procedure : IsProcedure plan.procedure
   pub second : IfSome plan.second TakesRows
   pub stratum : IsStratum plan.second s
-  pub whole : IsTrue (row plan.method).draws_whole → IsWhole s.request
-  pub counted : All (λ u. length u.values ≡ columns) s.units
+  pub whole : IsTrue (row plan.procedure.method).draws_whole → IsWhole s.request
+  pub counted : All (λ u. length u.values ≡ plan.procedure.balance + plan.procedure.near) s.units
 
 -- the number of the first stage of each section that is covered, and then that of all stages
 abbrev pub first_numbers : Coverage → List ℕ

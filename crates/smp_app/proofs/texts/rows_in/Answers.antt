@@ -20,17 +20,17 @@ loop-row-preserved c =
       | then-draws_together w ↦
           elim w.then-draws_together.branch [
             | then-draws_together-via-then-draws_together x ↦
-                (let together = sym (rw c.method.ensures at c.draws_together.ensures) ∙ x.if-draws_together.true in
+                (let together = sym (rw c.procedure.ensures at c.draws_together.ensures) ∙ x.if-draws_together.true in
                 let one = count_from p n row here true (stands_in_all plan c.requires c.args.stratum row together) in
                 record { small = omega (arith, w.rows-is, before.small); counted = omega (arith, one, w.rows-is, before.counted) })
             | then-draws_together-via-else-draws_together+then-seat-stratum x ↦
-                (let apart = sym (rw c.method.ensures at c.draws_together.ensures) ∙ x.if-draws_together.false in
+                (let apart = sym (rw c.procedure.ensures at c.draws_together.ensures) ∙ x.if-draws_together.false in
                 let its = stands_in_its plan c.requires c.args.stratum row apart within x.seat.result x.seat.ensures.once in
                 let one = count_from p n row here true (its ∙ eq-eqb x.seat.result.stratum c.args.stratum x.if-seat-stratum.true) in
                 record { small = omega (arith, w.rows-is, before.small); counted = omega (arith, one, w.rows-is, before.counted) })
           ]
       | else-draws_together+else-seat-stratum w ↦
-          (let apart = sym (rw c.method.ensures at c.draws_together.ensures) ∙ w.if-draws_together.false in
+          (let apart = sym (rw c.procedure.ensures at c.draws_together.ensures) ∙ w.if-draws_together.false in
           let its = stands_in_its plan c.requires c.args.stratum row apart within w.seat.result w.seat.ensures.once in
           let none = count_from p n row here false (its ∙ ne_eqb w.seat.result.stratum c.args.stratum w.if-seat-stratum.false) in
           record { small = omega (arith, w.rows-is, before.small); counted = omega (arith, none, w.rows-is, before.counted) })

@@ -1,4 +1,4 @@
-use Rattle.std.proofs.Common.{◌≡◌, ◌∙◌, ◌<◌, ℕ, List, None, ap, refl, length, get_or}
+use Rattle.std.proofs.Common.{◌≡◌, ◌∙◌, ◌<◌, ℕ, List, None, All, ap, refl, subst, length, get_or}
 use Rattle.smp_design.specs.declared.design.Design.{Design}
 use Rattle.smp_frame.specs.declared.frame.Unit as unit
 use Rattle.smp_strata.specs.Clusters.{clusters}
@@ -47,7 +47,7 @@ returns-clause-sound c =
     rw c.second_method-second.ensures record {
       strata = are_strata _ _ (all_rows c.requires.layout) served list listed;
       whole = are_whole _ _ (all_rows c.requires.layout) served list listed;
-      columns = have_columns _ _ (all_rows c.requires.layout) served list listed;
+      columns = subst (λ n. All (λ s. All (λ f. length f.values ≡ n) s.units) list) c.requires.layout.design.values (have_columns _ _ (all_rows c.requires.layout) served list listed);
       seated = seated_by list c.in_ok-seats.seats.items (seated c.requires.layout c.requires.served listed c.requires.homes c.requires.row_groups c.in_ok-seats.ensures.length c.in_ok-seats.ensures.each);
     }
 

@@ -53,7 +53,7 @@ returns-in_err-strata_pass-2 c =
     let fits : denominator c.args.design.now c.args.units.now ≡ None =
     sym (denominators_are c.args.design.now c.args.units.now (all_rows c.requires.layout) c.args.strata.now.members.items c.args.strata.now.places.items (groups c.requires.layout))
     ∙ rw (c.requires.layout.names, c.requires.layout.rows) at c.in_ok-strata_pass.ensures in
-    let whole : (row c.args.design.now.method).draws_whole ≡ true = sym c.draws_whole.ensures ∙ c.if-draws_whole.true in
+    let whole : (row c.args.design.now.procedure.method).draws_whole ≡ true = sym c.draws_whole.ensures ∙ c.if-draws_whole.true in
     let said = rw (c.requires.layout.names, c.requires.layout.rows) at c.in_err-strata_pass-2.ensures in
     let same : c.from_residual-in_err-strata_pass-2.result ≡ Err c.in_err-strata_pass-2.field-0.0 = search rules in
     rw same (passed (Unit {0}) (Unit {0}) c.in_err-strata_pass-2.field-0.0 _ _ said (λ m at.
@@ -67,11 +67,11 @@ returns c =
     ∙ rw (c.requires.layout.names, c.requires.layout.rows) at c.in_ok-strata_pass.ensures in
     elim c.if-draws_whole.branch [
       | then-draws_whole+in_ok-strata_pass-2 w ↦
-          (let whole : (row c.args.design.now.method).draws_whole ≡ true = sym c.draws_whole.ensures ∙ w.if-draws_whole.true in
+          (let whole : (row c.args.design.now.procedure.method).draws_whole ≡ true = sym c.draws_whole.ensures ∙ w.if-draws_whole.true in
           probs_2 c.args.design.now c.args.units.now fits None
           (rw whole (sym (unwhole_are c.args.design.now c.args.units.now (all_rows c.requires.layout) c.args.strata.now.members.items c.args.strata.now.places.items (groups c.requires.layout))
           ∙ rw (c.requires.layout.names, c.requires.layout.rows) at w.in_ok-strata_pass-2.ensures)))
       | else-draws_whole w ↦
-          (let whole : (row c.args.design.now.method).draws_whole ≡ false = sym c.draws_whole.ensures ∙ w.if-draws_whole.false in
+          (let whole : (row c.args.design.now.procedure.method).draws_whole ≡ false = sym c.draws_whole.ensures ∙ w.if-draws_whole.false in
           probs_2 c.args.design.now c.args.units.now fits None (rw whole refl))
     ]

@@ -1,7 +1,7 @@
 use Rattle.std.proofs.Common.{◌≡◌, ℤ, List, get_or, take, ap, sym, ◌∙◌}
 use Rattle.std.proofs.lemmas.List.{take_min}
+use Rattle.smp_design.specs.declared.procedure.Procedure.{Procedure}
 use Rattle.smp_strata.specs.declared.strata.FirstUnit.{FirstUnit}
-use Rattle.smp_twostage.specs.Selections.{balance_count}
 use Rattle.smp_twostage.proofs.SeatsTold.{value_is}
 use Rattle.smp_twostage.proofs.lines.values_at.Goals as goal
 
@@ -15,6 +15,6 @@ returns c =
     let there : unit ≡ get_or own.units seat.unit unit =
     c.index-as_slice-seat.is ∙ ap (λ (units : List FirstUnit). get_or units seat.unit unit) c.as_slice.ensures in
     let values : all ≡ unit.values = c.as_slice-all.ensures ∙ ap (λ (u : FirstUnit). u.values) (sym c.index-as_slice-seat.is) in
-    ap (λ n. take n all) c.min.ensures ∙ take_min c.balance_count.result all ∙ ap (λ n. take n all) c.balance_count.ensures.is
-    ∙ ap (λ (xs : List ℤ). take (balance_count plan own) xs) values
+    ap (λ n. take n all) c.min.ensures ∙ take_min c.procedure.result.balance all ∙ ap (λ (way : Procedure). take way.balance all) c.procedure.ensures
+    ∙ ap (λ (xs : List ℤ). take plan.procedure.balance xs) values
     ∙ value_is plan seat c.requires own c.stratum-stratum.ensures.value unit there

@@ -1,5 +1,6 @@
 use Rattle.std.proofs.Common.{◌≡◌, true, false, length, Some, arith, sym, ap, subst, ◌∙◌}
 use Rattle.std.specs.Prelude.{IfOk}
+use Rattle.smp_design.specs.declared.procedure.Procedure.{Procedure}
 use Rattle.smp_design.specs.Words.{draws_together}
 use Rattle.smp_stages.specs.Laws.Reads.{some_within}
 use Rattle.smp_twostage.specs.Covered.{StartsAlone}
@@ -15,7 +16,7 @@ use Rattle.smp_twostage.proofs.whole.Whole.only.Goals as goal
 pub returns-then-draws_together-clause-starts : goal.returns-then-draws_together-clause-starts
 returns-then-draws_together-clause-starts c =
     let plan = c.args.plan.now in
-    let together : draws_together plan.method ≡ true = sym (c.draws_together.ensures ∙ ap draws_together c.method.ensures) ∙ c.if-draws_together.true in
+    let together : draws_together plan.procedure.method ≡ true = sym (c.draws_together.ensures ∙ ap (λ (way : Procedure). draws_together way.method) c.procedure.ensures) ∙ c.if-draws_together.true in
     let count : section_count (all_of plan) ≡ 1 = ap (λ b. section_count_by b (all_of plan)) together in
     let first : 0 ≡ c.args.stratum = omega (arith, c.requires.stratum, count) in
     subst (λ n. IfOk c.together.result (λ started. StartsAlone plan n started.state)) first c.together.ensures.alone
@@ -23,13 +24,13 @@ returns-then-draws_together-clause-starts c =
 pub push_alone-requires-clause-stratum : goal.push_alone-requires-clause-stratum
 push_alone-requires-clause-stratum c =
     let plan = c.args.plan.now in
-    let apart : draws_together plan.method ≡ false = sym (c.draws_together.ensures ∙ ap draws_together c.method.ensures) ∙ c.if-draws_together.false in
+    let apart : draws_together plan.procedure.method ≡ false = sym (c.draws_together.ensures ∙ ap (λ (way : Procedure). draws_together way.method) c.procedure.ensures) ∙ c.if-draws_together.false in
     let count : section_count (all_of plan) ≡ length plan.strata = ap (λ b. section_count_by b (all_of plan)) apart in
     omega (arith, c.requires.stratum, count)
 
 pub started-requires-clause-stages : goal.started-requires-clause-stages
 started-requires-clause-stages c =
-    let apart : draws_together c.args.plan.now.method ≡ false = sym (c.draws_together.ensures ∙ ap draws_together c.method.ensures) ∙ c.if-draws_together.false in
+    let apart : draws_together c.args.plan.now.procedure.method ≡ false = sym (c.draws_together.ensures ∙ ap (λ (way : Procedure). draws_together way.method) c.procedure.ensures) ∙ c.if-draws_together.false in
     c.in_ok-firsts.ensures.stages ∙ stages_in false (one_of c.args.plan.now c.args.stratum) apart
 
 pub started-requires-clause-each : goal.started-requires-clause-each
@@ -37,18 +38,18 @@ started-requires-clause-each c = each_first c.push_alone.new.self.stages.items c
 
 pub started-requires-clause-firsts : goal.started-requires-clause-firsts
 started-requires-clause-firsts c =
-    let apart : draws_together c.args.plan.now.method ≡ false = sym (c.draws_together.ensures ∙ ap draws_together c.method.ensures) ∙ c.if-draws_together.false in
+    let apart : draws_together c.args.plan.now.procedure.method ≡ false = sym (c.draws_together.ensures ∙ ap (λ (way : Procedure). draws_together way.method) c.procedure.ensures) ∙ c.if-draws_together.false in
     c.in_ok-firsts.ensures.firsts ∙ firsts_so false (one_of c.args.plan.now c.args.stratum) apart
 
 pub started-requires-clause-seats : goal.started-requires-clause-seats
 started-requires-clause-seats c =
-    let apart : draws_together c.args.plan.now.method ≡ false = sym (c.draws_together.ensures ∙ ap draws_together c.method.ensures) ∙ c.if-draws_together.false in
+    let apart : draws_together c.args.plan.now.procedure.method ≡ false = sym (c.draws_together.ensures ∙ ap (λ (way : Procedure). draws_together way.method) c.procedure.ensures) ∙ c.if-draws_together.false in
     c.in_ok-seats.ensures ∙ seats_so false (one_of c.args.plan.now c.args.stratum) apart
 
 pub returns-clause-starts : goal.returns-clause-starts
 returns-clause-starts c =
     let plan = c.args.plan.now in
-    let apart : draws_together plan.method ≡ false = sym (c.draws_together.ensures ∙ ap draws_together c.method.ensures) ∙ c.if-draws_together.false in
+    let apart : draws_together plan.procedure.method ≡ false = sym (c.draws_together.ensures ∙ ap (λ (way : Procedure). draws_together way.method) c.procedure.ensures) ∙ c.if-draws_together.false in
     let count : section_count (all_of plan) ≡ length plan.strata = ap (λ b. section_count_by b (all_of plan)) apart in
     let stratum = some_within plan.strata c.args.stratum (omega (arith, c.requires.stratum, count)) in
     let own = parts_by plan (Some c.args.stratum) in

@@ -1,4 +1,5 @@
 use Rattle.std.proofs.Common.{◌≡◌, false, sym, ap, ◌∙◌}
+use Rattle.smp_design.specs.declared.procedure.Procedure.{Procedure}
 use Rattle.smp_design.specs.Words.{draws_together}
 use Rattle.smp_twostage.specs.Kept.Stages.{EachStarts}
 use Rattle.smp_twostage.specs.Selections.{all_of, stages_of}
@@ -9,7 +10,7 @@ use Rattle.smp_twostage.proofs.whole.Whole.start.Goals as goal
 
 pub started-requires-clause-stages : goal.started-requires-clause-stages
 started-requires-clause-stages c =
-    let apart : draws_together c.args.plan.now.method ≡ false = sym (c.draws_together.ensures ∙ ap draws_together c.method.ensures) ∙ c.if-draws_together.false in
+    let apart : draws_together c.args.plan.now.procedure.method ≡ false = sym (c.draws_together.ensures ∙ ap (λ (way : Procedure). draws_together way.method) c.procedure.ensures) ∙ c.if-draws_together.false in
     c.in_ok-firsts.ensures.stages ∙ stages_in false (all_of c.args.plan.now) apart
 
 pub started-requires-clause-each : goal.started-requires-clause-each
@@ -17,17 +18,17 @@ started-requires-clause-each c = each_first c.push_strata.new.self.stages.items 
 
 pub started-requires-clause-firsts : goal.started-requires-clause-firsts
 started-requires-clause-firsts c =
-    let apart : draws_together c.args.plan.now.method ≡ false = sym (c.draws_together.ensures ∙ ap draws_together c.method.ensures) ∙ c.if-draws_together.false in
+    let apart : draws_together c.args.plan.now.procedure.method ≡ false = sym (c.draws_together.ensures ∙ ap (λ (way : Procedure). draws_together way.method) c.procedure.ensures) ∙ c.if-draws_together.false in
     c.in_ok-firsts.ensures.firsts ∙ firsts_so false (all_of c.args.plan.now) apart
 
 pub started-requires-clause-seats : goal.started-requires-clause-seats
 started-requires-clause-seats c =
-    let apart : draws_together c.args.plan.now.method ≡ false = sym (c.draws_together.ensures ∙ ap draws_together c.method.ensures) ∙ c.if-draws_together.false in
+    let apart : draws_together c.args.plan.now.procedure.method ≡ false = sym (c.draws_together.ensures ∙ ap (λ (way : Procedure). draws_together way.method) c.procedure.ensures) ∙ c.if-draws_together.false in
     c.in_ok-seats.ensures ∙ seats_so false (all_of c.args.plan.now) apart
 
 pub returns-clause-starts : goal.returns-clause-starts
 returns-clause-starts c =
     let plan = c.args.plan.now in
-    let apart : draws_together plan.method ≡ false = sym (c.draws_together.ensures ∙ ap draws_together c.method.ensures) ∙ c.if-draws_together.false in
+    let apart : draws_together plan.procedure.method ≡ false = sym (c.draws_together.ensures ∙ ap (λ (way : Procedure). draws_together way.method) c.procedure.ensures) ∙ c.if-draws_together.false in
     let each : EachStarts (stages_of plan) (states_of plan) = each_made c.push_strata.new.self.stages.items (stages_of plan) c.push_strata.new.self.states.items c.in_ok-firsts.ensures.stages c.in_ok-firsts.ensures.each in
     starts_whole plan c.requires (states_of plan) each c.started.result.state (c.started.ensures.state ∙ start_so false (all_of plan) apart) (starts_at false (all_of plan) apart c.started.result.state c.started.ensures.starts) apart
