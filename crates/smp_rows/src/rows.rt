@@ -7,7 +7,7 @@ ghost use Rattle.smp_prob.specs.Inclusions.{AreApart, asked_fraction};
 ghost use Rattle.smp_rows.specs.Laws.Rows.{rows_method};
 
 use smp_prob::{Inclusion, Request};
-use smp_split::{Kind, Splitting, mean_is_value};
+use smp_split::{Kind, Splitting};
 
 /// A design over the free units of a request, as one over all rows of the frame.
 #[derive(Drop)]
@@ -44,9 +44,7 @@ impl<'a, D: Splitting> Rows<'a, D> {
             LeavesSelectAround (D.method self.now.design).tree state.now →
             LeavesSelectAround (rows_tree self.now.rows self.now.request.now
             (D.method self.now.design).tree) state.now }
-    {
-        mean_is_value(self, state);
-    }
+    {}
 }
 
 impl<'a, D: Splitting> Splitting for Rows<'a, D> {

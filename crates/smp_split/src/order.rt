@@ -1,4 +1,5 @@
-ghost use Rattle.std.specs.Prelude.{◌≡◌, ◌+◌, ◌<◌, ◌≤◌, length, slice_index, nat_eq, IfOk};
+ghost use Rattle.std.specs.Prelude.{◌≡◌, ◌+◌, ◌<◌, ◌≤◌, true, length, slice_index, nat_eq, if◌then◌else◌, IfOk};
+ghost use Rattle.std.specs.List.{range_with_len};
 ghost use Rattle.smp_split.specs.Orders.{Placing, IsMirrored, frame_order, undrawn_order, exchanged_order, next_place};
 
 use crate::NoMemory;
@@ -9,10 +10,12 @@ use std::marker::Model;
 /// The order in which units are taken. It may be drawn, by steps that exchange two units each: the first decides which
 /// unit stands at the first place, the next which one stands at the second, and so on.
 ///
-/// It keeps the place of each unit and, where steps are left, the unit at each place, so a step and a look-up take constant
-/// time.
+/// An order that is drawn is kept as the place of each unit and the unit at each place, so a step and a look-up take constant
+/// time. That of the frame is no list: each unit's place is its own number.
 #[derive(Drop)]
 pub struct UnitOrder {
+    in_frame: bool,
+    count: usize,
     places: Vec<usize>,
     units: Vec<usize>,
     left: usize,
@@ -21,21 +24,27 @@ pub struct UnitOrder {
 impl Model for UnitOrder {
     ghost Value = { Placing };
 
-    ghost view = { λ a. record { places = a.places.items; left = a.left } };
+    ghost view = { λ a. record {
+      places = if a.in_frame then range_with_len 0 a.count else a.places.items;
+      left = a.left;
+    } };
 
-    ghost invariant = { λ a. 1 ≤ a.left → IsMirrored a.places.items a.units.items a.left };
+    ghost invariant = { λ a. (a.in_frame ≡ true → a.left ≡ 0)
+        × (1 ≤ a.left → IsMirrored a.places.items a.units.items a.left) };
 }
 
 impl UnitOrder {
-    /// So many units as they stand in the frame. No step is left.
-    pub fn in_frame(alloc: Global, units: usize) -> Result<UnitOrder, NoMemory>
-        ensures { IfOk result (λ order. order ≡ frame_order units) }
+    /// So many units as they stand in the frame. No step is left. It takes no memory.
+    pub fn in_frame(alloc: Global, units: usize) -> UnitOrder
+        ensures { result ≡ frame_order units }
     {
-        Ok(UnitOrder {
-            places: numbers_below(alloc, units)?,
+        UnitOrder {
+            in_frame: true,
+            count: units,
+            places: Vec::new(alloc),
             units: Vec::new(alloc),
             left: 0,
-        })
+        }
     }
 
     /// So many units whose order is to be drawn, by one step less than there are units.
@@ -43,6 +52,8 @@ impl UnitOrder {
         ensures { IfOk result (λ order. order ≡ undrawn_order units) }
     {
         Ok(UnitOrder {
+            in_frame: false,
+            count: units,
             places: numbers_below(alloc, units)?,
             units: numbers_below(alloc, units)?,
             left: units.saturating_sub(1),
@@ -68,7 +79,11 @@ impl UnitOrder {
         requires { unit < length self.now.places }
         ensures { result ≡ slice_index self.now.places unit }
     {
-        self.places[unit]
+        if self.in_frame {
+            unit
+        } else {
+            self.places[unit]
+        }
     }
 
     /// Makes the next step: exchanges the units at the next place and at the place that is `draw` further on. Answers

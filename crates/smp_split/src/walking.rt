@@ -5,7 +5,7 @@ ghost use Rattle.smp_split.specs.Means.{mean, value_sum, inclusion_probability};
 ghost use Rattle.smp_split.specs.Runs.{position, Arrived, KeepsOn, Refused, Untold};
 ghost use Rattle.smp_split.specs.declared.walking.WalkFault.TheVariants as fault;
 
-use crate::{NoMemory, Splitting, Trace, mean_is_value};
+use crate::{NoMemory, Splitting, Trace};
 use smp_tape::{DrawFault, Draws};
 
 /// Why a walk stopped before the end.
@@ -70,7 +70,6 @@ pub fn walk<S: Splitting, D: Draws, T: Trace<S>>(
         → Same (inclusion_probability (S.method design.now).tree state.old unit)
         ((S.method design.now).tree.value state.old unit) }
 {
-    mean_is_value(design, state);
     while !design.done(state) {
         let kind = design.kind(state);
         let bound = design.bound(state);

@@ -12,9 +12,8 @@ use std::alloc::Global;
 pub fn unit_order(alloc: Global, order: Order, units: usize) -> Result<UnitOrder, NoMemory>
     ensures { IfOk result (λ placed. placed ≡ first_order order units) }
 {
-    let placed = match order {
-        Order::Frame => UnitOrder::in_frame(alloc, units),
-        Order::Random => UnitOrder::undrawn(alloc, units),
-    };
-    placed.map_err(|_| NoMemory)
+    match order {
+        Order::Frame => Ok(UnitOrder::in_frame(alloc, units)),
+        Order::Random => UnitOrder::undrawn(alloc, units).map_err(|_| NoMemory),
+    }
 }

@@ -3,6 +3,7 @@ use Rattle.smp_split.specs.Trees.{weight_sum}
 use Rattle.smp_split.specs.Paths.{Entry, IsStep, entry_at}
 use Rattle.smp_split.specs.Runs.{position, Refused}
 use Rattle.smp_split.specs.declared.walking.WalkFault.TheVariants as faults
+use Rattle.smp_split.proofs.Means.{mean_is_value, probability_is_value}
 use Rattle.smp_split.proofs.Runs.{run_to_leaf, run_to_stop}
 use Rattle.smp_split.proofs.Steps.{picked_falls, Gives-push, Walking-step}
 use Rattle.smp_split.proofs.walking.walk.Goals as goal
@@ -85,3 +86,35 @@ returns-in_err-line-clause-untold g c h =
       gives = rw (← left) (Gives-push source walked.path (entry_at tree state value) c.args.draws.now c.loop-state.draws walked.gives answer);
       told = c.in_err-line.ensures.err ∙ walked.told;
     }
+
+-- ---- what a uniform draw at each step would give on average, however the walk ends
+
+pub returns-clause-mean : goal.returns-clause-mean
+returns-clause-mean g c sum =
+    let method = g.S.Splitting.method c.args.design.now in
+    mean_is_value method.tree method.belongs method.lawful sum c.args.state.now c.requires
+
+pub returns-clause-probability : goal.returns-clause-probability
+returns-clause-probability g c =
+    let method = g.S.Splitting.method c.args.design.now in
+    probability_is_value method.tree method.belongs method.lawful c.args.state.now c.requires
+
+pub returns-in_err-value-clause-mean : goal.returns-in_err-value-clause-mean
+returns-in_err-value-clause-mean g c sum =
+    let method = g.S.Splitting.method c.args.design.now in
+    mean_is_value method.tree method.belongs method.lawful sum c.args.state.now c.requires
+
+pub returns-in_err-value-clause-probability : goal.returns-in_err-value-clause-probability
+returns-in_err-value-clause-probability g c =
+    let method = g.S.Splitting.method c.args.design.now in
+    probability_is_value method.tree method.belongs method.lawful c.args.state.now c.requires
+
+pub returns-in_err-line-clause-mean : goal.returns-in_err-line-clause-mean
+returns-in_err-line-clause-mean g c sum =
+    let method = g.S.Splitting.method c.args.design.now in
+    mean_is_value method.tree method.belongs method.lawful sum c.args.state.now c.requires
+
+pub returns-in_err-line-clause-probability : goal.returns-in_err-line-clause-probability
+returns-in_err-line-clause-probability g c =
+    let method = g.S.Splitting.method c.args.design.now in
+    probability_is_value method.tree method.belongs method.lawful c.args.state.now c.requires

@@ -1,4 +1,6 @@
 use Rattle.smp_fractions.proofs.Fractions.{same_trans}
+use Rattle.smp_split.proofs.Means.{probability_is_value}
+use Rattle.smp_rows.specs.Laws.Rows.{rows_method}
 use Rattle.smp_rows.proofs.Around.{rows_around}
 use Rattle.smp_rows.proofs.Asked.{value_is_asked, rows_select}
 use Rattle.smp_rows.proofs.rows.Rows.select_as_asked.Goals as goal
@@ -6,7 +8,8 @@ use Rattle.smp_rows.proofs.rows.Rows.select_as_asked.Goals as goal
 pub returns-clause-probability : goal.returns-clause-probability
 returns-clause-probability g c row here =
     let design = c.args.self.now in
-    same_trans (c.mean_is_value.ensures.probability row here) (value_is_asked design.rows design.request.now (g.D.Splitting.method design.design).tree c.args.state.now c.requires.serves row)
+    let method = rows_method design.rows design.request.now (g.D.Splitting.method design.design) in
+    same_trans (probability_is_value method.tree method.belongs method.lawful c.args.state.now c.requires.belongs row here) (value_is_asked design.rows design.request.now (g.D.Splitting.method design.design).tree c.args.state.now c.requires.serves row)
 
 pub returns-clause-count : goal.returns-clause-count
 returns-clause-count g c n adds fills =
