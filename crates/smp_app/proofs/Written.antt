@@ -22,7 +22,7 @@ use Rattle.smp_twostage.specs.Laws.Places.{place_is_seat}
 use Rattle.smp_twostage.proofs.Numbers.{passing}
 use Rattle.smp_weights.specs.Rows.{row}
 use Rattle.smp_weights.specs.Sample.{sample_row}
-use Rattle.smp_joint.proofs.Pairs.{all_rows, answer_is}
+use Rattle.smp_joint.proofs.RowTexts.{all_rows, answer_is}
 use Rattle.smp_plan.specs.declared.plan.FramePlan.{FramePlan}
 use Rattle.smp_app.specs.declared.selection.Selection.{Selection}
 use Rattle.smp_plan.specs.Plans.{Plan, parts, row_id, row_probability}

@@ -60,7 +60,8 @@ impl Arcs {
 
     /// How many places the circle has.
     pub(crate) fn places(&self) -> u64
-        ensures { result ≡ self.now.den }
+        ensures is { result ≡ self.now.den }
+        ensures some { 1 ≤ result }
     {
         self.circle
     }

@@ -7,6 +7,8 @@
 
 mod arcs;
 mod joints;
+mod pairs;
+mod row;
 
 pub use crate::arcs::Arcs;
 pub use crate::joints::joint_bytes;

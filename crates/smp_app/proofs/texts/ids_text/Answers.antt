@@ -3,7 +3,7 @@ use Rattle.smp_frame.specs.declared.frame.Unit as unit
 use Rattle.smp_weights.specs.Rows.{row}
 use Rattle.smp_plan.specs.Planned.{plan_view}
 use Rattle.smp_app.specs.Texts.{id_row}
-use Rattle.smp_joint.proofs.Pairs.{next_row}
+use Rattle.smp_joint.proofs.RowTexts.{next_row}
 use Rattle.smp_app.proofs.Written.{id_is, drawn_below}
 use Rattle.smp_app.proofs.texts.ids_text.Goals as goal
 

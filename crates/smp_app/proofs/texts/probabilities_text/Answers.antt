@@ -7,7 +7,7 @@ use Rattle.smp_weights.specs.Rows.{row}
 use Rattle.smp_plan.specs.Planned.{plan_view}
 use Rattle.smp_app.specs.Texts.{probability_row}
 use Rattle.smp_plan.specs.Plans.{row_id}
-use Rattle.smp_joint.proofs.Pairs.{next_row}
+use Rattle.smp_joint.proofs.RowTexts.{next_row}
 use Rattle.smp_app.proofs.Written.{rows_written, id_is, probability_text}
 use Rattle.smp_app.proofs.texts.probabilities_text.Goals as goal
 

@@ -6,7 +6,7 @@ use Rattle.smp_strata.specs.Plans.{Parts}
 use Rattle.smp_weights.specs.Sample.{sample_row, sample_row_of}
 use Rattle.smp_plan.specs.Planned.{plan_view}
 use Rattle.smp_app.specs.Texts.{weighted_row}
-use Rattle.smp_joint.proofs.Pairs.{next_row}
+use Rattle.smp_joint.proofs.RowTexts.{next_row}
 use Rattle.smp_app.proofs.Written.{rows_written, id_is, weighted, drawn_below, drawn_asked}
 use Rattle.smp_app.proofs.texts.sample_text.Goals as goal
 
