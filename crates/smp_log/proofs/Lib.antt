@@ -38,3 +38,4 @@ pub mod LoneTelling
 pub mod SectionCounts
 pub mod PartSections
 pub mod LoneExact
+pub mod StepsMade

@@ -10,3 +10,4 @@ pub mod SectionLogs
 pub mod SectionReading
 pub mod LoneSections
 pub mod Replayed
+pub mod Steps

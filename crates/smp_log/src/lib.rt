@@ -18,6 +18,7 @@ mod section_laws;
 mod section_lines;
 mod section_replaying;
 mod section_writing;
+mod steps;
 mod versions;
 mod writing;
 

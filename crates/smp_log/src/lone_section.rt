@@ -7,8 +7,9 @@ ghost use Rattle.smp_log.specs.LoneSections.{IsOpened, NoneOpens, opening_words}
 ghost use Rattle.smp_log.specs.Replayed.{Replays, ReplaysUntold, section_form};
 ghost use Rattle.smp_log.specs.Reading as Reading;
 
-use crate::lines::{after_numbers, behind, step_first, written};
+use crate::lines::{after_numbers, behind, written};
 use crate::replaying::after_front;
+use crate::steps::replay_step;
 use crate::{Head, LogFault, ReplayFault};
 use smp_lines::cut_before;
 use smp_split::{NoTrace, Sections, Trace};
@@ -73,13 +74,9 @@ pub fn replay_section_into<S: Sections, T: Trace<S>>(
     };
     let mut own = 0;
     while !run.done(state) {
-        let kind = run.kind(state);
-        let bound = run.bound(state);
-        let Some((value, after)) = step_first(rest, kind, bound) else {
+        let Some((after, _)) = replay_step(run, state, rest, trace)? else {
             return Err(ReplayFault::Differs { line: at + own + 1 });
         };
-        trace.line(run, state, kind, bound, value)?;
-        run.advance(state, value);
         rest = after;
         own += 1;
     }

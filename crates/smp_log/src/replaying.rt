@@ -3,7 +3,8 @@ ghost use Rattle.smp_split.specs.Runs.{KeepsOn};
 ghost use Rattle.smp_log.specs.Fronts.{IsWhole, StopsAt};
 ghost use Rattle.smp_log.specs.Replayed.{Replays, ReplaysUntold, old_form};
 
-use crate::lines::{after_end, step_first};
+use crate::lines::after_end;
+use crate::steps::replay_step;
 use crate::{Head, LogFault, ReplayFault};
 use smp_lines::cut_before;
 use smp_split::{NoTrace, Splitting, Trace};
@@ -56,13 +57,9 @@ pub fn old_replay_into<S: Splitting, T: Trace<S>>(
     };
     let mut steps = 0;
     while !run.done(state) {
-        let kind = run.kind(state);
-        let bound = run.bound(state);
-        let Some((value, after)) = step_first(rest, kind, bound) else {
+        let Some((after, _)) = replay_step(run, state, rest, trace)? else {
             return Err(ReplayFault::Differs { line: steps + 4 });
         };
-        trace.line(run, state, kind, bound, value)?;
-        run.advance(state, value);
         steps += 1;
         rest = after;
     }

@@ -2,8 +2,9 @@ ghost use Rattle.std.specs.Prelude.{OnOk};
 ghost use Rattle.smp_split.specs.Runs.{KeepsOn};
 ghost use Rattle.smp_log.specs.Replayed.{Replays, sectioned_form};
 
-use crate::lines::{after_end, after_numbers, step_first};
+use crate::lines::{after_end, after_numbers};
 use crate::replaying::after_front;
+use crate::steps::replay_step;
 use crate::{Head, ReplayFault};
 use smp_split::{Sections, Trace};
 
@@ -37,13 +38,9 @@ pub(crate) fn replay_sections_into<S: Sections, T: Trace<S>>(
         lines += 1;
         let mut own = 0;
         while run.section(state) == section {
-            let kind = run.kind(state);
-            let bound = run.bound(state);
-            let Some((value, after)) = step_first(rest, kind, bound) else {
+            let Some((after, bound)) = replay_step(run, state, rest, trace)? else {
                 return Err(ReplayFault::Differs { line: lines + 1 });
             };
-            trace.line(run, state, kind, bound, value)?;
-            run.advance(state, value);
             rest = after;
             lines += 1;
             steps += 1;

@@ -1,7 +1,5 @@
-use Rattle.std.proofs.Common.{◌≡◌, ℕ, ◌+◌, ◌<◌, ◌++◌, Bool, true, false, Option, Some, None, Err, option_map, length, take, rules, refl, sym, ap, ◌∙◌, subst, arith, length-append}
+use Rattle.std.proofs.Common.{◌≡◌, ◌+◌, ◌++◌, Bool, true, false, Option, Some, None, Err, option_map, length, take, rules, refl, sym, ap, ◌∙◌, subst, arith, length-append}
 use Rattle.std.specs.Prelude.{is_some, not}
-use Rattle.smp_fractions.specs.Limits.{wide_limit}
-use Rattle.smp_split.specs.Paths.{IsStep}
 use Rattle.smp_log.specs.Fronts.{IsWhole, StopsAt}
 use Rattle.smp_log.specs.Lines.{whole_lines}
 use Rattle.smp_log.specs.LoneSections.{from_opening, section_in_first_lines}
@@ -11,7 +9,8 @@ use Rattle.smp_log.proofs.SectionReplays.{whole_sectioned_head}
 use Rattle.smp_log.proofs.LoneReplays.{opens_nowhere, stops, no_opening, opened, not_opened, enters, step_none, step_some, end_none, end_some}
 use Rattle.smp_log.proofs.LoneAnswers.{has_reading, has_told}
 use Rattle.smp_log.proofs.LoneTelling.{none_in_head, none_in_all, none_before, refused_unopened, refused_inside, section_begins, section_step, section_all}
-use Rattle.smp_log.proofs.FirstLines.{first_within, first_shorter}
+use Rattle.smp_log.proofs.StepsMade.{left_by, made_by}
+use Rattle.smp_log.proofs.FirstLines.{first_shorter}
 use Rattle.smp_log.proofs.Replied.{ran_out, taken}
 use Rattle.smp_log.proofs.Telling.{none_told}
 use Rattle.smp_log.proofs.lone_section.replay_section_into.Goals as goal
@@ -32,11 +31,6 @@ returns-in-Err-clause-replays g c =
     let h = c.sectioned.ensures.lines in
     let at = subst (λ h. StopsAt h c.args.log.now c.in-Err.line) c.sectioned.ensures.bytes c.in-Err.ensures.stops in
     refused_unopened (stops (g.S.Splitting.method c.args.run.now).lawful c.requires.state _ _ _ c.in-Err.line h at) (length at.same) (sym at.counted) (none_in_head c.args.number c.args.log.now c.args.head.now h c.in-Err.line at)
-
-pub step_first-requires : goal.step_first-requires
-step_first-requires g c =
-    let going : (g.S.Splitting.method c.args.run.now).tree.done c.loop-state.state ≡ false = search rules in
-    subst (λ (bound : ℕ). bound < wide_limit) (sym c.bound-bound.ensures) ((g.S.Splitting.method c.args.run.now).lawful.split c.loop-state.state c.loop-state.invariant.0.member going).narrow
 
 pub opening-requires : goal.opening-requires
 opening-requires g c =
@@ -69,38 +63,40 @@ loop-state-init g c =
 
 -- ---- the steps
 
-pub returns-in_default-step_first-clause-replays : goal.returns-in_default-step_first-clause-replays
-returns-in_default-step_first-clause-replays g c =
+pub returns-in_default-2-clause-replays : goal.returns-in_default-2-clause-replays
+returns-in_default-2-clause-replays g c =
+    let method = g.S.Splitting.method c.args.run.now in
+    let lines = g.T.Trace.lines in
     let at = c.loop-state.invariant.0 in
-    let going : (g.S.Splitting.method c.args.run.now).tree.done c.loop-state.state ≡ false = search rules in
-    let none = rw (c.kind-kind.ensures, c.bound-bound.ensures) at (sym c.in_default-step_first.ensures) in
-    refused_inside (step_none (g.S.Splitting.method c.args.run.now).lawful c.requires.state _ _ _ at going none) at c.loop-state.invariant.1 refl
+    let going : method.tree.done c.loop-state.state ≡ false = search rules in
+    let left = left_by method.tree c.loop-state.state c.replay_step.new.state c.loop-state.rest.now _ (lines c.loop-state.trace) (lines c.replay_step.new.trace) c.in_ok-after.field-0 c.in_default-2.not-Some c.in_ok-after.ensures.step in
+    rw (left.same, left.untold) (refused_inside (step_none method.lawful c.requires.state _ _ _ at going left.read) at c.loop-state.invariant.1 refl)
 
-pub returns-in_err-line-clause-replays : goal.returns-in_err-line-clause-replays
-returns-in_err-line-clause-replays g c =
+pub returns-in_err-after-clause-replays : goal.returns-in_err-after-clause-replays
+returns-in_err-after-clause-replays g c =
     let tree = (g.S.Splitting.method c.args.run.now).tree in
     let at = c.loop-state.invariant.0 in
-    let told = subst (λ now. IsToldAlong tree (section_in_first_lines tree c.args.state.now c.args.number (c.in-Ok-opening.found.1 + c.loop-state.own) c.args.log.now) c.args.state.now c.loop-state.state (g.T.Trace.lines c.args.trace.now) now) (sym c.in_err-line.ensures.err) c.loop-state.invariant.1 in
+    let told = subst (λ now. IsToldAlong tree (section_in_first_lines tree c.args.state.now c.args.number (c.in-Ok-opening.found.1 + c.loop-state.own) c.args.log.now) c.args.state.now c.loop-state.state (g.T.Trace.lines c.args.trace.now) now) (sym c.in_err-after.ensures.untold) c.loop-state.invariant.1 in
     let same : c.from_residual.result ≡ Err NoMemory = search rules in
-    rw same (ran_out tree _ _ _ _ _ _ _ c.in_err-line.ensures.refused (section_begins tree _ _ c.args.number c.args.log.now at _ told) at.member)
-
-pub advance-requires-clause-within : goal.advance-requires-clause-within
-advance-requires-clause-within g c = subst (λ bound. c.in-Some-step_first.value < bound) c.bound-bound.ensures (first_within c.kind-kind.result c.bound-bound.result _ c.loop-state.rest.now _ (sym c.in-Some-step_first.ensures))
+    rw (same, c.in_err-after.ensures.stays) (ran_out tree _ _ _ _ _ _ _ c.in_err-after.ensures.may_refuse (section_begins tree _ _ c.args.number c.args.log.now at _ told) at.member)
 
 pub loop-state-smaller : goal.loop-state-smaller
-loop-state-smaller g c = first_shorter c.kind-kind.result c.bound-bound.result _ _ _ (sym c.in-Some-step_first.ensures)
+loop-state-smaller g c =
+    let method = g.S.Splitting.method c.args.run.now in
+    let lines = g.T.Trace.lines in
+    let made = made_by method.tree c.loop-state.state c.replay_step.new.state c.loop-state.rest.now _ (lines c.loop-state.trace) (lines c.replay_step.new.trace) c.in_ok-after.field-0 _ c.in-Some-2.is c.in_ok-after.ensures.step in
+    first_shorter _ _ made.value _ _ made.read
 
 pub loop-state-preserved : goal.loop-state-preserved
 loop-state-preserved g c =
+    let method = g.S.Splitting.method c.args.run.now in
+    let lines = g.T.Trace.lines in
     let at = c.loop-state.invariant.0 in
-    let going : (g.S.Splitting.method c.args.run.now).tree.done c.loop-state.state ≡ false = search rules in
-    let found = rw (c.kind-kind.ensures, c.bound-bound.ensures) at (sym c.in-Some-step_first.ensures) in
-    let value = first_within c.kind-kind.result c.bound-bound.result _ c.loop-state.rest.now _ (sym c.in-Some-step_first.ensures) in
-    let step : IsStep (g.S.Splitting.method c.args.run.now).tree c.loop-state.state (c.kind-kind.result, c.bound-bound.result, c.in-Some-step_first.value) = record { going = going; kind = c.kind-kind.ensures; bound = c.bound-bound.ensures; value = value } in
-    rw c.advance.ensures (
-      step_some (g.S.Splitting.method c.args.run.now).lawful c.requires.state _ _ _ at c.in-Some-step_first.value c.in-Some-step_first.after.now going found,
-      section_step _ _ _ c.args.number c.args.log.now at _ c.loop-state.invariant.1 c.in-Some-step_first.value c.in-Some-step_first.after.now _ going found (rw (c.kind-kind.ensures, c.bound-bound.ensures) at c.in_ok-line.ensures).ok,
-      λ from so. c.in_ok-line.ensures.kept step from (c.loop-state.invariant.2 from so),
+    let going : method.tree.done c.loop-state.state ≡ false = search rules in
+    let made = made_by method.tree c.loop-state.state c.replay_step.new.state c.loop-state.rest.now _ (lines c.loop-state.trace) (lines c.replay_step.new.trace) c.in_ok-after.field-0 _ c.in-Some-2.is c.in_ok-after.ensures.step in (
+      rw made.made (step_some method.lawful c.requires.state _ _ _ at made.value c.in-Some-2.after.now going made.read),
+      rw made.made (section_step _ _ _ c.args.number c.args.log.now at _ c.loop-state.invariant.1 made.value c.in-Some-2.after.now _ going made.read made.told),
+      λ from so. c.in_ok-after.ensures.kept from (c.loop-state.invariant.2 from so),
     )
 
 -- ---- the last line

@@ -1,11 +1,11 @@
 use Rattle.std.proofs.Common.{◌≡◌, ◌+◌, ◌++◌, ◌∷◌, [], ◌<◌, true, false, length, Ok, Err, rules, sym, ap, ◌∙◌, subst, arith}
-use Rattle.smp_split.specs.Paths.{IsStep}
 use Rattle.smp_split.specs.Trees.{picked}
 use Rattle.smp_log.specs.Fronts.{IsWhole}
 use Rattle.smp_log.specs.Reading.{end_line}
 use Rattle.smp_log.specs.declared.fault.ReplayFault.TheVariants.{NoMemory}
 use Rattle.smp_log.specs.Told.{path_in_first_lines, IsToldAlong}
-use Rattle.smp_log.proofs.FirstLines.{first_is, first_within, first_shorter}
+use Rattle.smp_log.proofs.StepsMade.{left_by, made_by}
+use Rattle.smp_log.proofs.FirstLines.{first_is, first_shorter}
 use Rattle.smp_log.proofs.Replied.{out_behind, refused_at, refused_behind, refused_head, taken}
 use Rattle.smp_log.proofs.Replays.{whole_head, head_count, first, stops, no_step, more, no_end, something_behind, replayed}
 use Rattle.smp_log.proofs.Answered.{exact_reading, old_reads}
@@ -29,37 +29,38 @@ loop-state-init g c =
 
 pub returns-in_default-clause-replays : goal.returns-in_default-clause-replays
 returns-in_default-clause-replays g c =
+    let method = g.S.Splitting.method c.args.run.now in
+    let lines = g.T.Trace.lines in
     let at = c.loop-state.invariant.0 in
-    let going : (g.S.Splitting.method c.args.run.now).tree.done c.loop-state.state ≡ false = search rules in
-    let none = rw (c.kind-kind.ensures, c.bound-bound.ensures) at (sym c.in_default.ensures) in
-    refused_behind c.args.log.now (old_reads (g.S.Splitting.method c.args.run.now).lawful c.requires at.is_head c.args.log.now) at.member at.reached (omega arith) c.loop-state.invariant.1 (c.loop-state.steps + 4) (omega arith) (no_step (g.S.Splitting.method c.args.run.now).lawful c.requires _ _ at going none)
+    let going : method.tree.done c.loop-state.state ≡ false = search rules in
+    let left = left_by method.tree c.loop-state.state c.replay_step.new.state c.loop-state.rest.now _ (lines c.loop-state.trace) (lines c.replay_step.new.trace) c.in_ok-after.field-0 c.in_default.not-Some c.in_ok-after.ensures.step in
+    rw (left.same, left.untold) (refused_behind c.args.log.now (old_reads method.lawful c.requires at.is_head c.args.log.now) at.member at.reached (omega arith) c.loop-state.invariant.1 (c.loop-state.steps + 4) (omega arith) (no_step method.lawful c.requires _ _ at going left.read))
 
-pub returns-in_err-line-clause-replays : goal.returns-in_err-line-clause-replays
-returns-in_err-line-clause-replays g c =
+pub returns-in_err-after-clause-replays : goal.returns-in_err-after-clause-replays
+returns-in_err-after-clause-replays g c =
     let at = c.loop-state.invariant.0 in
     let same : c.from_residual.result ≡ Err NoMemory = search rules in
-    rw same (out_behind c.args.log.now (old_reads (g.S.Splitting.method c.args.run.now).lawful c.requires at.is_head c.args.log.now) at.member at.reached (omega arith) c.loop-state.invariant.1 c.in_err-line.ensures.err c.in_err-line.ensures.refused)
-
-pub advance-requires-clause-within : goal.advance-requires-clause-within
-advance-requires-clause-within g c = subst (λ bound. c.in-Some.value < bound) c.bound-bound.ensures (first_within c.kind-kind.result c.bound-bound.result _ c.loop-state.rest.now _ (sym c.in-Some.ensures))
+    rw (same, c.in_err-after.ensures.stays) (out_behind c.args.log.now (old_reads (g.S.Splitting.method c.args.run.now).lawful c.requires at.is_head c.args.log.now) at.member at.reached (omega arith) c.loop-state.invariant.1 c.in_err-after.ensures.untold c.in_err-after.ensures.may_refuse)
 
 pub loop-state-smaller : goal.loop-state-smaller
-loop-state-smaller g c = first_shorter c.kind-kind.result c.bound-bound.result _ _ _ (sym c.in-Some.ensures)
+loop-state-smaller g c =
+    let method = g.S.Splitting.method c.args.run.now in
+    let lines = g.T.Trace.lines in
+    let made = made_by method.tree c.loop-state.state c.replay_step.new.state c.loop-state.rest.now _ (lines c.loop-state.trace) (lines c.replay_step.new.trace) c.in_ok-after.field-0 _ c.in-Some.is c.in_ok-after.ensures.step in
+    first_shorter _ _ made.value _ _ made.read
 
 pub loop-state-preserved : goal.loop-state-preserved
 loop-state-preserved g c =
-    let tree = (g.S.Splitting.method c.args.run.now).tree in
+    let method = g.S.Splitting.method c.args.run.now in
+    let lines = g.T.Trace.lines in
     let at = c.loop-state.invariant.0 in
-    let going : tree.done c.loop-state.state ≡ false = search rules in
-    let found = rw (c.kind-kind.ensures, c.bound-bound.ensures) at (sym c.in-Some.ensures) in
-    let count : c.loop-state.steps + 3 + 1 ≡ c.loop-state.steps + 1 + 3 = omega arith in
-    let value = first_within c.kind-kind.result c.bound-bound.result _ c.loop-state.rest.now _ (sym c.in-Some.ensures) in
-    let step : IsStep tree c.loop-state.state (c.kind-kind.result, c.bound-bound.result, c.in-Some.value) = record { going = going; kind = c.kind-kind.ensures; bound = c.bound-bound.ensures; value = value } in
-    rw c.advance.ensures (
-      more (g.S.Splitting.method c.args.run.now).lawful c.requires _ _ at c.in-Some.value c.in-Some.after.now found going,
-      subst (λ n. IsToldAlong tree (path_in_first_lines tree c.args.state.now n c.args.log.now) c.args.state.now (picked c.loop-state.state (tree.parts c.loop-state.state) c.in-Some.value) (g.T.Trace.lines c.args.trace.now) (g.T.Trace.lines c.line.new.self)) count
-          (told_step _ _ _ at.reached (omega arith) _ _ c.loop-state.invariant.1 c.in-Some.value c.in-Some.after.now _ going found (rw (c.kind-kind.ensures, c.bound-bound.ensures) at c.in_ok-line.ensures).ok),
-      λ from so. c.in_ok-line.ensures.kept step from (c.loop-state.invariant.2 from so),
+    let going : method.tree.done c.loop-state.state ≡ false = search rules in
+    let made = made_by method.tree c.loop-state.state c.replay_step.new.state c.loop-state.rest.now _ (lines c.loop-state.trace) (lines c.replay_step.new.trace) c.in_ok-after.field-0 _ c.in-Some.is c.in_ok-after.ensures.step in
+    let count : c.loop-state.steps + 3 + 1 ≡ c.loop-state.steps + 1 + 3 = omega arith in (
+      rw made.made (more method.lawful c.requires _ _ at made.value c.in-Some.after.now made.read going),
+      rw made.made (subst (λ n. IsToldAlong method.tree (path_in_first_lines method.tree c.args.state.now n c.args.log.now) c.args.state.now (picked c.loop-state.state (method.tree.parts c.loop-state.state) made.value) (lines c.args.trace.now) (lines c.replay_step.new.trace)) count
+          (told_step _ _ _ at.reached (omega arith) _ _ c.loop-state.invariant.1 made.value c.in-Some.after.now _ going made.read made.told)),
+      λ from so. c.in_ok-after.ensures.kept from (c.loop-state.invariant.2 from so),
     )
 
 -- ---- at a leaf

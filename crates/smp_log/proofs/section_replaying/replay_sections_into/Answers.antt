@@ -1,10 +1,10 @@
 use Rattle.std.proofs.Common.{◌≡◌, ◌+◌, ◌++◌, ◌∷◌, [], ◌<◌, ◌≤◌, Bool, true, false, cond, ltb, length, Ok, Err, rules, refl, sym, ap, ◌∙◌, subst, arith}
 use mir.Val.{bool_byte}
-use Rattle.smp_split.specs.Paths.{IsStep}
 use Rattle.smp_log.specs.Fronts.{IsWhole}
 use Rattle.smp_log.specs.Reading.{end_line}
 use Rattle.smp_log.specs.declared.fault.ReplayFault.TheVariants.{NoMemory}
-use Rattle.smp_log.proofs.FirstLines.{first_is, first_within, first_shorter}
+use Rattle.smp_log.proofs.StepsMade.{left_by, made_by}
+use Rattle.smp_log.proofs.FirstLines.{first_is, first_shorter}
 use Rattle.smp_log.proofs.Replied.{out_behind, refused_at, refused_behind, refused_head, taken}
 use Rattle.smp_log.proofs.SectionReplays.{whole_sectioned_head, sectioned_head_count, first, stops, enter_none, enter_some, end_none, something_behind, replayed, step_none, step_some, leave_none, leave_some, done_behind}
 use Rattle.smp_log.proofs.AnsweredSections.{exact_sectioned, sectioned_reads}
@@ -74,35 +74,38 @@ returns-clause-replays g c =
 
 -- ---- in a section
 
-pub returns-in_default-step_first-clause-replays : goal.returns-in_default-step_first-clause-replays
-returns-in_default-step_first-clause-replays g c =
+pub returns-in_default-2-clause-replays : goal.returns-in_default-2-clause-replays
+returns-in_default-2-clause-replays g c =
+    let method = g.S.Splitting.method c.args.run.now in
+    let lines = g.T.Trace.lines in
     let at = c.loop-state.invariant.0 in
-    let none = rw (c.kind-kind.ensures, c.bound-bound.ensures) at (sym c.in_default-step_first.ensures) in
-    refused_behind c.args.log.now (sectioned_reads (g.S.Splitting.method c.args.run.now).lawful (g.met.S.Sections.sectioned c.args.run.now) c.requires at.is_head c.args.log.now) at.member at.reached at.behind c.loop-state.invariant.1 (c.loop-state.lines + 1) refl (step_none (g.S.Splitting.method c.args.run.now).lawful (g.met.S.Sections.sectioned c.args.run.now) c.requires _ _ at (sym c.section.ensures ∙ c.loop-state-test.true) none)
+    let left = left_by method.tree c.loop-state.state c.replay_step.new.state c.loop-state.rest.now _ (lines c.loop-state.trace) (lines c.replay_step.new.trace) c.in_ok-after.field-0 c.in_default-2.not-Some c.in_ok-after.ensures.step in
+    rw (left.same, left.untold) (refused_behind c.args.log.now (sectioned_reads method.lawful (g.met.S.Sections.sectioned c.args.run.now) c.requires at.is_head c.args.log.now) at.member at.reached at.behind c.loop-state.invariant.1 (c.loop-state.lines + 1) refl (step_none method.lawful (g.met.S.Sections.sectioned c.args.run.now) c.requires _ _ at (sym c.section.ensures ∙ c.loop-state-test.true) left.read))
 
-pub returns-in_err-line-clause-replays : goal.returns-in_err-line-clause-replays
-returns-in_err-line-clause-replays g c =
+pub returns-in_err-after-clause-replays : goal.returns-in_err-after-clause-replays
+returns-in_err-after-clause-replays g c =
     let at = c.loop-state.invariant.0 in
     let same : c.from_residual.result ≡ Err NoMemory = search rules in
-    rw same (out_behind c.args.log.now (sectioned_reads (g.S.Splitting.method c.args.run.now).lawful (g.met.S.Sections.sectioned c.args.run.now) c.requires at.is_head c.args.log.now) at.member at.reached at.behind c.loop-state.invariant.1 c.in_err-line.ensures.err c.in_err-line.ensures.refused)
-
-pub advance-requires-clause-within : goal.advance-requires-clause-within
-advance-requires-clause-within g c = subst (λ bound. c.in-Some-step_first.value < bound) c.bound-bound.ensures (first_within c.kind-kind.result c.bound-bound.result _ c.loop-state.rest.now _ (sym c.in-Some-step_first.ensures))
+    rw (same, c.in_err-after.ensures.stays) (out_behind c.args.log.now (sectioned_reads (g.S.Splitting.method c.args.run.now).lawful (g.met.S.Sections.sectioned c.args.run.now) c.requires at.is_head c.args.log.now) at.member at.reached at.behind c.loop-state.invariant.1 c.in_err-after.ensures.untold c.in_err-after.ensures.may_refuse)
 
 pub loop-state-smaller : goal.loop-state-smaller
-loop-state-smaller g c = first_shorter c.kind-kind.result c.bound-bound.result _ _ _ (sym c.in-Some-step_first.ensures)
+loop-state-smaller g c =
+    let method = g.S.Splitting.method c.args.run.now in
+    let lines = g.T.Trace.lines in
+    let made = made_by method.tree c.loop-state.state c.replay_step.new.state c.loop-state.rest.now _ (lines c.loop-state.trace) (lines c.replay_step.new.trace) c.in_ok-after.field-0 _ c.in-Some-2.is c.in_ok-after.ensures.step in
+    first_shorter _ _ made.value _ _ made.read
 
 pub loop-state-preserved : goal.loop-state-preserved
 loop-state-preserved g c =
+    let method = g.S.Splitting.method c.args.run.now in
+    let lines = g.T.Trace.lines in
     let at = c.loop-state.invariant.0 in
-    let found = rw (c.kind-kind.ensures, c.bound-bound.ensures) at (sym c.in-Some-step_first.ensures) in
-    let going : (g.S.Splitting.method c.args.run.now).tree.done c.loop-state.state ≡ false = search rules in
-    let value = first_within c.kind-kind.result c.bound-bound.result _ c.loop-state.rest.now _ (sym c.in-Some-step_first.ensures) in
-    let step : IsStep (g.S.Splitting.method c.args.run.now).tree c.loop-state.state (c.kind-kind.result, c.bound-bound.result, c.in-Some-step_first.value) = record { going = going; kind = c.kind-kind.ensures; bound = c.bound-bound.ensures; value = value } in
-    rw (bool_cond (ltb 1 c.bound-bound.result), c.bound-bound.ensures, c.advance.ensures) (
-      step_some (g.S.Splitting.method c.args.run.now).lawful (g.met.S.Sections.sectioned c.args.run.now) c.requires _ _ at c.in-Some-step_first.value c.in-Some-step_first.after.now (sym c.section.ensures ∙ c.loop-state-test.true) found,
-      told_step _ _ _ at.reached at.behind _ _ c.loop-state.invariant.1 c.in-Some-step_first.value c.in-Some-step_first.after.now _ going found (rw (c.kind-kind.ensures, c.bound-bound.ensures) at c.in_ok-line.ensures).ok,
-      λ from so. c.in_ok-line.ensures.kept step from (c.loop-state.invariant.2 from so),
+    let going : method.tree.done c.loop-state.state ≡ false = search rules in
+    let made = made_by method.tree c.loop-state.state c.replay_step.new.state c.loop-state.rest.now _ (lines c.loop-state.trace) (lines c.replay_step.new.trace) c.in_ok-after.field-0 _ c.in-Some-2.is c.in_ok-after.ensures.step in
+    rw (bool_cond (ltb 1 c.in-Some-2.bound), made.bound_is) (
+      rw made.made (step_some method.lawful (g.met.S.Sections.sectioned c.args.run.now) c.requires _ _ at made.value c.in-Some-2.after.now (sym c.section.ensures ∙ c.loop-state-test.true) made.read),
+      rw made.made (told_step _ _ _ at.reached at.behind _ _ c.loop-state.invariant.1 made.value c.in-Some-2.after.now _ going made.read made.told),
+      λ from so. c.in_ok-after.ensures.kept from (c.loop-state.invariant.2 from so),
     )
 
 pub returns-in_default-after_numbers-clause-replays : goal.returns-in_default-after_numbers-clause-replays
