@@ -1,5 +1,5 @@
 -- The search of the cube goes in the order of the frame, so after a move it begins with what is left of the units that it began with and went through.
-use Rattle.std.proofs.Common.{◌≡◌, ◌≢◌, ℕ, ◌<◌, ◌≤◌, Bool, true, false, ◌⊎◌, List, [], ◌∷◌, ◌++◌, pos, take, drop, length, arith, refl, sym, ap, ◌∙◌, subst, inl, inr}
+use Rattle.std.proofs.Common.{◌≡◌, ◌≢◌, ℕ, ◌≤◌, Bool, true, false, ◌⊎◌, List, ◌++◌, pos, take, drop, length, arith, sym, ap, ◌∙◌, subst, inl, inr}
 use Rattle.std.specs.List.{filter, range_with_len}
 use Rattle.std.proofs.lemmas.Bool.{cases_lt}
 use Rattle.std.proofs.lemmas.List.{take-append-drop}
@@ -8,10 +8,9 @@ use Rattle.std.proofs.lemmas.List.Kept.{AllPairs-filter}
 use Rattle.smp_prob.specs.Shares.{Shares}
 use Rattle.smp_split.specs.Trees.{EachPart}
 use Rattle.smp_split.specs.declared.kind.Kind.TheVariants as kind
-use Rattle.smp_values.specs.Steps.{kind_on}
 use Rattle.smp_values.specs.Values.{fractional_units, is_fractional}
-use Rattle.smp_moves.specs.Cubes.{flying, pairing, flight_kind, flight_parts, values_in}
-use Rattle.smp_moves.specs.Moves.{Move, Next, entry_of, independent, move, wide}
+use Rattle.smp_moves.specs.Cubes.{flying, pairing, flight_parts, values_in}
+use Rattle.smp_moves.specs.Moves.{Move, Next, entry_of, independent, move}
 use Rattle.smp_moves.proofs.Entries.{frame_order as in_frame, off_line, order_front, place_or}
 use Rattle.smp_moves.proofs.Filtered.{filter_twice}
 use Rattle.smp_flight.specs.Kept.Windows.{is_in}
@@ -24,13 +23,13 @@ use Rattle.smp_flight.proofs.Free.{in_filter, out_filter}
 use Rattle.smp_flight.proofs.Held.{in_front, within_front}
 use Rattle.smp_flight.proofs.NeverWide.{IsNextFront, KeepsFront}
 use Rattle.smp_flight.proofs.Windowed.{in_at}
-use Rattle.smp_landing.specs.Cube.{cube_kind, cube_of, frame_order}
+use Rattle.smp_landing.specs.Cube.{cube_kind, cube_of}
 use Rattle.smp_moves.proofs.Flights.{flies_not}
 use Rattle.smp_flight.proofs.Owed.{no_choice}
 
 -- a search begins with these units
 abbrev pub IsFront : Balancing → List ℕ → Type 0
-IsFront s held = (rest : List ℕ) × (frame_order s ≡ held ++ rest)
+IsFront s held = (rest : List ℕ) × (fractional_units (values_in s) ≡ held ++ rest)
 
 -- no unit is chosen
 never_chosen : (units : Units) (s : Balancing) → cube_kind units s ≢ kind.Choose
@@ -109,14 +108,14 @@ module _ (units : Units) where
   same_flight : (f g : Flight) (k left : ℕ) → ◌≡◌ {A = Balancing} (flying f k) (flying g left) → f ≡ g
   same_flight f g k left e = cc
 
-  dropped_front : (s : Balancing) (held : List ℕ) → IsFront s held → (f : Flight) (left : ℕ) → s ≡ flying f left → next_on units (frame_order s) f ≡ independent → EachPart (λ p. IsFront p.state held) ((cube_of units).tree.parts s)
+  dropped_front : (s : Balancing) (held : List ℕ) → IsFront s held → (f : Flight) (left : ℕ) → s ≡ flying f left → next_on units (fractional_units (values_in s)) f ≡ independent → EachPart (λ p. IsFront p.state held) ((cube_of units).tree.parts s)
   dropped_front (pairing t k) held front f left e is = absurd (cc)
   dropped_front (flying g k) held front f left e is =
       let same : g ≡ f = same_flight g f k left e in
       let here : next units g ≡ independent = subst (λ (x : Flight). next_on units (fractional_units g.values) x ≡ independent) (sym same) is in
       subst (λ (a : Next). EachPart (λ p. IsFront p.state held) (flight_parts (shares_cube units) g k a)) (sym here) (front, tt)
 
-  moved_front : (s : Balancing) (held : List ℕ) → IsBalancing units s → IsFront s held → (f : Flight) (left : ℕ) → s ≡ flying f left → (m : Move) → next_on units (frame_order s) f ≡ move m →
+  moved_front : (s : Balancing) (held : List ℕ) → IsBalancing units s → IsFront s held → (f : Flight) (left : ℕ) → s ≡ flying f left → (m : Move) → next_on units (fractional_units (values_in s)) f ≡ move m →
       EachPart (λ p. IsNextFront (cube_of units) IsFront held m p.state) ((cube_of units).tree.parts s)
   moved_front (pairing t k) held ok front f left e m is = absurd (cc)
   moved_front (flying g k) held ok front f left e m is =

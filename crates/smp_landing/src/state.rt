@@ -1,21 +1,18 @@
 //! The states of a selection by the cube.
 
-ghost use Rattle.std.specs.Prelude.{◌≡◌, ◌+◌, ◌<◌, ◌≤◌, false, length};
+ghost use Rattle.std.specs.Prelude.{◌≡◌, ◌<◌, false, length};
 ghost use Rattle.smp_split.specs.Trees.{picked, weight_sum};
 ghost use Rattle.smp_values.specs.Values.{is_one, is_settled};
 ghost use Rattle.smp_moves.specs.Cubes.{values_in};
-ghost use Rattle.smp_flight.specs.States.{AreFirst, IsFlight};
-ghost use Rattle.smp_flight.specs.Steps.{chosen};
-ghost use Rattle.smp_flight.specs.Answers.{IsFirstMove, move_of};
 ghost use Rattle.smp_flight.specs.Selections.{Balancing, IsBalancing};
 ghost use Rattle.smp_landing.specs.Cube.{cube_kind, cube_parts};
 ghost use Rattle.smp_landing.specs.Kept.States.{IsKept, balancing_of};
 
-use smp_flight::{FlightState, Move, Next, Shape, fill, fly, landed, look, step};
+use smp_flight::{FlightState, Next, Shape, fill, fly, landed, look, step};
 use smp_split::Kind;
 use smp_values::{PivotalSteps, Values};
 use std::marker::{Brand, Model};
-use std::sync::ledger::{Blank, Ledger};
+use std::sync::ledger::Blank;
 
 /// Where a selection stands.
 #[derive(Clone, Copy)]
@@ -44,31 +41,6 @@ impl Model for CubeState {
     ghost view = { λ a. balancing_of a.phase a.flight.flight a.steps a.left };
 
     ghost invariant = { λ a. IsKept a.phase a.flight a.room };
-}
-
-/// Goes to an end of a move of the flight, and looks for the step from there.
-fn fly_and_look<L: Ledger>(
-    shape: &Shape,
-    flight: &mut FlightState,
-    mv: &Move,
-    plus: bool,
-    blank: Blank,
-)
-    requires flight { IsFlight shape.now flight.old.flight }
-    requires first { AreFirst flight.old.flight flight.old.window }
-    requires mv { IsFirstMove shape.now flight.old mv.now }
-    requires name { blank.name ≡ L.name }
-    requires parts { blank.parts ≡ L.parts }
-    requires some { 1 ≤ blank.parts }
-    ensures is { flight.new.flight ≡ chosen shape.now flight.old.flight (move_of mv.now) plus }
-    ensures units { length flight.new.flight.values.numer
-        ≡ length flight.old.flight.values.numer }
-    ensures first { AreFirst flight.new.flight flight.new.window }
-    ensures rises { flight.old.writes ≤ flight.new.writes }
-    ensures few { flight.new.writes ≤ flight.old.writes + (flight.old.flight.rows + 1) }
-{
-    fly::<L>(shape, flight, mv, plus, blank);
-    look(shape, flight);
 }
 
 impl CubeState {
@@ -146,7 +118,8 @@ impl CubeState {
                 }
                 Next::Move(mv) => {
                     let plus = draw < mv.plus_weight;
-                    fly_and_look::<Brand>(shape, &mut self.flight, &mv, plus, Blank::new(1));
+                    fly::<Brand>(shape, &mut self.flight, &mv, plus, Blank::new(1));
+                    look(shape, &mut self.flight);
                 }
             },
             Phase::Pairing => self.steps.advance(draw),

@@ -11,7 +11,8 @@ use Rattle.smp_flight.specs.Answers.{AreSearched}
 use Rattle.smp_flight.specs.Kept.Windows.{is_in}
 use Rattle.smp_moves.specs.Moves.{IsOrder}
 use Rattle.smp_flight.specs.Selections.{IsWholeOrder}
-use Rattle.smp_flight.specs.States.{Tracked, Units}
+use Rattle.smp_flight.specs.States.{IsFlight, Tracked, Units}
+use Rattle.smp_flight.specs.declared.steps.Next.{Next as Answer}
 use Rattle.smp_flight.specs.Steps.{next_on}
 use Rattle.smp_moves.proofs.Filtered.{filter_twice}
 use Rattle.smp_moves.proofs.Entries.{order_front}
@@ -20,7 +21,7 @@ use Rattle.smp_flight.proofs.Nexts.{next_on_front}
 use Rattle.smp_flight.proofs.WholeOrders.{in_order_going, whole_length}
 use Rattle.smp_flight.proofs.Windowed.{in_append_left}
 use Rattle.smp_localcube.specs.Local.{IsCarried, IsChosen, front_of, is_one_of, order_around, untouched}
-use Rattle.smp_localcube.specs.Kept.States.{touched_in}
+use Rattle.smp_localcube.specs.Kept.States.{IsSearched, touched_in}
 use Rattle.smp_localcube.specs.Laws.Orders.{filter_again, whole as whole_order}
 use Rattle.smp_flight.proofs.Free.{in_filter}
 use Rattle.smp_localcube.specs.Laws.Splits.{HasHead}
@@ -73,3 +74,16 @@ module _ (f : Tracked) (window_ok : IsOrder f.flight.values f.window) (coords : 
 -- the points that are living
 pub same_points : (points : LivingPoints) (s : Shares) (touched : List ℕ) → points.living ≡ (untouched points.coords s touched).living → points ≡ untouched points.coords s touched
 same_points points s touched living = ap (λ alive. record { coords = points.coords; living = alive }) living
+
+-- the units of a search of which the first ones are the touched ones, and the others follow from the points
+pub searched_are : (f : Tracked) (points : LivingPoints) (head : ℕ) {touched front order : List ℕ} {rows : ℕ} → points.living ≡ (untouched points.coords f.flight.values (touched_in f)).living → touched ≡ touched_in f →
+    front ≡ front_of touched head → rows ≡ f.flight.rows → order ≡ take (rows + 1) (front ++ neighbours points head) → order ≡ take (f.flight.rows + 1) (order_around points.coords f.flight.values (touched_in f) head)
+searched_are f points head {touched} {front} {order} {rows} living same is count are =
+    are
+    ∙ ap (λ n. take (n + 1) (front ++ neighbours points head)) count
+    ∙ ap (λ (us : List ℕ). take (f.flight.rows + 1) (us ++ neighbours points head)) (is ∙ ap (λ t. front_of t head) same)
+    ∙ ap (λ (p : LivingPoints). take (f.flight.rows + 1) (front_of (touched_in f) head ++ neighbours p head)) (same_points points f.flight.values (touched_in f) living)
+
+-- what is kept of a flight of these units is by them
+pub searched_by : (units : Units) (f : Tracked) (coords : List (List ℤ)) (chosen : Option ℕ) (now found : Option Answer) → IsFlight units f.flight → now ≡ found → IsSearched f.flight.fixed f coords chosen found → IsSearched units f coords chosen now
+searched_by units f coords chosen now found ok same is = subst (IsSearched units f coords chosen) (sym same) (subst (λ (u : Units). IsSearched u f coords chosen found) ok.fixed_is is)

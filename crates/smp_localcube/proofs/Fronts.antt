@@ -1,5 +1,5 @@
 -- The search of the local cube begins with the touched units.
-use Rattle.std.proofs.Common.{◌≡◌, ◌≢◌, ℕ, Bool, true, false, not, nat_eq, ◌||◌, ◌⊎◌, ℤ, List, [], ◌∷◌, ◌++◌, pos, Option, Some, None, length, arith, refl, sym, ap, ◌∙◌, subst, inl, inr}
+use Rattle.std.proofs.Common.{◌≡◌, ◌≢◌, ℕ, Bool, true, false, not, nat_eq, ◌||◌, ◌⊎◌, ℤ, List, [], ◌∷◌, ◌++◌, pos, Option, Some, None, refl, sym, ap, ◌∙◌, subst, inl, inr}
 use Rattle.std.specs.Int.RustNames.{unsigned_abs}
 use Rattle.std.specs.List.{filter}
 use Rattle.std.proofs.lemmas.Bool.{cases_Bool, ne_eqb, or_left, or_right, true≢false}
@@ -12,10 +12,9 @@ use Rattle.smp_split.specs.Parts.{moved}
 use Rattle.smp_split.specs.Trees.{Part, EachPart}
 use Rattle.smp_split.specs.declared.kind.Kind.TheVariants as kind
 use Rattle.smp_split.proofs.Parts.{each_equal}
-use Rattle.smp_values.specs.Steps.{kind_on}
 use Rattle.smp_values.specs.Values.{fractional_at, fractional_count, fractional_units, is_fractional}
-use Rattle.smp_moves.specs.Cubes.{flying, pairing, flight_kind, flight_parts, values_in}
-use Rattle.smp_moves.specs.Moves.{IsLine, Move, Next, entry_of, independent, move, wide}
+use Rattle.smp_moves.specs.Cubes.{flying, pairing, flight_parts, values_in}
+use Rattle.smp_moves.specs.Moves.{IsLine, Move, Next, entry_of, independent, move}
 use Rattle.smp_moves.proofs.Entries.{frame_order, off_line, place_or}
 use Rattle.smp_flight.specs.Kept.Windows.{is_in}
 use Rattle.smp_flight.specs.Selections.{Balancing, IsBalancing, shares_cube}

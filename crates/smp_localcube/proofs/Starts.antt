@@ -1,5 +1,5 @@
 -- A selection starts from the values that are requested, and is balanced.
-use Rattle.std.proofs.Common.{◌≡◌, ℕ, zero, suc, ◌<◌, ◌≤◌, Bool, true, false, ℤ, List, [], ◌∷◌, length, map, replicate, arith, refl, sym, ap, ◌∙◌}
+use Rattle.std.proofs.Common.{◌≡◌, ℕ, zero, suc, ◌<◌, ◌≤◌, Bool, true, false, ℤ, List, [], ◌∷◌, None, length, map, replicate, arith, refl, sym, ap, ◌∙◌}
 use Rattle.std.specs.List.{range_with_len}
 use Rattle.std.proofs.lemmas.Bool.{and_from}
 use Rattle.std.proofs.lemmas.List.{ext_get_or, get_or-replicate, length-replicate}
@@ -23,7 +23,7 @@ use Rattle.smp_flight.proofs.Owed.{selection_balanced}
 use Rattle.smp_flight.proofs.WholeSums.{leaves_count}
 use Rattle.smp_localcube.proofs.Fronts.{IsFront, keeps_front}
 use Rattle.smp_localcube.specs.Local.{IsLocal, is_untouched, local_of, local_tree, untouched}
-use Rattle.smp_localcube.specs.Kept.States.{IsPlaced, IsReady, touched_in, weights_of}
+use Rattle.smp_localcube.specs.Kept.States.{IsPlaced, IsReady, IsSearched, touched_in, weights_of}
 use Rattle.smp_localcube.specs.Method.{LocalUnits, method_of, started}
 use Rattle.smp_localcube.specs.Laws.Orders.{filter_none}
 use Rattle.smp_localcube.specs.Laws.Splits.{is_local_cube}
@@ -51,6 +51,10 @@ ones_of (suc n) = ap (λ (ws : List ℕ). 1 ∷ ws) (ones_of n)
 -- before the first step no unit is touched
 pub none_touched : (units : Units) → touched_in (flights.tracked_start units) ≡ []
 none_touched units = sym (filter_none (fractional_units units.requested))
+
+-- and a unit is to be chosen
+pub first_searched : (units : Units) (coords : List (List ℤ)) → IsSearched units (flights.tracked_start units) coords None None
+first_searched units coords = record { is = rw (none_touched units) refl; allows = tt }
 
 module _ (dimensions : ℕ) (units : Units) (coords : List (List ℤ)) (count : ℕ) (placed : IsPlaced dimensions units coords count) (is_flight : IsFlight units (flights.started units)) where
   same_count : length units.requested.numer ≡ length units.sizes

@@ -1,17 +1,17 @@
 //! The states of a selection by the local cube.
 
-ghost use Rattle.std.specs.Prelude.{◌≡◌, ◌+◌, ◌<◌, ◌≤◌, true, false, length, take, IfSome, option_map};
+ghost use Rattle.std.specs.Prelude.{◌≡◌, ◌+◌, ◌<◌, ◌≤◌, false, length};
 ghost use Rattle.smp_split.specs.Trees.{picked, weight_sum};
-ghost use Rattle.smp_values.specs.Values.{is_fractional, is_one, is_settled};
+ghost use Rattle.smp_values.specs.Values.{is_one, is_settled};
 ghost use Rattle.smp_moves.specs.Answers.{IsPadded, line_of};
 ghost use Rattle.smp_moves.specs.Cubes.{left_in, values_in};
 ghost use Rattle.smp_flight.specs.Answers.{Allows, IsMoveOf, answer_of};
 ghost use Rattle.smp_moves.specs.Moves.{IsLine, IsOrder};
 ghost use Rattle.smp_flight.specs.States.{IsFlight};
-ghost use Rattle.smp_localcube.specs.Local.{IsCarried, IsLocal, Local, head_of, kind_from, order_around, parts_from, untouched};
+ghost use Rattle.smp_localcube.specs.Local.{IsLocal, Local, kind_from, parts_from, untouched};
 ghost use Rattle.smp_localcube.specs.Laws.Splits.{HasHead};
-ghost use Rattle.smp_localcube.specs.Kept.States.{AreTouched, IsKept, IsLookedFor, MayTouch, order_units, state_of};
-ghost use Rattle.smp_localcube.specs.Kept.States.{step_around, touched_in, weights_of};
+ghost use Rattle.smp_localcube.specs.Kept.States.{AreTouched, IsKept, IsSearchable, IsSearched, MayTouch, order_units};
+ghost use Rattle.smp_localcube.specs.Kept.States.{state_of, step_around, touched_in, weights_of};
 
 use crate::orders::{Order, is_among, rising};
 use smp_flight::{FlightState, Line, Next, Shape, fill, fly, landed, step_on};
@@ -46,7 +46,7 @@ pub struct LocalCubeState<const K: usize> {
     pub(crate) points: Points<K>,
     pub(crate) weights: Amounts,
     pub(crate) chosen: Option<usize>,
-    /// The next step, where it was looked for: in a box, since it takes more bytes than all else here.
+    /// The next step of the flight, none where a unit is to be chosen first: in a box, since it takes more bytes than all else here.
     pub(crate) found: Box<Option<Next>>,
 }
 
@@ -58,33 +58,8 @@ impl<const K: usize> Model for LocalCubeState<K> {
     ghost invariant = { λ a. IsKept a.phase a.flight a.room a.points a.weights a.chosen a.found.value };
 }
 
-/// The next step of the flight, and none where a unit is to be chosen first. Where it was looked for, nothing is searched again.
-fn next_step<const K: usize>(
-    shape: &Shape,
-    flight: &FlightState,
-    points: &Points<K>,
-    chosen: Option<usize>,
-    found: &Option<Next>,
-) -> Option<Next>
-    requires flight { IsFlight shape.now flight.now.flight }
-    requires carried { IsCarried flight.now.flight.values (touched_in flight.now) chosen }
-    requires placed { length points.now.coords ≡ length flight.now.flight.values.numer }
-    requires living { points.now.living
-        ≡ (untouched points.now.coords flight.now.flight.values (touched_in flight.now)).living }
-    requires looked { IfSome found.now (IsLookedFor flight.now points.now.coords chosen) }
-    ensures is { option_map answer_of result
-        ≡ option_map (step_around shape.now points.now.coords flight.now)
-        (head_of (touched_in flight.now) chosen) }
-    ensures allows { IfSome result
-        (Allows (IsMoveOf shape.now flight.now) shape.now flight.now) }
-{
-    match found {
-        Some(next) => Some(*next),
-        None => look(shape, flight, points, chosen),
-    }
-}
-
-/// The step of a flight with these touched units and this head.
+/// The step of a flight with these touched units and this head: its search goes through one unit more than there are rows in force, or
+/// all.
 fn step_from<const K: usize>(
     shape: &Shape,
     flight: &FlightState,
@@ -104,34 +79,9 @@ fn step_from<const K: usize>(
         ≡ step_around shape.now points.now.coords flight.now head }
     ensures allows { Allows (IsMoveOf shape.now flight.now) shape.now flight.now result }
 {
-    let order = searched(flight, points, touched, head);
-    step_on(shape, flight, &order.units, order.number)
-}
-
-/// The first units of the search of a flight with these touched units and this head, one more than there are rows in force, or all.
-fn searched<const K: usize>(
-    flight: &FlightState,
-    points: &Points<K>,
-    touched: &Order,
-    head: usize,
-) -> Order
-    requires rows { flight.now.flight.rows ≤ 16 }
-    requires touched { order_units touched.now ≡ touched_in flight.now }
-    requires few { touched.now.number ≤ flight.now.flight.rows + 1 }
-    requires head { is_fractional flight.now.flight.values head ≡ true }
-    requires placed { length points.now.coords ≡ length flight.now.flight.values.numer }
-    requires living { points.now.living
-        ≡ (untouched points.now.coords flight.now.flight.values (touched_in flight.now)).living }
-    ensures are { order_units result ≡ take (flight.now.flight.rows + 1)
-        (order_around
-        points.now.coords
-        flight.now.flight.values
-        (touched_in flight.now)
-        head) }
-    ensures number { result.number ≤ 17 }
-{
     let most = flight.rows() + 1;
-    touched.front(head).with_neighbours(points, head, most)
+    let order = touched.front(head).with_neighbours(points, head, most);
+    step_on(shape, flight, &order.units, order.number)
 }
 
 /// The next step of a flight, searched for; none where a unit is to be chosen first.
@@ -141,17 +91,8 @@ fn look<const K: usize>(
     points: &Points<K>,
     chosen: Option<usize>,
 ) -> Option<Next>
-    requires flight { IsFlight shape.now flight.now.flight }
-    requires carried { IsCarried flight.now.flight.values (touched_in flight.now) chosen }
-    requires placed { length points.now.coords ≡ length flight.now.flight.values.numer }
-    requires living { points.now.living
-        ≡ (untouched points.now.coords flight.now.flight.values (touched_in flight.now)).living }
-    ensures is { option_map answer_of result
-        ≡ option_map (step_around shape.now points.now.coords flight.now)
-        (head_of (touched_in flight.now) chosen) }
-    ensures allows { IfSome result
-        (Allows (IsMoveOf shape.now flight.now) shape.now flight.now) }
-    ensures looked { IfSome result (IsLookedFor flight.now points.now.coords chosen) }
+    requires { IsSearchable shape.now flight.now points.now chosen }
+    ensures { IsSearched flight.now.flight.fixed flight.now points.now.coords chosen result }
 {
     let touched = rising(flight.window(), flight.units());
     match touched.head(chosen) {
@@ -160,7 +101,7 @@ fn look<const K: usize>(
     }
 }
 
-/// Keeps a step that was looked for in place of the one before.
+/// Keeps the step that was looked for in place of the one before.
 fn keep(kept: &mut Box<Option<Next>>, found: Option<Next>)
     ensures { kept.new.value ≡ found }
 {
@@ -225,13 +166,7 @@ impl<const K: usize> LocalCubeState<K> {
         ensures { result ≡ kind_from shape.now self.now self.now.at }
     {
         match self.phase {
-            Phase::Flying => match next_step(
-                shape,
-                &self.flight,
-                &self.points,
-                self.chosen,
-                &self.found,
-            ) {
+            Phase::Flying => match *self.found {
                 None => Kind::Choose,
                 Some(next) => match next {
                     Next::Move(_) => Kind::Flight,
@@ -250,13 +185,7 @@ impl<const K: usize> LocalCubeState<K> {
         ensures { result ≡ weight_sum (parts_from shape.now self.now self.now.at) }
     {
         match self.phase {
-            Phase::Flying => match next_step(
-                shape,
-                &self.flight,
-                &self.points,
-                self.chosen,
-                &self.found,
-            ) {
+            Phase::Flying => match *self.found {
                 None => self.weights.total() as u128,
                 Some(next) => match next {
                     Next::Move(mv) => mv.plus_weight + mv.minus_weight,
@@ -277,7 +206,7 @@ impl<const K: usize> LocalCubeState<K> {
     {
         match self.phase {
             Phase::Flying => {
-                let next = next_step(shape, &self.flight, &self.points, self.chosen, &self.found);
+                let next = *self.found;
                 match next {
                     None => {
                         let unit = self.weights.find(draw);

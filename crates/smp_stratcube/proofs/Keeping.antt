@@ -3,25 +3,24 @@ use Rattle.std.proofs.Common.{◌≡◌, ℕ, ◌+◌, ◌-◌, ◌<◌, ◌≤�
 use Rattle.std.proofs.lemmas.Bool.{cases_Bool, lt-ltb, ltb-false, ne_eqb, true≢false}
 use Rattle.smp_split.specs.Trees.{EachPart, picked, weight_sum}
 use Rattle.smp_split.proofs.Parts.{picked-moved, weight_sum-moved}
-use Rattle.smp_split.proofs.Steps.{picked_belongs, picked_is_part}
+use Rattle.smp_split.proofs.Steps.{picked_is_part}
 use Rattle.smp_prob.specs.Shares.{Shares}
 use Rattle.smp_moves.specs.Owed.{HasKept}
 use Rattle.smp_moves.specs.Cubes.{dropped, flying, landed, pairing, values_in}
-use Rattle.smp_stratcube.specs.Kept.Trees.{flight_parts, strat_parts, strat_tree, weighed_of}
+use Rattle.smp_stratcube.specs.Kept.Trees.{flight_parts, strat_parts, weighed_of}
 use Rattle.smp_stratcube.proofs.Balances.{paired_kept}
-use Rattle.smp_moves.specs.Moves.{Line, Move, independent, move, turned, wide}
+use Rattle.smp_moves.specs.Moves.{Line, Move, Next, independent, move, turned, wide}
 use Rattle.smp_stratcube.specs.declared.fronts.Front.{Front}
 use Rattle.smp_stratcube.specs.declared.state.Phase.{Phase}
 use Rattle.smp_stratcube.specs.declared.state.Phase.TheVariants.{Flying, Pairing}
 use Rattle.smp_stratcube.specs.declared.values.Value.{Value}
 use Rattle.smp_stratcube.specs.Units.{Units, stratum, share}
 use Rattle.smp_stratcube.specs.Values.{fractional_count, fractional_units, is_fractional, is_settled, taken_over, value}
-use Rattle.smp_stratcube.specs.States.{Balancing, Flight, IsBalancing, IsFlying, IsPairing}
+use Rattle.smp_stratcube.specs.States.{Balancing, Flight, IsFlying, IsPairing}
 use Rattle.smp_stratcube.specs.Kept.Computed.{chosen, moved_values, moves, next, flight_of}
 use Rattle.smp_stratcube.specs.Pairs.{first_pair, is_either, paired_parts, parts_by}
-use Rattle.smp_stratcube.specs.Laws.Splits.{strat_lawful}
 use Rattle.smp_stratcube.specs.Kept.Fronts.{IsAhead, IsFront, front_units}
-use Rattle.smp_stratcube.specs.Kept.States.{IsInFlight, IsNextOf, balancing_of}
+use Rattle.smp_stratcube.specs.Kept.States.{balancing_of}
 use Rattle.smp_stratcube.specs.Kept.Moves.{IsStep}
 use Rattle.smp_stratcube.specs.declared.steps.Next.{Next as Answer}
 use Rattle.smp_stratcube.specs.Laws.Ends.{still}
@@ -43,43 +42,44 @@ values_of of Pairing values rows left = refl
 
 -- ---- a state in flight
 
-pub in_flight : (units of : Units) (p : Phase) (values : List Value) (rows left : ℕ) → IsInFlight units (balancing_of of p values rows left) → IsFlying units (flight_of of values rows)
-in_flight units of Flying values rows left h = h
-in_flight units of Pairing values rows left h = absurd h
-
-pub next_of : (units of : Units) (p : Phase) (values : List Value) (rows left : ℕ) (answer : Answer) → IsInFlight units (balancing_of of p values rows left) → IsStep units (flight_of of values rows) answer →
-    IsNextOf units (balancing_of of p values rows left) answer
-next_of units of Flying values rows left answer h step = step
-next_of units of Pairing values rows left answer h step = absurd h
-
 -- the units that a state in flight is of are those in which it is one
 pub own_flight : (units of : Units) (values : List Value) (rows : ℕ) → IsFlying units (flight_of of values rows) → IsFlying units (flight_of units values rows)
 own_flight units of values rows ok = subst (λ (u : Units). IsFlying units (flight_of u values rows)) ok.fixed_is ok
 
+-- and by them is the step that is kept
+pub step_by : (units of : Units) (values : List Value) (rows : ℕ) (now found : Answer) → IsFlying units (flight_of of values rows) → now ≡ found → IsStep of (flight_of of values rows) found → IsStep units (flight_of of values rows) now
+step_by units of values rows now found ok same is = subst (IsStep units (flight_of of values rows)) (sym same) (subst (λ (u : Units). IsStep u (flight_of of values rows) found) ok.fixed_is is)
+
+-- the step of its values is kept
+pub step_there : (units of : Units) (values vs : List Value) (rows : ℕ) (found : Answer) → units ≡ of → vs ≡ values → IsStep units (flight_of units vs rows) found → IsStep of (flight_of of values rows) found
+step_there units of values vs rows found own same is = subst (λ (u : Units). IsStep u (flight_of u values rows) found) own (subst (λ (xs : List Value). IsStep units (flight_of units xs rows) found) same is)
+
 -- ---- the part that a draw picks
 
-pub picks_move : (units : Units) (f : Flight) (left : ℕ) (m : Move) (draw : ℕ) → next units f ≡ move m → draw < m.plus_weight + m.minus_weight →
+pub picks_move : (units : Units) (f : Flight) (left : ℕ) (m : Move) (draw : ℕ) → next units f ≡ move m → draw < weight_sum (strat_parts units (flying f left)) →
     picked (flying f left) (strat_parts units (flying f left)) draw ≡ flying (chosen units f m (nat_lt draw m.plus_weight)) left
 picks_move units f left m draw e l =
+    let below : draw < m.plus_weight + (m.minus_weight + 0) = subst (λ n. draw < n) (ap (λ a. weight_sum (flight_parts units f left a)) e) l in
     ap (λ a. picked (flying f left) (flight_parts units f left a) draw) e
     ∙ elim (cases_Bool (nat_lt draw m.plus_weight)) [
       | inl t ↦ rw t refl
-      | inr n ↦ (let rest : nat_lt (draw - m.plus_weight) m.minus_weight ≡ true = lt-ltb (draw - m.plus_weight) m.minus_weight (omega (arith, l, ltb-false draw m.plus_weight n)) in rw (n, rest) refl)
+      | inr n ↦ (let rest : nat_lt (draw - m.plus_weight) m.minus_weight ≡ true = lt-ltb (draw - m.plus_weight) m.minus_weight (omega (arith, below, ltb-false draw m.plus_weight n)) in rw (n, rest) refl)
     ]
 
-pub picks_drop : (units : Units) (f : Flight) (left draw : ℕ) → next units f ≡ independent → draw < 1 → picked (flying f left) (strat_parts units (flying f left)) draw ≡ flying (dropped f) (landed (fractional_count f.values) left)
-picks_drop units f left draw e l =
-    let none : draw ≡ 0 = omega arith in
-    ap (λ a. picked (flying f left) (flight_parts units f left a) draw) e ∙ (rw none refl)
+-- the one part of a step that isn't a move
+picks_lone : (units : Units) (f : Flight) (left draw : ℕ) (a : Next) (t : Balancing) → next units f ≡ a → flight_parts units f left a ≡ record { weight = 1; state = t } ∷ [] → draw < weight_sum (strat_parts units (flying f left)) →
+    picked (flying f left) (strat_parts units (flying f left)) draw ≡ t
+picks_lone units f left draw a t e lone l =
+    let parts = ap (flight_parts units f left) e ∙ lone in
+    let below : draw < 1 = subst (λ n. draw < n) (ap (λ ps. weight_sum ps) parts) l in
+    let none : draw ≡ 0 = omega (arith, below) in
+    ap (λ ps. picked (flying f left) ps draw) parts ∙ (rw none refl)
 
-pub picks_wide : (units : Units) (f : Flight) (left draw : ℕ) → next units f ≡ wide → draw < 1 → picked (flying f left) (strat_parts units (flying f left)) draw ≡ pairing f.values (landed (fractional_count f.values) left)
-picks_wide units f left draw e l =
-    let none : draw ≡ 0 = omega arith in
-    ap (λ a. picked (flying f left) (flight_parts units f left a) draw) e ∙ (rw none refl)
+pub picks_drop : (units : Units) (f : Flight) (left draw : ℕ) → next units f ≡ independent → draw < weight_sum (strat_parts units (flying f left)) → picked (flying f left) (strat_parts units (flying f left)) draw ≡ flying (dropped f) (landed (fractional_count f.values) left)
+picks_drop units f left draw e l = picks_lone units f left draw independent (flying (dropped f) (landed (fractional_count f.values) left)) e refl l
 
--- the state that a draw leads to is one of the design
-pub picks_belong : (units : Units) (s : Balancing) → IsBalancing units s → is_settled (values_in s) ≡ false → (draw : ℕ) → draw < weight_sum (strat_parts units s) → IsBalancing units (picked s (strat_parts units s) draw)
-picks_belong units s ok going draw within = picked_belongs (strat_tree units) (IsBalancing units) (strat_lawful units) s (picked s (strat_parts units s) draw) draw ok going within refl
+pub picks_wide : (units : Units) (f : Flight) (left draw : ℕ) → next units f ≡ wide → draw < weight_sum (strat_parts units (flying f left)) → picked (flying f left) (strat_parts units (flying f left)) draw ≡ pairing f.values (landed (fractional_count f.values) left)
+picks_wide units f left draw e l = picks_lone units f left draw wide (pairing f.values (landed (fractional_count f.values) left)) e refl l
 
 pub picks_pair : (units : Units) (values : List Value) (left draw : ℕ) → picked (pairing values left) (strat_parts units (pairing values left)) draw ≡ pairing (picked values (paired_parts units values) draw) left
 picks_pair units values left draw = picked-moved (λ t. pairing t left) values (paired_parts units values) draw
@@ -118,6 +118,13 @@ module _ (units : Units) (f : Flight) (ok : IsFlying units f) (front : Front) (i
 
   pub move_ahead : (plus : Bool) → IsAhead (chosen units f m plus).values front
   move_ahead plus = subst (λ (x : Move). IsAhead (chosen units f x plus).values front) (sym k.same) (along_ahead plus)
+
+  along_flight : (plus : Bool) → IsFlying units (flight_of f.fixed (chosen units f (next_along (setting_of units) f.values line) plus).values f.rows)
+  along_flight true = (plus_end units f ok 0 m k).flight
+  along_flight false = (minus_end units f ok 0 m k).flight
+
+  pub move_flight : (plus : Bool) → IsFlying units (flight_of f.fixed (chosen units f m plus).values f.rows)
+  move_flight plus = subst (λ (x : Move). IsFlying units (flight_of f.fixed (chosen units f x plus).values f.rows)) (sym k.same) (along_flight plus)
 
   along_count : (plus : Bool) → length (chosen units f (next_along (setting_of units) f.values line) plus).values ≡ length f.values
   along_count true = length_taken (moves line) f.values _

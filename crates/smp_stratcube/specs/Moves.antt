@@ -35,13 +35,9 @@ setting_of units = record {
   IsEnd = IsMovedTo;
 }
 
--- a state of the flight, and its fractional units in order
-abbrev pub IsAllowed : Units → Flight → List ℕ → Type 0
-IsAllowed units f order = IsFlying units f × (order ≡ fractional_units f.values)
-
--- the step of a state and the values at the end of a line
+-- the step of a state of the flight, whose search goes through its fractional units in order, and the values at the end of a line
 abbrev pub Stepping : Type 0
-Stepping = steps.Stepping setting_of IsAllowed
+Stepping = steps.Stepping setting_of (λ units f order. IsFlying units f × (order ≡ fractional_units f.values))
 
 -- the step of a state, by any `Stepping`
 abbrev pub next_by : Stepping → Units → Flight → Next

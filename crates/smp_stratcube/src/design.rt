@@ -15,6 +15,7 @@ use crate::fronts::{EMPTY, front_of};
 use crate::layers::Layers;
 use crate::making::units_of;
 use crate::state::{Phase, StratCubeState};
+use crate::steps::step;
 use crate::units::Units;
 use crate::values::Value;
 use smp_frac::NoMemory;
@@ -73,14 +74,17 @@ impl StratCube {
         ensures balanced { IfOk result (IsBalanced self.now) }
     {
         let values = requested(alloc, &self.units)?;
-        let front = front_of(&EMPTY, values.as_slice());
+        let all = self.units.rows();
+        let slice = values.as_slice();
+        let front = front_of(&EMPTY, slice);
+        let next = step(&self.units, slice, all, &front);
         Ok(StratCubeState {
             values,
-            rows: self.units.rows(),
+            rows: all,
             front,
             phase: Phase::Flying,
             left: 0,
-            found: Box::new(alloc, None)?,
+            found: Box::new(alloc, next)?,
             of: Snapshot::of(&self.units),
         })
     }

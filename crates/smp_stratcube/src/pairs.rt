@@ -1,13 +1,12 @@
 //! Pivotal steps, stratum by stratum.
 
-ghost use Rattle.std.specs.Prelude.{◌≡◌, ◌<◌, ◌≤◌, ℕ, Some, false, length, slice_index, take};
+ghost use Rattle.std.specs.Prelude.{◌≡◌, ◌<◌, ◌≤◌, Some, false, length};
 ghost use Rattle.smp_split.specs.Trees.{picked, weight_sum};
 ghost use Rattle.smp_stratcube.specs.Units.{IsUnits};
 ghost use Rattle.smp_stratcube.specs.Values.{fractional_units, is_settled, stratum_common, value};
 ghost use Rattle.smp_stratcube.specs.Pairs.{first_pair, paired_kind, paired_parts};
 ghost use Rattle.smp_stratcube.specs.States.{IsPairing};
 ghost use Rattle.smp_stratcube.specs.Kept.Fronts.{IsFront};
-ghost use Rattle.smp_stratcube.specs.Kept.Lines.{AreInside};
 ghost use Rattle.smp_stratcube.specs.Kept.Pairs.{AreMet, HasStratum, IsOfFront, settled_value};
 
 use crate::fronts::Front;
@@ -24,11 +23,12 @@ fn at(values: &[Value], unit: usize) -> Value
     values[unit]
 }
 
-/// The first two neighbours of one stratum among the units of a front.
-fn neighbours(units: &Units, front: &Front) -> Option<(usize, usize)>
+/// The first two fractional units of the first stratum that has two: neighbours in the front, as units stand stratum by stratum.
+fn first_pair(units: &Units, values: &[Value], front: &Front) -> Option<(usize, usize)>
     requires are { IsUnits units.now }
-    requires inside { AreInside (length units.now.members) front.now }
-    ensures { result ≡ first_pair units.now (take front.now.number front.now.units) }
+    requires count { length values.now ≡ length units.now.members }
+    requires front { IsFront values.now front.now }
+    ensures { result ≡ first_pair units.now (fractional_units values.now) }
 {
     for place in 1..front.number {
         let before = front.units[place - 1];
@@ -38,16 +38,6 @@ fn neighbours(units: &Units, front: &Front) -> Option<(usize, usize)>
         }
     }
     None
-}
-
-/// The first two fractional units of the first stratum that has two.
-fn first_pair(units: &Units, values: &[Value], front: &Front) -> Option<(usize, usize)>
-    requires are { IsUnits units.now }
-    requires count { length values.now ≡ length units.now.members }
-    requires front { IsFront values.now front.now }
-    ensures { result ≡ first_pair units.now (fractional_units values.now) }
-{
-    neighbours(units, front)
 }
 
 /// The least common denominator of the fractional values of a stratum among the units of a front.

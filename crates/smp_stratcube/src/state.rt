@@ -1,6 +1,6 @@
 //! The states of a selection.
 
-ghost use Rattle.std.specs.Prelude.{◌≡◌, ◌*◌, ◌<◌, ◌≤◌, None, Some, false, length};
+ghost use Rattle.std.specs.Prelude.{◌≡◌, ◌*◌, ◌<◌, ◌≤◌, false, length};
 ghost use Rattle.smp_fractions.specs.Limits.{most_rows};
 ghost use Rattle.smp_split.specs.Trees.{picked, weight_sum};
 ghost use Rattle.smp_moves.specs.Cubes.{landed, values_in};
@@ -10,7 +10,7 @@ ghost use Rattle.smp_stratcube.specs.Kept.Trees.{strat_kind, strat_parts};
 ghost use Rattle.smp_stratcube.specs.Kept.Fronts.{IsFront};
 ghost use Rattle.smp_stratcube.specs.Kept.Moves.{HasGone, IsMoveOf};
 ghost use Rattle.smp_stratcube.specs.Kept.Computed.{flight_of};
-ghost use Rattle.smp_stratcube.specs.Kept.States.{IsInFlight, IsKept, IsNextOf, balancing_of};
+ghost use Rattle.smp_stratcube.specs.Kept.States.{IsKept, balancing_of};
 
 use crate::ends::go;
 use crate::fronts::{Front, front_of};
@@ -39,8 +39,8 @@ pub struct StratCubeState {
     pub(crate) front: Front,
     pub(crate) phase: Phase,
     pub(crate) left: u32,
-    /// The next step of the flight, where it was looked for: in a box, since it takes more bytes than all else here.
-    pub(crate) found: Box<Option<Next>>,
+    /// The next step of the flight, as long as it goes on: in a box, since it takes more bytes than all else here.
+    pub(crate) found: Box<Next>,
     /// The units that it is a state of, for contracts alone: it takes no bytes.
     pub(crate) of: Snapshot<Units>,
 }
@@ -50,7 +50,7 @@ impl Model for StratCubeState {
 
     ghost view = { λ a. balancing_of a.of.value a.phase a.values.items a.rows a.left };
 
-    ghost invariant = { λ a. IsKept a.of.value a.values.items a.rows a.front a.found.value };
+    ghost invariant = { λ a. IsKept a.of.value a.phase a.values.items a.rows a.front a.found.value };
 }
 
 /// How many units are fractional.
@@ -74,18 +74,11 @@ fn landed(values: &[Value], front: &Front, left: u32) -> u32
     }
 }
 
-/// Keeps no step.
-fn forget(found: &mut Box<Option<Next>>)
-    ensures { found.new.value ≡ None }
+/// Keeps a step in place of the one before.
+fn keep(found: &mut Box<Next>, step: Next)
+    ensures { found.new.value ≡ step }
 {
-    **found = None;
-}
-
-/// Keeps a step.
-fn keep(found: &mut Box<Option<Next>>, step: Next)
-    ensures { found.new.value ≡ Some step }
-{
-    **found = Some(step);
+    **found = step;
 }
 
 /// Goes to an end of a move.
@@ -119,24 +112,13 @@ impl StratCubeState {
         value.at.num == value.at.den
     }
 
-    /// The next step of a state in flight: the one that is kept, where it was looked for.
-    fn next_step(&self, units: &Units) -> Next
-        requires { IsInFlight units.now self.now }
-        ensures { IsNextOf units.now self.now result }
-    {
-        match &*self.found {
-            Some(next) => *next,
-            None => step(units, self.values.as_slice(), self.rows, &self.front),
-        }
-    }
-
     /// The kind of the next step.
     pub(crate) fn kind(&self, units: &Units) -> Kind
         requires { IsBalancing units.now self.now }
         ensures { result ≡ strat_kind units.now self.now }
     {
         match self.phase {
-            Phase::Flying => match self.next_step(units) {
+            Phase::Flying => match *self.found {
                 Next::Move(_) => Kind::Flight,
                 Next::Independent => Kind::Drop,
                 Next::Wide => Kind::Wide,
@@ -152,7 +134,7 @@ impl StratCubeState {
         ensures { result ≡ weight_sum (strat_parts units.now self.now) }
     {
         match self.phase {
-            Phase::Flying => match self.next_step(units) {
+            Phase::Flying => match *self.found {
                 Next::Move(mv) => mv.plus_weight + mv.minus_weight,
                 Next::Independent => 1,
                 Next::Wide => 1,
@@ -161,62 +143,40 @@ impl StratCubeState {
         }
     }
 
-    /// Makes the step that a draw leads to, and keeps no step.
-    fn make(&mut self, units: &Units, draw: u128)
-        requires state { IsBalancing units.now self.old }
-        requires going { is_settled (values_in self.old) ≡ false }
-        requires within { draw < weight_sum (strat_parts units.now self.old) }
-        ensures { self.new ≡ picked self.old (strat_parts units.now self.old) draw }
-    {
-        match self.phase {
-            Phase::Flying => match self.next_step(units) {
-                Next::Independent => {
-                    self.left = landed(self.values.as_slice(), &self.front, self.left);
-                    self.rows -= 1;
-                    forget(&mut self.found);
-                }
-                Next::Wide => {
-                    self.left = landed(self.values.as_slice(), &self.front, self.left);
-                    self.phase = Phase::Pairing;
-                    forget(&mut self.found);
-                }
-                Next::Move(mv) => {
-                    let plus = draw < mv.plus_weight;
-                    fly(units, &mut self.values, self.rows, &mv, plus);
-                    self.front = front_of(&self.front, self.values.as_slice());
-                    forget(&mut self.found);
-                }
-            },
-            Phase::Pairing => {
-                advance(units, &mut self.values, &self.front, draw);
-                self.front = front_of(&self.front, self.values.as_slice());
-                forget(&mut self.found);
-            }
-        }
-    }
-
-    /// Looks for the next step of the flight and keeps it, so that it isn't searched again.
-    fn look(&mut self, units: &Units)
-        requires { IsBalancing units.now self.old }
-        ensures { self.new ≡ self.old }
-    {
-        match self.phase {
-            Phase::Flying => {
-                let next = step(units, self.values.as_slice(), self.rows, &self.front);
-                keep(&mut self.found, next);
-            }
-            Phase::Pairing => {}
-        }
-    }
-
-    /// Makes the step that a draw leads to.
+    /// Makes the step that a draw leads to, and looks for the next one of the flight, so that it isn't searched again.
     pub(crate) fn advance(&mut self, units: &Units, draw: u128)
         requires state { IsBalancing units.now self.old }
         requires going { is_settled (values_in self.old) ≡ false }
         requires within { draw < weight_sum (strat_parts units.now self.old) }
         ensures { self.new ≡ picked self.old (strat_parts units.now self.old) draw }
     {
-        self.make(units, draw);
-        self.look(units);
+        match self.phase {
+            Phase::Flying => {
+                let next = *self.found;
+                match next {
+                    Next::Independent => {
+                        let values = self.values.as_slice();
+                        self.left = landed(values, &self.front, self.left);
+                        self.rows -= 1;
+                        keep(&mut self.found, step(units, values, self.rows, &self.front));
+                    }
+                    Next::Wide => {
+                        self.left = landed(self.values.as_slice(), &self.front, self.left);
+                        self.phase = Phase::Pairing;
+                    }
+                    Next::Move(mv) => {
+                        let plus = draw < mv.plus_weight;
+                        fly(units, &mut self.values, self.rows, &mv, plus);
+                        let values = self.values.as_slice();
+                        self.front = front_of(&self.front, values);
+                        keep(&mut self.found, step(units, values, self.rows, &self.front));
+                    }
+                }
+            }
+            Phase::Pairing => {
+                advance(units, &mut self.values, &self.front, draw);
+                self.front = front_of(&self.front, self.values.as_slice());
+            }
+        }
     }
 }

@@ -2,22 +2,22 @@
 use Rattle.std.proofs.Common.{◌≡◌, false, refl}
 use Rattle.smp_split.specs.Trees.{Lawful, LawfulParts}
 use Rattle.smp_split.proofs.Parts.{moved-same}
-use Rattle.smp_values.specs.Values.{is_settled}
+use Rattle.smp_values.specs.Values.{fractional_units, is_settled}
 use Rattle.smp_moves.specs.Cubes.{flying, pairing, values_in}
 use Rattle.smp_flight.specs.States.{Units}
 use Rattle.smp_flight.specs.Steps.{next}
 use Rattle.smp_flight.specs.Selections.{Balancing, GoesOn, IsBalancing, IsSelection, flies}
 use Rattle.smp_flight.proofs.ByOrder.{end_lawful, parts_lawful}
 use Rattle.smp_flight.proofs.WholeOrders.{frame_whole}
-use Rattle.smp_landing.specs.Cube.{cube_of, cube_parts, cube_tree, frame_order}
+use Rattle.smp_landing.specs.Cube.{cube_of, cube_parts, cube_tree}
 
 module _ (units : Units) where
   cube_split : (s : Balancing) → IsBalancing units s → is_settled (values_in s) ≡ false
       → LawfulParts (cube_tree units) (IsBalancing units) s (cube_parts units s)
   cube_split (flying f left) ok going =
-      parts_lawful units (next units) (flying f left) (frame_order (flying f left)) ok (frame_whole f.values) going
+      parts_lawful units (next units) (flying f left) (fractional_units f.values) ok (frame_whole f.values) going
   cube_split (pairing s left) ok going =
-      parts_lawful units (next units) (pairing s left) (frame_order (pairing s left)) ok (frame_whole s) going
+      parts_lawful units (next units) (pairing s left) (fractional_units s) ok (frame_whole s) going
 
   pub cube_lawful : Lawful (cube_tree units) (IsBalancing units)
   cube_lawful = record {

@@ -1,6 +1,6 @@
 -- What the code keeps of a design and of a state.
 use Rattle.std.specs.Prelude.{◌≡◌, ℕ, ◌≤◌, Bool, true, false, not, nat_eq, ◌&&◌, if◌then◌else◌, List, ℤ, length}
-use Rattle.std.specs.Prelude.{map, take, Option, Some, IfSome}
+use Rattle.std.specs.Prelude.{map, take, Option, IfSome, option_map}
 use Rattle.std.specs.Int.RustNames.{unsigned_abs}
 use Rattle.std.specs.List.{filter}
 use Rattle.smp_near.specs.Nearest.{LivingPoints, is_living}
@@ -11,12 +11,12 @@ use Rattle.smp_moves.specs.Cubes.{flying, pairing}
 use Rattle.smp_flight.specs.Selections.{Balancing}
 use Rattle.smp_moves.specs.Moves.{Line, entry_of}
 use Rattle.smp_moves.specs.declared.lines.Line.{Line as LineOfPlaces}
-use Rattle.smp_flight.specs.States.{Flight, Tracked, Units}
+use Rattle.smp_flight.specs.States.{Flight, IsFlight, Tracked, Units}
 use Rattle.smp_flight.specs.Answers.{Allows, IsMoveOf, answer_of}
 use Rattle.smp_flight.specs.declared.steps.Next.{Next as Answer}
 use Rattle.smp_moves.specs.Moves.{Next}
 use Rattle.smp_flight.specs.Steps.{next_on}
-use Rattle.smp_localcube.specs.Local.{Local, head_of, is_one_of, order_around, untouched}
+use Rattle.smp_localcube.specs.Local.{IsCarried, Local, head_of, is_one_of, order_around, untouched}
 use Rattle.smp_localcube.specs.declared.orders.Order.{Order}
 use Rattle.smp_localcube.specs.declared.state.Phase.{Phase}
 use Rattle.smp_localcube.specs.declared.state.Phase.TheVariants.{Flying, Pairing}
@@ -88,18 +88,24 @@ pub record IsReady (f : Tracked) (room : Shares) (points : LivingPoints) (weight
   pub living : points.living ≡ (untouched points.coords f.flight.values (touched_in f)).living
   pub weighed : weights ≡ weights_of points.living
 
--- the step of a flight that was found by the search of its state
-pub record IsLookedFor (f : Tracked) (coords : List (List ℤ)) (chosen : Option ℕ) (found : Answer) : Type 0 where
-  pub head : ℕ
-  pub is_head : head_of (touched_in f) chosen ≡ Some head
-  pub is : answer_of found ≡ step_around f.flight.fixed coords f head
-  pub allows : Allows (IsMoveOf f.flight.fixed f) f.flight.fixed f found
+-- A flight that can be searched: it is one of these units, the touched units and the chosen one are carried, each unit has a point, and
+-- the points of those that no move has changed are living.
+pub record IsSearchable (units : Units) (f : Tracked) (points : LivingPoints) (chosen : Option ℕ) : Type 0 where
+  pub flight : IsFlight units f.flight
+  pub carried : IsCarried f.flight.values (touched_in f) chosen
+  pub placed : length points.coords ≡ length f.flight.values.numer
+  pub living : points.living ≡ (untouched points.coords f.flight.values (touched_in f)).living
 
--- and the step that was looked for is the next one
+-- the next step of a flight, none where a unit is to be chosen first
+pub record IsSearched (units : Units) (f : Tracked) (coords : List (List ℤ)) (chosen : Option ℕ) (found : Option Answer) : Type 0 where
+  pub is : option_map answer_of found ≡ option_map (step_around units coords f) (head_of (touched_in f) chosen)
+  pub allows : IfSome found (Allows (IsMoveOf units f) units f)
+
+-- and the step that is kept is the next one
 pub record IsFlownOn (f : Tracked) (room : Shares) (points : LivingPoints) (weights : List ℕ)
     (chosen : Option ℕ) (found : Option Answer) : Type 0 where
   pub ready : IsReady f room points weights
-  pub looked : IfSome found (IsLookedFor f points.coords chosen)
+  pub searched : IsSearched f.flight.fixed f points.coords chosen found
 
 abbrev pub IsKept : Phase → Tracked → Shares → LivingPoints → List ℕ → Option ℕ → Option Answer → Type 0
 IsKept Flying f room points weights chosen found = IsFlownOn f room points weights chosen found

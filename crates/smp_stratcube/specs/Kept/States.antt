@@ -1,5 +1,5 @@
 -- What the code keeps of a state.
-use Rattle.std.specs.Prelude.{ℕ, ◌*◌, ◌≤◌, List, length, Option, IfSome}
+use Rattle.std.specs.Prelude.{ℕ, ◌*◌, ◌≤◌, List, length}
 use Rattle.smp_fractions.specs.Limits.{most_rows}
 use Rattle.smp_moves.specs.Cubes.{flying, pairing}
 use Rattle.smp_stratcube.specs.declared.fronts.Front.{Front}
@@ -8,7 +8,7 @@ use Rattle.smp_stratcube.specs.declared.state.Phase.TheVariants.{Flying, Pairing
 use Rattle.smp_stratcube.specs.declared.steps.Next.{Next as Answer}
 use Rattle.smp_stratcube.specs.declared.values.Value.{Value}
 use Rattle.smp_stratcube.specs.Units.{Units}
-use Rattle.smp_stratcube.specs.States.{Balancing, IsFlying}
+use Rattle.smp_stratcube.specs.States.{Balancing, Flight}
 use Rattle.smp_stratcube.specs.Kept.Fronts.{IsFront}
 use Rattle.smp_stratcube.specs.Kept.Computed.{flight_of}
 use Rattle.smp_stratcube.specs.Kept.Moves.{IsStep}
@@ -17,18 +17,13 @@ abbrev pub balancing_of : Units → Phase → List Value → ℕ → ℕ → Bal
 balancing_of units Flying values rows left = flying (flight_of units values rows) left
 balancing_of units Pairing values rows left = pairing values left
 
--- a state in flight
-abbrev pub IsInFlight : Units → Balancing → Type 0
-IsInFlight units (flying f left) = IsFlying units f
-IsInFlight units (pairing values left) = ⊥
+-- as long as the flight goes on, the answer is its next step
+abbrev pub IsNextIn : Phase → Units → Flight → Answer → Type 0
+IsNextIn Flying units f answer = IsStep units f answer
+IsNextIn Pairing units f answer = Unit {0}
 
--- the answer is its next step
-abbrev pub IsNextOf : Units → Balancing → Answer → Type 0
-IsNextOf units (flying f left) answer = IsStep units f answer
-IsNextOf units (pairing values left) answer = ⊥
-
--- the units can be counted, the first fractional ones are known, and so is the next step, where it was looked for
-pub record IsKept (units : Units) (values : List Value) (rows : ℕ) (front : Front) (kept : Option Answer) : Type 0 where
+-- the units can be counted, the first fractional ones are known, and so is the next step of the flight
+pub record IsKept (units : Units) (phase : Phase) (values : List Value) (rows : ℕ) (front : Front) (found : Answer) : Type 0 where
   pub few : length values ≤ 15 * most_rows
   pub first : IsFront values front
-  pub step : IfSome kept (IsStep units (flight_of units values rows))
+  pub step : IsNextIn phase units (flight_of units values rows) found

@@ -14,7 +14,7 @@ use Rattle.smp_stratcube.specs.Units.{Units, share}
 use Rattle.smp_stratcube.specs.Values.{fractional_units, over_common, taken_over, value}
 use Rattle.smp_stratcube.specs.States.{Flight, IsFlying}
 use Rattle.smp_stratcube.specs.Kept.Computed.{moved_values, moves, next}
-use Rattle.smp_stratcube.specs.Moves.{IsAllowed, IsMovedTo, Stepping, line_common, setting_of}
+use Rattle.smp_stratcube.specs.Moves.{IsMovedTo, Stepping, line_common, setting_of}
 use Rattle.smp_stratcube.specs.Laws.Taken.{taken_kept, taken_moved}
 use Rattle.smp_stratcube.specs.Laws.Ends.{after_along, after_values, is_over, moving, still}
 use Rattle.smp_stratcube.specs.Laws.Directions.{den_divides, den_some, line_ok, some_shares}
@@ -78,5 +78,5 @@ next_is units f ok = next_is_by (setting_of units) (moved_values units) f (fract
 
 abbrev pub each_step : Stepping
 each_step =
-    stepping_by setting_of IsAllowed moved_values
+    stepping_by setting_of (λ units f order. IsFlying units f × (order ≡ fractional_units f.values)) moved_values
     (λ units f order allowed. subst (Owes (setting_of units) (moved_values units) f) (sym allowed.1) (owes units f allowed.0))

@@ -139,7 +139,7 @@ module _ (units : Units) (f : Flight) (ok : IsFlying units f) where
   pub wide_pairing : IsPairing units f.values
   wide_pairing = record { are = ok.are; values = ok.values; fresh = ok.fresh; narrow = narrow_at }
 
-  dropped_flight : IsFlying units (dropped f)
+  pub dropped_flight : IsFlying units (dropped f)
   dropped_flight = record {
     are = ok.are;
     fixed_is = ok.fixed_is;

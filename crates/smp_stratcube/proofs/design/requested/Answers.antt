@@ -1,4 +1,4 @@
-use Rattle.std.proofs.Common.{◌<◌, ◌++◌, ◌∷◌, [], List, map, take, length, get_or, arith, sym, ap, ap₂, ◌∙◌, take_all}
+use Rattle.std.proofs.Common.{◌<◌, ◌++◌, ◌∷◌, [], List, map, take, length, get_or, arith, sym, ap, ap₂, ◌∙◌}
 use Rattle.std.proofs.lemmas.List.{take_more}
 use Rattle.smp_kernel.proofs.Lists.{map_last}
 use Rattle.smp_stratcube.specs.declared.values.Value.{Value}
@@ -13,6 +13,3 @@ loop-unit-preserved c =
     let inside : c.loop-unit.unit < length c.args.units.now.members = omega (arith, c.loop-unit-test.true, c.len-unit-end.ensures) in
     c.in_ok-push.ensures.items ∙ ap₂ (λ (vs : List Value) (v : Value). vs ++ v ∷ []) c.loop-unit.invariant c.requested.ensures
     ∙ sym (ap (map requested_value) (take_more members unit nobody inside) ∙ map_last requested_value (take unit members) (get_or members unit nobody))
-
-pub returns : goal.returns
-returns c = c.loop-unit.invariant ∙ ap (map requested_value) (take_all c.loop-unit.unit c.args.units.now.members (omega (arith, c.loop-unit-test.false, c.len-unit-end.ensures)))

@@ -18,10 +18,3 @@ loop-place-preserved c =
       same = each_more (λ k y. y ≡ entry c.args.values.now k) places (pos 0) at x (omega (arith, i.long, c.loop-place-test.true, c.requires)) i.same refl;
       past = λ k l. get_or-set_other places at k x (pos 0) (omega (arith, l)) ∙ i.past k (omega (arith, l));
     })
-
-pub returns : goal.returns
-returns c = record {
-  long = c.loop-place.invariant.long;
-  same = λ k l. c.loop-place.invariant.same k (omega (arith, l, c.loop-place-test.false));
-  past = λ k l. c.loop-place.invariant.past k (omega (arith, l, c.loop-place.auto.place-end));
-}

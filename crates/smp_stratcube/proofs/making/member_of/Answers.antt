@@ -1,27 +1,10 @@
-use Rattle.std.proofs.Common.{rules, arith, ◌≡◌, ◌+◌, ◌*◌, ◌<◌, ◌≤◌, ◌^◌, ℕ, List, ℤ, [], map, take, length, get_or, sym, ap, ap₂, ◌∙◌}
+use Rattle.std.proofs.Common.{rules, arith, ◌≡◌, ◌*◌, ◌<◌, ◌^◌, ℕ, List, ℤ, [], map, take, length, get_or, sym, ap, ap₂, ◌∙◌}
 use Rattle.std.proofs.lemmas.List.{get_or-map, get_or_read, length-map}
 use Rattle.smp_moves.specs.declared.lines.Ratio.{Ratio}
 use Rattle.smp_moves.specs.Ends.{lowest}
 use Rattle.smp_stratcube.specs.Layers.{Layer}
 use Rattle.smp_stratcube.specs.Units.{column_of, member_of}
 use Rattle.smp_stratcube.proofs.making.member_of.Goals as goal
-
-pub index-size-requires : goal.index-size-requires
-index-size-requires c =
-    let inside : c.args.unit < length c.layer.inside.shape.items = rw (← c.layer.view_is) at c.requires.unit in
-    omega (arith, inside, c.layer.inside.shape.ok.0)
-
-pub index-requires : goal.index-requires
-index-requires c =
-    let l = c.layer.inside in
-    let inside : c.args.unit < length c.layer.inside.shape.items = rw (← c.layer.view_is) at c.requires.unit in
-    omega (arith, inside, c.layer.invariant.is.paired, length-map l.values.items (take l.variables), l.values.ok.0)
-
-pub column_of-requires-clause-rows : goal.column_of-requires-clause-rows
-column_of-requires-clause-rows c =
-    let l = c.layer.inside in
-    let rows : c.args.strata + length (get_or (map (take l.variables) l.values.items) 0 []) ≤ 16 = rw (← c.layer.view_is) at c.requires.rows in
-    omega (arith, rows, c.layer.invariant.variables_is)
 
 pub column_of-requires-clause-size : goal.column_of-requires-clause-size
 column_of-requires-clause-size c =
@@ -37,11 +20,6 @@ overflow_mul-size c =
     let at : c.index-size.result.now ≡ get_or shape c.args.unit 0 = get_or_read shape c.args.unit c.index-size.result.now inside c.index-size.ensures 0 in
     let below : c.index-size.result.now * c.layer.inside.r < 2 ^ 49 = rw at (omega (arith, c.layer.invariant.is.below_one c.args.unit inside, c.layer.invariant.is.narrow)) in
     search rules
-
-pub lowest-requires : goal.lowest-requires
-lowest-requires c =
-    let inside : c.args.unit < length c.layer.inside.shape.items = rw (← c.layer.view_is) at c.requires.unit in
-    omega (arith, c.layer.invariant.is.below_one c.args.unit inside)
 
 pub returns : goal.returns
 returns c =

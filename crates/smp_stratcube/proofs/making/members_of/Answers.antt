@@ -8,12 +8,6 @@ use Rattle.smp_stratcube.specs.Units.{member_of, members_from}
 use Rattle.smp_stratcube.proofs.Stored.{members_step, none_left}
 use Rattle.smp_stratcube.proofs.making.members_of.Goals as goal
 
-pub loop-stratum-init : goal.loop-stratum-init
-loop-stratum-init c = record {
-  all = ap (λ (ms : List Member). ms ++ members_from (length c.args.layers.now) 0 c.args.layers.now) c.new-members.ensures.items;
-  firsts = c.new-firsts.ensures.items;
-}
-
 pub push_members-requires-clause-rows : goal.push_members-requires-clause-rows
 push_members-requires-clause-rows c some =
     let layers = c.args.layers.now in

@@ -1,41 +1,10 @@
-use Rattle.std.proofs.Common.{arith, ◌≡◌, ◌≤◌, ◌<◌, List, Some, None, length, get_or, set, sym, ap, ap₂, ◌∙◌, subst}
-use Rattle.smp_split.specs.Trees.{weight_sum}
+use Rattle.std.proofs.Common.{arith, ◌≡◌, ◌<◌, List, Some, None, length, get_or, set, sym, ap, ap₂, ◌∙◌, subst}
 use Rattle.smp_stratcube.specs.declared.values.Value.{Value}
-use Rattle.smp_stratcube.specs.States.{IsPairing}
-use Rattle.smp_stratcube.specs.Pairs.{first_pair, paired_parts}
+use Rattle.smp_stratcube.specs.Pairs.{first_pair}
 use Rattle.smp_stratcube.specs.Values.{fractional_units, value}
-use Rattle.smp_stratcube.specs.Kept.Fronts.{IsFront}
 use Rattle.smp_stratcube.specs.Kept.Pairs.{AreMet, settled_value}
 use Rattle.smp_stratcube.proofs.Written.{first_inside, lone_is, met_is, second_inside, unit_inside}
 use Rattle.smp_stratcube.proofs.pairs.advance.Goals as goal
-
-pub first_pair-requires-clause-are : goal.first_pair-requires-clause-are
-first_pair-requires-clause-are c =
-    c.requires.pairing.are
-
-pub first_pair-requires-clause-count : goal.first_pair-requires-clause-count
-first_pair-requires-clause-count c =
-    ap length c.as_slice.ensures.value ∙ c.requires.pairing.values.count
-
-pub first_pair-requires-clause-front : goal.first_pair-requires-clause-front
-first_pair-requires-clause-front c =
-    subst (λ vs. IsFront vs c.args.front.now) (sym c.as_slice.ensures.value) c.requires.front
-
-pub met-requires-clause-pairing : goal.met-requires-clause-pairing
-met-requires-clause-pairing c =
-    subst (IsPairing c.args.units.now) (sym c.as_slice-in-Some.ensures.value) c.requires.pairing
-
-pub met-requires-clause-front : goal.met-requires-clause-front
-met-requires-clause-front c =
-    subst (λ vs. IsFront vs c.args.front.now) (sym c.as_slice-in-Some.ensures.value) c.requires.front
-
-pub met-requires-clause-pair : goal.met-requires-clause-pair
-met-requires-clause-pair c =
-    subst (λ vs. first_pair c.args.units.now (fractional_units vs) ≡ Some (c.in-Some.first, c.in-Some.second)) (sym c.as_slice-in-Some.ensures.value) (sym (subst (λ vs. Some (c.in-Some.first, c.in-Some.second) ≡ first_pair c.args.units.now (fractional_units vs)) c.as_slice.ensures.value c.in-Some.ensures))
-
-pub met-requires-clause-within : goal.met-requires-clause-within
-met-requires-clause-within c =
-    subst (λ vs. c.args.draw < weight_sum (paired_parts c.args.units.now vs)) (sym c.as_slice-in-Some.ensures.value) c.requires.within
 
 pub index_mut-requires : goal.index_mut-requires
 index_mut-requires c =
@@ -48,11 +17,6 @@ index_mut-requires-in-Some c =
 pub at-requires : goal.at-requires
 at-requires c =
     subst (λ vs. get_or c.args.front.now.units 0 0 < length vs) (sym c.as_slice-in-None.ensures.value) (unit_inside c.args.units.now c.args.values.now.items c.requires.pairing c.args.front.now c.requires.front (omega (arith, c.requires.front.short)) c.requires.going)
-
-pub settled-value-requires : goal.settled-value-requires
-settled-value-requires c =
-    subst (λ (v : Value). 1 ≤ v.at.den) (sym c.at.ensures)
-    (subst (λ (vs : List Value). 1 ≤ (value vs (get_or c.args.front.now.units 0 0)).at.den) (sym c.as_slice-in-None.ensures.value) (c.requires.pairing.values.each (get_or c.args.front.now.units 0 0)).positive)
 
 pub index_mut-requires-in-None : goal.index_mut-requires-in-None
 index_mut-requires-in-None c =

@@ -1,8 +1,8 @@
-use Rattle.std.proofs.Common.{arith, ◌≡◌, ◌≤◌, ◌^◌, sym, ap, ap₂, ◌∙◌, subst}
+use Rattle.std.proofs.Common.{arith, ◌≡◌, sym, ap, ap₂, ◌∙◌}
 use Rattle.smp_values.specs.Pairs.{pair_bound}
 use Rattle.smp_stratcube.specs.declared.values.Value.{Value}
 use Rattle.smp_stratcube.specs.Units.{stratum}
-use Rattle.smp_stratcube.specs.Values.{IsValue, stratum_common}
+use Rattle.smp_stratcube.specs.Values.{stratum_common}
 use Rattle.smp_stratcube.proofs.Written.{bound_is, first_inside, first_open, lone_bound, meet_some, numer_read, second_inside, second_open, stratum_in_front, unit_inside}
 use Rattle.smp_stratcube.proofs.pairs.bound.Goals as goal
 
@@ -18,17 +18,9 @@ pub at-requires : goal.at-requires
 at-requires c =
     first_inside c.args.units.now c.args.values.now c.requires.pairing c.in-Some.first c.in-Some.second (sym c.in-Some.ensures)
 
-pub over-a-requires : goal.over-a-requires
-over-a-requires c =
-    subst IsValue (sym c.at.ensures) (c.requires.pairing.values.each c.in-Some.first)
-
 pub at-requires-in-Some : goal.at-requires-in-Some
 at-requires-in-Some c =
     second_inside c.args.units.now c.args.values.now c.requires.pairing c.in-Some.first c.in-Some.second (sym c.in-Some.ensures)
-
-pub over-b-requires : goal.over-b-requires
-over-b-requires c =
-    subst IsValue (sym c.at-in-Some.ensures) (c.requires.pairing.values.each c.in-Some.second)
 
 pub pair_bound-requires-clause-a_in : goal.pair_bound-requires-clause-a_in
 pair_bound-requires-clause-a_in c =
@@ -43,10 +35,6 @@ pair_bound-requires-clause-b_in c =
     let d : c.stratum_common-den.result ≡ stratum_common c.args.units.now c.args.values.now (stratum c.args.units.now c.in-Some.first) = (c.stratum_common-den.ensures ∙ ap (stratum_common c.args.units.now c.args.values.now) c.stratum.ensures) in
     let o = second_open c.args.units.now c.args.values.now c.requires.pairing c.in-Some.first c.in-Some.second (sym c.in-Some.ensures) in
     (omega (arith, e, o.0), omega (arith, e, d, o.1)))
-
-pub pair_bound-requires-clause-narrow : goal.pair_bound-requires-clause-narrow
-pair_bound-requires-clause-narrow c =
-    subst (λ m. m ≤ 2 ^ 80) (sym c.stratum_common-den.ensures) (c.requires.pairing.narrow c.stratum.result)
 
 pub at-requires-in-None : goal.at-requires-in-None
 at-requires-in-None c =

@@ -21,10 +21,6 @@ stratum-requires c =
 pub at-requires : goal.at-requires
 at-requires c = front_inside c.args.values.now c.args.front.now c.requires.front (omega (arith, c.requires.front.short)) c.loop-place.place (omega arith)
 
-pub least_multiple-common-requires-clause-b : goal.least_multiple-common-requires-clause-b
-least_multiple-common-requires-clause-b c =
-    subst (λ (v : Value). 1 ≤ v.at.den) (sym c.at.ensures) (c.requires.pairing.values.each (get_or c.args.front.now.units c.loop-place.place 0)).positive
-
 pub least_multiple-common-requires-clause-within : goal.least_multiple-common-requires-clause-within
 least_multiple-common-requires-clause-within c =
     let m = c.loop-place.common in

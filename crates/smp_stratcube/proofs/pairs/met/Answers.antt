@@ -1,7 +1,7 @@
-use Rattle.std.proofs.Common.{arith, ◌≡◌, ◌≤◌, ◌<◌, ◌^◌, ℕ, get_or, sym, ap, ap₂, ◌∙◌, subst}
+use Rattle.std.proofs.Common.{arith, ◌≡◌, ◌≤◌, ◌<◌, ℕ, get_or, sym, ap, ap₂, ◌∙◌, subst}
 use Rattle.smp_values.specs.Pairs.{pair_at, pair_bound}
 use Rattle.smp_stratcube.specs.Units.{stratum}
-use Rattle.smp_stratcube.specs.Values.{IsValue, over_common, stratum_common}
+use Rattle.smp_stratcube.specs.Values.{over_common, stratum_common}
 use Rattle.smp_stratcube.specs.Kept.Pairs.{as_value, met_at}
 use Rattle.smp_stratcube.proofs.Written.{bound_is, first_inside, first_open, meet_some, numer_read, second_inside, second_open, stratum_in_front}
 use Rattle.smp_stratcube.proofs.pairs.met.Goals as goal
@@ -18,17 +18,9 @@ pub at-requires : goal.at-requires
 at-requires c =
     first_inside c.args.units.now c.args.values.now c.requires.pairing c.args.pair.0 c.args.pair.1 c.requires.pair
 
-pub over-a-requires : goal.over-a-requires
-over-a-requires c =
-    subst IsValue (sym c.at.ensures) (c.requires.pairing.values.each c.args.pair.0)
-
 pub at-requires-2 : goal.at-requires-2
 at-requires-2 c =
     second_inside c.args.units.now c.args.values.now c.requires.pairing c.args.pair.0 c.args.pair.1 c.requires.pair
-
-pub over-b-requires : goal.over-b-requires
-over-b-requires c =
-    subst IsValue (sym c.at-2.ensures) (c.requires.pairing.values.each c.args.pair.1)
 
 pub pair_apply-taken-requires-clause-a_in : goal.pair_apply-taken-requires-clause-a_in
 pair_apply-taken-requires-clause-a_in c =
@@ -43,10 +35,6 @@ pair_apply-taken-requires-clause-b_in c =
     let d : c.stratum_common-den.result ≡ stratum_common c.args.units.now c.args.values.now (stratum c.args.units.now c.args.pair.0) = (c.stratum_common-den.ensures ∙ ap (stratum_common c.args.units.now c.args.values.now) c.stratum.ensures) in
     let o = second_open c.args.units.now c.args.values.now c.requires.pairing c.args.pair.0 c.args.pair.1 c.requires.pair in
     (omega (arith, e, o.0), omega (arith, e, d, o.1)))
-
-pub pair_apply-taken-requires-clause-narrow : goal.pair_apply-taken-requires-clause-narrow
-pair_apply-taken-requires-clause-narrow c =
-    subst (λ m. m ≤ 2 ^ 80) (sym c.stratum_common-den.ensures) (c.requires.pairing.narrow c.stratum.result)
 
 pub pair_apply-taken-requires-clause-within : goal.pair_apply-taken-requires-clause-within
 pair_apply-taken-requires-clause-within c =

@@ -4,21 +4,9 @@ use Rattle.smp_stratcube.proofs.Pairing.{front_some, none_on, other_on, some_on}
 use Rattle.smp_stratcube.proofs.pairs.stratum_common.Goals as goal
 use Rattle.smp_stratcube.proofs.pairs.stratum_common.Goals.{else-front-len-via-then-front-len+else-stratum, else-front-len-via-else-front-len}
 
-pub stratum-requires : goal.stratum-requires
-stratum-requires c =
-    omega (arith, c.if-front-len.true, c.len.ensures)
-
-pub behind-requires : goal.behind-requires
-behind-requires c =
-    omega (arith, c.if-front-len.true, c.len.ensures)
-
 pub least_multiple-requires-clause-a : goal.least_multiple-requires-clause-a
 least_multiple-requires-clause-a c =
     subst (λ m. 1 ≤ m) (sym c.front_common-common.ensures) (front_some c.args.units.now c.args.values.now c.requires.pairing c.args.front.now c.requires.front (omega (arith, c.requires.front.short)) c.args.stratum)
-
-pub least_multiple-requires-clause-b : goal.least_multiple-requires-clause-b
-least_multiple-requires-clause-b c =
-    c.behind.ensures.some
 
 pub least_multiple-requires-clause-within : goal.least_multiple-requires-clause-within
 least_multiple-requires-clause-within c =

@@ -6,10 +6,6 @@ use Rattle.smp_stratcube.proofs.Ending.{inside, some_size}
 use Rattle.smp_stratcube.proofs.Written.{gone_is, turn_along}
 use Rattle.smp_stratcube.proofs.state.fly.Goals as goal
 
-pub go-requires-clause-along : goal.go-requires-clause-along
-go-requires-clause-along c =
-    (subst (λ n. IsAlong n c.args.values.now.items c.args.mv.now.line c.args.mv.now.den c.args.mv.now.up) (sym c.requires.flying.values.count) c.requires.mv.up)
-
 pub go-requires-clause-inside : goal.go-requires-clause-inside
 go-requires-clause-inside c =
     inside (length c.args.values.now.items) c.args.values.now.items c.args.mv.now.line c.args.mv.now.den c.args.mv.now.up (subst (λ n. IsAlong n c.args.values.now.items c.args.mv.now.line c.args.mv.now.den c.args.mv.now.up) (sym c.requires.flying.values.count) c.requires.mv.up)
@@ -17,14 +13,6 @@ go-requires-clause-inside c =
 pub go-requires-clause-size : goal.go-requires-clause-size
 go-requires-clause-size c =
     some_size (length c.args.values.now.items) c.args.values.now.items c.args.mv.now.line c.args.mv.now.den c.args.mv.now.up (subst (λ n. IsAlong n c.args.values.now.items c.args.mv.now.line c.args.mv.now.den c.args.mv.now.up) (sym c.requires.flying.values.count) c.requires.mv.up)
-
-pub turned-requires-clause-padded : goal.turned-requires-clause-padded
-turned-requires-clause-padded c =
-    c.requires.mv.up.padded
-
-pub turned-requires-clause-small : goal.turned-requires-clause-small
-turned-requires-clause-small c =
-    c.requires.mv.up.small
 
 pub go-requires-else-plus-clause-along : goal.go-requires-else-plus-clause-along
 go-requires-else-plus-clause-along c =

@@ -26,7 +26,16 @@ invariant_of-self c =
       first = subst (λ (t : Tracked). AreFirst t.flight t.window) (sym c.look.ensures) c.drop_row.ensures.first;
     })
 
+pub look-requires-in-Move-clause-first : goal.look-requires-in-Move-clause-first
+look-requires-in-Move-clause-first c = c.fly.ensures.first (rw c.in-Flying.is at c.self.invariant).first (rw c.in-Move.is at c.step.ensures.allows).first
+
 pub invariant_of-self-in-Move : goal.invariant_of-self-in-Move
 invariant_of-self-in-Move c =
     let kept = rw c.in-Flying.is at c.self.invariant in
-    rw c.in-Flying.is (record { fits = kept.fits ∙ sym c.fly_and_look.ensures.units; few = omega (arith, kept.few, c.fly_and_look.ensures.units); first = c.fly_and_look.ensures.first })
+    let same = ap (λ (t : Tracked). length t.flight.values.numer) c.look-in-Move.ensures in
+    rw c.in-Flying.is
+    (record {
+      fits = kept.fits ∙ sym (same ∙ c.fly.ensures.units);
+      few = omega (arith, kept.few, same, c.fly.ensures.units);
+      first = subst (λ (t : Tracked). AreFirst t.flight t.window) (sym c.look-in-Move.ensures) (c.fly.ensures.first kept.first (rw c.in-Move.is at c.step.ensures.allows).first);
+    })

@@ -1,13 +1,13 @@
 use Rattle.std.proofs.Common.{refl}
 use Rattle.smp_flight.specs.States as flights
 use Rattle.smp_flight.specs.States.{IsFlight}
-use Rattle.smp_localcube.proofs.Starts.{first_ready, local_balances, local_starts, none_touched}
+use Rattle.smp_localcube.proofs.Starts.{first_ready, first_searched, local_balances, local_starts, none_touched}
 use Rattle.smp_localcube.proofs.design.LocalCube.start.Goals as goal
 
 pub invariant_of-result : goal.invariant_of-result
 invariant_of-result g c =
     let ok : IsFlight c.self.inside.shape (flights.started c.self.inside.shape) = rw (c.in_ok-start.ensures.is) at c.in_ok-start.ensures.flight in
-    rw (c.in_ok-start.ensures.is, c.in_ok-points_at.ensures, c.in_ok-ones.ensures, c.in_ok-with_room.ensures.numer, c.in_ok-with_room.ensures.den, c.as_slice.ensures.value) (record { ready = first_ready g.row.K c.self.inside.shape c.self.inside.coords.items c.self.inside.units c.self.invariant ok; looked = rw c.in_ok-new.ensures.ok tt })
+    rw (c.in_ok-start.ensures.is, c.in_ok-points_at.ensures, c.in_ok-ones.ensures, c.in_ok-with_room.ensures.numer, c.in_ok-with_room.ensures.den, c.as_slice.ensures.value) (record { ready = first_ready g.row.K c.self.inside.shape c.self.inside.coords.items c.self.inside.units c.self.invariant ok; searched = rw c.in_ok-new.ensures.ok (first_searched c.self.inside.shape c.self.inside.coords.items) })
 
 pub returns-clause-state : goal.returns-clause-state
 returns-clause-state g c = rw (c.in_ok-start.ensures.is, c.in_ok-points_at.ensures, c.as_slice.ensures.value, ← c.self.view_is, none_touched c.self.inside.shape) refl

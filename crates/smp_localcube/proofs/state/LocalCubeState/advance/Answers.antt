@@ -1,4 +1,4 @@
-use Rattle.std.proofs.Common.{◌≡◌, ◌<◌, ℕ, nat_lt, false, List, [], Some, None, IfSome, lit<, arith, sym, ap, ◌∙◌, subst}
+use Rattle.std.proofs.Common.{◌≡◌, ◌<◌, ℕ, nat_lt, false, List, [], Some, None, lit<, arith, sym, ap, ◌∙◌, subst}
 use Rattle.smp_values.specs.Values.{fractional_at, fractional_count, is_settled}
 use Rattle.smp_moves.specs.Cubes.{flying}
 use Rattle.smp_flight.specs.Answers.{move_of}
@@ -6,29 +6,24 @@ use Rattle.smp_moves.specs.Moves.{independent, move}
 use Rattle.smp_flight.proofs.ByOrder.{some_row}
 use Rattle.smp_flight.proofs.Nexts.{known}
 use Rattle.smp_localcube.specs.Laws.Splits.{order_whole}
-use Rattle.smp_localcube.proofs.Around.{carried_now}
+use Rattle.smp_localcube.proofs.Around.{carried_now, searched_by}
 use Rattle.smp_localcube.proofs.Moving.{flown_ready, flown_touched, head_found, may_touch}
 use Rattle.smp_localcube.proofs.Picked.{move_picked, move_within}
 use Rattle.smp_split.specs.Trees.{Part, picked, weight_sum}
 use Rattle.smp_split.proofs.Parts.{picked-equal}
 use Rattle.smp_localcube.specs.Local.{Local, choosing, head_of, order_around, parts_from, untouched}
-use Rattle.smp_localcube.specs.Kept.States.{IsLookedFor, step_around, touched_in, weights_of}
+use Rattle.smp_localcube.specs.Kept.States.{step_around, touched_in, weights_of}
 use Rattle.smp_localcube.proofs.Touch.{choice_bound, choice_parts, choice_total, none_head, none_touched}
 use Rattle.smp_localcube.proofs.Chosen.{found_is, found_open}
 use Rattle.smp_localcube.proofs.state.LocalCubeState.advance.Goals as goal
 
-pub next_step-next-requires : goal.next_step-next-requires
-next_step-next-requires g c =
-    let here = rw (← c.self.view_is, c.in-Flying.is) at c.requires.state in
-    let kept = rw c.in-Flying.is at c.self.invariant in
-    let looked : IfSome c.deref.result.now (IsLookedFor c.self.inside.flight c.self.inside.points.coords c.self.inside.chosen) = rw c.deref.ensures kept.looked in
-    (lit< tt, (here.state, (here.carried, (kept.ready.placed, (kept.ready.living, looked)))))
-
 pub find-unit-requires : goal.find-unit-requires
 find-unit-requires g c =
+    let here = rw (← c.self.view_is, c.in-Flying.is) at c.requires.state in
+    let searched = searched_by c.args.shape.now c.self.inside.flight c.self.inside.points.coords c.self.inside.chosen c.deref-next.result.now c.self.inside.found.value here.state c.deref-next.ensures (rw c.in-Flying.is at c.self.invariant).searched in
     let ready = (rw c.in-Flying.is at c.self.invariant).ready in
     let none : head_of (touched_in c.self.inside.flight) c.self.inside.chosen ≡ None =
-    none_head (step_around c.args.shape.now c.self.inside.points.coords c.self.inside.flight) (head_of (touched_in c.self.inside.flight) c.self.inside.chosen) c.in-None.ensures.is in
+    none_head (step_around c.args.shape.now c.self.inside.points.coords c.self.inside.flight) (head_of (touched_in c.self.inside.flight) c.self.inside.chosen) (rw c.in-None.is at searched.is) in
     let within = subst (λ (s : Local). c.args.draw < weight_sum (parts_from c.args.shape.now s s.at)) (sym c.self.view_is) c.requires.within in
     let below = rw c.in-Flying.is at within in
     let total = choice_bound c.args.shape.now c.self.inside.flight c.self.inside.left c.self.inside.room c.self.inside.points c.self.inside.weights c.self.inside.chosen ready none in
@@ -37,72 +32,59 @@ find-unit-requires g c =
 pub look-found-requires : goal.look-found-requires
 look-found-requires g c =
     let here = rw (← c.self.view_is, c.in-Flying.is) at c.requires.state in
+    let searched = searched_by c.args.shape.now c.self.inside.flight c.self.inside.points.coords c.self.inside.chosen c.deref-next.result.now c.self.inside.found.value here.state c.deref-next.ensures (rw c.in-Flying.is at c.self.invariant).searched in
     let ready = (rw c.in-Flying.is at c.self.invariant).ready in
     let none : head_of (touched_in c.self.inside.flight) c.self.inside.chosen ≡ None =
-    none_head (step_around c.args.shape.now c.self.inside.points.coords c.self.inside.flight) (head_of (touched_in c.self.inside.flight) c.self.inside.chosen) c.in-None.ensures.is in
+    none_head (step_around c.args.shape.now c.self.inside.points.coords c.self.inside.flight) (head_of (touched_in c.self.inside.flight) c.self.inside.chosen) (rw c.in-None.is at searched.is) in
     let bare : c.self.inside.weights ≡ weights_of (untouched c.self.inside.points.coords c.self.inside.flight.flight.values []).living =
     ready.weighed ∙ ap (λ alive. weights_of alive) (ready.living ∙ ap (λ (t : List ℕ). (untouched c.self.inside.points.coords c.self.inside.flight.flight.values t).living) (none_touched (touched_in c.self.inside.flight) c.self.inside.chosen none)) in
     let going = found_open c.self.inside.points.coords c.self.inside.flight.flight.values c.args.draw c.find-unit.result (rw bare at c.find-unit.ensures.place) (rw bare at c.find-unit.ensures.from) (rw bare at c.find-unit.ensures.passes) in
-    (lit< tt, (here.state, (carried_now c.self.inside.flight (Some c.find-unit.result) going, (ready.placed, ready.living))))
-
-pub invariant_of-self : goal.invariant_of-self
-invariant_of-self g c =
-    let ready = (rw c.in-Flying.is at c.self.invariant).ready in
-    rw c.in-Flying.is (record { ready = ready; looked = rw c.keep.ensures c.look-found.ensures.looked })
+    (lit< tt, record { flight = here.state; carried = carried_now c.self.inside.flight (Some c.find-unit.result) going; placed = ready.placed; living = ready.living })
 
 pub drop_row-requires-clause-some : goal.drop_row-requires-clause-some
 drop_row-requires-clause-some g c =
     let here = rw (← c.self.view_is, c.in-Flying.is) at c.requires.state in
+    let searched = searched_by c.args.shape.now c.self.inside.flight c.self.inside.points.coords c.self.inside.chosen c.deref-next.result.now c.self.inside.found.value here.state c.deref-next.ensures (rw c.in-Flying.is at c.self.invariant).searched in
     let going : is_settled c.self.inside.flight.flight.values ≡ false = rw (← c.self.view_is, c.in-Flying.is) at c.requires.going in
-    let e = rw (c.in-Some.is, c.in-Independent.is) at c.next_step-next.ensures.is in
+    let e = rw (c.in-Some.is, c.in-Independent.is) at searched.is in
     let found = head_found (step_around c.args.shape.now c.self.inside.points.coords c.self.inside.flight) (head_of (touched_in c.self.inside.flight) c.self.inside.chosen) independent e in
     let s : Local = record { coords = c.self.inside.points.coords; at = flying c.self.inside.flight.flight c.self.inside.left; touched = touched_in c.self.inside.flight; chosen = c.self.inside.chosen } in
     some_row c.args.shape.now c.self.inside.flight.flight c.self.inside.left (order_around c.self.inside.points.coords c.self.inside.flight.flight.values (touched_in c.self.inside.flight) found.head) here.state
     (order_whole s c.self.inside.flight.flight found.head here.carried found.is) found.gives going
 
-pub look-found-requires-in-Independent : goal.look-found-requires-in-Independent
-look-found-requires-in-Independent g c =
-    let here = rw (← c.self.view_is, c.in-Flying.is) at c.requires.state in
-    let ready = (rw c.in-Flying.is at c.self.invariant).ready in
-    (lit< tt, (c.drop_row.ensures.flight here.state, rw c.drop_row.ensures.is (here.carried, (ready.placed, ready.living))))
-
-pub invariant_of-self-in-Independent : goal.invariant_of-self-in-Independent
-invariant_of-self-in-Independent g c =
-    let ready = (rw c.in-Flying.is at c.self.invariant).ready in
-    rw c.in-Flying.is (record {
-      ready = rw c.drop_row.ensures.is (record { fits = ready.fits; few = ready.few; placed = ready.placed; living = ready.living; weighed = ready.weighed });
-      looked = rw c.keep-in-Independent.ensures c.look-found-in-Independent.ensures.looked;
-    })
-
 pub touch-requires : goal.touch-requires
 touch-requires g c =
     let here = rw (← c.self.view_is, c.in-Flying.is) at c.requires.state in
+    let searched = searched_by c.args.shape.now c.self.inside.flight c.self.inside.points.coords c.self.inside.chosen c.deref-next.result.now c.self.inside.found.value here.state c.deref-next.ensures (rw c.in-Flying.is at c.self.invariant).searched in
     let ready = (rw c.in-Flying.is at c.self.invariant).ready in
-    let allows = rw (c.in-Some.is, c.in-Move.is) at c.next_step-next.ensures.allows in
+    let allows = rw (c.in-Some.is, c.in-Move.is) at searched.allows in
     let knows = known c.args.shape.now c.self.inside.flight.flight allows.order here.state allows.is_order (move_of c.in-Move.mv) allows.is in
     (lit< tt, (knows.line, (allows.padded, (may_touch c.self.inside.flight c.self.inside.room c.self.inside.points c.self.inside.weights ready, ready.weighed))))
 
 pub look-found-requires-in-Move : goal.look-found-requires-in-Move
 look-found-requires-in-Move g c =
     let here = rw (← c.self.view_is, c.in-Flying.is) at c.requires.state in
+    let searched = searched_by c.args.shape.now c.self.inside.flight c.self.inside.points.coords c.self.inside.chosen c.deref-next.result.now c.self.inside.found.value here.state c.deref-next.ensures (rw c.in-Flying.is at c.self.invariant).searched in
     let ready = (rw c.in-Flying.is at c.self.invariant).ready in
-    let allows = rw (c.in-Some.is, c.in-Move.is) at c.next_step-next.ensures.allows in
+    let allows = rw (c.in-Some.is, c.in-Move.is) at searched.allows in
     let flown = flown_ready c.args.shape.now c.self.inside.flight c.fly.new.flight c.self.inside.left allows.order here.state allows.is_order (move_of c.in-Move.mv) allows.is (nat_lt c.args.draw c.in-Move.mv.plus_weight) c.fly.ensures.is c.fly.ensures.window c.self.inside.room c.self.inside.points c.touch.new.points c.self.inside.weights c.touch.new.weights ready c.touch.ensures.touched c.fly.ensures.units c.touch.ensures.weighed in
-    (lit< tt, (c.fly.ensures.flight, (carried_now c.fly.new.flight None tt, (flown.placed, flown.living))))
+    (lit< tt, record { flight = c.fly.ensures.flight; carried = carried_now c.fly.new.flight None tt; placed = flown.placed; living = flown.living })
 
 pub invariant_of-self-in-Move : goal.invariant_of-self-in-Move
 invariant_of-self-in-Move g c =
     let here = rw (← c.self.view_is, c.in-Flying.is) at c.requires.state in
+    let searched = searched_by c.args.shape.now c.self.inside.flight c.self.inside.points.coords c.self.inside.chosen c.deref-next.result.now c.self.inside.found.value here.state c.deref-next.ensures (rw c.in-Flying.is at c.self.invariant).searched in
     let ready = (rw c.in-Flying.is at c.self.invariant).ready in
-    let allows = rw (c.in-Some.is, c.in-Move.is) at c.next_step-next.ensures.allows in
+    let allows = rw (c.in-Some.is, c.in-Move.is) at searched.allows in
     let flown = flown_ready c.args.shape.now c.self.inside.flight c.fly.new.flight c.self.inside.left allows.order here.state allows.is_order (move_of c.in-Move.mv) allows.is (nat_lt c.args.draw c.in-Move.mv.plus_weight) c.fly.ensures.is c.fly.ensures.window c.self.inside.room c.self.inside.points c.touch.new.points c.self.inside.weights c.touch.new.weights ready c.touch.ensures.touched c.fly.ensures.units c.touch.ensures.weighed in
-    rw c.in-Flying.is (record { ready = flown; looked = rw c.keep-in-Move.ensures c.look-found-in-Move.ensures.looked })
+    rw c.in-Flying.is (record { ready = flown; searched = rw c.keep-in-Move.ensures c.look-found-in-Move.ensures })
 
 pub returns-in-Move : goal.returns-in-Move
 returns-in-Move g c =
     let here = rw (← c.self.view_is, c.in-Flying.is) at c.requires.state in
-    let allows = rw (c.in-Some.is, c.in-Move.is) at c.next_step-next.ensures.allows in
-    let e = rw (c.in-Some.is, c.in-Move.is) at c.next_step-next.ensures.is in
+    let searched = searched_by c.args.shape.now c.self.inside.flight c.self.inside.points.coords c.self.inside.chosen c.deref-next.result.now c.self.inside.found.value here.state c.deref-next.ensures (rw c.in-Flying.is at c.self.invariant).searched in
+    let allows = rw (c.in-Some.is, c.in-Move.is) at searched.allows in
+    let e = rw (c.in-Some.is, c.in-Move.is) at searched.is in
     let found = head_found (step_around c.args.shape.now c.self.inside.points.coords c.self.inside.flight) (head_of (touched_in c.self.inside.flight) c.self.inside.chosen) (move (move_of c.in-Move.mv)) e in
     let touched = flown_touched c.args.shape.now c.self.inside.flight c.fly.new.flight c.self.inside.left allows.order here.state allows.is_order (move_of c.in-Move.mv) allows.is (nat_lt c.args.draw c.in-Move.mv.plus_weight) c.fly.ensures.is c.fly.ensures.window in
     let within = subst (λ (s : Local). c.args.draw < weight_sum (parts_from c.args.shape.now s s.at)) (sym c.self.view_is) c.requires.within in
@@ -115,10 +97,12 @@ returns-in-Move g c =
 
 pub returns-in-None : goal.returns-in-None
 returns-in-None g c =
+    let here = rw (← c.self.view_is, c.in-Flying.is) at c.requires.state in
+    let searched = searched_by c.args.shape.now c.self.inside.flight c.self.inside.points.coords c.self.inside.chosen c.deref-next.result.now c.self.inside.found.value here.state c.deref-next.ensures (rw c.in-Flying.is at c.self.invariant).searched in
     let ready = (rw c.in-Flying.is at c.self.invariant).ready in
     let f = c.self.inside.flight in
     let none : head_of (touched_in c.self.inside.flight) c.self.inside.chosen ≡ None =
-    none_head (step_around c.args.shape.now c.self.inside.points.coords c.self.inside.flight) (head_of (touched_in c.self.inside.flight) c.self.inside.chosen) c.in-None.ensures.is in
+    none_head (step_around c.args.shape.now c.self.inside.points.coords c.self.inside.flight) (head_of (touched_in c.self.inside.flight) c.self.inside.chosen) (rw c.in-None.is at searched.is) in
     let bare : c.self.inside.weights ≡ weights_of (untouched c.self.inside.points.coords c.self.inside.flight.flight.values []).living =
     ready.weighed ∙ ap (λ alive. weights_of alive) (ready.living ∙ ap (λ (t : List ℕ). (untouched c.self.inside.points.coords c.self.inside.flight.flight.values t).living) (none_touched (touched_in c.self.inside.flight) c.self.inside.chosen none)) in
     let found = found_is c.self.inside.points.coords c.self.inside.flight.flight.values c.args.draw c.find-unit.result (rw bare at c.find-unit.ensures.place) (rw bare at c.find-unit.ensures.from) (rw bare at c.find-unit.ensures.passes) in

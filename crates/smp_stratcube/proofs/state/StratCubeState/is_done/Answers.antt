@@ -1,14 +1,8 @@
-use Rattle.std.proofs.Common.{nat_eq, List, sym, ap, ◌∙◌, subst}
+use Rattle.std.proofs.Common.{nat_eq, sym, ap, ◌∙◌}
 use Rattle.smp_moves.specs.Cubes.{values_in}
-use Rattle.smp_stratcube.specs.declared.values.Value.{Value}
 use Rattle.smp_stratcube.specs.Values.{fractional_count, is_settled}
-use Rattle.smp_stratcube.specs.Kept.Fronts.{IsFront}
 use Rattle.smp_stratcube.proofs.Keeping.{values_of}
 use Rattle.smp_stratcube.proofs.state.StratCubeState.is_done.Goals as goal
-
-pub fractional-requires : goal.fractional-requires
-fractional-requires c =
-    subst (λ (vs : List Value). IsFront vs c.self.inside.front) (sym c.as_slice.ensures.value) c.self.invariant.first
 
 pub returns : goal.returns
 returns c =
