@@ -17,7 +17,11 @@ use std::test::Fail;
 
 /// Whether a move has equal weights, goes 1/4 each way, and has the entries 1, -2 and 1 at the first three units.
 fn is_expected(mv: &Move) -> bool {
-    let quarter = Ratio { num: 1, den: 4 };
+    let quarter = End {
+        reach: Reach { left: 1, size: 2 },
+        full: 4,
+        common: 1,
+    };
     let mut units = [0; 17];
     units[1] = 1;
     units[2] = 2;

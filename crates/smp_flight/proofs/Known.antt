@@ -6,17 +6,17 @@ use Rattle.smp_flight.specs.States.{AreFirst, IsFlight, Tracked, Units}
 use Rattle.smp_moves.specs.Steps.{IsNext}
 use Rattle.smp_flight.specs.Moves.{setting_of}
 use Rattle.smp_flight.specs.Steps.{next}
-use Rattle.smp_flight.specs.Answers.{Allows, IsFirstMove, IsMoveOf, answer_of, IsPaddedIn}
+use Rattle.smp_flight.specs.Answers.{Allows, IsFirstMove, IsMoveOf, answer_of, IsKeptIn}
 use Rattle.smp_flight.specs.Kept.States.{IsFound}
 use Rattle.smp_flight.specs.declared.steps.Next.{Next as Answer}
 use Rattle.smp_flight.specs.declared.steps.Next.TheVariants as answers
 use Rattle.smp_flight.proofs.Nexts.{next_is, next_on_front}
 use Rattle.smp_flight.proofs.Searched.{allowed, allowed_first, front_searched}
 
-pub padded_of : (units : Units) (s : Tracked) (result : Answer) → Allows (IsMoveOf units s) units s result → IsPaddedIn result
-padded_of units s (answers.Move m) made = made.padded
-padded_of units s answers.Independent made = tt
-padded_of units s answers.Wide made = tt
+pub kept_of : (units : Units) (s : Tracked) (result : Answer) → Allows (IsMoveOf units s) units s result → IsKeptIn units.requested.den s.flight.values result
+kept_of units s (answers.Move m) made = made.kept
+kept_of units s answers.Independent made = tt
+kept_of units s answers.Wide made = tt
 
 module _ (units : Units) (s : Tracked) (is_flight : IsFlight units s.flight) (result : Answer) (found : IsFound s result) where
   pub found_next : answer_of result ≡ next units s.flight
@@ -28,4 +28,5 @@ module _ (units : Units) (s : Tracked) (is_flight : IsFlight units s.flight) (re
   pub found_allows : AreFirst s.flight s.window → Allows (IsFirstMove units s) units s result
   found_allows first =
       allowed_first s first units is_flight result found_next
-      (allowed units s (take (s.flight.rows + 1) (fractional_units s.flight.values)) (front_searched s first) result (found_next ∙ sym (next_on_front units s.flight (fractional_units s.flight.values))) found.padded)
+      (allowed units s (take (s.flight.rows + 1) (fractional_units s.flight.values)) (front_searched s first) result (found_next ∙ sym (next_on_front units s.flight (fractional_units s.flight.values)))
+      (subst (λ (u : Units). IsKeptIn u.requested.den s.flight.values result) is_flight.fixed_is found.kept))

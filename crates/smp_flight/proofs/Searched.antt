@@ -14,7 +14,7 @@ use Rattle.smp_flight.specs.Steps.{next_on, next}
 use Rattle.smp_flight.specs.Kept.Steps.{direction, next_along, next_of, next_by, sized}
 use Rattle.smp_moves.specs.Steps.{Finds}
 use Rattle.smp_flight.specs.Moves.{setting_of}
-use Rattle.smp_flight.specs.Answers.{Allows, AreSearched, IsFirstMove, IsMoveOf, answer_of, move_of, IsPaddedIn}
+use Rattle.smp_flight.specs.Answers.{Allows, AreSearched, IsFirstMove, IsMoveOf, answer_of, move_of, IsKeptIn}
 use Rattle.smp_flight.specs.declared.steps.Next.{Next as Answer}
 use Rattle.smp_flight.specs.declared.steps.Next.TheVariants as answers
 use Rattle.smp_moves.proofs.Entries.{frame_order, order_front}
@@ -67,10 +67,10 @@ module _ (units : Units) (s : Flight) (is_flight : IsFlight units s) (us : List 
 
 -- what an answer of a search through some fractional units allows
 module _ (units : Units) (s : Tracked) (order : List ℕ) (a : AreSearched s order) where
-  pub allowed : (result : Answer) → answer_of result ≡ next_on units order s.flight → IsPaddedIn result → Allows (IsMoveOf units s) units s result
-  allowed (answers.Move m) e padded = record { order = order; is_order = a.is_order; is = sym e; padded = padded; few = omega (arith, a.enough); window = a.window }
-  allowed answers.Independent e padded = independent_in_frame units s.flight.values s.flight.rows order a.is_order a.enough (independent_columns units s.flight order (sym e))
-  allowed answers.Wide e padded = tt
+  pub allowed : (result : Answer) → answer_of result ≡ next_on units order s.flight → IsKeptIn units.requested.den s.flight.values result → Allows (IsMoveOf units s) units s result
+  allowed (answers.Move m) e kept = record { order = order; is_order = a.is_order; is = sym e; kept = kept; few = omega (arith, a.enough); window = a.window }
+  allowed answers.Independent e kept = independent_in_frame units s.flight.values s.flight.rows order a.is_order a.enough (independent_columns units s.flight order (sym e))
+  allowed answers.Wide e kept = tt
 
 -- and of one through the first fractional units
 module _ (s : Tracked) (first : AreFirst s.flight s.window) where

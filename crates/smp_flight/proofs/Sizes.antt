@@ -1,24 +1,27 @@
 -- The numbers of a move that fits its gates.
-use Rattle.std.proofs.Common.{◌≡◌, ℕ, ◌+◌, ◌*◌, ◌/◌, ◌<◌, ◌^◌, List, sym, ap, ap₂, ◌∙◌, subst}
+use Rattle.std.proofs.Common.{◌≡◌, ℕ, ◌+◌, ◌*◌, ◌/◌, ◌<◌, ◌^◌, Bool, true, false, List, sym, ap, ap₂, ◌∙◌, subst}
 use Rattle.smp_kernel.specs.Vectors.{Within}
 use Rattle.smp_prob.specs.Shares.{Shares}
 use Rattle.smp_flight.specs.States.{Units, Flight, IsFlight}
-use Rattle.smp_moves.specs.Moves.{Line, Move, IsOrder, IsLine, move}
+use Rattle.smp_moves.specs.Moves.{Line, Move, IsOrder, IsLine, chosen_line, move, turned}
 use Rattle.smp_moves.specs.declared.reaches.Reach.{Reach}
 use Rattle.smp_flight.specs.declared.ends.End.{End}
+use Rattle.smp_flight.specs.declared.steps.Move.{Move as MoveOfPlaces}
+use Rattle.smp_moves.specs.Answers.{line_of}
+use Rattle.smp_flight.specs.Answers.{HasEnds, move_of}
 use Rattle.smp_moves.specs.Ends.{reach, advanced_numbers, common_factor}
 use Rattle.smp_flight.specs.Steps.{next_on}
 use Rattle.smp_flight.specs.Statements.{EachEnds, GoesBothWays}
 use Rattle.smp_moves.specs.Steps.{IsFlown}
 use Rattle.smp_flight.specs.Moves.{setting_of}
 use Rattle.smp_moves.specs.Kept.Ends.{IsOver}
-use Rattle.smp_flight.specs.Kept.Ends.{IsEndOf}
+use Rattle.smp_flight.specs.Kept.Ends.{IsEndOf, chosen_end}
 use Rattle.smp_moves.proofs.LineEnds.{reached, full_positive, common_some}
 use Rattle.smp_flight.proofs.Nexts.{known, next_is}
 use Rattle.smp_flight.specs.Laws.Nexts.{flight_over}
 use Rattle.smp_flight.proofs.Moved.{chosen_there}
 use Rattle.smp_flight.proofs.OneMove.{one_next, goes_both_ways}
-use Rattle.smp_moves.proofs.Sizes.{can_advance, reach_small, weights_small}
+use Rattle.smp_moves.proofs.Sizes.{can_advance, reach_small, turned_within, weights_small}
 
 module _ (first : ℕ) (s : Shares) (is_over : IsOver first s) (line : Line) (ok : IsLine s line) (w : Within (2 ^ 44) line.entries) where
   -- ---- the end that the code finds
@@ -41,6 +44,11 @@ module _ (first : ℕ) (s : Shares) (is_over : IsOver first s) (line : Line) (ok
         some_full = rw full (full_positive first s is_over line ok);
         some_common = rw common (common_some first s is_over line ok);
       }
+
+-- the end of a move that is chosen
+pub chosen_found : (first : ℕ) (s : Shares) → IsOver first s → (m : MoveOfPlaces) (plus : Bool) → IsLine s (chosen_line (move_of m) plus) → Within (2 ^ 44) (line_of m.direction).entries → HasEnds first s m → IsEndOf first s (chosen_line (move_of m) plus) (chosen_end m plus)
+chosen_found first s is_over m true ok w ends = end_found first s is_over (line_of m.direction) ok w m.up ends.up.reach_is ends.up.full_is ends.up.common_is
+chosen_found first s is_over m false ok w ends = end_found first s is_over (turned (line_of m.direction)) ok (turned_within (line_of m.direction) w) m.down ends.down.reach_is ends.down.full_is ends.down.common_is
 
 pub flown_both_ways : (units : Units) (s : Flight) (order : List ℕ) → IsFlight units s → IsOrder s.values order → (m : Move) → IsFlown (setting_of units) s order m → GoesBothWays m
 flown_both_ways units s order is_flight ok m f =

@@ -25,7 +25,8 @@ pub(crate) enum Phase {
 
 /// A state of a selection by the cube.
 ///
-/// The room for the values of the pivotal steps is there from the start, so no step takes memory.
+/// The room for the values of the pivotal steps is there from the start, and the tables of a search take memory where there is some: no
+/// step fails for want of it.
 #[derive(Drop)]
 pub struct CubeState {
     pub(crate) flight: FlightState,

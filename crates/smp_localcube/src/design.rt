@@ -17,6 +17,7 @@ use crate::state::{LocalCubeState, Phase};
 use smp_flight::{Shape, is_narrow, start};
 use smp_frac::NoMemory;
 use smp_frame::Numbers;
+use smp_kernel::Tables;
 use smp_near::Points;
 use smp_places::Amounts;
 use smp_prob::Request;
@@ -96,6 +97,7 @@ impl<const K: usize> LocalCube<K> {
             weights: Amounts::ones(alloc, self.units)?,
             chosen: None,
             found: Box::new(alloc, None)?,
+            tables: Tables::new(alloc, self.shape.rows()),
         })
     }
 

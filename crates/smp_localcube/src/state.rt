@@ -14,7 +14,8 @@ ghost use Rattle.smp_localcube.specs.Kept.States.{AreTouched, IsKept, IsSearchab
 ghost use Rattle.smp_localcube.specs.Kept.States.{state_of, step_around, touched_in, weights_of};
 
 use crate::orders::{Order, is_among, rising};
-use smp_flight::{FlightState, Line, Next, Shape, fill, fly, landed, step_on};
+use smp_flight::{FlightState, Line, Next, Shape, fill, fly, landed, look_by};
+use smp_kernel::Tables;
 use smp_near::Points;
 use smp_places::Amounts;
 use smp_split::Kind;
@@ -35,7 +36,7 @@ pub(crate) enum Phase {
 ///
 /// Its window has the units that moves have changed and left fractional. The points of the units that no move has changed are living,
 /// and these have the weight 1: so a unit is chosen, and a changed one taken out, along one path of a tree. The room for the values of
-/// the pivotal steps is there from the start, so no step takes memory.
+/// the pivotal steps is there from the start, and the tables of a search take memory where there is some: no step fails for want of it.
 #[derive(Drop)]
 pub struct LocalCubeState<const K: usize> {
     pub(crate) flight: FlightState,
@@ -48,6 +49,8 @@ pub struct LocalCubeState<const K: usize> {
     pub(crate) chosen: Option<usize>,
     /// The next step of the flight, none where a unit is to be chosen first: in a box, since it takes more bytes than all else here.
     pub(crate) found: Box<Option<Next>>,
+    /// The tables of the search before, for the next one.
+    pub(crate) tables: Tables,
 }
 
 impl<const K: usize> Model for LocalCubeState<K> {
@@ -66,6 +69,7 @@ fn step_from<const K: usize>(
     points: &Points<K>,
     touched: &Order,
     head: usize,
+    tables: &mut Tables,
 ) -> Next
     requires flight { IsFlight shape.now flight.now.flight }
     requires touched { order_units touched.now ≡ touched_in flight.now }
@@ -81,7 +85,7 @@ fn step_from<const K: usize>(
 {
     let most = flight.rows() + 1;
     let order = touched.front(head).with_neighbours(points, head, most);
-    step_on(shape, flight, &order.units, order.number)
+    look_by(shape, flight, &order.units, order.number, tables)
 }
 
 /// The next step of a flight, searched for; none where a unit is to be chosen first.
@@ -90,6 +94,7 @@ fn look<const K: usize>(
     flight: &FlightState,
     points: &Points<K>,
     chosen: Option<usize>,
+    tables: &mut Tables,
 ) -> Option<Next>
     requires { IsSearchable shape.now flight.now points.now chosen }
     ensures { IsSearched flight.now.flight.fixed flight.now points.now.coords chosen result }
@@ -97,7 +102,7 @@ fn look<const K: usize>(
     let touched = rising(flight.window(), flight.units());
     match touched.head(chosen) {
         None => None,
-        Some(head) => Some(step_from(shape, flight, points, &touched, head)),
+        Some(head) => Some(step_from(shape, flight, points, &touched, head, tables)),
     }
 }
 
@@ -211,15 +216,17 @@ impl<const K: usize> LocalCubeState<K> {
                     None => {
                         let unit = self.weights.find(draw);
                         self.chosen = Some(unit);
-                        let found = look(shape, &self.flight, &self.points, Some(unit));
-                        keep(&mut self.found, found);
+                        let tables = &mut self.tables;
+                        let next = look(shape, &self.flight, &self.points, Some(unit), tables);
+                        keep(&mut self.found, next);
                     }
                     Some(next) => match next {
                         Next::Independent => {
                             self.left = landed(&self.flight, self.left);
                             self.flight.drop_row(shape);
-                            let found = look(shape, &self.flight, &self.points, self.chosen);
-                            keep(&mut self.found, found);
+                            let tables = &mut self.tables;
+                            let next = look(shape, &self.flight, &self.points, self.chosen, tables);
+                            keep(&mut self.found, next);
                         }
                         Next::Wide => {
                             self.left = landed(&self.flight, self.left);
@@ -233,8 +240,9 @@ impl<const K: usize> LocalCubeState<K> {
                             touch(&mut self.points, &mut self.weights, &self.flight, line);
                             fly::<Brand>(shape, &mut self.flight, &mv, plus, Blank::new(1));
                             self.chosen = None;
-                            let found = look(shape, &self.flight, &self.points, None);
-                            keep(&mut self.found, found);
+                            let tables = &mut self.tables;
+                            let next = look(shape, &self.flight, &self.points, None, tables);
+                            keep(&mut self.found, next);
                         }
                     },
                 }

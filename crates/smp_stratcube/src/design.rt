@@ -19,6 +19,7 @@ use crate::steps::step;
 use crate::units::Units;
 use crate::values::Value;
 use smp_frac::NoMemory;
+use smp_kernel::Tables;
 use smp_split::{Kind, Splitting};
 use std::alloc::Global;
 use std::marker::Model;
@@ -84,6 +85,7 @@ impl StratCube {
             front,
             phase: Phase::Flying,
             left: 0,
+            tables: Tables::new(alloc, all),
             found: Box::new(alloc, next)?,
             of: Snapshot::of(&self.units),
         })

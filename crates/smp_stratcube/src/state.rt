@@ -15,9 +15,10 @@ ghost use Rattle.smp_stratcube.specs.Kept.States.{IsKept, balancing_of};
 use crate::ends::go;
 use crate::fronts::{Front, front_of};
 use crate::pairs::{advance, bound, kind};
-use crate::steps::{Move, Next, step};
+use crate::steps::{Move, Next, step_kept};
 use crate::units::Units;
 use crate::values::Value;
+use smp_kernel::Tables;
 use smp_split::Kind;
 use std::marker::Model;
 use std::snapshot::Snapshot;
@@ -39,6 +40,8 @@ pub struct StratCubeState {
     pub(crate) front: Front,
     pub(crate) phase: Phase,
     pub(crate) left: u32,
+    /// The tables of the search before, for the next one.
+    pub(crate) tables: Tables,
     /// The next step of the flight, as long as it goes on: in a box, since it takes more bytes than all else here.
     pub(crate) found: Box<Next>,
     /// The units that it is a state of, for contracts alone: it takes no bytes.
@@ -158,7 +161,14 @@ impl StratCubeState {
                         let values = self.values.as_slice();
                         self.left = landed(values, &self.front, self.left);
                         self.rows -= 1;
-                        keep(&mut self.found, step(units, values, self.rows, &self.front));
+                        let next = step_kept(
+                            units,
+                            values,
+                            self.rows,
+                            &self.front,
+                            &mut self.tables,
+                        );
+                        keep(&mut self.found, next);
                     }
                     Next::Wide => {
                         self.left = landed(self.values.as_slice(), &self.front, self.left);
@@ -169,7 +179,14 @@ impl StratCubeState {
                         fly(units, &mut self.values, self.rows, &mv, plus);
                         let values = self.values.as_slice();
                         self.front = front_of(&self.front, values);
-                        keep(&mut self.found, step(units, values, self.rows, &self.front));
+                        let next = step_kept(
+                            units,
+                            values,
+                            self.rows,
+                            &self.front,
+                            &mut self.tables,
+                        );
+                        keep(&mut self.found, next);
                     }
                 }
             }

@@ -1,19 +1,22 @@
 //! One step of the flight.
 
-ghost use Rattle.std.specs.Prelude.{◌≡◌, ◌≤◌, length};
-ghost use Rattle.smp_moves.specs.Answers.{line_of};
-ghost use Rattle.smp_stratcube.specs.States.{Flight, IsFlying};
+ghost use Rattle.std.specs.Prelude.{take};
+ghost use Rattle.smp_kernel.specs.Elimination.{cut};
+ghost use Rattle.smp_kernel.specs.Searches.{IsSearch};
+ghost use Rattle.smp_kernel.specs.Searched.{answer, ArePadded};
+ghost use Rattle.smp_stratcube.specs.Units.{columns_of};
+ghost use Rattle.smp_stratcube.specs.States.{IsFlying};
 ghost use Rattle.smp_stratcube.specs.Kept.Fronts.{IsFront};
-ghost use Rattle.smp_stratcube.specs.Kept.Moves.{AreMoved, IsMoveOf, IsStep};
+ghost use Rattle.smp_stratcube.specs.Kept.Moves.{IsStep};
 ghost use Rattle.smp_stratcube.specs.Kept.Computed.{flight_of};
 ghost use Rattle.smp_stratcube.specs.Kept.Steps.{HasDirection};
 
 use crate::directions::{columns_of, direction};
-use crate::ends::{denominator, end_fits, go, reach_along};
+use crate::ends::{denominator, end_fits, reach_along};
 use crate::fronts::Front;
 use crate::units::Units;
 use crate::values::Value;
-use smp_kernel::{Searched, search};
+use smp_kernel::{Searched, Tables, search};
 use smp_moves::{Line, Reach, lowest};
 
 /// A move along a line: the common denominator of the values of its units, how far the line is followed and how far its opposite, and
@@ -77,7 +80,48 @@ pub(crate) fn step(units: &Units, values: &[Value], rows: usize, front: &Front) 
     ensures { IsStep units.now (flight_of units.now values.now rows) result }
 {
     let columns = columns_of(units, front);
-    match search(&columns[..front.number], rows) {
+    step_found(
+        units,
+        values,
+        rows,
+        front,
+        search(&columns[..front.number], rows),
+    )
+}
+
+/// The same step, searched for by the tables of the search before.
+pub(crate) fn step_kept(
+    units: &Units,
+    values: &[Value],
+    rows: usize,
+    front: &Front,
+    tables: &mut Tables,
+) -> Next
+    requires flying { IsFlying units.now (flight_of units.now values.now rows) }
+    requires front { IsFront values.now front.now }
+    ensures { IsStep units.now (flight_of units.now values.now rows) result }
+{
+    let columns = columns_of(units, front);
+    let searched = tables.search(&columns[..front.number], rows);
+    step_found(units, values, rows, front, searched)
+}
+
+/// The step of these values, whose search finds this.
+fn step_found(
+    units: &Units,
+    values: &[Value],
+    rows: usize,
+    front: &Front,
+    searched: Searched,
+) -> Next
+    requires flying { IsFlying units.now (flight_of units.now values.now rows) }
+    requires front { IsFront values.now front.now }
+    requires is { let columns = columns_of units.now (take front.now.number front.now.units) in
+        IsSearch rows (cut rows columns) (answer searched) }
+    requires padded { ArePadded rows searched }
+    ensures { IsStep units.now (flight_of units.now values.now rows) result }
+{
+    match searched {
         Searched::Independent => Next::Independent,
         Searched::TooWide => Next::Wide,
         Searched::Found(factors) => match direction(units, front, &factors) {

@@ -1,10 +1,11 @@
 -- What the code keeps of the end of a line.
-use Rattle.std.specs.Prelude.{◌≡◌, ℕ, ◌*◌, ◌/◌, ◌≤◌}
+use Rattle.std.specs.Prelude.{◌≡◌, ℕ, ◌*◌, ◌/◌, ◌≤◌, Bool, cond}
 use Rattle.smp_fractions.specs.Limits.{most_entry, most_denominator}
 use Rattle.smp_prob.specs.Shares.{Shares}
 use Rattle.smp_moves.specs.Moves.{Line}
 use Rattle.smp_moves.specs.Ends.{reach, advanced_numbers, common_factor}
 use Rattle.smp_flight.specs.declared.ends.End.{End}
+use Rattle.smp_flight.specs.declared.steps.Move.{Move as MoveOfPlaces}
 use Rattle.smp_moves.specs.Kept.Ends.{CanAdvance}
 
 -- the reach of a line, the denominator times its size, and what that and the numerators have in common
@@ -19,3 +20,7 @@ pub record IsEndOf (first : ℕ) (s : Shares) (line : Line) (end : End) : Type 0
   pub size : end.reach.size ≤ most_entry
   pub some_full : 1 ≤ end.full
   pub some_common : 1 ≤ end.common
+
+-- the end of a move that is chosen
+abbrev pub chosen_end : MoveOfPlaces → Bool → End
+chosen_end m plus = cond plus m.up m.down

@@ -2,8 +2,8 @@ use Rattle.std.proofs.Common.{◌≡◌, ℕ, ◌+◌, List, min, take, sym, ap,
 use Rattle.smp_values.specs.Values.{fractional_units}
 use Rattle.smp_flight.specs.States.{Tracked, Units}
 use Rattle.smp_flight.specs.Steps.{next, next_on}
-use Rattle.smp_flight.specs.Answers.{AreSearched}
-use Rattle.smp_flight.proofs.Known.{padded_of}
+use Rattle.smp_flight.specs.Answers.{AreSearched, IsKeptIn}
+use Rattle.smp_flight.proofs.Known.{kept_of}
 use Rattle.smp_flight.proofs.Nexts.{next_on_front}
 use Rattle.smp_flight.proofs.Searched.{front_searched}
 use Rattle.smp_flight.proofs.steps.find.Goals as goal
@@ -26,5 +26,5 @@ returns c =
       is =
           c.step_on.ensures.is ∙ ap (λ (order : List ℕ). next_on c.args.shape.now order f) first
           ∙ next_on_front c.args.shape.now f (fractional_units f.values) ∙ ap (λ (u : Units). next u f) (sym c.requires.flight.fixed_is);
-      padded = padded_of c.args.shape.now c.args.state.now c.step_on.result c.step_on.ensures.allows;
+      kept = subst (λ (u : Units). IsKeptIn u.requested.den f.values c.step_on.result) (sym c.requires.flight.fixed_is) (kept_of c.args.shape.now c.args.state.now c.step_on.result c.step_on.ensures.allows);
     }

@@ -29,8 +29,8 @@ find-unit-requires g c =
     let total = choice_bound c.args.shape.now c.self.inside.flight c.self.inside.left c.self.inside.room c.self.inside.points c.self.inside.weights c.self.inside.chosen ready none in
     omega (arith, below, total)
 
-pub look-found-requires : goal.look-found-requires
-look-found-requires g c =
+pub look-next-requires : goal.look-next-requires
+look-next-requires g c =
     let here = rw (← c.self.view_is, c.in-Flying.is) at c.requires.state in
     let searched = searched_by c.args.shape.now c.self.inside.flight c.self.inside.points.coords c.self.inside.chosen c.deref-next.result.now c.self.inside.found.value here.state c.deref-next.ensures (rw c.in-Flying.is at c.self.invariant).searched in
     let ready = (rw c.in-Flying.is at c.self.invariant).ready in
@@ -40,6 +40,11 @@ look-found-requires g c =
     ready.weighed ∙ ap (λ alive. weights_of alive) (ready.living ∙ ap (λ (t : List ℕ). (untouched c.self.inside.points.coords c.self.inside.flight.flight.values t).living) (none_touched (touched_in c.self.inside.flight) c.self.inside.chosen none)) in
     let going = found_open c.self.inside.points.coords c.self.inside.flight.flight.values c.args.draw c.find-unit.result (rw bare at c.find-unit.ensures.place) (rw bare at c.find-unit.ensures.from) (rw bare at c.find-unit.ensures.passes) in
     (lit< tt, record { flight = here.state; carried = carried_now c.self.inside.flight (Some c.find-unit.result) going; placed = ready.placed; living = ready.living })
+
+pub invariant_of-self : goal.invariant_of-self
+invariant_of-self g c =
+    let ready = (rw c.in-Flying.is at c.self.invariant).ready in
+    rw c.in-Flying.is (record { ready = ready; searched = rw c.keep.ensures c.look-next.ensures })
 
 pub drop_row-requires-clause-some : goal.drop_row-requires-clause-some
 drop_row-requires-clause-some g c =
@@ -52,6 +57,20 @@ drop_row-requires-clause-some g c =
     some_row c.args.shape.now c.self.inside.flight.flight c.self.inside.left (order_around c.self.inside.points.coords c.self.inside.flight.flight.values (touched_in c.self.inside.flight) found.head) here.state
     (order_whole s c.self.inside.flight.flight found.head here.carried found.is) found.gives going
 
+pub look-next-requires-in-Independent : goal.look-next-requires-in-Independent
+look-next-requires-in-Independent g c =
+    let here = rw (← c.self.view_is, c.in-Flying.is) at c.requires.state in
+    let ready = (rw c.in-Flying.is at c.self.invariant).ready in
+    (lit< tt, rw c.drop_row.ensures.is (record { flight = rw c.drop_row.ensures.is at (c.drop_row.ensures.flight here.state); carried = here.carried; placed = ready.placed; living = ready.living }))
+
+pub invariant_of-self-in-Independent : goal.invariant_of-self-in-Independent
+invariant_of-self-in-Independent g c =
+    let ready = (rw c.in-Flying.is at c.self.invariant).ready in
+    rw c.in-Flying.is (record {
+      ready = rw c.drop_row.ensures.is (record { fits = ready.fits; few = ready.few; placed = ready.placed; living = ready.living; weighed = ready.weighed });
+      searched = rw c.keep-in-Independent.ensures c.look-next-in-Independent.ensures;
+    })
+
 pub touch-requires : goal.touch-requires
 touch-requires g c =
     let here = rw (← c.self.view_is, c.in-Flying.is) at c.requires.state in
@@ -59,10 +78,10 @@ touch-requires g c =
     let ready = (rw c.in-Flying.is at c.self.invariant).ready in
     let allows = rw (c.in-Some.is, c.in-Move.is) at searched.allows in
     let knows = known c.args.shape.now c.self.inside.flight.flight allows.order here.state allows.is_order (move_of c.in-Move.mv) allows.is in
-    (lit< tt, (knows.line, (allows.padded, (may_touch c.self.inside.flight c.self.inside.room c.self.inside.points c.self.inside.weights ready, ready.weighed))))
+    (lit< tt, (knows.line, (allows.kept.padded, (may_touch c.self.inside.flight c.self.inside.room c.self.inside.points c.self.inside.weights ready, ready.weighed))))
 
-pub look-found-requires-in-Move : goal.look-found-requires-in-Move
-look-found-requires-in-Move g c =
+pub look-next-requires-in-Move : goal.look-next-requires-in-Move
+look-next-requires-in-Move g c =
     let here = rw (← c.self.view_is, c.in-Flying.is) at c.requires.state in
     let searched = searched_by c.args.shape.now c.self.inside.flight c.self.inside.points.coords c.self.inside.chosen c.deref-next.result.now c.self.inside.found.value here.state c.deref-next.ensures (rw c.in-Flying.is at c.self.invariant).searched in
     let ready = (rw c.in-Flying.is at c.self.invariant).ready in
@@ -77,7 +96,7 @@ invariant_of-self-in-Move g c =
     let ready = (rw c.in-Flying.is at c.self.invariant).ready in
     let allows = rw (c.in-Some.is, c.in-Move.is) at searched.allows in
     let flown = flown_ready c.args.shape.now c.self.inside.flight c.fly.new.flight c.self.inside.left allows.order here.state allows.is_order (move_of c.in-Move.mv) allows.is (nat_lt c.args.draw c.in-Move.mv.plus_weight) c.fly.ensures.is c.fly.ensures.window c.self.inside.room c.self.inside.points c.touch.new.points c.self.inside.weights c.touch.new.weights ready c.touch.ensures.touched c.fly.ensures.units c.touch.ensures.weighed in
-    rw c.in-Flying.is (record { ready = flown; searched = rw c.keep-in-Move.ensures c.look-found-in-Move.ensures })
+    rw c.in-Flying.is (record { ready = flown; searched = rw c.keep-in-Move.ensures c.look-next-in-Move.ensures })
 
 pub returns-in-Move : goal.returns-in-Move
 returns-in-Move g c =

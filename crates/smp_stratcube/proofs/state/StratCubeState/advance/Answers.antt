@@ -1,4 +1,4 @@
-use Rattle.std.proofs.Common.{arith, ◌≡◌, ◌-◌, ◌<◌, nat_lt, false, List, length, sym, ap, ◌∙◌, subst}
+use Rattle.std.proofs.Common.{arith, ◌≡◌, ◌+◌, ◌-◌, ◌≤◌, ◌<◌, nat_lt, false, List, length, sym, ap, ◌∙◌, subst}
 use Rattle.smp_split.specs.Trees.{weight_sum}
 use Rattle.smp_moves.specs.Answers.{line_of}
 use Rattle.smp_moves.specs.Cubes.{flying, landed, pairing}
@@ -11,10 +11,18 @@ use Rattle.smp_stratcube.specs.Kept.Fronts.{IsAhead, IsFront}
 use Rattle.smp_stratcube.specs.Laws.Splits.{dropped_flight, some_row}
 use Rattle.smp_stratcube.specs.Units.{Units}
 use Rattle.smp_stratcube.specs.Kept.Moves.{IsMoveOf}
-use Rattle.smp_stratcube.proofs.Keeping.{move_ahead, move_count, move_flight, own_flight, pair_ahead, pair_behind, pair_sum, picks_drop, picks_move, picks_pair, step_by, step_there}
+use Rattle.smp_stratcube.proofs.Keeping.{move_ahead, move_count, move_flight, own_flight, pair_ahead, pair_behind, pair_sum, picks_drop, picks_move, picks_pair, picks_wide, step_by, step_there}
 use Rattle.smp_stratcube.proofs.state.StratCubeState.advance.Goals as goal
 use Rattle.smp_moves.specs.Kept.Computed.{next_along}
 use Rattle.smp_stratcube.specs.Moves.{setting_of}
+
+pub landed-self-inside-requires-clause-few : goal.landed-self-inside-requires-clause-few
+landed-self-inside-requires-clause-few c =
+    subst (λ (vs : List Value). length vs ≤ 3000000) (sym c.as_slice-values.ensures.value) c.self.invariant.few
+
+pub landed-self-inside-requires-clause-front : goal.landed-self-inside-requires-clause-front
+landed-self-inside-requires-clause-front c =
+    subst (λ (vs : List Value). IsFront vs c.self.inside.front) (sym c.as_slice-values.ensures.value) c.self.invariant.first
 
 pub overflow_sub-self : goal.overflow_sub-self
 overflow_sub-self c =
@@ -23,10 +31,13 @@ overflow_sub-self c =
     let going : is_settled c.self.inside.values.items ≡ false = (rw (← c.self.view_is, c.in-Flying.is) at c.requires.going) in
     some_row c.args.units.now (flight_of c.self.inside.of.value c.self.inside.values.items c.self.inside.rows) ok (rw c.in-Independent.is at step) going
 
-pub step-requires-clause-flying : goal.step-requires-clause-flying
-step-requires-clause-flying c =
+pub step_kept-next-requires-clause-flying : goal.step_kept-next-requires-clause-flying
+step_kept-next-requires-clause-flying c =
     let ok : IsFlying c.args.units.now (flight_of c.self.inside.of.value c.self.inside.values.items c.self.inside.rows) = rw (← c.self.view_is, c.in-Flying.is) at c.requires.state in
     subst (λ (vs : List Value). IsFlying c.args.units.now (flight_of c.args.units.now vs (c.self.inside.rows - 1))) (sym c.as_slice-values.ensures.value) (own_flight c.args.units.now c.self.inside.of.value c.self.inside.values.items (c.self.inside.rows - 1) (dropped_flight c.args.units.now (flight_of c.self.inside.of.value c.self.inside.values.items c.self.inside.rows) ok))
+
+pub step_kept-next-requires-clause-front : goal.step_kept-next-requires-clause-front
+step_kept-next-requires-clause-front c = subst (λ (vs : List Value). IsFront vs c.self.inside.front) (sym c.as_slice-values.ensures.value) c.self.invariant.first
 
 pub invariant_of-self : goal.invariant_of-self
 invariant_of-self c =
@@ -34,8 +45,25 @@ invariant_of-self c =
     record {
       few = c.self.invariant.few;
       first = c.self.invariant.first;
-      step = rw (c.in-Flying.is, c.keep.ensures) (step_there c.args.units.now c.self.inside.of.value c.self.inside.values.items c.as_slice-values.result.now (c.self.inside.rows - 1) c.step.result (sym ok.fixed_is) c.as_slice-values.ensures.value c.step.ensures);
+      step = rw (c.in-Flying.is, c.keep.ensures) (step_there c.args.units.now c.self.inside.of.value c.self.inside.values.items c.as_slice-values.result.now (c.self.inside.rows - 1) c.step_kept-next.result (sym ok.fixed_is) c.as_slice-values.ensures.value c.step_kept-next.ensures);
     }
+
+pub landed-self-inside-requires-in-Wide-clause-few : goal.landed-self-inside-requires-in-Wide-clause-few
+landed-self-inside-requires-in-Wide-clause-few c =
+    subst (λ (vs : List Value). length vs ≤ 3000000) (sym c.as_slice.ensures.value) c.self.invariant.few
+
+pub landed-self-inside-requires-in-Wide-clause-front : goal.landed-self-inside-requires-in-Wide-clause-front
+landed-self-inside-requires-in-Wide-clause-front c =
+    subst (λ (vs : List Value). IsFront vs c.self.inside.front) (sym c.as_slice.ensures.value) c.self.invariant.first
+
+pub invariant_of-self-in-Wide : goal.invariant_of-self-in-Wide
+invariant_of-self-in-Wide c =
+    record { few = c.self.invariant.few; first = c.self.invariant.first; step = tt }
+
+pub fly-requires-clause-flying : goal.fly-requires-clause-flying
+fly-requires-clause-flying c =
+    (let ok : IsFlying c.args.units.now (flight_of c.self.inside.of.value c.self.inside.values.items c.self.inside.rows) = (rw (← c.self.view_is, c.in-Flying.is) at c.requires.state) in
+    own_flight c.args.units.now c.self.inside.of.value c.self.inside.values.items c.self.inside.rows ok)
 
 pub fly-requires-clause-mv : goal.fly-requires-clause-mv
 fly-requires-clause-mv c =
@@ -51,8 +79,8 @@ front_of-self-inside-requires c =
     let m = rw c.in-Move.is at step in
     subst (λ (vs : List Value). IsAhead vs c.self.inside.front) (sym (c.as_slice-values-in-Move.ensures.value ∙ c.fly.ensures.is)) (move_ahead c.args.units.now (flight_of c.self.inside.of.value c.self.inside.values.items c.self.inside.rows) ok c.self.inside.front c.self.invariant.first (omega (arith, c.self.invariant.first.short)) (next_along (setting_of c.args.units.now) c.self.inside.values.items (line_of c.in-Move.mv.line)) m.next (nat_lt c.args.draw c.in-Move.mv.plus_weight))
 
-pub step-requires-in-Move-clause-flying : goal.step-requires-in-Move-clause-flying
-step-requires-in-Move-clause-flying c =
+pub step_kept-next-requires-in-Move-clause-flying : goal.step_kept-next-requires-in-Move-clause-flying
+step_kept-next-requires-in-Move-clause-flying c =
     let ok : IsFlying c.args.units.now (flight_of c.self.inside.of.value c.self.inside.values.items c.self.inside.rows) = rw (← c.self.view_is, c.in-Flying.is) at c.requires.state in
     let step = step_by c.args.units.now c.self.inside.of.value c.self.inside.values.items c.self.inside.rows c.deref-next.result.now c.self.inside.found.value ok c.deref-next.ensures (rw c.in-Flying.is at c.self.invariant.step) in
     let m = rw c.in-Move.is at step in
@@ -67,8 +95,20 @@ invariant_of-self-in-Move c =
     record {
       few = omega (arith, ap length c.fly.ensures.is, move_count c.args.units.now (flight_of c.self.inside.of.value c.self.inside.values.items c.self.inside.rows) ok c.self.inside.front c.self.invariant.first (omega (arith, c.self.invariant.first.short)) (next_along (setting_of c.args.units.now) c.self.inside.values.items (line_of c.in-Move.mv.line)) m.next (nat_lt c.args.draw c.in-Move.mv.plus_weight), c.self.invariant.few);
       first = subst (λ (vs : List Value). IsFront vs c.front_of-self-inside.result) c.as_slice-values-in-Move.ensures.value c.front_of-self-inside.ensures;
-      step = rw (c.in-Flying.is, c.keep-in-Move.ensures) (step_there c.args.units.now c.self.inside.of.value c.fly.new.values.items c.as_slice-values-in-Move.result.now c.self.inside.rows c.step-in-Move.result (sym ok.fixed_is) c.as_slice-values-in-Move.ensures.value c.step-in-Move.ensures);
+      step = rw (c.in-Flying.is, c.keep-in-Move.ensures) (step_there c.args.units.now c.self.inside.of.value c.fly.new.values.items c.as_slice-values-in-Move.result.now c.self.inside.rows c.step_kept-next-in-Move.result (sym ok.fixed_is) c.as_slice-values-in-Move.ensures.value c.step_kept-next-in-Move.ensures);
     }
+
+pub advance-requires-clause-pairing : goal.advance-requires-clause-pairing
+advance-requires-clause-pairing c =
+    (rw (← c.self.view_is, c.in-Pairing.is) at c.requires.state)
+
+pub advance-requires-clause-front : goal.advance-requires-clause-front
+advance-requires-clause-front c =
+    c.self.invariant.first
+
+pub advance-requires-clause-going : goal.advance-requires-clause-going
+advance-requires-clause-going c =
+    (rw (← c.self.view_is, c.in-Pairing.is) at c.requires.going)
 
 pub advance-requires-clause-within : goal.advance-requires-clause-within
 advance-requires-clause-within c =
@@ -97,6 +137,12 @@ returns-in-Independent c =
     let ok : IsFlying c.args.units.now (flight_of c.self.inside.of.value c.self.inside.values.items c.self.inside.rows) = rw (← c.self.view_is, c.in-Flying.is) at c.requires.state in
     let step = step_by c.args.units.now c.self.inside.of.value c.self.inside.values.items c.self.inside.rows c.deref-next.result.now c.self.inside.found.value ok c.deref-next.ensures (rw c.in-Flying.is at c.self.invariant.step) in
     rw (← c.self.view_is, c.in-Flying.is) (ap (λ l. flying (flight_of c.self.inside.of.value c.self.inside.values.items (c.self.inside.rows - 1)) l) (c.landed-self-inside.ensures ∙ ap (λ (vs : List Value). landed (fractional_count vs) c.self.inside.left) c.as_slice-values.ensures.value) ∙ sym (picks_drop c.args.units.now (flight_of c.self.inside.of.value c.self.inside.values.items c.self.inside.rows) c.self.inside.left c.args.draw (rw c.in-Independent.is at step) (rw (← c.self.view_is, c.in-Flying.is) at c.requires.within)))
+
+pub returns-in-Wide : goal.returns-in-Wide
+returns-in-Wide c =
+    let ok : IsFlying c.args.units.now (flight_of c.self.inside.of.value c.self.inside.values.items c.self.inside.rows) = rw (← c.self.view_is, c.in-Flying.is) at c.requires.state in
+    let step = step_by c.args.units.now c.self.inside.of.value c.self.inside.values.items c.self.inside.rows c.deref-next.result.now c.self.inside.found.value ok c.deref-next.ensures (rw c.in-Flying.is at c.self.invariant.step) in
+    rw (← c.self.view_is, c.in-Flying.is) (ap (λ l. pairing c.self.inside.values.items l) (c.landed-self-inside-in-Wide.ensures ∙ ap (λ (vs : List Value). landed (fractional_count vs) c.self.inside.left) c.as_slice.ensures.value) ∙ sym (picks_wide c.args.units.now (flight_of c.self.inside.of.value c.self.inside.values.items c.self.inside.rows) c.self.inside.left c.args.draw (rw c.in-Wide.is at step) (rw (← c.self.view_is, c.in-Flying.is) at c.requires.within)))
 
 pub returns-in-Move : goal.returns-in-Move
 returns-in-Move c =
