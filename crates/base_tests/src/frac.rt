@@ -70,60 +70,39 @@ fn orders(rt: HostRuntime) -> Result<(), Fail> {
 
 #[test]
 fn sums(rt: HostRuntime) -> Result<(), Fail> {
-    let sums = [
-        sum((LIMIT - 2, 1), (1, 1)),
-        sum((LIMIT - 1, 1), (1, 1)),
-        sum((LIMIT - 1, 2), (1, 2)),
+    assert_eq!(rt; sum((LIMIT - 2, 1), (1, 1)), Some((LIMIT - 1, 1)));
+    assert_eq!(rt; sum((LIMIT - 1, 1), (1, 1)), None);
+    assert_eq!(rt; sum((LIMIT - 1, 2), (1, 2)), None);
+    assert_eq!(rt;
         sum((1, ROOT - 1), (1, ROOT + 1)),
-        sum((1, LIMIT), (0, 1)),
-    ];
-    let wanted = [
-        Some((LIMIT - 1, 1)),
-        None,
-        None,
-        Some((2 * ROOT, LIMIT - 1)),
-        None,
-    ];
-    assert_eq!(rt; sums, wanted);
+        Some((2 * ROOT, LIMIT - 1))
+    );
+    assert_eq!(rt; sum((1, LIMIT), (0, 1)), None);
     Ok(())
 }
 
 #[test]
 fn products(rt: HostRuntime) -> Result<(), Fail> {
-    let products = [
-        product((LIMIT, 3), (1, 2)),
-        product((ROOT - 1, 1), (ROOT + 1, 1)),
-        product((ROOT, 1), (ROOT, 1)),
-        product((1, ROOT - 1), (1, ROOT + 1)),
-        product((1, ROOT), (1, ROOT)),
-    ];
-    let wanted = [
-        Some((LIMIT / 2, 3)),
-        Some((LIMIT - 1, 1)),
-        None,
-        Some((1, LIMIT - 1)),
-        None,
-    ];
-    assert_eq!(rt; products, wanted);
+    assert_eq!(rt; product((LIMIT, 3), (1, 2)), Some((LIMIT / 2, 3)));
+    assert_eq!(rt; product((ROOT - 1, 1), (ROOT + 1, 1)), Some((LIMIT - 1, 1)));
+    assert_eq!(rt; product((ROOT, 1), (ROOT, 1)), None);
+    assert_eq!(rt; product((1, ROOT - 1), (1, ROOT + 1)), Some((1, LIMIT - 1)));
+    assert_eq!(rt; product((1, ROOT), (1, ROOT)), None);
     Ok(())
 }
 
 #[test]
 fn differences(rt: HostRuntime) -> Result<(), Fail> {
-    let distances = [
-        distance((2, 3), (2, 3)),
+    assert_eq!(rt; distance((2, 3), (2, 3)), Some((false, (0, 1))));
+    assert_eq!(rt;
         distance((0, 1), (LIMIT - 1, 1)),
-        distance((LIMIT, 1), (LIMIT, 1)),
+        Some((true, (LIMIT - 1, 1)))
+    );
+    assert_eq!(rt; distance((LIMIT, 1), (LIMIT, 1)), None);
+    assert_eq!(rt;
         distance((1, ROOT - 1), (1, ROOT + 1)),
-        distance((1, ROOT), (1, ROOT + 1)),
-    ];
-    let wanted = [
-        Some((false, (0, 1))),
-        Some((true, (LIMIT - 1, 1))),
-        None,
-        Some((false, (2, LIMIT - 1))),
-        None,
-    ];
-    assert_eq!(rt; distances, wanted);
+        Some((false, (2, LIMIT - 1)))
+    );
+    assert_eq!(rt; distance((1, ROOT), (1, ROOT + 1)), None);
     Ok(())
 }

@@ -1,5 +1,7 @@
 ghost use Rattle.std.specs.Prelude.{◌<◌, ◌≤◌};
 ghost use Rattle.smp_fractions.specs.Limits.{wide_limit};
+ghost use Rattle.smp_tape.specs.Tapes.{Values};
+ghost use Rattle.base_tests.specs.Given.{given_stream};
 
 use smp_sieve::{ChaChaWords, Sieve, Words};
 use smp_tape::{DrawFault, Draws, Tape};
@@ -14,16 +16,12 @@ struct Given {
 }
 
 impl Model for Given {
-    ghost use Rattle.smp_tape.specs.Tapes.{Values};
-
     ghost Value = { Values };
 
     ghost view = { λ a. a.tape };
 }
 
 impl Words for Given {
-    ghost use Rattle.base_tests.specs.Given.{given_stream};
-
     ghost stream = { given_stream };
 
     fn word(&mut self) -> u32 {

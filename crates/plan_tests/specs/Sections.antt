@@ -1,5 +1,5 @@
 -- A design that is one section of a log, as a stratum is of a draw in strata.
-use Rattle.std.proofs.Common.{◌≡◌, ℕ, ◌<◌, ◌≤◌, Bool, true, false, List, [], ◌∷◌, arith, ap}
+use Rattle.std.proofs.Common.{◌≡◌, ℕ, ◌≤◌, Bool, true, false, List, [], ◌∷◌, arith, ap}
 use Rattle.smp_split.specs.Sectioning.{Sectioning, IsSectioned}
 use Rattle.smp_split.specs.Trees.{EachPart, Part, Tree}
 

@@ -21,22 +21,26 @@ split_at [] i file within is = absurd (omega arith)
 split_at (f ∷ files) zero file within is = ap (λ (x : OutputFile). x ∷ files) is
 split_at (f ∷ files) (suc i) file within is = ap (λ (rest : List OutputFile). f ∷ rest) (split_at files i file (omega arith) is)
 
-module _ (files : List OutputFile) (i : ℕ) (file : OutputFile) (within : i < length files) (is : file ≡ get_or files i file) where
-  pub stops_at : (told before now : Option Files) → before ≡ option_map (with_files (take i files)) told → OthersStay file.name before now → StopsAtFile files told now
+-- a write of the file at a place, by its name
+module _ (files : List OutputFile) (i : ℕ) (file : OutputFile) (within : i < length files) (is : file ≡ get_or files i file) (name : List ℕ) (named : name ≡ file.name) where
+  pub stops_at : (told before now : Option Files) → before ≡ option_map (with_files (take i files)) told → OthersStay name before now → StopsAtFile files told now
   stops_at told before now written others = record {
     before = take i files;
     file = file;
     after = drop (suc i) files;
     split = split_at files i file within (sym is);
-    others = subst (λ (held : Option Files). OthersStay file.name held now) written others;
+    others = subst (λ (held : Option Files). OthersStay file.name held now) written (subst (λ (n : List ℕ). OthersStay n before now) named others);
   }
 
   -- the same, since that write failed
-  pub fails_at : (told before now : Option Files) → before ≡ option_map (with_files (take i files)) told → OthersStay file.name before now
-      → (first counts counts_now : List ℕ → ℕ) → first file.name ≤ counts file.name → Rose (counts file.name) (counts_now file.name)
-      → FailsAtFile files told now (λ name. Rose (first name) (counts_now name))
+  pub fails_at : (told before now : Option Files) → before ≡ option_map (with_files (take i files)) told → OthersStay name before now
+      → (first counts counts_now : List ℕ → ℕ) → first file.name ≤ counts file.name → Rose (counts name) (counts_now name)
+      → FailsAtFile files told now (λ n. Rose (first n) (counts_now n))
   unfolding stops_at
-  fails_at told before now written others first counts counts_now le rose = record { stop = stops_at told before now written others; cause = rose_since _ _ _ le rose }
+  fails_at told before now written others first counts counts_now le rose = record {
+    stop = stops_at told before now written others;
+    cause = rose_since _ _ _ le (subst (λ (n : List ℕ). Rose (counts n) (counts_now n)) named rose);
+  }
 
 -- ---- places
 

@@ -18,8 +18,8 @@ use Rattle.smp_app.specs.Kept.Exact.{ExactSays, IsExact, IsExactRefusal}
 use Rattle.smp_plan.specs.Reads.{IsErrorOf, IsCaused, ReadCause, Sees}
 use Rattle.smp_status.specs.Reports.{IsOfInputs, Put, PutsLine, Whole, Cut, OutOfMemory, Reports}
 use Rattle.smp_app.specs.Kept.Stages.{Refusing, WorkSays}
-use Rattle.smp_app.specs.Deliveries.{Outputs, SomeRose, names_of, with_files, StopsAt, FailsAt}
-use Rattle.smp_app.specs.Answers.{Outside, Untouched, Done, RefusesBy, Refusal, Stopped, StoppedBy, NoMemory, Says, Undisturbed, IsVerdict, UsageOnly, IsAnswer}
+use Rattle.smp_app.specs.Deliveries.{Outputs, SomeRose, names_of, with_files, FailsAt}
+use Rattle.smp_app.specs.Answers.{Outside, Untouched, Done, RefusesBy, Refusal, StoppedBy, NoMemory, Says, Undisturbed, IsVerdict, UsageOnly, IsAnswer}
 use Rattle.smp_plan.proofs.Steps.{rose_since}
 use Rattle.smp_app.proofs.Deliveries.{place_since, place_rose}
 

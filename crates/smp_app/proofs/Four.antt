@@ -3,17 +3,11 @@ use Rattle.std.proofs.Common.{refl, arith}
 use Rattle.std.specs.Fmt.{digits}
 use Rattle.smp_frac.specs.Divisors.{greatest_common_divisor}
 use Rattle.smp_design.specs.Words.{row}
-use Rattle.smp_split.specs.Paths.{Leads}
 use Rattle.smp_frame.proofs.Four.{frame_is}
 use Rattle.smp_tape.proofs.Four.{tape_is}
 use Rattle.smp_weights.proofs.Four.{file_of_both, row_of_c}
 use Rattle.smp_strata.specs.Misfits.{misfit_of}
-use Rattle.smp_app.specs.Drawn.{start_of, tree_of}
-use Rattle.smp_app.specs.Four.{IsFourDrawn, drawn, plan}
-
-by_path : Leads (tree_of plan) (start_of plan) drawn.path drawn.leaf
-unfolding greatest_common_divisor row
-by_path = (record { going = refl; kind = refl; bound = refl; value = omega arith }, (record { going = refl; kind = refl; bound = refl; value = omega arith }, (record { going = refl; kind = refl; bound = refl; value = omega arith }, refl)))
+use Rattle.smp_app.specs.Four.{IsFourDrawn}
 
 pub is_four_drawn : IsFourDrawn
 unfolding greatest_common_divisor digits row misfit_of
@@ -22,7 +16,7 @@ is_four_drawn = record {
   served = refl;
   tape = tape_is;
   start = refl;
-  leads = by_path;
+  leads = (record { going = refl; kind = refl; bound = refl; value = omega arith }, (record { going = refl; kind = refl; bound = refl; value = omega arith }, (record { going = refl; kind = refl; bound = refl; value = omega arith }, refl)));
   done = refl;
   allocated = refl;
   size = refl;

@@ -84,6 +84,7 @@ use Rattle.smp_app.proofs.Ends.{verdict_of}
 use Rattle.smp_app.proofs.Refusals.{stratum_is}
 use Rattle.smp_app.proofs.PlansRead.{MadePlan, Planned, accepted_plan, made_plan, content_is, frame_accepted, frame_plan, ok_same, planned, read, read_is, read_once, read_plan, some_same, step}
 use Rattle.smp_app.proofs.Joints.{exact_joint}
+use Rattle.smp_app.proofs.Lists.{listed}
 
 -- ---- what is drawn
 
@@ -604,18 +605,15 @@ module _ (text : Plan → List ℕ) (a : DesignArguments) (fs : Files) (before n
 
   pub exact_list : IsExact list_job fs → Done words before now → before.files ≡ Some fs → IsExactList text a fs before now
   exact_list made done told =
-      let same : done.job ≡ list_job = some_same _ _ (sym done.asked ∙ asked) in
-      let work : IsWork words list_job fs before now = subst (λ (j : Job). IsWork words j fs before now) same (done.done fs (sees_told (inputs_of done.job) before.files fs told)) in
       let plan = made.plan in
-      let staged : outputs_stage list_job fs ≡ Ok (record { files = []; put = text plan }) = rw made.planned refl in
-      let outputs : work.outputs ≡ record { files = []; put = text plan } = ok_same _ _ (sym work.accepted ∙ verdict_of words list_job asked fs ∙ staged) in
+      let puts = listed text (Held a.design) (FrameHeld a.frame) fs before now words asked plan made.planned done told in
       record {
         plan = plan;
         read = read_plan a.design a.frame fs plan (read a.design a.frame fs plan made.planned);
         accepted = accepted_plan a.design a.frame fs plan (read a.design a.frame fs plan made.planned);
         probabilities = made.from_plan.probabilities;
-        put = work.put ∙ ap (λ (o : Outputs). with_bytes o.put before.put) outputs;
-        same = work.files ∙ ap (option_map (with_files work.outputs.files)) told ∙ ap (λ (o : Outputs). Some (with_files o.files fs)) outputs;
+        put = puts.0;
+        same = puts.1;
       }
 
 -- ---- a quick draw that ended well

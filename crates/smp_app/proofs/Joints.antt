@@ -1,5 +1,5 @@
 -- What a call of `joint` that ended well has put.
-use Rattle.std.proofs.Common.{◌≡◌, ℕ, ◌≤◌, true, List, [], length, Option, Some, None, Result, Ok, Err, refl, sym, ap, subst, ◌∙◌, inl, inr}
+use Rattle.std.proofs.Common.{◌≡◌, ℕ, ◌≤◌, true, List, length, Option, Some, None, Result, Ok, Err, refl, sym, ap, subst, inl, inr}
 use Rattle.std.specs.Prelude.{nat_lt, option_map}
 use Rattle.std.proofs.lemmas.Bool.{cases_Bool, ltb-false}
 use Rattle.smp_io.specs.Sink.{with_bytes}
@@ -25,16 +25,13 @@ use Rattle.smp_status.specs.Codes.{design_status, frame_status}
 use Rattle.smp_plan.specs.Plans.{Plan, parts}
 use Rattle.smp_app.specs.Texts.{joints_text}
 use Rattle.smp_plan.specs.Inputs.{HeldForJoint, FrameForJoint, ReadDesign, has_joints, most_joint_rows, unless_large, unless_no_joints, design_stage, frame_stage, plan_stage}
-use Rattle.smp_app.specs.Commands.{Lists, Job, inputs_of, job_of, job_for}
+use Rattle.smp_app.specs.Commands.{Lists, Job, job_of, job_for}
 use Rattle.smp_plan.specs.Stops.{Stop, Refused, content, or_fault}
-use Rattle.smp_app.specs.Verdict.{outputs_stage}
-use Rattle.smp_app.specs.Deliveries.{Outputs, with_files}
-use Rattle.smp_app.specs.Answers.{Outside, IsWork, Done}
+use Rattle.smp_app.specs.Answers.{Outside, Done}
 use Rattle.smp_app.specs.Kept.Exact.{IsExact}
 use Rattle.smp_app.specs.Headline.{IsExactJoint}
-use Rattle.smp_app.proofs.Ends.{verdict_of}
-use Rattle.smp_plan.proofs.Steps.{sees_told}
-use Rattle.smp_app.proofs.PlansRead.{Designed, Planned, content_is, frame_accepted, frame_plan, ok_same, plan_is, read_is, read_plan, some_same, step}
+use Rattle.smp_app.proofs.Lists.{listed}
+use Rattle.smp_app.proofs.PlansRead.{Designed, Planned, content_is, frame_accepted, frame_plan, plan_is, read_is, read_plan, step}
 
 -- ---- joint probabilities that were listed
 
@@ -136,11 +133,5 @@ module _ (a : DesignArguments) (fs : Files) (before now : Outside) (words : List
 
   pub exact_joint : IsExact joint_job fs → Done words before now → before.files ≡ Some fs → IsExactJoint a fs before now
   exact_joint made done told =
-      let same : done.job ≡ joint_job = some_same _ _ (sym done.asked ∙ joint_asked) in
-      let work : IsWork words joint_job fs before now = subst (λ (j : Job). IsWork words j fs before now) same (done.done fs (sees_told (inputs_of done.job) before.files fs told)) in
-      let plan = made.plan in
-      let staged : outputs_stage joint_job fs ≡ Ok (record { files = []; put = joints_text plan }) = rw made.planned refl in
-      let outputs : work.outputs ≡ record { files = []; put = joints_text plan } = ok_same _ _ (sym work.accepted ∙ verdict_of words joint_job joint_asked fs ∙ staged) in
-      joint_of_plan plan made.planned made.from_plan.drawable
-      (work.put ∙ ap (λ (o : Outputs). with_bytes o.put before.put) outputs)
-      (work.files ∙ ap (option_map (with_files work.outputs.files)) told ∙ ap (λ (o : Outputs). Some (with_files o.files fs)) outputs)
+      let puts = listed joints_text (HeldForJoint a.design) (FrameForJoint a.frame) fs before now words joint_asked made.plan made.planned done told in
+      joint_of_plan made.plan made.planned made.from_plan.drawable puts.0 puts.1

@@ -5,6 +5,7 @@ pub mod Ends
 pub mod Four
 pub mod Headline
 pub mod Joints
+pub mod Lists
 pub mod PlansRead
 pub mod Refusals
 pub mod Selections

@@ -13,7 +13,7 @@ use Rattle.smp_split.specs.Trees.{Tree}
 use Rattle.smp_values.specs.Values.{is_fractional, is_one, value_at}
 use Rattle.smp_moves.specs.Cubes.{values_in}
 use Rattle.smp_flight.specs.States as flights
-use Rattle.smp_flight.specs.States.{Flight, Units, column}
+use Rattle.smp_flight.specs.States.{Flight}
 use Rattle.smp_moves.specs.Steps.{IsNext}
 use Rattle.smp_flight.specs.Moves.{setting_of}
 use Rattle.smp_flight.specs.Steps.{next, stepping}

@@ -5,7 +5,7 @@ use Rattle.std.specs.List.{range_with_len}
 use Rattle.std.proofs.lemmas.List.{get_or-map, length-map}
 use Rattle.std.proofs.lemmas.List.FromFn.{fill_by_all}
 use Rattle.std.proofs.lemmas.Result.{IfOk-weaker}
-use Rattle.smp_fractions.specs.Fractions.{Fraction, Same, whole, integer}
+use Rattle.smp_fractions.specs.Fractions.{Same, whole, integer}
 use Rattle.smp_fractions.proofs.Fractions.{same_refl, same_sym, same_trans}
 use Rattle.smp_frac.specs.declared.fractions.Frac.{Frac}
 use Rattle.smp_frac.specs.LowestTerms.{lowest_terms}
@@ -14,7 +14,7 @@ use Rattle.smp_prob.specs.Inclusions.{asked_fraction, inclusion, is_taken}
 use Rattle.smp_weights.specs.Chosen.{chosen_units}
 use Rattle.smp_weights.specs.Values.{weighted_total}
 use Rattle.smp_weights.proofs.Values.{estimate_value}
-use Rattle.smp_balance.specs.Strata.{StratumUnits, AreStratumUnits, value_in, values_of}
+use Rattle.smp_balance.specs.Strata.{StratumUnits, AreStratumUnits, value_in}
 use Rattle.smp_balance.specs.Totals.{counted, estimate, known, known_value}
 use Rattle.smp_balance.specs.Lines.{Drawn, column_estimate, column_of, known_sum}
 use Rattle.smp_balance.specs.Reports.{EachLineTells, TellsColumn, TellsOf}

@@ -5,9 +5,8 @@ use Rattle.std.proofs.lemmas.List.{get_or-map, length-map}
 use Rattle.std.proofs.lemmas.List.Elements.{All-cons, All-head, All-nil, All-tail}
 use Rattle.smp_fractions.specs.Fractions.{Fraction, Same, plus, sum_below, times, whole}
 use Rattle.smp_fractions.specs.Bounds.{absolute}
-use Rattle.smp_fractions.proofs.Fractions.{plus-zero, plus_same, same_refl, same_sym, same_trans, sum-zero, times_same, zero-times}
+use Rattle.smp_fractions.proofs.Fractions.{plus_same, same_refl, same_sym, same_trans, times_same, zero-times}
 use Rattle.smp_moves.specs.Owed.{balance_of}
-use Rattle.smp_prob.specs.Inclusions.{inclusion}
 use Rattle.smp_moves.specs.Cubes.{values_in}
 use Rattle.smp_flight.specs.Totals as free
 use Rattle.smp_stratcube.specs.Balances.{addend, expanded, weighed_of}

@@ -7,28 +7,19 @@ use Rattle.smp_caseread.specs.declared.lines.Line.TheVariants as lines
 abbrev pub Lacks : List ℕ → List ℕ → Type 0
 Lacks head text = (rest : List ℕ) → text ≡ head ++ rest → ⊥
 
--- what the tests of `of_text` leave
-pub record FailsAll (text : List ℕ) : Type 0 where
-  pub some : text ≡ [] → ⊥
-  pub remark : Lacks (codes "#") text
-  pub content : Lacks (codes "|") text
-  pub wanted : Lacks (codes "wanted ") text
-  pub no_words : text ≡ codes "words" → ⊥
-  pub words : Lacks (codes "words ") text
-  pub file : Lacks (codes "file ") text
-  pub call : Lacks (codes "failing call ") text
-  pub put : Lacks (codes "failing put ") text
-
-pub no_line : (text : List ℕ) → FailsAll text → IsNoLine text
-no_line text fails lines.Remark (inl empty) = fails.some empty
-no_line text fails lines.Remark (inr (rest, is)) = fails.remark rest is
-no_line text fails (lines.Content rest) is = fails.content rest.now is
-no_line text fails (lines.Words None) is = fails.no_words is
-no_line text fails (lines.Words (Some rest)) is = fails.words rest.now is
-no_line text fails (lines.File rest) is = fails.file rest.now is
-no_line text fails (lines.FailingCall rest) is = fails.call rest.now is
-no_line text fails (lines.FailingPut rest) is = fails.put rest.now is
-no_line text fails (lines.WantedCode rest) is = fails.wanted (codes "code " ++ rest.now) is
-no_line text fails (lines.WantedFile rest) is = fails.wanted (codes "file " ++ rest.now) is
-no_line text fails (lines.WantedNoFile rest) is = fails.wanted (codes "no file " ++ rest.now) is
-no_line text fails lines.WantedPut is = fails.wanted (codes "put") is
+-- the tests of `of_text` fail
+module _ (text : List ℕ) (some : text ≡ [] → ⊥) (remark : Lacks (codes "#") text) (content : Lacks (codes "|") text) (wanted : Lacks (codes "wanted ") text) (no_words : text ≡ codes "words" → ⊥)
+    (words : Lacks (codes "words ") text) (file : Lacks (codes "file ") text) (call : Lacks (codes "failing call ") text) (put : Lacks (codes "failing put ") text) where
+  pub no_line : IsNoLine text
+  no_line lines.Remark (inl empty) = some empty
+  no_line lines.Remark (inr (rest, is)) = remark rest is
+  no_line (lines.Content rest) is = content rest.now is
+  no_line (lines.Words None) is = no_words is
+  no_line (lines.Words (Some rest)) is = words rest.now is
+  no_line (lines.File rest) is = file rest.now is
+  no_line (lines.FailingCall rest) is = call rest.now is
+  no_line (lines.FailingPut rest) is = put rest.now is
+  no_line (lines.WantedCode rest) is = wanted (codes "code " ++ rest.now) is
+  no_line (lines.WantedFile rest) is = wanted (codes "file " ++ rest.now) is
+  no_line (lines.WantedNoFile rest) is = wanted (codes "no file " ++ rest.now) is
+  no_line lines.WantedPut is = wanted (codes "put") is

@@ -1,61 +1,15 @@
--- Independent columns and one more have one relation, up to a factor; and what is kept without a column of that relation is independent.
-use Rattle.std.proofs.Common.{◌≡◌, ◌≢◌, ℕ, zero, suc, ◌+◌, ◌<◌, Bool, true, false, List, [], ◌∷◌, ◌++◌, ℤ, pos, neg_ℤ, ◌+ℤ◌, ◌*ℤ◌, length, length-append, map, get_or, take, arith, sym, refl, ap, ap₂, ◌∙◌, subst, inl, inr}
-use Rattle.std.proofs.lemmas.Bool.{cases_eq, cases_lt, true≢false}
+-- What is kept without a column of the one relation is independent.
+use Rattle.std.proofs.Common.{◌≡◌, ◌≢◌, ℕ, zero, suc, ◌+◌, Bool, true, false, List, [], ◌∷◌, ◌++◌, ℤ, pos, neg_ℤ, ◌+ℤ◌, ◌*ℤ◌, length, length-append, map, get_or, take, arith, sym, refl, ap, ap₂, ◌∙◌, subst, inl, inr}
+use Rattle.std.proofs.lemmas.Bool.{cases_eq, true≢false}
 use Rattle.std.proofs.lemmas.Int.{ints}
-use Rattle.std.proofs.lemmas.List.{get_or_append_left, get_or_past}
 use lib.IntN.{*ℤ_comm, *ℤ-zero, zero-*ℤ, +ℤ_idl}
 use Rattle.smp_kernel.proofs.Ring.{cancels, neg_zero, zero_of_product, zero_left, zero_right}
 use Rattle.smp_kernel.proofs.Dot.{unit_dot, entry-plus, entry-times, dot-plus, dot-times, dot-combination}
-use Rattle.smp_kernel.proofs.Columns.{combination_push}
-use Rattle.smp_kernel.proofs.Lists.{at_last, split_last}
-use Rattle.smp_kernel.proofs.Primitive.{moved}
-use Rattle.smp_kernel.proofs.CircuitLaw.{cross_zero, length-plus, length-times, opposite}
+use Rattle.smp_kernel.proofs.Lists.{split_last}
+use Rattle.smp_kernel.proofs.CircuitLaw.{in_proportion, length-plus, length-times}
 use Rattle.smp_kernel.specs.Vectors.{entry, plus, times, dot, combination, unit, IsZero}
 use Rattle.smp_kernel.specs.Elimination.{AreIndependent, InForce, IsRelationOn}
 use Rattle.smp_kernel.specs.Minors.{keep}
-
--- ---- two relations
-module _ {q : ℕ} {columns : List (List ℤ)} (c : List ℤ) (ind : AreIndependent q columns) (w : List ℤ) (l : ℤ) (a : IsRelationOn (InForce q) (columns ++ c ∷ []) (w ++ l ∷ []))
-    (v : List ℤ) (m : ℤ) (b : IsRelationOn (InForce q) (columns ++ c ∷ []) (v ++ m ∷ [])) where
-  len_w : length w ≡ length columns
-  len_w = omega (arith, a.0, length-append w (l ∷ []), length-append columns (c ∷ []))
-
-  len_v : length v ≡ length columns
-  len_v = omega (arith, b.0, length-append v (m ∷ []), length-append columns (c ∷ []))
-
-  -- the sum of x_j times the columns is the opposite of the last term
-  front : (x : List ℤ) (last : ℤ) → length x ≡ length columns → ((k : ℕ) → k < q → entry (combination (x ++ last ∷ []) (columns ++ c ∷ [])) k ≡ pos 0) →
-      (k : ℕ) → k < q → dot x (map (dot (unit k)) columns) ≡ neg_ℤ (last *ℤ dot (unit k) c)
-  front x last lx rel k kq =
-      sym (dot-combination (unit k) x columns)
-      ∙ opposite (dot (unit k) (combination x columns)) (last *ℤ dot (unit k) c)
-      (sym (combination_push (unit k) x columns c last lx) ∙ unit_dot (combination (x ++ last ∷ []) (columns ++ c ∷ [])) k ∙ rel k kq)
-
-  mixed_zero : IsZero (plus (times m w) (times (neg_ℤ l) v))
-  mixed_zero =
-      ind (plus (times m w) (times (neg_ℤ l) v)) (
-        length-plus (times m w) (times (neg_ℤ l) v) (length-times m w ∙ len_w ∙ sym len_v ∙ sym (length-times (neg_ℤ l) v)) ∙ length-times m w ∙ len_w,
-        λ k kq. sym (unit_dot (combination (plus (times m w) (times (neg_ℤ l) v)) columns) k)
-            ∙ dot-combination (unit k) (plus (times m w) (times (neg_ℤ l) v)) columns
-            ∙ dot-plus (times m w) (times (neg_ℤ l) v) (map (dot (unit k)) columns)
-            ∙ ap₂ (λ x y. x +ℤ y) (dot-times m w (map (dot (unit k)) columns)) (dot-times (neg_ℤ l) v (map (dot (unit k)) columns))
-            ∙ ap₂ (λ x y. m *ℤ x +ℤ neg_ℤ l *ℤ y) (front w l len_w a.1 k kq) (front v m len_v b.1 k kq)
-            ∙ cross_zero m l (dot (unit k) c),
-      )
-
-  pub in_proportion : (j : ℕ) → m *ℤ entry (w ++ l ∷ []) j ≡ l *ℤ entry (v ++ m ∷ []) j
-  in_proportion j =
-      elim (cases_lt j (length columns)) [
-        | inl h ↦ ap (λ x. m *ℤ x) (get_or_append_left w (l ∷ []) (pos 0) j (omega (arith, len_w)))
-            ∙ moved m l (entry w j) (entry v j) (sym (entry-plus (times m w) (times (neg_ℤ l) v) j ∙ ap₂ (λ x y. x +ℤ y) (entry-times m w j) (entry-times (neg_ℤ l) v j)) ∙ mixed_zero j)
-            ∙ ap (λ x. l *ℤ x) (sym (get_or_append_left v (m ∷ []) (pos 0) j (omega (arith, len_v))))
-        | inr h ↦ elim (cases_eq j (length columns)) [
-          | inl e ↦ ap (λ x. m *ℤ x) (at_last w l (pos 0) j (e ∙ sym len_w)) ∙ *ℤ_comm m l ∙ ap (λ x. l *ℤ x) (sym (at_last v m (pos 0) j (e ∙ sym len_v)))
-          | inr ne ↦
-              ap (λ x. m *ℤ x) (get_or_past (w ++ l ∷ []) j (pos 0) (omega (arith, len_w, length-append w (l ∷ [])))) ∙ *ℤ-zero m
-              ∙ sym (ap (λ x. l *ℤ x) (get_or_past (v ++ m ∷ []) j (pos 0) (omega (arith, len_v, length-append v (m ∷ [])))) ∙ *ℤ-zero l)
-        ]
-      ]
 
 -- ---- what is kept
 -- factors for all columns, 0 at those that aren't kept

@@ -1,17 +1,8 @@
 -- Points whose coordinates stand among the values of units.
-use Rattle.std.specs.Prelude.{ℕ, ◌==◌, ℤ, pos, List, map, drop, slice_index_or, Option, Some, None, if◌then◌else◌}
+use Rattle.std.specs.Prelude.{ℕ, ℤ, pos, List, map, drop, slice_index_or}
 use Rattle.std.specs.List.{range_with_len}
 use Rattle.smp_localpiv.specs.declared.dimensions.Dimensions.{Dimensions}
 use Rattle.smp_localpiv.specs.declared.dimensions.Dimensions.TheVariants.{One, Two, Three, Four}
-
--- the dimensions of points with so many coordinates, from 1 to 4
-abbrev pub dimensions_of : ℕ → Option Dimensions
-dimensions_of count =
-    if count == 1 then Some One
-    else if count == 2 then Some Two
-    else if count == 3 then Some Three
-    else if count == 4 then Some Four
-    else None
 
 -- how many coordinates they have
 abbrev pub coordinate_count : Dimensions → ℕ

@@ -1,7 +1,7 @@
 //! How many coordinates points have, and the points of units.
 
 ghost use Rattle.std.specs.Prelude.{◌≡◌, ◌≤◌, IfOk};
-ghost use Rattle.smp_localpiv.specs.Coordinates.{dimensions_of, point_of, points_from};
+ghost use Rattle.smp_localpiv.specs.Coordinates.{point_of, points_from};
 
 use smp_frac::NoMemory;
 use smp_frame::Numbers;
@@ -18,21 +18,6 @@ pub enum Dimensions {
     Three,
     /// Four.
     Four,
-}
-
-impl Dimensions {
-    /// The dimensions of points with so many coordinates, from 1 to 4; `None` for any other number.
-    pub fn of_coordinates(count: usize) -> Option<Dimensions>
-        ensures { result ≡ dimensions_of count }
-    {
-        match count {
-            1 => Some(Dimensions::One),
-            2 => Some(Dimensions::Two),
-            3 => Some(Dimensions::Three),
-            4 => Some(Dimensions::Four),
-            _ => None,
-        }
-    }
 }
 
 // The first values as coordinates, 0 where there are fewer.

@@ -6,7 +6,7 @@ use Rattle.std.specs.Option.{option_eq}
 use Rattle.std.specs.Fmt.{decimal}
 use Rattle.std.proofs.lemmas.Bool.{cases_eq, eq-eqb, ne_eqb}
 use Rattle.smp_split.specs.declared.kind.Kind.{Kind}
-use Rattle.smp_split.specs.declared.kind.Kind.TheVariants.{Order, Pivot, Lone, System, Support, Offer, Take, Spent, Eliminate, Choose, Flight, Drop, Wide}
+use Rattle.smp_split.specs.declared.kind.Kind.TheVariants.{Order}
 use Rattle.smp_split.specs.Kinds.{kind_word}
 use Rattle.smp_split.specs.Trees.{Tree, Lawful, weight_sum, picked}
 use Rattle.smp_split.specs.Paths.{Entry, IsStep, Leads}

@@ -1,4 +1,5 @@
-ghost use Rattle.std.specs.Prelude.{◌≡◌, ◌++◌, IfOk, OnOk};
+ghost use Rattle.std.specs.Prelude.{◌≡◌, ◌++◌, IfOk, OnOk, codes};
+ghost use Rattle.std.specs.Fmt.{decimal};
 ghost use Rattle.smp_log.specs.SectionLogs.{RiseFrom, done_text, sections_text, stratum_text};
 
 use crate::writing::{push_end, push_number, push_step};
@@ -43,20 +44,24 @@ pub fn log_bytes(
 fn push_stratum(text: &mut Bytes, number: u64, place: u64) -> Result<(), NoMemory>
     ensures { OnOk result (text.new ≡ text.old ++ stratum_text number place) }
 {
-    text.push_all(b"stratum ")?;
-    push_number(text, number as u128)?;
-    text.push_all(b" ")?;
-    push_number(text, place as u128)?;
-    text.push_all(b"\n")
+    push_numbers(text, b"stratum ", number, place)
 }
 
 // Its last line.
 fn push_done(text: &mut Bytes, number: u64, steps: u64) -> Result<(), NoMemory>
     ensures { OnOk result (text.new ≡ text.old ++ done_text number steps) }
 {
-    text.push_all(b"done ")?;
-    push_number(text, number as u128)?;
+    push_numbers(text, b"done ", number, steps)
+}
+
+// A line of a word, with the blank behind it, and two numbers.
+fn push_numbers(text: &mut Bytes, word: &[u8], first: u64, second: u64) -> Result<(), NoMemory>
+    ensures { OnOk result (text.new ≡ text.old ++ (word.now
+        ++ (decimal first ++ (codes " " ++ (decimal second ++ codes "\n"))))) }
+{
+    text.push_all(word)?;
+    push_number(text, first as u128)?;
     text.push_all(b" ")?;
-    push_number(text, steps as u128)?;
+    push_number(text, second as u128)?;
     text.push_all(b"\n")
 }

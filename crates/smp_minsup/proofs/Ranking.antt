@@ -42,61 +42,81 @@ module _ (raw : List ℕ) (large : List Bool) (offset : ℕ) where
   pub at_large : (k : ℕ) → k < length raw → is_in large k ≡ true → get_or view.numer k 0 ≡ get_or raw k 0 - offset
   at_large k h e = at_view k h ∙ rw e refl
 
-  module _ (smalls : List (ℕ × ℕ)) (larges : List (Reverse (ℕ × ℕ))) (small_capacity large_capacity : ℕ) (kept : IsKept raw large offset smalls larges small_capacity large_capacity) where
-    -- the first of the small ones
-    module _ (e : ℕ × ℕ) (some : 1 ≤ length smalls) (front : e ≡ get_or smalls 0 e) where
-      pub small_known : e.1 < length raw
-      small_known = front_known (λ x. x.1) (small_entry raw) (λ k. not (is_in large k)) (length raw) smalls kept.small_queue e some front
+-- ---- what is kept of the groups
 
-      pub small_in : is_in large e.1 ≡ false
-      small_in = not-true (is_in large e.1) (front_group (λ x. x.1) (small_entry raw) (λ k. not (is_in large k)) (length raw) smalls kept.small_queue e some front)
+module _ {raw : List ℕ} {large : List Bool} {offset : ℕ} {smalls : List (ℕ × ℕ)} {larges : List (Reverse (ℕ × ℕ))} {small_capacity large_capacity : ℕ} (kept : IsKept raw large offset smalls larges small_capacity large_capacity) where
+  abbrev seen : RankedUnits
+  seen = ranked_of raw large offset
 
-      pub small_numer : e.0 ≡ get_or raw e.1 0
-      small_numer = ap (λ (x : ℕ × ℕ). x.0) (front_entry (λ x. x.1) (small_entry raw) (λ k. not (is_in large k)) (length raw) smalls kept.small_queue e some front)
+  -- the first of the small ones
+  module _ (e : ℕ × ℕ) (some : 1 ≤ length smalls) (front : e ≡ get_or smalls 0 e) where
+    pub small_known : e.1 < length raw
+    small_known = front_known kept.small_queue e some front
 
-      pub most_small : IsUpperBound by_numer e smalls → IsMostSmall view e.1
-      most_small bound = record {
-        within = omega (arith, small_known, length_view);
-        small = small_in;
-        most = λ other l is. (let h : other < length raw = omega (arith, l, length_view) in
-            let not_less : is_lt (by_numer e (small_entry raw other)) ≡ false = holds_of (λ x. x.1) (small_entry raw) (λ k. not (is_in large k)) (length raw) smalls kept.small_queue (λ x. is_lt (by_numer e x) ≡ false) bound other h (rw is refl) in
-            false_from_ne_true (is_larger view.numer other e.1) (λ above. (let less : is_lt (by_numer e (small_entry raw other)) ≡ true = by_numer_less e (small_entry raw other) (elim (larger_is view.numer other e.1 above) [
-              | inl m ↦ inl (omega (arith, m, at_small e.1 small_known small_in, at_small other h is, small_numer))
-              | inr m ↦ inr (omega (arith, m.0, at_small e.1 small_known small_in, at_small other h is, small_numer), m.1)
-            ]) in cc)));
-      }
+    pub small_in : is_in large e.1 ≡ false
+    small_in = not-true (is_in large e.1) (front_group kept.small_queue e some front)
 
-    -- the first of the large ones
-    module _ (e : Reverse (ℕ × ℕ)) (some : 1 ≤ length larges) (front : e ≡ get_or larges 0 e) where
-      pub large_known : e.0.1 < length raw
-      large_known = front_known (λ x. x.0.1) (large_entry raw) (is_in large) (length raw) larges kept.large_queue e some front
+    pub small_numer : e.0 ≡ get_or raw e.1 0
+    small_numer = ap (λ (x : ℕ × ℕ). x.0) (front_entry kept.small_queue e some front)
 
-      pub large_in : is_in large e.0.1 ≡ true
-      large_in = front_group (λ x. x.0.1) (large_entry raw) (is_in large) (length raw) larges kept.large_queue e some front
+    pub most_small : IsUpperBound by_numer e smalls → IsMostSmall seen e.1
+    most_small bound = record {
+      within = omega (arith, small_known, length_view raw large offset);
+      small = small_in;
+      most = λ other l is. (let h : other < length raw = omega (arith, l, length_view raw large offset) in
+          let not_less : is_lt (by_numer e (small_entry raw other)) ≡ false = holds_of kept.small_queue (λ x. is_lt (by_numer e x) ≡ false) bound other h (rw is refl) in
+          false_from_ne_true (is_larger seen.numer other e.1) (λ above. (let less : is_lt (by_numer e (small_entry raw other)) ≡ true = by_numer_less e (small_entry raw other) (elim (larger_is seen.numer other e.1 above) [
+            | inl m ↦ inl (omega (arith, m, at_small raw large offset e.1 small_known small_in, at_small raw large offset other h is, small_numer))
+            | inr m ↦ inr (omega (arith, m.0, at_small raw large offset e.1 small_known small_in, at_small raw large offset other h is, small_numer), m.1)
+          ]) in cc)));
+    }
 
-      pub large_raw : e.0.0 ≡ get_or raw e.0.1 0
-      large_raw = ap (λ (x : Reverse (ℕ × ℕ)). x.0.0) (front_entry (λ x. x.0.1) (large_entry raw) (is_in large) (length raw) larges kept.large_queue e some front)
+  -- the first of the large ones
+  module _ (e : Reverse (ℕ × ℕ)) (some : 1 ≤ length larges) (front : e ≡ get_or larges 0 e) where
+    pub large_known : e.0.1 < length raw
+    large_known = front_known kept.large_queue e some front
 
-      pub least_large : IsUpperBound by_numer_reversed e larges → IsLeastLarge view e.0.1
-      least_large bound = record {
-        within = omega (arith, large_known, length_view);
-        large = large_in;
-        least = λ other l is. (let h : other < length raw = omega (arith, l, length_view) in
-            let not_less : is_lt (by_numer_reversed e (large_entry raw other)) ≡ false = holds_of (λ x. x.0.1) (large_entry raw) (is_in large) (length raw) larges kept.large_queue (λ x. is_lt (by_numer_reversed e x) ≡ false) bound other h is in
-            let mine = kept.above e.0.1 large_known large_in in
-            let other's = kept.above other h is in
-            false_from_ne_true (is_larger view.numer e.0.1 other) (λ above. (let less : is_lt (by_numer (small_entry raw other) e.0) ≡ true = by_numer_less (small_entry raw other) e.0 (elim (larger_is view.numer e.0.1 other above) [
-              | inl m ↦ inl (omega (arith, m, at_large e.0.1 large_known large_in, at_large other h is, large_raw, mine, other's))
-              | inr m ↦ inr (omega (arith, m.0, at_large e.0.1 large_known large_in, at_large other h is, large_raw, mine, other's), m.1)
-            ]) in cc)));
-      }
+    pub large_in : is_in large e.0.1 ≡ true
+    large_in = front_group kept.large_queue e some front
 
-    -- where some unit is small, there is a first one; so with the large ones
-    pub some_small : (k : ℕ) → k < length raw → is_in large k ≡ false → 1 ≤ length smalls
-    some_small k h is = has_some (λ x. x.1) (small_entry raw) (λ j. not (is_in large j)) (length raw) smalls kept.small_queue k h (rw is refl)
+    pub large_raw : e.0.0 ≡ get_or raw e.0.1 0
+    large_raw = ap (λ (x : Reverse (ℕ × ℕ)). x.0.0) (front_entry kept.large_queue e some front)
 
-    pub some_large : (k : ℕ) → k < length raw → is_in large k ≡ true → 1 ≤ length larges
-    some_large k h is = has_some (λ x. x.0.1) (large_entry raw) (is_in large) (length raw) larges kept.large_queue k h is
+    pub least_large : IsUpperBound by_numer_reversed e larges → IsLeastLarge seen e.0.1
+    least_large bound = record {
+      within = omega (arith, large_known, length_view raw large offset);
+      large = large_in;
+      least = λ other l is. (let h : other < length raw = omega (arith, l, length_view raw large offset) in
+          let not_less : is_lt (by_numer_reversed e (large_entry raw other)) ≡ false = holds_of kept.large_queue (λ x. is_lt (by_numer_reversed e x) ≡ false) bound other h is in
+          let mine = kept.above e.0.1 large_known large_in in
+          let other's = kept.above other h is in
+          false_from_ne_true (is_larger seen.numer e.0.1 other) (λ above. (let less : is_lt (by_numer (small_entry raw other) e.0) ≡ true = by_numer_less (small_entry raw other) e.0 (elim (larger_is seen.numer e.0.1 other above) [
+            | inl m ↦ inl (omega (arith, m, at_large raw large offset e.0.1 large_known large_in, at_large raw large offset other h is, large_raw, mine, other's))
+            | inr m ↦ inr (omega (arith, m.0, at_large raw large offset e.0.1 large_known large_in, at_large raw large offset other h is, large_raw, mine, other's), m.1)
+          ]) in cc)));
+    }
+
+  -- where some unit is small, there is a first one; so with the large ones
+  pub some_small : (k : ℕ) → k < length raw → is_in large k ≡ false → 1 ≤ length smalls
+  some_small k h is = has_some kept.small_queue k h (rw is refl)
+
+  pub some_large : (k : ℕ) → k < length raw → is_in large k ≡ true → 1 ≤ length larges
+  some_large k h is = has_some kept.large_queue k h is
+
+  -- where no unit is the first of a group, none is of it
+  pub none_small : (1 ≤ length smalls → ⊥) → (unit : ℕ) → unit < length seen.numer → is_in large unit ≡ true
+  none_small empty unit h =
+      elim (cases_Bool (is_in large unit)) [
+        | inl e ↦ e
+        | inr e ↦ absurd (empty (some_small unit (omega (arith, h, length_view raw large offset)) e))
+      ]
+
+  pub none_large : (1 ≤ length larges → ⊥) → (unit : ℕ) → unit < length seen.numer → is_in large unit ≡ false
+  none_large empty unit h =
+      elim (cases_Bool (is_in large unit)) [
+        | inr e ↦ e
+        | inl e ↦ absurd (empty (some_large unit (omega (arith, h, length_view raw large offset)) e))
+      ]
 
 -- ---- units by their flags
 
@@ -156,18 +176,18 @@ module _ (raw : List ℕ) (large : List Bool) (offset k new : ℕ) (b : Bool) (h
   same_large : (unit : ℕ) → unit ≢ k → large_entry (set raw k new) unit ≡ large_entry raw unit
   same_large unit ne = ap (λ (a : ℕ). record { 0 = (a, unit) }) (get_or-set_other raw k unit new 0 ne)
 
-module _ (raw : List ℕ) (large : List Bool) (offset : ℕ) (smalls : List (ℕ × ℕ)) (larges : List (Reverse (ℕ × ℕ))) (small_capacity large_capacity small_after large_after : ℕ) (kept : IsKept raw large offset smalls larges small_capacity large_capacity) (small_room : small_capacity ≤ small_after) (large_room : large_capacity ≤ large_after) where
+module _ {raw : List ℕ} {large : List Bool} {offset : ℕ} {smalls : List (ℕ × ℕ)} {larges : List (Reverse (ℕ × ℕ))} {small_capacity large_capacity : ℕ} (kept : IsKept raw large offset smalls larges small_capacity large_capacity) where
   -- the first small unit becomes large
   module _ (e : ℕ × ℕ) (some : 1 ≤ length smalls) (front : e ≡ get_or smalls 0 e) where
     up_known : e.1 < length raw
-    up_known = small_known raw large offset smalls larges small_capacity large_capacity kept e some front
+    up_known = small_known kept e some front
 
     up_in : is_in large e.1 ≡ false
-    up_in = small_in raw large offset smalls larges small_capacity large_capacity kept e some front
+    up_in = small_in kept e some front
 
-    pub promoted : (rest : List (ℕ × ℕ)) (more : List (Reverse (ℕ × ℕ))) → IsPermutation smalls (e ∷ rest) → IsPermutation (record { 0 = (e.0 + offset, e.1) } ∷ larges) more → IsHeap by_numer rest → IsHeap by_numer_reversed more
+    pub promoted : {small_after large_after : ℕ} → small_capacity ≤ small_after → large_capacity ≤ large_after → (rest : List (ℕ × ℕ)) (more : List (Reverse (ℕ × ℕ))) → IsPermutation smalls (e ∷ rest) → IsPermutation (record { 0 = (e.0 + offset, e.1) } ∷ larges) more → IsHeap by_numer rest → IsHeap by_numer_reversed more
         → IsKept (set raw e.1 (e.0 + offset)) (set large e.1 true) offset rest more small_after large_after
-    promoted rest more taken put small_order large_order =
+    promoted small_room large_room rest more taken put small_order large_order =
         let less : suc (length rest) ≡ length smalls = length_permutation smalls (e ∷ rest) taken in
         let longer : length more ≡ suc (length larges) = length_permutation (record { 0 = (e.0 + offset, e.1) } ∷ larges) more put in
         let n : length (set raw e.1 (e.0 + offset)) ≡ length raw = simp length-set refl in
@@ -176,8 +196,8 @@ module _ (raw : List ℕ) (large : List Bool) (offset : ℕ) (smalls : List (ℕ
           paired = simp length-set kept.paired;
           low = kept.low;
           above = moved_above raw large offset e.1 (e.0 + offset) true up_known kept.paired (λ _. let all : offset ≤ e.0 + offset = omega arith in all) kept.above;
-          small_queue = rw n (popped (λ x. x.1) (small_entry raw) (λ j. not (is_in large j)) (length raw) smalls kept.small_queue (small_entry (set raw e.1 (e.0 + offset))) (λ j. not (is_in (set large e.1 true) j)) e.1 (same_small raw large offset e.1 (e.0 + offset) true up_known kept.paired) (λ j ne. ap not (placed_other large e.1 true j ne)) e rest some front refl (ap not (moved_in raw large offset e.1 (e.0 + offset) true up_known kept.paired)) taken);
-          large_queue = rw n (pushed (λ x. x.0.1) (large_entry raw) (is_in large) (length raw) larges kept.large_queue (large_entry (set raw e.1 (e.0 + offset))) (is_in (set large e.1 true)) e.1 (same_large raw large offset e.1 (e.0 + offset) true up_known kept.paired) (λ j ne. placed_other large e.1 true j ne) more up_known up_in (moved_in raw large offset e.1 (e.0 + offset) true up_known kept.paired) refl (subst (λ (x : Reverse (ℕ × ℕ)). IsPermutation (x ∷ larges) more) (sym item) put));
+          small_queue = rw n (popped kept.small_queue (small_entry (set raw e.1 (e.0 + offset))) (λ j. not (is_in (set large e.1 true) j)) e.1 (same_small raw large offset e.1 (e.0 + offset) true up_known kept.paired) (λ j ne. ap not (placed_other large e.1 true j ne)) e rest some front refl (ap not (moved_in raw large offset e.1 (e.0 + offset) true up_known kept.paired)) taken);
+          large_queue = rw n (pushed kept.large_queue (large_entry (set raw e.1 (e.0 + offset))) (is_in (set large e.1 true)) e.1 (same_large raw large offset e.1 (e.0 + offset) true up_known kept.paired) (λ j ne. placed_other large e.1 true j ne) more up_known up_in (moved_in raw large offset e.1 (e.0 + offset) true up_known kept.paired) refl (subst (λ (x : Reverse (ℕ × ℕ)). IsPermutation (x ∷ larges) more) (sym item) put));
           small_order = small_order;
           large_order = large_order;
           all = rw n (omega (arith, less, longer, kept.all));
@@ -189,23 +209,23 @@ module _ (raw : List ℕ) (large : List Bool) (offset : ℕ) (smalls : List (ℕ
     up_view =
         let back : e.0 + offset - offset ≡ e.0 = omega arith in
         placed_view raw large offset e.1 (e.0 + offset) true up_known kept.paired
-        (at_small raw large offset e.1 up_known up_in ∙ sym (small_numer raw large offset smalls larges small_capacity large_capacity kept e some front) ∙ sym back)
+        (at_small raw large offset e.1 up_known up_in ∙ sym (small_numer kept e some front) ∙ sym back)
 
   -- the least large unit becomes small
   module _ (e : Reverse (ℕ × ℕ)) (some : 1 ≤ length larges) (front : e ≡ get_or larges 0 e) where
     down_known : e.0.1 < length raw
-    down_known = large_known raw large offset smalls larges small_capacity large_capacity kept e some front
+    down_known = large_known kept e some front
 
     down_in : is_in large e.0.1 ≡ true
-    down_in = large_in raw large offset smalls larges small_capacity large_capacity kept e some front
+    down_in = large_in kept e some front
 
     -- its own numerator isn't below the offset
     pub down_within : offset ≤ e.0.0
-    down_within = omega (arith, kept.above e.0.1 down_known down_in, large_raw raw large offset smalls larges small_capacity large_capacity kept e some front)
+    down_within = omega (arith, kept.above e.0.1 down_known down_in, large_raw kept e some front)
 
-    pub demoted : (rest : List (Reverse (ℕ × ℕ))) (more : List (ℕ × ℕ)) → IsPermutation larges (e ∷ rest) → IsPermutation ((e.0.0 - offset, e.0.1) ∷ smalls) more → IsHeap by_numer_reversed rest → IsHeap by_numer more
+    pub demoted : {small_after large_after : ℕ} → small_capacity ≤ small_after → large_capacity ≤ large_after → (rest : List (Reverse (ℕ × ℕ))) (more : List (ℕ × ℕ)) → IsPermutation larges (e ∷ rest) → IsPermutation ((e.0.0 - offset, e.0.1) ∷ smalls) more → IsHeap by_numer_reversed rest → IsHeap by_numer more
         → IsKept (set raw e.0.1 (e.0.0 - offset)) (set large e.0.1 false) offset more rest small_after large_after
-    demoted rest more taken put large_order small_order =
+    demoted small_room large_room rest more taken put large_order small_order =
         let less : suc (length rest) ≡ length larges = length_permutation larges (e ∷ rest) taken in
         let longer : length more ≡ suc (length smalls) = length_permutation ((e.0.0 - offset, e.0.1) ∷ smalls) more put in
         let n : length (set raw e.0.1 (e.0.0 - offset)) ≡ length raw = simp length-set refl in
@@ -214,8 +234,8 @@ module _ (raw : List ℕ) (large : List Bool) (offset : ℕ) (smalls : List (ℕ
           paired = simp length-set kept.paired;
           low = kept.low;
           above = moved_above raw large offset e.0.1 (e.0.0 - offset) false down_known kept.paired (λ is. absurd (let no : false ≡ true = is in cc)) kept.above;
-          small_queue = rw n (pushed (λ x. x.1) (small_entry raw) (λ j. not (is_in large j)) (length raw) smalls kept.small_queue (small_entry (set raw e.0.1 (e.0.0 - offset))) (λ j. not (is_in (set large e.0.1 false) j)) e.0.1 (same_small raw large offset e.0.1 (e.0.0 - offset) false down_known kept.paired) (λ j ne. ap not (placed_other large e.0.1 false j ne)) more down_known (ap not down_in) (ap not (moved_in raw large offset e.0.1 (e.0.0 - offset) false down_known kept.paired)) refl (subst (λ (x : ℕ × ℕ). IsPermutation (x ∷ smalls) more) (sym item) put));
-          large_queue = rw n (popped (λ x. x.0.1) (large_entry raw) (is_in large) (length raw) larges kept.large_queue (large_entry (set raw e.0.1 (e.0.0 - offset))) (is_in (set large e.0.1 false)) e.0.1 (same_large raw large offset e.0.1 (e.0.0 - offset) false down_known kept.paired) (λ j ne. placed_other large e.0.1 false j ne) e rest some front refl (moved_in raw large offset e.0.1 (e.0.0 - offset) false down_known kept.paired) taken);
+          small_queue = rw n (pushed kept.small_queue (small_entry (set raw e.0.1 (e.0.0 - offset))) (λ j. not (is_in (set large e.0.1 false) j)) e.0.1 (same_small raw large offset e.0.1 (e.0.0 - offset) false down_known kept.paired) (λ j ne. ap not (placed_other large e.0.1 false j ne)) more down_known (ap not down_in) (ap not (moved_in raw large offset e.0.1 (e.0.0 - offset) false down_known kept.paired)) refl (subst (λ (x : ℕ × ℕ). IsPermutation (x ∷ smalls) more) (sym item) put));
+          large_queue = rw n (popped kept.large_queue (large_entry (set raw e.0.1 (e.0.0 - offset))) (is_in (set large e.0.1 false)) e.0.1 (same_large raw large offset e.0.1 (e.0.0 - offset) false down_known kept.paired) (λ j ne. placed_other large e.0.1 false j ne) e rest some front refl (moved_in raw large offset e.0.1 (e.0.0 - offset) false down_known kept.paired) taken);
           small_order = small_order;
           large_order = large_order;
           all = rw n (omega (arith, less, longer, kept.all));
@@ -226,11 +246,11 @@ module _ (raw : List ℕ) (large : List Bool) (offset : ℕ) (smalls : List (ℕ
     pub down_view : ranked_of (set raw e.0.1 (e.0.0 - offset)) (set large e.0.1 false) offset ≡ placed (ranked_of raw large offset) e.0.1 false
     down_view =
         placed_view raw large offset e.0.1 (e.0.0 - offset) false down_known kept.paired
-        (at_large raw large offset e.0.1 down_known down_in ∙ ap (λ a. a - offset) (sym (large_raw raw large offset smalls larges small_capacity large_capacity kept e some front)))
+        (at_large raw large offset e.0.1 down_known down_in ∙ ap (λ a. a - offset) (sym (large_raw kept e some front)))
 
 -- ---- all large units lowered
 
-module _ (raw : List ℕ) (large : List Bool) (offset by : ℕ) (smalls : List (ℕ × ℕ)) (larges : List (Reverse (ℕ × ℕ))) (small_capacity large_capacity : ℕ) (kept : IsKept raw large offset smalls larges small_capacity large_capacity) where
+module _ (by : ℕ) {raw : List ℕ} {large : List Bool} {offset : ℕ} {smalls : List (ℕ × ℕ)} {larges : List (Reverse (ℕ × ℕ))} {small_capacity large_capacity : ℕ} (kept : IsKept raw large offset smalls larges small_capacity large_capacity) where
   pub lowered_kept : offset + by < 2 ^ 126 → ((unit : ℕ) → unit < length (ranked_of raw large offset).numer → is_in large unit ≡ true → by ≤ get_or (ranked_of raw large offset).numer unit 0) → IsKept raw large (offset + by) smalls larges small_capacity large_capacity
   lowered_kept low above = record {
     paired = kept.paired;
@@ -297,7 +317,7 @@ pub filling_more : (raw : List ℕ) (unit a : ℕ) (large large' : List Bool) (s
 filling_more raw unit a large large' smalls more is h a_is large_is put order longer = record {
   count = rw large_is (simp length-append (omega (arith, is.count)));
   none = rw large_is (omega (arith, sum_by-append (λ b. cond b 1 0) large (false ∷ []), count-cons (λ b. b) false [], is.none));
-  queue = pushed (λ e. e.1) (small_entry raw) (λ k. nat_lt k unit) (length raw) smalls is.queue (small_entry raw) (λ k. nat_lt k (unit + 1)) unit (λ j _. refl) other more h (le-ltb unit unit (omega arith)) (lt-ltb unit (unit + 1) (omega arith)) refl
+  queue = pushed is.queue (small_entry raw) (λ k. nat_lt k (unit + 1)) unit (λ j _. refl) other more h (le-ltb unit unit (omega arith)) (lt-ltb unit (unit + 1) (omega arith)) refl
       (subst (λ (n : ℕ). IsPermutation ((n, unit) ∷ smalls) more) a_is put);
   order = order;
   filled_to = omega (arith, longer, is.filled_to);

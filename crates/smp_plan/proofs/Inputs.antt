@@ -1,5 +1,5 @@
 -- What was read of a design and a frame.
-use Rattle.std.proofs.Common.{◌≡◌, ℕ, true, false, length, List, [], Result, Ok, Err, refl, ap, ◌∙◌, arith}
+use Rattle.std.proofs.Common.{◌≡◌, ℕ, true, false, length, List, [], Result, Ok, Err, IfErr, refl, ap, ◌∙◌, arith}
 use Rattle.smp_io.specs.Store.{Files}
 use Rattle.smp_io.proofs.Asked.{only_none}
 use Rattle.smp_log.specs.Heads.{head_of}
@@ -20,10 +20,10 @@ use Rattle.smp_faults.specs.Memory as memory
 use Rattle.smp_faults.specs.Steps.{◌>>=◌}
 use Rattle.smp_plan.specs.Stops.{Stop, Refused, without}
 use Rattle.smp_status.specs.Codes.{Class, IsRefusal, IsNoMemory, class_of, design_status, misfit_status}
-use Rattle.smp_plan.specs.Reads.{Told, Sees, IsErrorOf, IsCaused, ReadCause, Reads}
+use Rattle.smp_plan.specs.Reads.{Told, Sees, Follows, IsErrorOf, IsCaused, ReadCause, Reads}
 use Rattle.smp_plan.specs.Planned.{GivesPlan}
 use Rattle.smp_status.specs.Reports.{IsOfInputs}
-use Rattle.smp_plan.proofs.Steps.{Ignores, bind_same}
+use Rattle.smp_plan.proofs.Steps.{Ignores, bind_same, read_for}
 use Rattle.smp_plan.proofs.Names.{contains_left, contains_right, Apart}
 
 pub design_ignores : (source : DesignSource) → Ignores (design_stage source) (design_names source)
@@ -59,32 +59,14 @@ module _ (design : ReadDesign) (frame : FrameSource) (bytes : List ℕ) (units :
   staged fs told = rw (read.follows fs told, framed, few) refl
 
   pub plan_read : (plan : Plan) → plan_of made ≡ Ok plan → Reads (frame_names frame) (frame_stage design frame) (Ok plan) before now
-  plan_read plan is = record {
-    follows = λ fs told. staged fs told ∙ is;
-    kinds = tt;
-    cause = tt;
-    same = read.same;
-    reads = read.reads;
-    writes = read.writes;
-    shortages = read.shortages;
-    asked = read.asked;
-  }
+  plan_read plan is = read_for read (λ fs told. staged fs told ∙ is) tt tt
 
   abbrev pub refusal_of : Misfit → Result Plan Status
   refusal_of misfit = Err (misfit_status misfit)
 
   refused_so : (misfit : Misfit) (class : Class) → class_of (misfit_status misfit) ≡ class → IsOfInputs class (misfit_status misfit) → ((fs : Files) → Sees (frame_names frame) before.files fs → IsErrorOf class (misfit_status misfit) (frame_stage design frame fs)) → IsCaused class (ReadCause (frame_names frame) (frame_stage design frame) before now)
       → Reads (frame_names frame) (frame_stage design frame) (refusal_of misfit) before now
-  refused_so misfit class is kind follows cause = record {
-    follows = λ fs told. rw is (follows fs told);
-    kinds = rw is kind;
-    cause = rw is cause;
-    same = read.same;
-    reads = read.reads;
-    writes = read.writes;
-    shortages = read.shortages;
-    asked = read.asked;
-  }
+  refused_so misfit class is kind follows cause = read_for read (λ fs told. rw is (follows fs told)) (rw is kind) (rw is cause)
 
   pub misfit_read : (misfit : Misfit) → GivesPlan (Err misfit) (plan_of made) → Reads (frame_names frame) (frame_stage design frame) (refusal_of misfit) before now
   misfit_read misfits.NoMemory gives = refused_so misfits.NoMemory IsNoMemory refl tt (λ fs told. tt) tt
@@ -104,26 +86,18 @@ module _ (design : ReadDesign) (frame : FrameSource) (bytes : List ℕ) (units :
   large_staged fs told = rw (read.follows fs told, framed, large) refl
 
   pub large_read : Reads {A = Plan} (frame_names frame) (frame_stage design frame) (Err (status.JointLarge (length units))) before now
-  large_read = record {
-    follows = large_staged;
-    kinds = refl;
-    cause = tt;
-    same = read.same;
-    reads = read.reads;
-    writes = read.writes;
-    shortages = read.shortages;
-    asked = read.asked;
-  }
+  large_read = read_for read large_staged refl tt
 
 -- ---- a design that is made of bytes with the command
 
 module _ (bytes : List ℕ) (now : Told) where
-  pub made_read : (design : Design) → design_of bytes ≡ Ok design → Reads [] (design_stage (Made bytes)) (Ok (record { design = design; bytes = bytes })) now now
-  unfolding design_stage
-  made_read design is = record {
-    follows = λ fs told. rw is refl;
-    kinds = tt;
-    cause = tt;
+  -- nothing is read of the store
+  none_read : (answer : Result ReadDesign Status) → ((fs : Files) → Follows answer (design_stage (Made bytes) fs)) → IfErr answer (λ error. IsOfInputs (class_of error) error)
+      → IfErr answer (λ error. IsCaused (class_of error) (ReadCause [] (design_stage (Made bytes)) now now)) → Reads [] (design_stage (Made bytes)) answer now now
+  none_read answer follows kinds cause = record {
+    follows = λ fs told. follows fs;
+    kinds = kinds;
+    cause = cause;
     same = refl;
     reads = λ name. omega arith;
     writes = λ name. omega arith;
@@ -131,18 +105,13 @@ module _ (bytes : List ℕ) (now : Told) where
     asked = only_none [] now.asked now.asked refl;
   }
 
+  pub made_read : (design : Design) → design_of bytes ≡ Ok design → Reads [] (design_stage (Made bytes)) (Ok (record { design = design; bytes = bytes })) now now
+  unfolding design_stage
+  made_read design is = none_read (Ok (record { design = design; bytes = bytes })) (λ fs. rw is refl) tt tt
+
   refusing : (error : Status) (class : Class) → class_of error ≡ class → IsOfInputs class error → ((fs : Files) → IsErrorOf class error (design_stage (Made bytes) fs)) → IsCaused class (ReadCause [] (design_stage (Made bytes)) now now)
       → Reads [] (design_stage (Made bytes)) (Err error) now now
-  refusing error class is kind follows cause = record {
-    follows = λ fs told. rw is (follows fs);
-    kinds = rw is kind;
-    cause = rw is cause;
-    same = refl;
-    reads = λ name. omega arith;
-    writes = λ name. omega arith;
-    shortages = λ name. omega arith;
-    asked = only_none [] now.asked now.asked refl;
-  }
+  refusing error class is kind follows cause = none_read (Err error) (λ fs. rw is (follows fs)) (rw is kind) (rw is cause)
 
   staged_fault : (fault : DesignFault) → design_of bytes ≡ Err fault → (fs : Files) → design_stage (Made bytes) fs ≡ Err (Refused (design_status fault))
   unfolding design_stage

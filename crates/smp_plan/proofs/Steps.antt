@@ -8,7 +8,8 @@ use Rattle.smp_status.specs.declared.status.Status.{Status}
 use Rattle.smp_faults.specs.Steps.{◌>>=◌}
 use Rattle.smp_plan.specs.Stops.{Stop, without}
 use Rattle.smp_status.specs.Codes.{Class, IsDone, IsUsage, IsRefusal, IsReadFault, IsWriteFault, IsNoMemory, class_of}
-use Rattle.smp_plan.specs.Reads.{Told, Sees, IsErrorOf, IsCaused, ReadCause, Reads}
+use Rattle.smp_status.specs.Reports.{IsOfInputs}
+use Rattle.smp_plan.specs.Reads.{Told, Sees, Follows, IsErrorOf, IsCaused, ReadCause, Reads}
 use Rattle.smp_plan.proofs.Names.{contains_left, contains_right, Apart, apart}
 
 pub rose_since : (first before now : ℕ) → first ≤ before → Rose before now → Rose first now
@@ -60,6 +61,22 @@ error_of IsDone error stage next h = ap (λ s. s >>= next) h
 error_of IsUsage error stage next h = ap (λ s. s >>= next) h
 error_of IsRefusal error stage next h = ap (λ s. s >>= next) h
 error_of IsWriteFault error stage next h = ap (λ s. s >>= next) h
+
+-- what was read for one stage is what was read for another, whose answer follows from it
+pub read_for :
+    {A B : Type 0} {inputs : List (List ℕ)} {stage : Files → Result A Stop} {other : Files → Result B Stop} {first : Result A Status} {answer : Result B Status} {before now : Told}
+    → Reads inputs stage first before now → ((fs : Files) → Sees inputs before.files fs → Follows answer (other fs)) → IfErr answer (λ error. IsOfInputs (class_of error) error)
+    → IfErr answer (λ error. IsCaused (class_of error) (ReadCause inputs other before now)) → Reads inputs other answer before now
+read_for read follows kinds cause = record {
+  follows = follows;
+  kinds = kinds;
+  cause = cause;
+  same = read.same;
+  reads = read.reads;
+  writes = read.writes;
+  shortages = read.shortages;
+  asked = read.asked;
+}
 
 module _ {A B : Type 0} (inputs others : List (List ℕ)) (stage : Files → Result A Stop) (next : A → Files → Result B Stop) (before mid : Told) where
   abbrev pub and_next : Files → Result B Stop

@@ -1,10 +1,9 @@
 -- The stratum of a stage, found among the numbers of the first stages.
-use Rattle.std.proofs.Common.{◌≡◌, ℕ, zero, suc, ◌+◌, ◌-◌, ◌<◌, ◌≤◌, true, false, leb, leb-true, nat_lt, List, length, get_or, arith, sym, inl, inr}
+use Rattle.std.proofs.Common.{◌≡◌, ℕ, suc, ◌-◌, ◌<◌, ◌≤◌, true, false, leb, leb-true, nat_lt, List, length, get_or, arith, inl, inr}
 use Rattle.std.specs.List.Sorted.{IsNonDecreasingBy, IsPartitionedBy, IsPartitionPoint}
 use Rattle.std.proofs.lemmas.Bool.{cases_lt, leb-false, lt-ltb, le-ltb}
 use Rattle.std.proofs.lemmas.List.Sorted.{IsPartitionedBy-leb}
 use Rattle.smp_stages.specs.Laws.Firsts.{first_is, first_unique}
-use Rattle.smp_stages.specs.Stages.{first_among}
 use Rattle.smp_stages.proofs.Sections.{before_rises, section}
 use Rattle.smp_twostage.specs.Kept.Stages.{first_numbers}
 use Rattle.smp_twostage.specs.Laws.Covered.{strata_are_sections}

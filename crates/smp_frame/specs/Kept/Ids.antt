@@ -4,15 +4,7 @@ use Rattle.smp_frame.specs.declared.frame.Unit as unit
 
 -- a unit with an id
 abbrev pub with_id : List ℕ → unit.Unit → unit.Unit
-with_id id u = record {
-  id = id;
-  stratum = u.stratum;
-  psu = u.psu;
-  size = u.size;
-  second_size = u.second_size;
-  prob = u.prob;
-  values = u.values;
-}
+with_id id u = record u { id = id }
 
 -- units with their ids, in order
 abbrev pub named : List unit.Unit → List (List ℕ) → List unit.Unit

@@ -3,11 +3,10 @@ use Rattle.std.proofs.Common.{◌≡◌, ℕ, zero, suc, ◌+◌, ◌<◌, ◌�
 use Rattle.std.proofs.Common.{get_or, take, drop, Option, Some, None, arith, refl, sym, ap, subst, ◌∙◌, inl, inr, length-append}
 use Rattle.std.specs.Prelude.{option_map}
 use Rattle.std.specs.List.{range_with_len, slice_get}
-use Rattle.std.proofs.lemmas.Bool.{cases_Bool, and_parts, eqb-true, ltb-true}
+use Rattle.std.proofs.lemmas.Bool.{cases_Bool, eqb-true}
 use Rattle.std.proofs.lemmas.List.{length-map, length-take}
 use Rattle.std.proofs.lemmas.List.FromFn.{length-range_with_len, get_or-range_with_len}
 use Rattle.std.proofs.lemmas.Option.{slice_get_within, slice_get-map, slice_get-get_or, same_Some}
-use Rattle.smp_design.specs.declared.method.Method.{Method}
 use Rattle.smp_stages.specs.declared.places.Place.{Place}
 use Rattle.smp_stages.specs.declared.places.Seat as seats
 use Rattle.smp_stages.specs.declared.places.Seat.TheVariants as seat
@@ -15,11 +14,10 @@ use Rattle.smp_stages.specs.OwnStages.{AreSections}
 use Rattle.smp_stages.specs.Stages.{IsFirstUnit, IsStaged, IsUnitWithin, within_of}
 use Rattle.smp_stages.proofs.OwnStages.{run_at}
 use Rattle.smp_strata.specs.Plans.{Parts}
-use Rattle.smp_strata.specs.declared.strata.Seat.{Seat}
 use Rattle.smp_strata.specs.declared.strata.Stratum.{Stratum}
 use Rattle.smp_twostage.specs.Plans.{CanBeDrawn}
 use Rattle.smp_twostage.specs.Selections.{Coverage, count_by, covered_seats, covered_stages, first_number, is_of_stratum, is_together}
-use Rattle.smp_twostage.specs.Selections.{parts_by, place_of, place_together, seat_alone, seat_by, seat_together, seats_by}
+use Rattle.smp_twostage.specs.Selections.{parts_by, place_of, place_together, seat_alone, seat_together, seats_by}
 use Rattle.smp_twostage.specs.Selections.{seats_together, section_count, stage_of_strata, stages_before}
 use Rattle.smp_twostage.specs.Selections.{stages_below, stages_in, stages_of, tree_of, unit_count, units_before}
 use Rattle.smp_twostage.specs.Kept.Sides.{seats_in, section_count_by, stages_before_by, stages_by}

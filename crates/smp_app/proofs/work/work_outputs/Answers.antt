@@ -7,7 +7,7 @@ use Rattle.smp_app.specs.Deliveries.{Outputs, names_of}
 use Rattle.smp_plan.specs.Reads.{Reads, told}
 use Rattle.smp_app.specs.Kept.Stages.{draw_view, drawn_text, file_view, selection_view}
 use Rattle.smp_plan.specs.Planned.{plan_view}
-use Rattle.smp_plan.proofs.Steps.{stops}
+use Rattle.smp_plan.proofs.Steps.{read_for, stops}
 use Rattle.smp_app.proofs.Selections.{is_listed}
 use Rattle.smp_app.proofs.Stages.{names_written}
 use Rattle.smp_app.proofs.work.work_outputs.Goals as goal
@@ -28,17 +28,7 @@ returns-in_err-selection-in-Draws-clause-reads g c =
 pub returns-in_err-drawn_outputs-in-Draws-clause-reads : goal.returns-in_err-drawn_outputs-in-Draws-clause-reads
 returns-in_err-drawn_outputs-in-Draws-clause-reads g c =
     let ends : c.from_residual-in_err-drawn_outputs-in-Draws.result ≡ Err NoMemory = search (rules, c.from_residual-in_err-drawn_outputs-in-Draws.ensures) in
-    let reads = c.in_ok-selection-in-Draws.ensures.reads in
-    rw (ends, c.in-Draws.is) (record {
-      follows = λ fs told. tt;
-      kinds = tt;
-      cause = tt;
-      same = reads.same;
-      reads = reads.reads;
-      writes = reads.writes;
-      shortages = reads.shortages;
-      asked = reads.asked;
-    })
+    rw (ends, c.in-Draws.is) (read_for c.in_ok-selection-in-Draws.ensures.reads (λ fs told. tt) tt tt)
 
 pub returns-in_ok-drawn_outputs-in-Draws-clause-named : goal.returns-in_ok-drawn_outputs-in-Draws-clause-named
 returns-in_ok-drawn_outputs-in-Draws-clause-named g c =

@@ -6,6 +6,7 @@ use Rattle.smp_flight.specs.States.{row_count}
 use Rattle.smp_fractions.specs.Limits.{most_denominator}
 use Rattle.smp_flight.proofs.RowBounds.{narrow_by, none_below, multiple_within, limit_within, entries_within, denominators_within}
 use Rattle.smp_flight.proofs.bounds.is_narrow.Goals as goal
+use Rattle.smp_flight.proofs.bounds.is_narrow.Goals.{In-Some-limit_of}
 
 pub loop-row-init : goal.loop-row-init
 loop-row-init c = record { size = refl; so_far = λ r l. absurd (omega (arith, l)) }
@@ -50,24 +51,25 @@ returns-in_default-multiple_of c = (
   (λ n. absurd (multiple_within c.args.shape.now c.rows-rows.ensures.are n c.in_default-multiple_of.ensures.none)),
 )
 
+-- where there is a limit, each row has its bound, and the limit is theirs
+all_bounds : (c : In-Some-limit_of) → (r : ℕ) → r < row_count c.args.shape.now → IsRowBound c.args.shape.now r (get_or c.loop-row.bounds r 0)
+all_bounds c r l = c.loop-row.invariant.so_far r (omega (arith, l, c.loop-row-test.false, c.rows-rows.ensures.is))
+
+limit_is : (c : In-Some-limit_of) → c.in-Some-limit_of.limit ≡ minor_limit (λ r. max 1 (get_or c.loop-row.bounds r 0)) (row_count c.args.shape.now)
+limit_is c = c.in-Some-limit_of.ensures.some ∙ ap (minor_limit (λ r. max 1 (get_or c.loop-row.bounds r 0))) c.rows-rows.ensures.is
+
 pub returns-else-fits : goal.returns-else-fits
 returns-else-fits c =
-    let all : (r : ℕ) → r < row_count c.args.shape.now → IsRowBound c.args.shape.now r (get_or c.loop-row.bounds r 0) =
-    λ r l. c.loop-row.invariant.so_far r (omega (arith, l, c.loop-row-test.false, c.rows-rows.ensures.is)) in
-    let limit : c.in-Some-limit_of.limit ≡ minor_limit (λ r. max 1 (get_or c.loop-row.bounds r 0)) (row_count c.args.shape.now) =
-    c.in-Some-limit_of.ensures.some ∙ ap (minor_limit (λ r. max 1 (get_or c.loop-row.bounds r 0))) c.rows-rows.ensures.is in (
+    let at = (goal.at.returns-else-fits c).In-Some-limit_of in (
       (λ is. absurd (search (rules, is, c.if-fits.false))),
-      (λ n. c.fits.ensures.1 (entries_within c.args.shape.now c.rows-rows.ensures.are n c.loop-row.bounds all c.in-Some-limit_of.limit limit)),
+      (λ n. c.fits.ensures.1 (entries_within c.args.shape.now c.rows-rows.ensures.are n c.loop-row.bounds (all_bounds at) c.in-Some-limit_of.limit (limit_is at))),
     )
 
 pub returns-then-fits : goal.returns-then-fits
 returns-then-fits c =
-    let all : (r : ℕ) → r < row_count c.args.shape.now → IsRowBound c.args.shape.now r (get_or c.loop-row.bounds r 0) =
-    λ r l. c.loop-row.invariant.so_far r (omega (arith, l, c.loop-row-test.false, c.rows-rows.ensures.is)) in
-    let limit : c.in-Some-limit_of.limit ≡ minor_limit (λ r. max 1 (get_or c.loop-row.bounds r 0)) (row_count c.args.shape.now) =
-    c.in-Some-limit_of.ensures.some ∙ ap (minor_limit (λ r. max 1 (get_or c.loop-row.bounds r 0))) c.rows-rows.ensures.is in (
-      (λ is. narrow_by c.args.shape.now c.rows-rows.ensures.are c.loop-row.bounds all c.in-Some-limit_of.limit c.in-Some-multiple_of.multiple
-          limit c.in-Some-multiple_of.ensures.some.common (c.fits.ensures.0 c.if-fits.true) (c.fits-then-fits.ensures.0 is)),
-      (λ n. c.fits-then-fits.ensures.1 (denominators_within c.args.shape.now c.rows-rows.ensures.are n c.loop-row.bounds all c.in-Some-limit_of.limit
-          c.in-Some-multiple_of.multiple limit c.in-Some-multiple_of.ensures.some)),
+    let at = (goal.at.returns-then-fits c).In-Some-limit_of in (
+      (λ is. narrow_by c.args.shape.now c.rows-rows.ensures.are c.loop-row.bounds (all_bounds at) c.in-Some-limit_of.limit c.in-Some-multiple_of.multiple
+          (limit_is at) c.in-Some-multiple_of.ensures.some.common (c.fits.ensures.0 c.if-fits.true) (c.fits-then-fits.ensures.0 is)),
+      (λ n. c.fits-then-fits.ensures.1 (denominators_within c.args.shape.now c.rows-rows.ensures.are n c.loop-row.bounds (all_bounds at) c.in-Some-limit_of.limit
+          c.in-Some-multiple_of.multiple (limit_is at) c.in-Some-multiple_of.ensures.some)),
     )

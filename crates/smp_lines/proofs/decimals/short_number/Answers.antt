@@ -1,4 +1,4 @@
-use Rattle.std.proofs.Common.{◌∙◌, ap, arith, sym}
+use Rattle.std.proofs.Common.{arith}
 use Rattle.smp_lines.proofs.Digits.{next_digit, next_fits}
 use Rattle.smp_lines.proofs.decimals.short_number.Goals as goal
 

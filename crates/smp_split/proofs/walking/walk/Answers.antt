@@ -90,31 +90,19 @@ returns-in_err-line-clause-untold g c h =
 -- ---- what a uniform draw at each step would give on average, however the walk ends
 
 pub returns-clause-mean : goal.returns-clause-mean
-returns-clause-mean g c sum =
-    let method = g.S.Splitting.method c.args.design.now in
-    mean_is_value method.tree method.belongs method.lawful sum c.args.state.now c.requires
+returns-clause-mean g c sum = let method = g.S.Splitting.method c.args.design.now in mean_is_value method.tree method.belongs method.lawful sum c.args.state.now c.requires
 
 pub returns-clause-probability : goal.returns-clause-probability
-returns-clause-probability g c =
-    let method = g.S.Splitting.method c.args.design.now in
-    probability_is_value method.tree method.belongs method.lawful c.args.state.now c.requires
+returns-clause-probability g c = let method = g.S.Splitting.method c.args.design.now in probability_is_value method.tree method.belongs method.lawful c.args.state.now c.requires
 
 pub returns-in_err-value-clause-mean : goal.returns-in_err-value-clause-mean
-returns-in_err-value-clause-mean g c sum =
-    let method = g.S.Splitting.method c.args.design.now in
-    mean_is_value method.tree method.belongs method.lawful sum c.args.state.now c.requires
+returns-in_err-value-clause-mean g c sum = let method = g.S.Splitting.method c.args.design.now in mean_is_value method.tree method.belongs method.lawful sum c.args.state.now c.requires
 
 pub returns-in_err-value-clause-probability : goal.returns-in_err-value-clause-probability
-returns-in_err-value-clause-probability g c =
-    let method = g.S.Splitting.method c.args.design.now in
-    probability_is_value method.tree method.belongs method.lawful c.args.state.now c.requires
+returns-in_err-value-clause-probability g c = let method = g.S.Splitting.method c.args.design.now in probability_is_value method.tree method.belongs method.lawful c.args.state.now c.requires
 
 pub returns-in_err-line-clause-mean : goal.returns-in_err-line-clause-mean
-returns-in_err-line-clause-mean g c sum =
-    let method = g.S.Splitting.method c.args.design.now in
-    mean_is_value method.tree method.belongs method.lawful sum c.args.state.now c.requires
+returns-in_err-line-clause-mean g c sum = let method = g.S.Splitting.method c.args.design.now in mean_is_value method.tree method.belongs method.lawful sum c.args.state.now c.requires
 
 pub returns-in_err-line-clause-probability : goal.returns-in_err-line-clause-probability
-returns-in_err-line-clause-probability g c =
-    let method = g.S.Splitting.method c.args.design.now in
-    probability_is_value method.tree method.belongs method.lawful c.args.state.now c.requires
+returns-in_err-line-clause-probability g c = let method = g.S.Splitting.method c.args.design.now in probability_is_value method.tree method.belongs method.lawful c.args.state.now c.requires

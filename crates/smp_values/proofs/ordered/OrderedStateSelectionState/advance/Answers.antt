@@ -1,4 +1,4 @@
-use Rattle.std.proofs.Common.{◌≡◌, ◌<◌, ◌∙◌, sym, ap, subst, true, false, nat_eq, length, arith}
+use Rattle.std.proofs.Common.{◌≡◌, ◌<◌, ◌∙◌, sym, ap, true, false, nat_eq, length, arith}
 use Rattle.smp_split.specs.Orders.{Ordered, in_order}
 use Rattle.smp_split.specs.Trees.{weight_sum}
 use Rattle.smp_split.proofs.Orders.{inner_bound, inner_picked, order_made, order_within, told_within}
