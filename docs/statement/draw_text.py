@@ -38,7 +38,7 @@ fs now.files` holds (field `draw` of @headline@, clause `headline` of [`sampler`
 
 **Premises on chance**: that each number of T is uniform below its bound, *whatever the numbers before it were* (uniform and independent). With a
 seed: that the words of ChaCha20 under a key that nobody knew are so; that they then make fair draws is proved
-([`fair`](../../crates/smp_sieve/src/sieve.rt), [seed.md](seed.md)).
+([`fair`](../../crates/smp_tape/src/sieve.rt), [seed.md](seed.md)).
 
 **To trust besides:** Rattle's prover; the words of the kit in section 11; that real files do what the store in memory does; that ℕ stands for the
 code's u32 and u64. [assumptions.md](../assumptions.md) has all of it in plain words.
@@ -69,7 +69,7 @@ state. `examples/tree.py` goes through all of its ways with the built program, o
 """
 # A section: its title, what it is about, and what it begins with, each with the end of its file's name where the name has several. What stands
 # there is what these reach and isn't yet shown; the last section's are taken out first.
-FRACTIONS = "smp_fractions.specs.Fractions"
+FRACTIONS = "smp_frac.specs.Fractions"
 SECTIONS = [
     ("The tree, and P",
      "A tree is a function of a state: there is no chance in it. A number v below the bound leads from a state s to s·v, by `picked`. P goes over "
@@ -104,7 +104,7 @@ ELSEWHERE = ("Those on asked.md are a part of π: they say which units, sizes an
              "ordinary notation. Types of the code are on [words.md](words.md).")
 # The files whose definitions may stand on the page. It stops at each name of another file.
 FILES = """
-    smp_app/Drawn smp_app/Draws smp_app/Headline smp_app/Texts smp_frac/Fractions smp_fractions/Bounds smp_fractions/Fractions
+    smp_app/Drawn smp_app/Draws smp_app/Headline smp_app/Texts smp_frac/Exact smp_frac/Bounds smp_frac/Fractions
     smp_log/Genuine smp_plan/Plans smp_prob/Requested smp_split/Counts smp_split/Means smp_split/Paths smp_split/Trees smp_strata/Asked
     smp_twostage/Starts smp_weights/Rows smp_weights/Sample
 """
@@ -132,7 +132,7 @@ CLOSED = {
     "second_size_at": ("the same of one row", ""),
     "prob_at": ("the frame's own probability of a row", ""),
     "first_row": ("the first of some rows", ""),
-    "fraction": ("a fraction of the code as one here", "smp_frac.specs.Fractions"),
+    "fraction": ("a fraction of the code as one here", "smp_frac.specs.Exact"),
     "AreAsked": ("n is what is asked of stratum h: n_h, or the sum of its given probabilities where that is whole", ""),
     "expected_size": ("the sum of the given probabilities", ""),
     "first_probs": ("the given probabilities of a stratum's first stage units", ""),

@@ -9,8 +9,10 @@ HERE = os.path.dirname(os.path.abspath(__file__))
 TOP = os.path.dirname(os.path.dirname(HERE))
 # The methods: the page, its name in words, the name of its variant, and the crates and files that are its own.
 METHODS = [
-    ("pivotal", "sequential pivotal selection", "Pivotal", ["smp_pivotal"]),
-    ("systematic", "systematic selection", "Systematic", ["smp_systematic"]),
+    ("pivotal", "sequential pivotal selection", "Pivotal",
+     ["smp_pivotal.specs.Pivotal", "smp_pivotal.specs.PivotalMethod", "smp_pivotal.specs.Laws.PivotalSplits", "smp_pivotal.specs.Four"]),
+    ("systematic", "systematic selection", "Systematic",
+     ["smp_pivotal.specs.Systematic", "smp_pivotal.specs.SystematicMethod", "smp_pivotal.specs.Laws"]),
     ("minimum_support", "minimum support", "MinimumSupport", ["smp_minsup"]),
     ("brewer", "Brewer's method", "Brewer", ["smp_brewer"]),
     ("elimination", "the elimination procedure", "Elimination", ["smp_elim"]),
@@ -24,8 +26,8 @@ METHODS = [
 SHARED = [
     ("joint", "Joint probabilities", "What `joint` lists.", ["smp_joint", "IsExactJoint", "joints_text", "most_joint_rows"]),
     ("balance", "What balance is", "What the cube, the local cube and the stratified cube keep.",
-     ["smp_moves.specs.Balances", "smp_moves.specs.Owed", "smp_balance.specs.Strata", "smp_balance.specs.Totals", "smp_twostage.specs.Cubes",
-      "KeepsBalance", "IsCubeDraw", "IsTogetherDraw", "Goes", "TellsColumn", "TellsSection", "TellsBalance", "smp_stages.specs.Paths"]),
+     ["smp_moves.specs.Balances", "smp_moves.specs.Owed", "smp_twostage.specs.Strata", "smp_twostage.specs.Totals", "smp_twostage.specs.Cubes",
+      "KeepsBalance", "IsCubeDraw", "IsTogetherDraw", "Goes", "TellsColumn", "TellsSection", "TellsBalance", "smp_split.specs.StagePaths"]),
     ("flight", "A step of the flight", "The direction of a flight step, and how far it is followed; by the cube, the local cube and the stratified "
                                        "cube.",
      ["smp_kernel", "smp_moves", "smp_flight"]),
@@ -33,17 +35,20 @@ SHARED = [
     ("values", "Values of units, and their order", "Values over one denominator, the steps on them, and the order in which units are taken.",
      ["smp_values", "smp_prob.specs.Shares", "smp_split.specs.Orders", "smp_split.specs.Parts", "smp_split.specs.Lenses"]),
     ("seed", "Numbers by a seed", "How a seed's words make numbers below a bound.",
-     ["smp_sieve", "smp_split.specs.Runs", "smp_tape.specs.Sources", "IsDrawnBySeed"]),
+     ["smp_tape.specs.Streams", "smp_tape.specs.Sieves", "smp_tape.specs.Fair", "smp_tape.specs.Keys", "smp_tape.specs.SieveSources",
+      "smp_split.specs.Runs", "smp_tape.specs.Sources", "IsDrawnBySeed"]),
     ("bytes", "What the bytes say", "The design (TOML), the frame (CSV) and the tape, and what is refused.",
-     ["smp_design", "smp_frame", "smp_lines", "smp_strata.specs.Misfits", "smp_strata.specs.Bounds", "smp_tape", "IsReadPlan", "IsReadFrame", "IsAccepted",
+     ["smp_design", "smp_frame", "smp_frac.specs.Cuts", "smp_frac.specs.Decimals", "smp_strata.specs.Misfits", "smp_strata.specs.Bounds",
+      "smp_tape", "IsReadPlan", "IsReadFrame", "IsAccepted",
       "smp_plan.specs.Inputs", "smp_plan.specs.Stops", "smp_words"]),
     ("asked", "What is asked", "Strata, first stage units, how many of each are drawn, and what is asked of each.", ["smp_strata", "smp_prob", "smp_plan"]),
     ("written", "What is written", "The log, the report, and the texts they are made of.",
-     ["smp_weights", "smp_log.specs.Heads", "smp_log.specs.Logs", "smp_log.specs.SectionLogs", "smp_app.specs.Texts", "IsReported", "smp_balance",
+     ["smp_weights", "smp_log.specs.Heads", "smp_log.specs.Logs", "smp_log.specs.SectionLogs", "smp_app.specs.Texts", "IsReported",
+      "smp_twostage.specs.DrawnLines", "smp_twostage.specs.Reports",
       "smp_twostage.specs.Lines", "smp_log.specs.Lines", "smp_split.specs.Kinds"]),
     ("plan", "The tree of a plan", "How the trees of the stages make that of a plan.",
-     ["smp_rows", "smp_methods", "smp_stages", "smp_split", "smp_twostage", "smp_app.specs.Drawn"]),
-    ("arithmetic", "Numbers", "Fractions, divisors, limits.", ["smp_fractions", "smp_frac", "smp_places", "smp_faults"]),
+     ["smp_methods", "smp_split", "smp_twostage", "smp_app.specs.Drawn"]),
+    ("arithmetic", "Numbers", "Fractions, divisors, limits.", ["smp_frac", "smp_places"]),
     ("replay", "What else a call does", "The words of a call, a replay, a quick draw, a migration, a demonstration, a log that is refused.", []),
 ]
 WORDS = {page: words for page, words, _, _ in METHODS}

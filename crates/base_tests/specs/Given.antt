@@ -3,7 +3,7 @@ use Rattle.std.proofs.Common.{◌≡◌, ℕ, ◌^◌, ◌<◌, Result, Ok, Err,
 use Rattle.smp_tape.specs.declared.draws.DrawFault.{DrawFault}
 use Rattle.smp_tape.specs.Tapes.{Values, tape_next}
 use Rattle.smp_tape.specs.Laws.Tapes.{below_from}
-use Rattle.smp_sieve.specs.Streams.{Stream}
+use Rattle.smp_tape.specs.Streams.{Stream}
 
 abbrev pub word_of : Result ℕ DrawFault → ℕ
 word_of (Ok value) = value

@@ -1,10 +1,9 @@
 ghost use Rattle.std.specs.Prelude.{◌<◌, ◌≤◌};
-ghost use Rattle.smp_fractions.specs.Limits.{wide_limit};
+ghost use Rattle.smp_frac.specs.Limits.{wide_limit};
 ghost use Rattle.smp_tape.specs.Tapes.{Values};
 ghost use Rattle.base_tests.specs.Given.{given_stream};
 
-use smp_sieve::{ChaChaWords, Sieve, Words};
-use smp_tape::{DrawFault, Draws, Tape};
+use smp_tape::{ChaChaWords, DrawFault, Draws, Sieve, Tape, Words};
 use std::alloc::Global;
 use std::marker::Model;
 use std::test::Fail;

@@ -1,7 +1,7 @@
 -- What is proved of the design of a request is stated of sizes and a tape.
 use Rattle.std.proofs.Common.{◌≡◌, ℕ, ◌<◌, List, [], length, slice_index, EachIndex, true, refl, sym, ap, subst, ◌∙◌}
-use Rattle.smp_fractions.specs.Fractions.{Same}
-use Rattle.smp_fractions.proofs.Fractions.{same_trans}
+use Rattle.smp_frac.specs.Fractions.{Same}
+use Rattle.smp_frac.proofs.Arithmetic.{same_trans}
 use Rattle.smp_prob.specs.Requested.{requested_fraction, requested_of}
 use Rattle.smp_prob.specs.Shares.{Shares}
 use Rattle.smp_prob.specs.Inclusions.{asked_fraction, IsRising}
@@ -19,9 +19,9 @@ use Rattle.smp_split.specs.Trees.{Tree}
 use Rattle.smp_split.specs.declared.walking.WalkFault.{WalkFault}
 use Rattle.smp_split.specs.declared.walking.WalkFault.TheVariants as walks
 use Rattle.smp_split.proofs.Runs.{run_is}
-use Rattle.smp_rows.specs.Rows.{rows_tree, BelongsToRows}
-use Rattle.smp_rows.specs.Laws.Rows.{rows_lawful}
-use Rattle.smp_pivotal.specs.Method.{method_of, started}
+use Rattle.smp_split.specs.Rows.{rows_tree, BelongsToRows}
+use Rattle.smp_split.specs.Laws.Rows.{rows_lawful}
+use Rattle.smp_pivotal.specs.PivotalMethod.{method_of, started}
 use Rattle.library_example.specs.Draws.{tree_of, start_of, IsDrawn, IsRefused}
 use Rattle.library_example.specs.Faults.{of_walk}
 use Rattle.library_example.specs.declared.fault.Fault.TheVariants as faults

@@ -11,8 +11,8 @@ use Rattle.smp_split.specs.Orders.{Ordered}
 use Rattle.smp_split.specs.Paths.{Entry}
 use Rattle.smp_split.specs.Runs.{leaf, run, stopped}
 use Rattle.smp_split.specs.Trees.{Tree}
-use Rattle.smp_rows.specs.Rows.{rows_tree}
-use Rattle.smp_pivotal.specs.Method.{method_of, started}
+use Rattle.smp_split.specs.Rows.{rows_tree}
+use Rattle.smp_pivotal.specs.PivotalMethod.{method_of, started}
 
 -- the state before the first step
 abbrev pub start_of : List ℕ → ℕ → Ordered Shares

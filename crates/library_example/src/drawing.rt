@@ -1,7 +1,7 @@
 ghost use Rattle.std.specs.Prelude.{◌≡◌, ◌↔◌, ℕ, ◌<◌, ◌≤◌, length, slice_index};
 ghost use Rattle.std.specs.Prelude.{EachIndex, OnOk, IfOk, Err};
-ghost use Rattle.smp_fractions.specs.Limits.{most_rows, number_limit};
-ghost use Rattle.smp_fractions.specs.Fractions.{Same};
+ghost use Rattle.smp_frac.specs.Limits.{most_rows, number_limit};
+ghost use Rattle.smp_frac.specs.Fractions.{Same};
 ghost use Rattle.smp_prob.specs.Requested.{positive_units, requested_fraction};
 ghost use Rattle.smp_tape.specs.declared.draws.DrawFault.{DrawFault};
 ghost use Rattle.smp_split.specs.Means.{inclusion_probability};
@@ -11,8 +11,7 @@ ghost use Rattle.library_example.specs.declared.fault.Fault.TheVariants as Fault
 use crate::fault::Fault;
 use smp_pivotal::Pivotal;
 use smp_prob::{Order, requested};
-use smp_rows::Rows;
-use smp_split::{NoTrace, selected_units, walk};
+use smp_split::{NoTrace, Rows, selected_units, walk};
 use smp_tape::Tape;
 use std::alloc::Global;
 

@@ -1,9 +1,9 @@
 //! A selection by elimination that ends while more units are left than its request draws, as no draw of the program does.
 
+use crate::walks;
 use smp_elim::Elimination;
 use smp_prob::Request;
 use smp_split::Kind;
-use smp_walks::walks;
 use std::alloc::Global;
 use std::test::Fail;
 

@@ -1,7 +1,7 @@
 //! Tables of columns, and searches through columns: rows worked by hand, and answers at each gate.
 
 ghost use Rattle.std.specs.Prelude.{◌-◌, ◌≤◌, ◌≤ℤ◌, pos};
-ghost use Rattle.smp_fractions.specs.Limits.{number_limit};
+ghost use Rattle.smp_frac.specs.Limits.{number_limit};
 ghost use Rattle.smp_kernel.specs.Vectors.{Within};
 
 use smp_kernel::*;

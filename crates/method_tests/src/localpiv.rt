@@ -3,12 +3,12 @@
 ghost use Rattle.std.specs.Prelude.{◌≡◌, length};
 ghost use Rattle.smp_prob.specs.Requests.{IsRequest};
 
+use crate::walks;
 use smp_frac::NoMemory;
 use smp_frame::Numbers;
 use smp_localpiv::*;
 use smp_prob::Request;
 use smp_split::{Kind, Splitting};
-use smp_walks::walks;
 use std::alloc::Global;
 use std::test::Fail;
 

@@ -2,9 +2,8 @@
 
 use smp_localpiv::LocalPivotal;
 use smp_prob::requested;
-use smp_sieve::{ChaChaWords, Sieve};
 use smp_split::{NoTrace, Splitting, selected_units, walk};
-use smp_tape::Draws;
+use smp_tape::{ChaChaWords, Draws, Sieve};
 use std::alloc::Global;
 use std::test::Fail;
 

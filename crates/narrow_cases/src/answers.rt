@@ -1,7 +1,7 @@
 //! What the library answers.
 
 ghost use Rattle.std.specs.Prelude.{◌≡◌, ◌↔◌, ◌-◌, ◌<◌, ◌≤◌, EachIndex, IfOk, IfSome, length, slice_index, true};
-ghost use Rattle.smp_fractions.specs.Limits.{number_limit};
+ghost use Rattle.smp_frac.specs.Limits.{number_limit};
 ghost use Rattle.smp_kernel.specs.Vectors.{Within};
 ghost use Rattle.smp_prob.specs.Requests.{IsRequest, all_free};
 ghost use Rattle.smp_flight.specs.Narrow.{IsNarrow};

@@ -31,7 +31,7 @@ impl Model for Stratum {
 }
 
 impl Splitting for Stratum {
-    ghost use Rattle.smp_pivotal.specs.Method.{method_of};
+    ghost use Rattle.smp_pivotal.specs.PivotalMethod.{method_of};
 
     type State = PivotalState;
 
@@ -63,7 +63,7 @@ impl Splitting for Stratum {
 }
 
 impl Sections for Stratum {
-    ghost use Rattle.smp_pivotal.specs.Method.{method_of};
+    ghost use Rattle.smp_pivotal.specs.PivotalMethod.{method_of};
     ghost use Rattle.plan_tests.specs.Sections.{one_section, one_sectioned};
 
     ghost sectioning = { λ design. one_section (method_of design).tree };

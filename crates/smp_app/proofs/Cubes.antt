@@ -11,18 +11,18 @@ use Rattle.smp_moves.specs.Cubes.{left_in, values_in}
 use Rattle.smp_values.specs.Values.{is_one}
 use Rattle.smp_prob.specs.Inclusions.{asked_fraction, inclusion, is_taken}
 use Rattle.smp_frac.specs.LowestTerms.{lowest_terms}
-use Rattle.smp_balance.specs.Strata.{AreStratumUnits, free_values, values_of}
-use Rattle.smp_balance.specs.Reports.{TellsOf}
-use Rattle.smp_balance.proofs.Balances.{each_is_balanced}
-use Rattle.smp_balance.proofs.Reports.{each_line_tells}
-use Rattle.smp_balance.specs.Totals.{IsBalancedFrame}
+use Rattle.smp_twostage.specs.Strata.{AreStratumUnits, free_values, values_of}
+use Rattle.smp_twostage.specs.Reports.{TellsOf}
+use Rattle.smp_twostage.proofs.Balances.{each_is_balanced}
+use Rattle.smp_twostage.proofs.Reports.{each_line_tells}
+use Rattle.smp_twostage.specs.Totals.{IsBalancedFrame}
 use Rattle.smp_design.specs.Words.{balances, draws_together}
 use Rattle.smp_methods.specs.declared.any.AnyState.{AnyState}
 use Rattle.smp_methods.specs.declared.any.AnyState.TheVariants as states
 use Rattle.smp_methods.specs.Designs.{design_by, left_at}
-use Rattle.smp_stages.specs.declared.places.Stage.{Stage}
-use Rattle.smp_stages.specs.Paths.{GoesByStages}
-use Rattle.smp_stages.specs.Stages.{Progress}
+use Rattle.smp_split.specs.declared.places.Stage.{Stage}
+use Rattle.smp_split.specs.StagePaths.{GoesByStages}
+use Rattle.smp_split.specs.Stages.{Progress}
 use Rattle.smp_strata.specs.Plans.{Parts}
 use Rattle.smp_strata.specs.declared.strata.Stratum.{Stratum}
 use Rattle.smp_twostage.specs.Covered.{covered_left}

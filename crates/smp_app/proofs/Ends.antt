@@ -11,7 +11,7 @@ use Rattle.smp_words.specs.Words.{command_of}
 use Rattle.smp_status.specs.Codes.{Class, IsDone, IsUsage, IsRefusal, IsReadFault, IsWriteFault, IsNoMemory, class_of}
 use Rattle.smp_status.specs.FaultLines.{fault_line, line_by}
 use Rattle.smp_app.specs.Commands.{Job, job_of, job_for, inputs_by, inputs_named, inputs_of, outputs_of}
-use Rattle.smp_faults.specs.Steps.{◌>>=◌}
+use Rattle.smp_frac.specs.Faults.{◌>>=◌}
 use Rattle.smp_plan.specs.Stops.{Refused, or_refused, without}
 use Rattle.smp_app.specs.Verdict.{outputs_stage, verdict}
 use Rattle.smp_app.specs.Kept.Exact.{ExactSays, IsExact, IsExactRefusal}

@@ -9,17 +9,17 @@ use Rattle.smp_tape.specs.TapeText.{tape_of}
 use Rattle.smp_tape.specs.Sources.{Source}
 use Rattle.smp_tape.specs.Tapes.{tape_of_values}
 use Rattle.smp_tape.specs.TapeSources.{tape_source}
-use Rattle.smp_sieve.specs.Keys.{words_of_seed}
-use Rattle.smp_sieve.specs.SieveSources.{key_stream, sieve_source}
+use Rattle.smp_tape.specs.Keys.{words_of_seed}
+use Rattle.smp_tape.specs.SieveSources.{key_stream, sieve_source}
 use Rattle.smp_split.specs.Counts.{selected_units}
 use Rattle.smp_split.specs.Paths.{Entry, IsFull, IsReached, values_of}
 use Rattle.smp_split.specs.Sectioning.{IsSectioned}
 use Rattle.smp_split.proofs.Sectioned.{sectioned_within}
-use Rattle.smp_split.proofs.Steps.{reached_lawful}
+use Rattle.smp_split.specs.Laws.Steps.{reached_lawful}
 use Rattle.smp_split.specs.Runs.{Outcome, IsLeaf, IsOutcome, leaf, stopped, run}
 use Rattle.smp_split.proofs.Runs.{run_is, run_to_leaf}
 use Rattle.smp_split.proofs.Tapes.{full_runs, runs_full}
-use Rattle.smp_stages.specs.Stages.{Progress}
+use Rattle.smp_split.specs.Stages.{Progress}
 use Rattle.smp_twostage.specs.Covered.{state_alone}
 use Rattle.smp_twostage.specs.Plans.{CanBeDrawn}
 use Rattle.smp_twostage.proofs.AloneBy.{reached_own}
@@ -68,7 +68,7 @@ use Rattle.smp_cases.specs.Demo.{demo_design_text, demo_frame_text, demo_key}
 use Rattle.smp_plan.specs.Reads.{Sees}
 use Rattle.smp_app.specs.Commands.{DrawnFile, ByLog, ByOldLog, BySection, BySeed, Draws, Lists, Job, source_of, log_source, held_job, job_of, job_for, inputs_of, outputs_by, written_by}
 use Rattle.smp_app.specs.Commands as drawing
-use Rattle.smp_faults.specs.Steps.{◌>>=◌}
+use Rattle.smp_frac.specs.Faults.{◌>>=◌}
 use Rattle.smp_plan.specs.Stops.{Stop, Refused, content, or_fault}
 use Rattle.smp_app.specs.Verdict.{values_taken, values_left, no_words, drawn_at, drawn_of, drawn_by_tape, drawn_by_seed, alone, stratum_at, told_by, drawn_by_log, drawn_by_old_log, drawn_by_section, drawn_stage, outputs_stage}
 use Rattle.smp_app.specs.Deliveries.{Outputs, with_files}

@@ -14,7 +14,7 @@ use Rattle.smp_status.specs.Codes.{design_status, frame_status}
 use Rattle.smp_plan.specs.Plans.{Plan}
 use Rattle.smp_plan.specs.Inputs.{Held, FrameHeld, FrameMade, Made, ReadDesign, unless_large, unless_misfit, design_stage, frame_stage, plan_of, plan_stage}
 use Rattle.smp_app.specs.Commands.{Job}
-use Rattle.smp_faults.specs.Steps.{◌>>=◌}
+use Rattle.smp_frac.specs.Faults.{◌>>=◌}
 use Rattle.smp_plan.specs.Stops.{Stop, content, or_fault}
 use Rattle.smp_app.specs.Deliveries.{Outputs}
 use Rattle.smp_app.specs.Headline.{IsAccepted, IsReadFrame, IsReadPlan}

@@ -5,7 +5,7 @@ use Rattle.std.proofs.lemmas.Bool.{cases_Bool}
 use Rattle.smp_io.specs.Store.{Files}
 use Rattle.smp_split.specs.Paths.{Entry}
 use Rattle.smp_methods.specs.declared.any.AnyState.{AnyState}
-use Rattle.smp_stages.specs.Stages.{Progress}
+use Rattle.smp_split.specs.Stages.{Progress}
 use Rattle.smp_log.specs.Answers.{IsAnswer}
 use Rattle.smp_log.specs.Genuine.{IsGenuine}
 use Rattle.smp_log.specs.Heads.{IsHead}
@@ -32,7 +32,7 @@ use Rattle.smp_strata.specs.Misfits.{misfit_of}
 use Rattle.smp_strata.specs.declared.misfit.Misfit.{Misfit}
 use Rattle.smp_status.specs.Codes.{design_status, frame_status}
 use Rattle.smp_plan.specs.Reads.{Follows, result_view}
-use Rattle.smp_faults.specs.Steps.{◌>>=◌}
+use Rattle.smp_frac.specs.Faults.{◌>>=◌}
 use Rattle.smp_plan.specs.Stops.{Stop, Refused, content, or_fault}
 use Rattle.smp_app.specs.declared.selection.Taken.{Taken}
 use Rattle.smp_app.specs.declared.selection.Taken.TheVariants as takes

@@ -4,11 +4,11 @@ use Rattle.std.specs.Prelude.{◌^◌, IfOk, IfSome, OnOk, is_some, option_map}
 use Rattle.std.specs.List.{count_by, range_with_len, slice_get}
 use Rattle.std.proofs.lemmas.List.Elements.{All-get_or}
 use Rattle.std.proofs.lemmas.Option.{slice_get_within, get_or_from_slice_get}
-use Rattle.smp_fractions.specs.Bounds.{IsAround}
-use Rattle.smp_fractions.specs.Fractions.{Fraction, Same, integer, sum_below}
-use Rattle.smp_fractions.proofs.Around.{around_same}
+use Rattle.smp_frac.specs.Bounds.{IsAround}
+use Rattle.smp_frac.specs.Fractions.{Fraction, Same, integer, sum_below}
+use Rattle.smp_frac.proofs.Around.{around_same}
 use Rattle.smp_split.specs.Means.{mean, inclusion_probability}
-use Rattle.smp_fractions.proofs.Fractions.{same_sym, same_trans}
+use Rattle.smp_frac.proofs.Arithmetic.{same_sym, same_trans}
 use Rattle.smp_prob.specs.declared.requests.Request.{Request}
 use Rattle.smp_prob.specs.Given.{expected_size}
 use Rattle.smp_design.specs.Words.{balances, draws_together}
@@ -25,12 +25,12 @@ use Rattle.smp_log.specs.declared.fault.LogFault.TheVariants.{Differs}
 use Rattle.smp_split.specs.Paths.{Entry, Leads}
 use Rattle.smp_split.specs.Runs.{Outcome, run, leaf, stopped, IsLeaf, IsStop, IsOutcome}
 use Rattle.smp_split.proofs.Runs.{run_is}
-use Rattle.smp_split.proofs.Steps.{reached_lawful}
+use Rattle.smp_split.specs.Laws.Steps.{reached_lawful}
 use Rattle.smp_split.specs.Trees.{Tree, weight_sum}
 use Rattle.smp_split.specs.Sectioning.{Sectioning}
 use Rattle.smp_design.specs.declared.design.Second as second
 use Rattle.smp_methods.specs.declared.any.AnyState.{AnyState}
-use Rattle.smp_stages.specs.Stages.{Progress}
+use Rattle.smp_split.specs.Stages.{Progress}
 use Rattle.smp_strata.specs.Draws.{AreAsked, IsFor, SecondDraws, expected_firsts}
 use Rattle.smp_strata.specs.Plans.{Parts, first_probs}
 use Rattle.smp_strata.specs.declared.strata.FirstUnit.{FirstUnit}

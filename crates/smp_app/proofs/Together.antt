@@ -12,16 +12,16 @@ use Rattle.smp_prob.specs.Inclusions.{asked_fraction, inclusion, is_taken}
 use Rattle.smp_moves.specs.Cubes.{values_in}
 use Rattle.smp_stratcube.specs.States.{Balancing}
 use Rattle.smp_stratcube.specs.Values.{is_one}
-use Rattle.smp_balance.specs.Strata.{StratumUnits, values_of}
-use Rattle.smp_balance.specs.Lines as balance
-use Rattle.smp_balance.specs.Reports.{AreUnitRows, TellsColumn, TellsRows, UnitRows, free_before as units_before, no_stratum, stratum_at}
-use Rattle.smp_balance.proofs.RowReports.{each_row_tells}
+use Rattle.smp_twostage.specs.Strata.{StratumUnits, values_of}
+use Rattle.smp_twostage.specs.DrawnLines as balance
+use Rattle.smp_twostage.specs.Reports.{AreUnitRows, TellsColumn, TellsRows, UnitRows, free_before as units_before, no_stratum, stratum_at}
+use Rattle.smp_twostage.proofs.RowReports.{each_row_tells}
 use Rattle.smp_design.specs.Words.{draws_together}
 use Rattle.smp_design.specs.declared.design.Design.{Design}
 use Rattle.smp_design.specs.declared.design.Second.{Second}
 use Rattle.smp_methods.specs.declared.any.AnyState.{AnyState}
 use Rattle.smp_methods.specs.declared.any.AnyState.TheVariants as states
-use Rattle.smp_stages.specs.Laws.Reads.{some_within}
+use Rattle.smp_split.specs.Laws.Reads.{some_within}
 use Rattle.smp_frame.specs.declared.frame.Unit as frame
 use Rattle.smp_strata.specs.Clusters.{clusters, clusters_in, strata_numbers}
 use Rattle.smp_strata.proofs.Ranges.{map_range_ext}

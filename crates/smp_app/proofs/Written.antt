@@ -5,10 +5,10 @@ use Rattle.std.specs.Prelude.{nat_eq, option_map}
 use Rattle.std.proofs.lemmas.Int.{ints}
 use Rattle.std.proofs.lemmas.List.Sums.{sum_by-cons}
 use Rattle.std.proofs.lemmas.List.{get_or-map}
-use Rattle.smp_fractions.specs.Fractions.{Same, inverse}
-use Rattle.smp_fractions.proofs.Fractions.{same_trans, numerator_positive, inverse_same}
+use Rattle.smp_frac.specs.Fractions.{Same, inverse}
+use Rattle.smp_frac.proofs.Arithmetic.{same_trans, numerator_positive, inverse_same}
 use Rattle.smp_frac.specs.declared.fractions.Frac.{Frac}
-use Rattle.smp_frac.specs.Fractions.{fraction, fraction_text}
+use Rattle.smp_frac.specs.Exact.{fraction, fraction_text}
 use Rattle.smp_frac.proofs.Texts.{fraction_text-same}
 use Rattle.smp_design.specs.Words.{draws_together}
 use Rattle.smp_frame.specs.declared.frame.Unit as unit

@@ -6,7 +6,7 @@ use Rattle.smp_split.specs.Paths.{Entry}
 use Rattle.smp_split.specs.Counts.{selected_units}
 use Rattle.smp_split.specs.Sectioning.{Sectioning}
 use Rattle.smp_methods.specs.declared.any.AnyState.{AnyState}
-use Rattle.smp_stages.specs.Stages.{Progress}
+use Rattle.smp_split.specs.Stages.{Progress}
 use Rattle.smp_twostage.specs.Selections.{Coverage, covered_tree, is_of_section, start_of as whole_start, whole_sections, whole_tree}
 use Rattle.smp_plan.specs.Plans.{Plan, parts}
 

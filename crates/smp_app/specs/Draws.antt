@@ -3,11 +3,11 @@ use Rattle.std.specs.Prelude.{◌≡◌, IfSome, ℕ, ◌+◌, ◌<◌, true, fa
 use Rattle.std.specs.Prelude.{List, length, Some, None}
 use Rattle.std.specs.List.{count_by, range_with_len, slice_get}
 use Rattle.smp_io.specs.Store.{Files}
-use Rattle.smp_fractions.specs.Bounds.{IsAround}
-use Rattle.smp_fractions.specs.Fractions.{Same, integer, sum_below}
+use Rattle.smp_frac.specs.Bounds.{IsAround}
+use Rattle.smp_frac.specs.Fractions.{Same, integer, sum_below}
 use Rattle.smp_prob.specs.Given.{expected_size}
 use Rattle.smp_split.specs.Means.{mean, inclusion_probability}
-use Rattle.smp_balance.specs.Totals.{AreBalanced, IsBalancedFrame}
+use Rattle.smp_twostage.specs.Totals.{AreBalanced, IsBalancedFrame}
 use Rattle.smp_design.specs.declared.design.Second as second
 use Rattle.smp_design.specs.Words.{balances, draws_together}
 use Rattle.smp_log.specs.Genuine.{DiffersAt, IsFullPath, IsGenuine}
@@ -19,7 +19,7 @@ use Rattle.smp_strata.specs.Draws.{AreAsked}
 use Rattle.smp_strata.specs.Plans.{first_probs}
 use Rattle.smp_strata.specs.declared.strata.FirstUnit as first
 use Rattle.smp_strata.specs.declared.strata.Stratum.{Stratum}
-use Rattle.smp_stages.specs.Paths.{GoesByStages}
+use Rattle.smp_split.specs.StagePaths.{GoesByStages}
 use Rattle.smp_twostage.specs.Cubes.{IsDrawnByCube, IsDrawnTogether, balancing, frame_of}
 use Rattle.smp_twostage.specs.Covered.{StartsAlone}
 use Rattle.smp_twostage.specs.Selections.{all_of, covered_start, covered_tree}

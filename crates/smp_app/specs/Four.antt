@@ -2,7 +2,7 @@
 -- of a plan. Each field has the value of the definition that its comment begins with, as that definition's own comment gives it.
 use Rattle.std.specs.Prelude.{◌≡◌, ℕ, pos, true, None, List, [], ◌∷◌, codes, length, Ok}
 use Rattle.smp_frac.specs.LowestTerms.{lowest_terms}
-use Rattle.smp_fractions.specs.Fractions.{Same, integer, over, sum_below, whole}
+use Rattle.smp_frac.specs.Fractions.{Same, integer, over, sum_below, whole}
 use Rattle.smp_split.specs.Means.{inclusion_probability, mean}
 use Rattle.smp_split.specs.Orders.{frame_order, in_order}
 use Rattle.smp_split.specs.Paths.{Leads, values_of}
@@ -19,7 +19,7 @@ use Rattle.smp_strata.specs.Draws.{AreAsked}
 use Rattle.smp_strata.specs.Misfits.{misfit_of}
 use Rattle.smp_strata.specs.Plans.{first_sizes, sample_size, stratum_of}
 use Rattle.smp_strata.specs.Rows.{size_of, stratum_at}
-use Rattle.smp_stages.specs.Stages.{Progress}
+use Rattle.smp_split.specs.Stages.{Progress}
 use Rattle.smp_twostage.specs.Starts.{known, weighted}
 use Rattle.smp_weights.specs.Sample.{sample_file, sample_row}
 use Rattle.smp_plan.specs.Plans.{Plan, quick_design, row_id, row_probability}

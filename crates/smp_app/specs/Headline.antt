@@ -5,13 +5,13 @@ use Rattle.std.specs.List.{filter}
 use Rattle.smp_io.specs.Sink.{with_bytes}
 use Rattle.smp_io.specs.Store.{Files}
 use Rattle.smp_tape.specs.TapeText.{tape_of}
-use Rattle.smp_sieve.specs.Keys.{Place, words_of_seed}
-use Rattle.smp_sieve.specs.SieveSources.{key_stream, sieve_source}
+use Rattle.smp_tape.specs.Keys.{Place, words_of_seed}
+use Rattle.smp_tape.specs.SieveSources.{key_stream, sieve_source}
 use Rattle.smp_split.specs.Counts.{selected_units}
 use Rattle.smp_split.specs.Paths.{values_of}
 use Rattle.smp_split.specs.Runs.{Gives}
 use Rattle.smp_methods.specs.declared.any.AnyState.{AnyState}
-use Rattle.smp_stages.specs.Stages.{Progress}
+use Rattle.smp_split.specs.Stages.{Progress}
 use Rattle.smp_frame.specs.Frames.{frame_of}
 use Rattle.smp_strata.specs.Misfits.{misfit_of}
 use Rattle.smp_design.specs.Designs.{design_of}

@@ -5,9 +5,9 @@ use Rattle.smp_io.specs.Sink.{with_bytes}
 use Rattle.smp_values.specs.Values.{is_one}
 use Rattle.smp_moves.specs.Cubes.{left_in, values_in}
 use Rattle.smp_stratcube.specs.Values as together
-use Rattle.smp_balance.specs.Strata.{StratumUnits}
-use Rattle.smp_balance.specs.Lines as balance
-use Rattle.smp_balance.specs.Reports.{TellsColumn}
+use Rattle.smp_twostage.specs.Strata.{StratumUnits}
+use Rattle.smp_twostage.specs.DrawnLines as balance
+use Rattle.smp_twostage.specs.Reports.{TellsColumn}
 use Rattle.smp_design.specs.Words.{balances, draws_together}
 use Rattle.smp_strata.specs.declared.strata.Stratum.{Stratum}
 use Rattle.smp_twostage.specs.Cubes.{balancing, frame_of, leaf_of}

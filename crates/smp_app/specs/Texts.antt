@@ -2,8 +2,8 @@
 use Rattle.std.specs.Prelude.{ℕ, List, [], ◌∷◌, ◌++◌, length, map, codes}
 use Rattle.std.specs.List.{filter, flat_map, range_with_len}
 use Rattle.std.specs.Fmt.{decimal}
-use Rattle.smp_fractions.specs.Fractions.{Fraction}
-use Rattle.smp_frac.specs.Fractions.{fraction_text}
+use Rattle.smp_frac.specs.Fractions.{Fraction}
+use Rattle.smp_frac.specs.Exact.{fraction_text}
 use Rattle.smp_log.specs.Logs as logs
 use Rattle.smp_log.specs.SectionLogs.{sectioned_log_text}
 use Rattle.smp_weights.specs.Rows.{row}

@@ -8,9 +8,9 @@ use Rattle.smp_tape.specs.Tapes.{Values, tape_of_values}
 use Rattle.smp_tape.specs.TapeSources.{tape_source}
 use Rattle.smp_tape.specs.declared.draws.DrawFault.{DrawFault}
 use Rattle.smp_tape.specs.declared.draws.DrawFault.TheVariants.{Short, TooBig, Rejected}
-use Rattle.smp_sieve.specs.Keys.{Place, words_of_seed}
-use Rattle.smp_sieve.specs.SieveSources.{key_stream}
-use Rattle.smp_sieve.specs.SieveSources.{sieve_source}
+use Rattle.smp_tape.specs.Keys.{Place, words_of_seed}
+use Rattle.smp_tape.specs.SieveSources.{key_stream}
+use Rattle.smp_tape.specs.SieveSources.{sieve_source}
 use Rattle.smp_log.specs.Answers.{log_reading}
 use Rattle.smp_log.specs.LoneSections.{section_reading, section_told}
 use Rattle.smp_log.specs.SectionReading.{any_reading}
@@ -20,7 +20,7 @@ use Rattle.smp_split.specs.Paths.{Entry}
 use Rattle.smp_split.specs.Runs.{Outcome, run, leaf, stopped}
 use Rattle.smp_methods.specs.declared.any.AnyState.{AnyState}
 use Rattle.smp_words.specs.Words.{command_of}
-use Rattle.smp_stages.specs.Stages.{Progress}
+use Rattle.smp_split.specs.Stages.{Progress}
 use Rattle.smp_status.specs.declared.status.Status.{Status}
 use Rattle.smp_status.specs.declared.status.Status.TheVariants.{Usage, TapeShort, TapeValue, TapeLong, LogDiffers, NoStratum}
 use Rattle.smp_status.specs.declared.status.Status.TheVariants as status
@@ -31,7 +31,7 @@ use Rattle.smp_plan.specs.Plans.{Plan, parts}
 use Rattle.smp_app.specs.Drawn.{Drawn, tree_of, start_of, sections_of}
 use Rattle.smp_plan.specs.Inputs.{plan_stage}
 use Rattle.smp_app.specs.Commands.{Source, ByTape, BySeed, ByLog, ByOldLog, BySection, Work, Lists, Draws, Job, job_of, outputs_by}
-use Rattle.smp_faults.specs.Steps.{◌>>=◌}
+use Rattle.smp_frac.specs.Faults.{◌>>=◌}
 use Rattle.smp_plan.specs.Stops.{Stop, or_refused, or_fault, content_of, Refused}
 
 -- ---- what is drawn

@@ -27,10 +27,8 @@ use smp_io::Store;
 use smp_log::{Head, ReplayFault, SectionLines, old_replay_into, replay_into, replay_section_into};
 use smp_methods::AnyState;
 use smp_plan::{FramePlan, read_input};
-use smp_sieve::{ChaChaWords, Sieve};
-use smp_split::{Splitting, WalkFault, selected_units, walk};
-use smp_stages::StagesState;
-use smp_tape::{DrawFault, Draws, Tape};
+use smp_split::{Splitting, StagesState, WalkFault, selected_units, walk};
+use smp_tape::{ChaChaWords, DrawFault, Draws, Sieve, Tape};
 use smp_twostage::{StartedWhole, Whole, section_count};
 use std::alloc::Global;
 

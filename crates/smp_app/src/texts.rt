@@ -5,7 +5,7 @@ ghost use Rattle.smp_app.specs.Drawn.{rows_by};
 ghost use Rattle.smp_app.specs.Kept.Stages as Stages;
 ghost use Rattle.smp_plan.specs.Planned.{IsPlanned, plan_view};
 ghost use Rattle.smp_app.specs.Kept.Stages.{IsSelection, selection_view};
-ghost use Rattle.smp_frac.specs.Fractions.{fraction, fraction_text};
+ghost use Rattle.smp_frac.specs.Exact.{fraction, fraction_text};
 ghost use Rattle.smp_weights.specs.Rows.{AddsRow, row};
 
 use crate::job::{DrawnText, PlanText};

@@ -4,9 +4,9 @@ use Rattle.std.specs.List.{sum, count_by}
 use Rattle.std.proofs.lemmas.Bool.{cases_Bool, cases_eq, eqb-true}
 use Rattle.std.proofs.lemmas.List.{get_or-map, length-map}
 use Rattle.std.proofs.lemmas.List.Sums.{sum_by-cons}
-use Rattle.smp_fractions.specs.Fractions.{Same, over}
-use Rattle.smp_fractions.proofs.Fractions.{cancel, same_sym}
-use Rattle.smp_fractions.proofs.Over.{over_one}
+use Rattle.smp_frac.specs.Fractions.{Same, over}
+use Rattle.smp_frac.proofs.Arithmetic.{cancel, same_sym}
+use Rattle.smp_frac.proofs.Over.{over_one}
 use Rattle.smp_split.specs.Counts.{AddsUp}
 use Rattle.smp_split.proofs.Sums.{list_adds_up, list_adds}
 use Rattle.smp_brewer.specs.Sizes.{marks_taken}

@@ -2,13 +2,12 @@
 
 ghost use Rattle.std.specs.Prelude.{◌≡◌, ◌^◌};
 ghost use Rattle.std.specs.Result.{result_ok};
-ghost use Rattle.smp_lines.specs.Decimals.{number_below};
+ghost use Rattle.smp_frac.specs.Decimals.{number_below};
 
 use crate::case::{Case, Wanted, has_name};
 use crate::escapes::{printable, unescaped};
 use crate::lines::Line;
-use smp_frac::{Bytes, NoMemory, Text};
-use smp_lines::number;
+use smp_frac::{Bytes, NoMemory, Text, number};
 use std::alloc::{AllocError, AllocFailed, Global};
 use std::fmt;
 

@@ -7,7 +7,7 @@ use Rattle.smp_split.specs.Runs.{Outcome, leaf, stopped, run}
 use Rattle.smp_split.specs.Trees.{Tree}
 use Rattle.smp_prob.specs.Requested.{positive_units, requested_of}
 use Rattle.smp_prob.specs.declared.requests.Request.{Request}
-use Rattle.smp_rows.specs.Rows.{rows_tree}
+use Rattle.smp_split.specs.Rows.{rows_tree}
 use Rattle.smp_design.specs.Procedures.{without_values}
 use Rattle.smp_design.specs.declared.method.Method.{Method}
 use Rattle.smp_methods.specs.declared.any.AnyDesign.{AnyDesign}

@@ -1,15 +1,15 @@
 //! How a case is run.
 
 ghost use Rattle.std.specs.Prelude.{◌≡◌, ◌<◌, ◌≤◌, true, false, length, map, slice_index, EachIndex, IfOk, []};
-ghost use Rattle.smp_fractions.specs.Limits.{number_limit};
+ghost use Rattle.smp_frac.specs.Limits.{number_limit};
 ghost use Rattle.smp_cases.specs.Cases.{drawn, is_memory, mask, verdict};
 ghost use Rattle.smp_design.specs.Procedures.{without_values};
 ghost use Rattle.smp_design.specs.Words.{needs_columns};
-ghost use Rattle.smp_faults.specs.Memory.{Reads};
+ghost use Rattle.smp_frac.specs.Memory.{Reads};
 ghost use Rattle.smp_methods.specs.Methods.{method_of};
 ghost use Rattle.smp_methods.specs.Starts.{IsStarted};
 ghost use Rattle.smp_prob.specs.Requests.{IsRequest};
-ghost use Rattle.smp_rows.specs.Rows.{BelongsToRows, rows_tree};
+ghost use Rattle.smp_split.specs.Rows.{BelongsToRows, rows_tree};
 ghost use Rattle.smp_split.specs.Counts.{selected_units};
 ghost use Rattle.smp_values.specs.Starts.{IsWhole};
 
@@ -18,8 +18,7 @@ use smp_design::{Method, Procedure};
 use smp_frac::NoMemory;
 use smp_methods::{Started, no_values};
 use smp_prob::{ProbFault, Request, requested};
-use smp_rows::Rows;
-use smp_split::{NoTrace, Splitting, WalkFault, walk};
+use smp_split::{NoTrace, Rows, Splitting, WalkFault, walk};
 use smp_tape::Tape;
 use std::alloc::Global;
 

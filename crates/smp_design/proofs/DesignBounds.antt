@@ -20,8 +20,8 @@ use Rattle.smp_design.specs.Designs.{document, unit_columns, sample_size, value_
 use Rattle.smp_design.specs.Procedures.{AreNeeded, From1To}
 use Rattle.smp_design.specs.Keys
 use Rattle.smp_design.specs.Keys.{has, version_of, unknown_key, missing_key}
-use Rattle.smp_faults.specs.Steps.{or_fault}
-use Rattle.smp_faults.specs.Memory.{Reads}
+use Rattle.smp_frac.specs.Faults.{or_fault}
+use Rattle.smp_frac.specs.Memory.{Reads}
 use Rattle.smp_design.specs.Faults.{is_memory, good, none_found}
 use Rattle.smp_design.specs.Values.{last_version, version, method}
 use Rattle.smp_design.specs.Words.{row, is_balance, is_near, takes_second}

@@ -2,7 +2,7 @@
 use Rattle.std.proofs.Common.{◌≡◌, ℕ, Bool, true, false, cond, List, Option, Some, None, option_map, Result, Ok, Err, refl, subst}
 use Rattle.std.specs.Prelude.{option_and_then}
 use Rattle.smp_design.specs.Keys.{or_else}
-use Rattle.smp_faults.specs.Steps.{◌>>=◌, or_fault}
+use Rattle.smp_frac.specs.Faults.{◌>>=◌, or_fault}
 use Rattle.smp_design.specs.Faults.{none_found, good}
 use Rattle.smp_design.specs.declared.fault.DesignFault.{DesignFault}
 use Rattle.smp_design.specs.declared.fault.DesignFault.TheVariants.{BadValue}

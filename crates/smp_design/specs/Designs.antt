@@ -13,7 +13,7 @@ use Rattle.smp_design.specs.declared.fault.DesignFault.{DesignFault}
 use Rattle.smp_design.specs.declared.fault.DesignFault.TheVariants.{Syntax, Version, UnknownKey, MissingKey, Clash}
 use Rattle.smp_design.specs.Keys.{version_of, unknown_key, missing_key, clash}
 use Rattle.smp_design.specs.Values.{number, method, second_method, order, names, quotas, optional}
-use Rattle.smp_faults.specs.Steps.{◌>>=◌, or_fault}
+use Rattle.smp_frac.specs.Faults.{◌>>=◌, or_fault}
 use Rattle.smp_design.specs.Faults.{none_found, good}
 
 -- the table of UTF-8 bytes that are a TOML document

@@ -1,6 +1,6 @@
 -- The faults of a reading of a design.
 use Rattle.std.specs.Prelude.{ℕ, Bool, true, false, List, Option, Some, None, Result, Ok, Err}
-use Rattle.smp_faults.specs.Steps.{or_fault}
+use Rattle.smp_frac.specs.Faults.{or_fault}
 use Rattle.smp_design.specs.declared.fault.DesignFault.{DesignFault}
 use Rattle.smp_design.specs.declared.fault.DesignFault.TheVariants.{NoMemory, BadValue}
 

@@ -7,7 +7,7 @@ ghost use Rattle.smp_design.specs.Bounds.{IsDesign, Ascend};
 ghost use Rattle.smp_design.specs.Designs;
 ghost use Rattle.smp_design.specs.Designs.{design_of};
 ghost use Rattle.smp_design.specs.Faults;
-ghost use Rattle.smp_faults.specs.Memory.{Gives, Reads};
+ghost use Rattle.smp_frac.specs.Memory.{Gives, Reads};
 ghost use Rattle.smp_design.specs.Faults.{is_memory};
 
 use crate::check::{check_clash, check_known, check_needed, version_of};

@@ -5,9 +5,9 @@ use Rattle.std.proofs.Math.Nat.{mul-le-mul_right}
 use Rattle.std.proofs.lemmas.Bool.{cases_Bool, cases_eq, cases_lt, eqb-true, eqb-false, eq-eqb, ne_eqb}
 use Rattle.std.proofs.lemmas.List.{length-replicate, get_or-replicate, get_or_past}
 use Rattle.std.proofs.lemmas.List.Sums.{sum_by-cons, count_by-le-length, get_or-le-sum_by}
-use Rattle.smp_fractions.specs.Fractions.{Fraction, Same, whole, times, over, inverse}
-use Rattle.smp_fractions.proofs.Fractions.{cancel, same_refl, same_sym, same_trans, times_same, times-one}
-use Rattle.smp_fractions.proofs.Over.{over_one}
+use Rattle.smp_frac.specs.Fractions.{Fraction, Same, whole, times, over, inverse}
+use Rattle.smp_frac.proofs.Arithmetic.{cancel, same_refl, same_sym, same_trans, times_same, times-one}
+use Rattle.smp_frac.proofs.Over.{over_one}
 use Rattle.smp_prob.specs.declared.requests.Request.{Request}
 use Rattle.smp_prob.specs.Requested.{is_certain, certain_units, open_total, positive_units}
 use Rattle.smp_prob.specs.Requests.{IsRequest}
@@ -19,7 +19,7 @@ use Rattle.smp_split.specs.Methods.{Starts}
 use Rattle.smp_split.proofs.Counts.{count_by-indices, leaves_select, sum_by-indices}
 use Rattle.smp_split.specs.Paths.{Entry, Leads}
 use Rattle.smp_split.specs.Trees.{weight_sum}
-use Rattle.smp_split.proofs.Steps.{leads_belong}
+use Rattle.smp_split.specs.Laws.Steps.{leads_belong}
 use Rattle.smp_split.proofs.Methods.{starts}
 use Rattle.smp_split.proofs.Sums.{adds_up, numerators_add}
 use Rattle.smp_split.proofs.Units.{each_unit}

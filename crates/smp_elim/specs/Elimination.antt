@@ -3,8 +3,8 @@
 -- as far as none passes 1.
 use Rattle.std.specs.Prelude.{◌≡◌, ℕ, ◌-◌, ◌*◌, ◌^◌, ◌≤◌, ◌<◌, Bool, true, false, not, max, nat_eq}
 use Rattle.std.specs.Prelude.{if◌then◌else◌, ◌&&◌, List, length, replicate, slice_index, slice_index_or, slice_set, sum, count_by}
-use Rattle.smp_fractions.specs.Fractions.{Fraction, whole, times, inverse}
-use Rattle.smp_fractions.specs.Limits.{most_rows}
+use Rattle.smp_frac.specs.Fractions.{Fraction, whole, times, inverse}
+use Rattle.smp_frac.specs.Limits.{most_rows}
 use Rattle.smp_prob.specs.Requested.{is_certain, certain_units, open_total, requested_fraction}
 use Rattle.smp_split.specs.Parts.{unit_parts}
 use Rattle.smp_split.specs.Trees.{Part, Tree}

@@ -1,6 +1,6 @@
 -- The elimination procedure as a method, and where it starts.
 use Rattle.std.specs.Prelude.{◌≡◌, ℕ, ◌<◌, false, List, length, EachIndex}
-use Rattle.smp_fractions.specs.Fractions.{Same}
+use Rattle.smp_frac.specs.Fractions.{Same}
 use Rattle.smp_prob.specs.declared.requests.Request.{Request}
 use Rattle.smp_prob.specs.Shares.{draws_of}
 use Rattle.smp_split.specs.Methods.{Method}

@@ -5,7 +5,7 @@
 
 ghost use Rattle.std.specs.Prelude.{◌≡◌, ◌≢◌, ℕ, ◌-◌, ◌^◌, ◌<◌, ◌≤◌, length, slice_index, sum, EachIndex};
 ghost use Rattle.std.specs.List.{range_with_len, sum_by};
-ghost use Rattle.smp_fractions.specs.Limits.{most_rows};
+ghost use Rattle.smp_frac.specs.Limits.{most_rows};
 ghost use Rattle.smp_elim.specs.Kept.Cuts.{InFallingOrder, IsCutAt};
 ghost use Rattle.smp_elim.specs.Kept.Weights.{IsReady, fresh_amount};
 

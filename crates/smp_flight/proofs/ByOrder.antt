@@ -3,16 +3,16 @@
 use Rattle.std.proofs.Common.{◌≡◌, ◌≢◌, ℕ, ◌+◌, ◌<◌, ◌≤◌, ℤ, Bool, true, false, List, length, arith, refl, subst}
 use Rattle.std.proofs.lemmas.Bool.{eqb-false}
 use Rattle.std.proofs.lemmas.List.{length-map}
-use Rattle.smp_fractions.specs.Limits.{most_denominator}
-use Rattle.smp_fractions.specs.Fractions.{Same, whole, integer, plus, times}
-use Rattle.smp_fractions.proofs.Fractions.{same_refl}
+use Rattle.smp_frac.specs.Limits.{most_denominator}
+use Rattle.smp_frac.specs.Fractions.{Same, whole, integer, plus, times}
+use Rattle.smp_frac.proofs.Arithmetic.{same_refl}
 use Rattle.smp_kernel.proofs.SearchLaw.{none_is_few}
 use Rattle.smp_kernel.specs.Searches.{none}
 use Rattle.smp_prob.specs.Shares.{Shares}
 use Rattle.smp_split.specs.Lenses.{as_unit}
 use Rattle.smp_split.specs.Parts.{moved}
 use Rattle.smp_split.specs.Trees.{EachPart, LawfulParts, LawfulEnd}
-use Rattle.smp_split.proofs.Lenses.{parts_through}
+use Rattle.smp_split.specs.Laws.Lenses.{parts_through}
 use Rattle.smp_values.specs.Values.{IsValues, fractional_count, is_settled, value_at}
 use Rattle.smp_values.specs.Steps.{pivotal_parts, steps_tree}
 use Rattle.smp_values.proofs.Pivotal.{steps_lawful}

@@ -7,8 +7,8 @@ use Rattle.std.proofs.lemmas.List.{get_or-map, get_or_past, length-map}
 use Rattle.std.proofs.lemmas.Nat.Gcd.{dvd_trans}
 use Rattle.std.proofs.Math.Nat.{dvd-zero, dvd-mul_right, dvd-mul_left, mul-div_cancel'}
 use Prim.Native.Nat.{◌∣◌}
-use Rattle.smp_fractions.proofs.Fractions.{cancel}
-use Rattle.smp_fractions.proofs.Integers.{diff, diffs, diff-neg, diff-same, pos-diff}
+use Rattle.smp_frac.proofs.Arithmetic.{cancel}
+use Rattle.smp_frac.proofs.Integers.{diff, diffs, diff-neg, diff-same, pos-diff}
 use Rattle.smp_frac.specs.Laws.Coprime.{part_positive}
 use Rattle.smp_kernel.specs.Vectors.{entry, combination, dot, unit}
 use Rattle.smp_kernel.specs.Elimination.{cut, AreIndependent, InForce, IsRelationOn}

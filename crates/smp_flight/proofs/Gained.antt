@@ -6,8 +6,8 @@ use Rattle.std.proofs.lemmas.List.FromFn.{length-range_with_len, get_or-range_wi
 use Rattle.std.proofs.Math.Nat.{mul-div_cancel'}
 use Prim.Native.Nat.{◌∣◌}
 use lib.IntN.{*ℤ-zero, zero-*ℤ}
-use Rattle.smp_fractions.specs.Fractions.{Same, integer, over, plus, times}
-use Rattle.smp_fractions.proofs.Integers.{diff, by_diff, diffs, diff-same, same-diff}
+use Rattle.smp_frac.specs.Fractions.{Same, integer, over, plus, times}
+use Rattle.smp_frac.proofs.Integers.{diff, by_diff, diffs, diff-same, same-diff}
 use Rattle.smp_kernel.specs.Vectors.{dot}
 use Rattle.smp_kernel.proofs.Ring.{*ℤ_assoc, +ℤ-*ℤ, *ℤ-+ℤ, sum_swap, zero_of_product}
 use Rattle.smp_prob.specs.Shares.{Shares}

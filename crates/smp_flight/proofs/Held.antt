@@ -5,9 +5,9 @@ use Rattle.std.proofs.lemmas.Bool.{cases_eq, cases_lt, eq-eqb, ne_eqb, or_left, 
 use Rattle.std.proofs.lemmas.Int.{ints}
 use Rattle.std.proofs.lemmas.List.Elements.{filter_passes}
 use Rattle.std.proofs.lemmas.List.Kept.{AllPairs-filter}
-use Rattle.smp_fractions.specs.Limits.{most_denominator}
-use Rattle.smp_fractions.proofs.Fractions.{cancel}
-use Rattle.smp_fractions.proofs.Integers.{diff, by_diff, diffs, diff-same}
+use Rattle.smp_frac.specs.Limits.{most_denominator}
+use Rattle.smp_frac.proofs.Arithmetic.{cancel}
+use Rattle.smp_frac.proofs.Integers.{diff, by_diff, diffs, diff-same}
 use Rattle.smp_kernel.specs.Vectors.{entry}
 use Rattle.smp_kernel.specs.Elimination.{cut, AreIndependent}
 use Rattle.smp_kernel.specs.Minors.{minor_limit}

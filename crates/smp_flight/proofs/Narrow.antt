@@ -4,7 +4,7 @@ use Rattle.std.proofs.lemmas.Bool.{cases_lt}
 use Rattle.std.proofs.lemmas.Int.{ints, unsigned_abs-mul}
 use Rattle.std.proofs.lemmas.List.{get_or_past}
 use Rattle.std.specs.Int.RustNames.{unsigned_abs}
-use Rattle.smp_fractions.specs.Limits.{most_entry}
+use Rattle.smp_frac.specs.Limits.{most_entry}
 use Rattle.smp_kernel.specs.Vectors.{entry, Within}
 use Rattle.smp_kernel.specs.Elimination.{cut}
 use Rattle.smp_kernel.specs.Searches.{found}

@@ -7,7 +7,7 @@ use Rattle.smp_split.specs.Parts.{moved}
 use Rattle.smp_split.specs.Paths.{Entry, Leads}
 use Rattle.smp_split.specs.Trees.{Part, EachPart}
 use Rattle.smp_split.specs.declared.kind.Kind.TheVariants as kind
-use Rattle.smp_split.proofs.Steps.{leads_belong, leads_keep}
+use Rattle.smp_split.specs.Laws.Steps.{leads_belong, leads_keep}
 use Rattle.smp_values.specs.Values.{fractional_units, is_fractional, is_settled}
 use Rattle.smp_moves.specs.Cubes.{flying, pairing, values_in, dropped, flight_kind, flight_parts}
 use Rattle.smp_moves.specs.Ends.{end_of}

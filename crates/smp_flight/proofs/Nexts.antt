@@ -7,7 +7,7 @@ use Rattle.smp_kernel.specs.Searches.{Search, found, none, too_wide, IsSearch}
 use Rattle.smp_moves.specs.Kept.Searches.{search, search_is}
 use Rattle.smp_kernel.proofs.SearchLaw.{together, one_answer, first_decide, few_enter}
 use Rattle.smp_kernel.proofs.Existence.{cut_short}
-use Rattle.smp_fractions.specs.Limits.{most_denominator}
+use Rattle.smp_frac.specs.Limits.{most_denominator}
 use Rattle.smp_kernel.proofs.FoundCircuits.{circuit_length}
 use Rattle.smp_flight.specs.States.{Units, Flight, IsUnits, IsFlight, column, columns_of, started}
 use Rattle.smp_moves.specs.Moves.{independent, Move, Next, IsOrder, move, turned, wide}

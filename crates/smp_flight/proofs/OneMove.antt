@@ -3,8 +3,8 @@ use Rattle.std.proofs.Common.{◌≡◌, ℕ, ◌+◌, ◌*◌, ◌^◌, ◌<◌
 use Rattle.std.proofs.lemmas.List.{ext_get_or}
 use Rattle.std.proofs.Math.Nat.{dvd-mul_left}
 use Prim.Native.Nat.{◌∣◌}
-use Rattle.smp_fractions.proofs.Fractions.{cancel, same_sym, same_trans}
-use Rattle.smp_fractions.proofs.Differences.{over_cross}
+use Rattle.smp_frac.proofs.Arithmetic.{cancel, same_sym, same_trans}
+use Rattle.smp_frac.proofs.Signs.{over_cross}
 use Rattle.smp_prob.specs.Shares.{Shares}
 use Rattle.smp_moves.specs.Ends.{end_of}
 use Rattle.smp_moves.specs.declared.lines.Ratio.{Ratio}

@@ -1,9 +1,9 @@
 -- A selection by flight and landing owes what a balanced selection owes: of each step, and of the state that it starts from.
 use Rattle.std.proofs.Common.{◌≡◌, ◌≢◌, ℕ, zero, suc, ◌*◌, ◌<◌, ◌≤◌, max, mul-pos, false, ℤ, List, [], ◌∷◌, length, get_or, arith, refl, sym, ap, ◌∙◌, subst, inl, inr}
 use Rattle.std.proofs.lemmas.Bool.{eqb-false}
-use Rattle.smp_fractions.specs.Fractions.{Fraction, Same, integer, times, over}
-use Rattle.smp_fractions.proofs.Fractions.{same_refl, sum_same, one-times}
-use Rattle.smp_fractions.proofs.Integers.{diff-same, by_diff, diffs}
+use Rattle.smp_frac.specs.Fractions.{Fraction, Same, integer, times, over}
+use Rattle.smp_frac.proofs.Arithmetic.{same_refl, sum_same, one-times}
+use Rattle.smp_frac.proofs.Integers.{diff-same, by_diff, diffs}
 use Rattle.smp_kernel.specs.Vectors.{entry}
 use Rattle.smp_split.specs.Trees.{EachPart}
 use Rattle.smp_split.specs.declared.kind.Kind.{Kind}

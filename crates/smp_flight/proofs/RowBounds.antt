@@ -4,7 +4,7 @@ use Rattle.std.specs.Int.RustNames.{unsigned_abs}
 use Rattle.std.proofs.lemmas.Bool.{cases_lt}
 use Rattle.std.proofs.lemmas.Int.{ints}
 use Rattle.std.proofs.lemmas.List.{get_or_past}
-use Rattle.smp_fractions.specs.Limits.{most_denominator, most_entry}
+use Rattle.smp_frac.specs.Limits.{most_denominator, most_entry}
 use Rattle.std.proofs.lemmas.Nat.Gcd.{le_of_dvd}
 use Rattle.smp_kernel.proofs.TableSizes.{limit_upto}
 use Rattle.smp_kernel.specs.Minors.{minor_limit, product_below, sign_count}

@@ -2,11 +2,11 @@
 use Rattle.std.proofs.Common.{◌≡◌, ◌≢◌, ℕ, ◌<◌, Bool, true, false, List, [], ◌∷◌, set, length, get_or, arith, refl, sym, ap, ◌∙◌, subst, inl, inr}
 use Rattle.std.proofs.lemmas.Bool.{cases_Bool, true≢false}
 use Rattle.std.proofs.lemmas.List.{get_or-set_other}
-use Rattle.smp_fractions.specs.Fractions.{Fraction, Same, over}
-use Rattle.smp_fractions.proofs.Fractions.{same_refl, same_trans, plus_same, plus-zero, times-zero}
+use Rattle.smp_frac.specs.Fractions.{Fraction, Same, over}
+use Rattle.smp_frac.proofs.Arithmetic.{same_refl, same_trans, plus_same, plus-zero, times-zero}
 use Rattle.smp_prob.specs.Shares.{Shares}
 use Rattle.smp_split.specs.Trees.{EachPart}
-use Rattle.smp_split.proofs.Parts.{each_moved}
+use Rattle.smp_split.specs.Laws.Parts.{each_moved}
 use Rattle.smp_values.specs.Steps.{parts_on, pivotal_parts}
 use Rattle.smp_values.specs.Values.{fractional, fractional_units, is_fractional, value_at}
 use Rattle.smp_moves.specs.Cubes.{flying, pairing, values_in, flight_parts}

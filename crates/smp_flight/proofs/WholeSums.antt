@@ -1,12 +1,12 @@
 -- Where the values add up to a whole number, each leaf selects that many units.
 use Rattle.std.proofs.Common.{◌≡◌, ◌≢◌, ℕ, ◌^◌, ◌≤◌, true, false, List, length, arith, refl, inl, inr, sym, subst, ◌∙◌}
 use Rattle.std.proofs.lemmas.Bool.{cases_eq, eqb-false}
-use Rattle.smp_fractions.specs.Fractions.{Fraction, Same, whole}
-use Rattle.smp_fractions.proofs.Fractions.{same_refl, same_trans}
+use Rattle.smp_frac.specs.Fractions.{Fraction, Same, whole}
+use Rattle.smp_frac.proofs.Arithmetic.{same_refl, same_trans}
 use Rattle.smp_split.specs.Counts.{AddsUp, LeavesSelect, selected_count}
 use Rattle.smp_split.specs.Trees.{EachPart}
 use Rattle.smp_split.proofs.Counts.{leaves_select}
-use Rattle.smp_split.proofs.Parts.{each_moved}
+use Rattle.smp_split.specs.Laws.Parts.{each_moved}
 use Rattle.smp_split.proofs.Sums.{list_adds}
 use Rattle.smp_values.specs.Steps.{pivotal_parts, steps_tree}
 use Rattle.smp_values.specs.Values.{AddTo, fractional_at, fractional_count, is_settled, value_at}

@@ -1,7 +1,7 @@
 -- Units whose numbers are so small that no number of the flight passes its gate.
 use Rattle.std.specs.Prelude.{◌≡◌, ℕ, ◌*◌, ◌^◌, ◌<◌, ◌≤◌, List, ℤ, pos, length}
 use Prim.Native.Nat.{◌∣◌}
-use Rattle.smp_fractions.specs.Limits.{most_entry, most_denominator}
+use Rattle.smp_frac.specs.Limits.{most_entry, most_denominator}
 use Rattle.smp_kernel.specs.Minors.{IsFrom, minor_limit}
 use Rattle.smp_kernel.specs.Searches.{found}
 use Rattle.smp_kernel.specs.Vectors.{entry}

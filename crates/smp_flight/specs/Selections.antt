@@ -2,7 +2,7 @@
 -- searches of the flight go in.
 use Rattle.std.specs.Prelude.{◌≡◌, ℕ, true, List, length}
 use Rattle.std.specs.List.{Contains}
-use Rattle.smp_fractions.specs.Limits.{most_denominator}
+use Rattle.smp_frac.specs.Limits.{most_denominator}
 use Rattle.smp_prob.specs.Shares.{Shares}
 use Rattle.smp_split.specs.Trees.{Part, Tree, EachPart, Lawful}
 use Rattle.smp_split.specs.Parts.{moved}

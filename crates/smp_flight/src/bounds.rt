@@ -1,7 +1,7 @@
 //! Whether the numbers of units are so small that no step over them can be wide.
 
 ghost use Rattle.std.specs.Prelude.{◌≡◌, ◌↔◌, ℕ, ◌*◌, ◌<◌, ◌≤◌, IfNone, IfSome, length, max, slice_index, true};
-ghost use Rattle.smp_fractions.specs.Limits.{most_denominator};
+ghost use Rattle.smp_frac.specs.Limits.{most_denominator};
 ghost use Rattle.smp_kernel.specs.Minors.{minor_limit};
 ghost use Rattle.smp_flight.specs.Kept.Narrow.{HasNegative, IsCommon, IsLeast, IsRowBound};
 ghost use Rattle.smp_flight.specs.Narrow.{IsNarrow};

@@ -1,7 +1,7 @@
 //! What a selection that flies and then lands does with a state of the flight.
 
 ghost use Rattle.std.specs.Prelude.{◌≡◌, ◌+◌, ◌≤◌, length};
-ghost use Rattle.smp_fractions.specs.Limits.{most_rows};
+ghost use Rattle.smp_frac.specs.Limits.{most_rows};
 ghost use Rattle.smp_values.specs.Values.{fractional_count};
 ghost use Rattle.smp_moves.specs.Cubes.{landed};
 ghost use Rattle.smp_flight.specs.States.{AreFirst, IsFlight};

@@ -5,3 +5,12 @@ pub mod Products
 pub mod Sums
 pub mod Texts
 pub mod Unique
+pub mod Integers
+pub mod Arithmetic
+pub mod Over
+pub mod Signs
+pub mod Bounds
+pub mod Around
+pub mod Ascii
+pub mod Digits
+pub mod Shorter

@@ -3,12 +3,12 @@ use Rattle.std.proofs.Common.{◌≡◌, ℕ, ◌*◌, ◌/◌, ◌≤◌, max, 
 use Rattle.std.proofs.Math.Nat.{div-le_self, div-mul-le_self}
 use Rattle.std.proofs.lemmas.Nat.{le-div}
 use Rattle.std.specs.Prelude.{unsigned_abs}
-use Rattle.smp_fractions.specs.Bounds.{absolute}
-use Rattle.smp_fractions.specs.Fractions.{Fraction, Same, over, positive_max}
-use Rattle.smp_fractions.proofs.Fractions.{same_sym, same_trans}
+use Rattle.smp_frac.specs.Bounds.{absolute}
+use Rattle.smp_frac.specs.Fractions.{Fraction, Same, over, positive_max}
+use Rattle.smp_frac.proofs.Arithmetic.{same_sym, same_trans}
 use Rattle.smp_frac.specs.declared.fractions.Frac.{Frac}
 use Rattle.smp_frac.specs.Divisors.{greatest_common_divisor}
-use Rattle.smp_frac.specs.Fractions.{fraction}
+use Rattle.smp_frac.specs.Exact.{fraction}
 use Rattle.smp_frac.specs.LowestTerms.{lowest_terms}
 use Rattle.smp_frac.specs.Laws.Coprime.{divisor_positive, part_positive}
 use Rattle.smp_frac.specs.Laws.Gcds.{IsGcd-greatest_common_divisor}

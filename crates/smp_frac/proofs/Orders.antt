@@ -6,9 +6,9 @@ use Rattle.std.proofs.lemmas.Bool.Decides.{nat_tests}
 use Rattle.std.specs.Ordering.{nat_cmp, ordering_then}
 use Rattle.std.specs.declared.cmp.Ordering.{Ordering}
 use Rattle.std.specs.declared.cmp.Ordering.TheVariants.{Less, Equal, Greater}
-use Rattle.smp_fractions.specs.Fractions.{AtMost}
+use Rattle.smp_frac.specs.Fractions.{AtMost}
 use Rattle.smp_frac.specs.declared.fractions.Frac.{Frac}
-use Rattle.smp_frac.specs.Fractions.{fraction}
+use Rattle.smp_frac.specs.Exact.{fraction}
 
 nat_cmp_less : (x y : ℕ) → x < y → nat_cmp x y ≡ Less
 nat_cmp_less x y h = grind (arith, nat_tests)

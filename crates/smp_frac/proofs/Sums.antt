@@ -5,9 +5,9 @@ use Rattle.std.proofs.lemmas.Bool.{cases_lt}
 use Rattle.std.proofs.lemmas.Nat.Gcd.{IsGcd-swap}
 use Rattle.std.proofs.Math.Nat.{mul-div_cancel', dvd-add}
 use Prim.Native.Nat.{◌∣◌}
-use Rattle.smp_fractions.specs.Fractions.{Same, positive_product, over, plus}
-use Rattle.smp_fractions.proofs.Over.{cross_from_over}
-use Rattle.smp_frac.specs.Fractions.{fraction}
+use Rattle.smp_frac.specs.Fractions.{Same, positive_product, over, plus}
+use Rattle.smp_frac.proofs.Over.{cross_from_over}
+use Rattle.smp_frac.specs.Exact.{fraction}
 use Rattle.smp_frac.specs.Laws.Coprime.{part_positive, terms_apart, dvd_first, dvd_second}
 use Rattle.smp_frac.specs.Laws.Lowest.{coprime_from_lowest, same_value}
 use Rattle.smp_frac.specs.declared.fractions.Frac.{Frac}

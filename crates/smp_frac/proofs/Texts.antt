@@ -5,11 +5,11 @@ use Rattle.std.specs.Fmt.{decimal}
 use Rattle.std.specs.Int.{IsGcd}
 use Rattle.std.proofs.Math.Nat.{mul-div_cancel'}
 use Rattle.std.proofs.lemmas.Int.{ints}
-use Rattle.smp_fractions.specs.Fractions.{Fraction, Same, positive_product}
-use Rattle.smp_fractions.proofs.Fractions.{cancel}
+use Rattle.smp_frac.specs.Fractions.{Fraction, Same, positive_product}
+use Rattle.smp_frac.proofs.Arithmetic.{cancel}
 use Rattle.smp_frac.specs.declared.fractions.Frac.{Frac}
 use Rattle.smp_frac.specs.Divisors.{greatest_common_divisor}
-use Rattle.smp_frac.specs.Fractions.{lowest_text, fraction_text}
+use Rattle.smp_frac.specs.Exact.{lowest_text, fraction_text}
 use Rattle.smp_frac.specs.Laws.Coprime.{divisor_positive, part_positive}
 use Rattle.smp_frac.specs.Laws.Gcds.{IsGcd-greatest_common_divisor}
 use Rattle.smp_frac.specs.Laws.Lowest.{lowest_parts}

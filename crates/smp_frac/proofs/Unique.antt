@@ -10,9 +10,9 @@ use Rattle.std.proofs.lemmas.Nat.Gcd.{IsGcd-swap, dvd_antisymm}
 use Rattle.std.proofs.Math.Nat.{dvd-mul_left, mul-div_cancel}
 use Prim.Native.Nat.{◌∣◌, ◌/◌}
 use Rattle.smp_frac.specs.declared.fractions.Frac.{Frac}
-use Rattle.smp_fractions.specs.Fractions.{Same}
+use Rattle.smp_frac.specs.Fractions.{Same}
 use Rattle.smp_frac.specs.Divisors.{greatest_common_divisor}
-use Rattle.smp_frac.specs.Fractions.{fraction}
+use Rattle.smp_frac.specs.Exact.{fraction}
 use Rattle.smp_frac.specs.Laws.Coprime.{dvd_of_coprime}
 use Rattle.smp_frac.specs.Laws.Lowest.{coprime_from_lowest}
 use Rattle.std.specs.Int.{IsGcd}

@@ -1,6 +1,6 @@
 -- Fractions in lowest terms.
 use Rattle.std.specs.Prelude.{◌/◌, unsigned_abs}
-use Rattle.smp_fractions.specs.Fractions.{Fraction}
+use Rattle.smp_frac.specs.Fractions.{Fraction}
 use Rattle.smp_frac.specs.declared.fractions.Frac.{Frac}
 use Rattle.smp_frac.specs.Divisors.{greatest_common_divisor}
 use Rattle.smp_frac.specs.Laws.Coprime.{part_positive}

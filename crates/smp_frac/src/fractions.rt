@@ -3,8 +3,8 @@ ghost use Rattle.std.specs.Fmt.{decimal};
 ghost use Prim.Native.Nat.{◌∣◌};
 ghost use Rattle.std.specs.Int.{IsGcd};
 ghost use Rattle.smp_frac.specs.Divisors.{greatest_common_divisor};
-ghost use Rattle.smp_fractions.specs.Limits.{wide_limit};
-ghost use Rattle.smp_fractions.specs.Fractions.{Same, AtMost, over, plus, times, inverse};
+ghost use Rattle.smp_frac.specs.Limits.{wide_limit};
+ghost use Rattle.smp_frac.specs.Fractions.{Same, AtMost, over, plus, times, inverse};
 
 use crate::{Bytes, NoMemory, gcd};
 use itoa::Buffer;
@@ -82,7 +82,7 @@ fn put_terms(text: &mut [u8; 81], num: u128, den: u128) -> usize
 }
 
 impl Frac {
-    ghost use Rattle.smp_frac.specs.Fractions.{fraction, fraction_text, sum_size, product_size};
+    ghost use Rattle.smp_frac.specs.Exact.{fraction, fraction_text, sum_size, product_size};
     ghost use Rattle.smp_frac.specs.LowestTerms.{lowest_terms};
 
     /// The fraction `num/den` in lowest terms, or `None` where `den` is 0.

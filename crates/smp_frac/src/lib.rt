@@ -1,11 +1,14 @@
-//! Exact fractions and common divisors, texts, bytes, lists, and want of memory: what most crates of the
-//! sampler stand on.
+//! What most crates of the sampler stand on: fractions, texts, bytes, lists, numbers in decimal, and want of memory.
 //!
-//! Fractions are kept in lowest terms by their type. A sum, a product or a difference is exact, or
-//! is refused as [`Wide`] where it needs a number of 2^126 or more.
+//! Contracts speak of fractions of any size (`specs/Fractions.antt`). What is computed with is [`Frac`], kept in lowest terms by its type:
+//! a sum, a product or a difference is exact, or is refused as [`Wide`] where it needs a number of 2^126 or more. Frames, tapes and
+//! command words read their numbers and cut their lines here, and their contracts have the words for reading up to the first fault here
+//! (`specs/Faults.antt`). The limits of numbers and lists have their names in `specs/Limits.antt`.
 #![tactic(auto)]
 
 mod bytes;
+mod cuts;
+mod decimals;
 mod differences;
 mod divisors;
 mod fractions;
@@ -15,6 +18,8 @@ mod signed;
 mod text;
 
 pub use bytes::Bytes;
+pub use cuts::cut_before;
+pub use decimals::{is_decimal, number};
 pub use differences::difference;
 pub use divisors::{content, gcd, lcm_within, quotient};
 pub use fractions::{Frac, FractionText, Wide};

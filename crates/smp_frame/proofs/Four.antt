@@ -4,7 +4,7 @@ use Rattle.std.specs.Str.{chars, is_utf8}
 use Rattle.std.proofs.Common.{refl}
 use Rattle.csv.specs.Machine.{next_record}
 use Rattle.csv.specs.Reading.{records_from}
-use Rattle.smp_fractions.specs.Fractions.{over}
+use Rattle.smp_frac.specs.Fractions.{over}
 use Rattle.smp_frac.specs.Divisors.{greatest_common_divisor}
 use Rattle.smp_frac.specs.LowestTerms.{lowest_terms}
 use Rattle.smp_frame.specs.declared.columns.Columns.{Columns}

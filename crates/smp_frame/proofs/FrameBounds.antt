@@ -6,17 +6,17 @@ use Rattle.std.specs.Str.Parse.{digits_value}
 use Rattle.std.proofs.lemmas.Bool.{ltb-true, leb-true, and_parts}
 use Rattle.std.proofs.lemmas.List.{get_or-map}
 use Rattle.std.proofs.lemmas.List.Elements.{All-cons, All-map}
-use Rattle.smp_lines.specs.Decimals.{is_decimal}
-use Rattle.smp_fractions.specs.Fractions.{over, whole}
-use Rattle.smp_fractions.specs.Limits.{most_rows, number_limit}
+use Rattle.smp_frac.specs.Decimals.{is_decimal}
+use Rattle.smp_frac.specs.Fractions.{over, whole}
+use Rattle.smp_frac.specs.Limits.{most_rows, number_limit}
 use Rattle.smp_frac.specs.LowestTerms.{lowest_terms}
-use Rattle.smp_faults.specs.Steps.{◌>>=◌, guard}
+use Rattle.smp_frac.specs.Faults.{◌>>=◌, guard}
 use Rattle.smp_frame.specs.Records.{field, records_of}
 use Rattle.smp_frame.specs.Fields.{size_of, size_in, sides_of, prob_of, prob_in, is_minus, without_minus, field_value, values_in}
 use Rattle.smp_frame.specs.Layouts.{column_in, asked_in, columns_in, layout_of}
 use Rattle.smp_frame.specs.Frames.{unit_of, units_from, units_of, frame_of}
 use Rattle.smp_frame.specs.Bounds.{AreNear, HaveValues, IsFrame, IsProbability}
-use Rattle.smp_faults.specs.Memory.{Reads}
+use Rattle.smp_frac.specs.Memory.{Reads}
 use Rattle.smp_frame.specs.Faults.{is_memory}
 use Rattle.smp_frac.specs.declared.fractions.Frac.{Frac}
 use Rattle.smp_frame.specs.declared.columns.Columns.{Columns}

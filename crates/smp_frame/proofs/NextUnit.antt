@@ -1,7 +1,7 @@
 -- A unit more in front of the others.
 use Rattle.std.proofs.Common.{◌≡◌, ℕ, ◌+◌, Bool, true, false, List, [], ◌∷◌, ◌++◌, Result, Ok, Err, nat_le, refl, sym, ap, ◌∙◌, append_assoc}
-use Rattle.smp_fractions.specs.Limits.{most_rows}
-use Rattle.smp_faults.specs.Steps.{◌>>=◌, guard}
+use Rattle.smp_frac.specs.Limits.{most_rows}
+use Rattle.smp_frac.specs.Faults.{◌>>=◌, guard}
 use Rattle.smp_frame.specs.Frames.{unit_of, units_from}
 use Rattle.smp_frame.specs.Kept.Readers.{Takes}
 use Rattle.smp_frame.specs.declared.frame.Unit as unit

@@ -1,6 +1,6 @@
 -- What is true of every frame that was read.
 use Rattle.std.specs.Prelude.{◌≡◌, ℕ, ◌≤◌, ◌<◌, ℤ, nat_abs, List, length, map, slice_index, All}
-use Rattle.smp_fractions.specs.Limits.{most_rows, number_limit}
+use Rattle.smp_frac.specs.Limits.{most_rows, number_limit}
 use Rattle.smp_frac.specs.declared.fractions.Frac.{Frac}
 use Rattle.smp_frame.specs.declared.frame.Unit as unit
 

@@ -2,13 +2,13 @@
 use Rattle.std.specs.Prelude.{ℕ, ℤ, pos, neg_ℤ, Bool, false, ◌&&◌, List, [], ◌∷◌, codes, Option, Some, None, unwrap_or}
 use Rattle.std.specs.Prelude.{◌==◌, nat_lt, nat_le, Result, Ok, if◌then◌else◌}
 use Rattle.std.specs.Str.Parse.{digits_value}
-use Rattle.smp_lines.specs.Cuts.{cut_at}
-use Rattle.smp_lines.specs.Decimals.{is_decimal}
+use Rattle.smp_frac.specs.Cuts.{cut_at}
+use Rattle.smp_frac.specs.Decimals.{is_decimal}
 use Rattle.smp_frac.specs.declared.fractions.Frac.{Frac}
-use Rattle.smp_fractions.specs.Fractions.{over}
-use Rattle.smp_fractions.specs.Limits.{number_limit}
+use Rattle.smp_frac.specs.Fractions.{over}
+use Rattle.smp_frac.specs.Limits.{number_limit}
 use Rattle.smp_frac.specs.LowestTerms.{lowest_terms}
-use Rattle.smp_faults.specs.Steps.{◌>>=◌, guard}
+use Rattle.smp_frac.specs.Faults.{◌>>=◌, guard}
 use Rattle.smp_frame.specs.Records.{field}
 use Rattle.smp_frame.specs.declared.layout.Column.{Column}
 use Rattle.smp_frame.specs.declared.fault.FrameFault.{FrameFault}

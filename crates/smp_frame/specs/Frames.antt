@@ -2,8 +2,8 @@
 use Rattle.std.specs.Prelude.{ℕ, ◌+◌, List, [], ◌∷◌, ◌++◌, ◌==◌, not, nat_lt, nat_le, length, Result, Ok, Err}
 use Rattle.std.specs.List.{list_all, list_any}
 use Rattle.std.specs.Str.{bytes_eq, is_utf8}
-use Rattle.smp_fractions.specs.Limits.{most_rows}
-use Rattle.smp_faults.specs.Steps.{◌>>=◌, guard}
+use Rattle.smp_frac.specs.Limits.{most_rows}
+use Rattle.smp_frac.specs.Faults.{◌>>=◌, guard}
 use Rattle.smp_frame.specs.Records.{records_of, field}
 use Rattle.smp_frame.specs.Layouts.{layout_of}
 use Rattle.smp_frame.specs.Fields.{text_in, size_in, prob_in, values_in}

@@ -1,7 +1,7 @@
 -- Where the asked columns stand in a frame.
 use Rattle.std.specs.Prelude.{ℕ, ◌+◌, List, [], ◌∷◌, Option, Some, None, length, Result, Ok, Err, if◌then◌else◌}
 use Rattle.std.specs.Str.{bytes_eq}
-use Rattle.smp_faults.specs.Steps.{◌>>=◌}
+use Rattle.smp_frac.specs.Faults.{◌>>=◌}
 use Rattle.smp_frame.specs.declared.columns.Columns.{Columns}
 use Rattle.smp_frame.specs.declared.layout.Column.{Column}
 use Rattle.smp_frame.specs.declared.layout.Layout.{Layout}

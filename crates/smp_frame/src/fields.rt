@@ -3,19 +3,18 @@
 ghost use Rattle.std.specs.Prelude.{◌≡◌, ◌<◌, IfOk, true};
 ghost use Rattle.std.specs.List.{list_all};
 ghost use Rattle.std.specs.Str.{is_utf8};
-ghost use Rattle.smp_fractions.specs.Limits.{number_limit};
+ghost use Rattle.smp_frac.specs.Limits.{number_limit};
 ghost use Rattle.csv.specs.Records.{fields_of};
-ghost use Rattle.smp_lines.specs.Decimals.{number_below};
+ghost use Rattle.smp_frac.specs.Decimals.{number_below};
 ghost use Rattle.smp_frame.specs.Fields;
-ghost use Rattle.smp_faults.specs.Memory.{Reads};
+ghost use Rattle.smp_frac.specs.Memory.{Reads};
 ghost use Rattle.smp_frame.specs.Faults.{is_memory};
 
 use crate::layout::Column;
 use crate::records::{field, text};
 use crate::{FrameFault, Numbers};
 use csv::ByteRecord;
-use smp_frac::{Frac, NoMemory, Text};
-use smp_lines::{cut_before, is_decimal, number};
+use smp_frac::{Frac, NoMemory, Text, cut_before, is_decimal, number};
 use std::alloc::Global;
 
 const MAX_NUMBER: u128 = 2_147_483_647;

@@ -3,7 +3,7 @@
 ghost use Rattle.std.specs.Prelude.{◌≡◌, [], map};
 ghost use Rattle.csv.specs.Records.{fields_of};
 ghost use Rattle.smp_frame.specs.Layouts;
-ghost use Rattle.smp_faults.specs.Memory.{Gives, Reads};
+ghost use Rattle.smp_frac.specs.Memory.{Gives, Reads};
 ghost use Rattle.smp_frame.specs.Faults.{is_memory};
 
 use crate::records::field;

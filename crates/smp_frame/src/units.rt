@@ -9,7 +9,7 @@ ghost use Rattle.smp_frame.specs.Frames.{units_from};
 ghost use Rattle.smp_frame.specs.Kept.Readers.{IsReading, rows_left};
 ghost use Rattle.smp_frame.specs.Kept.Ids.{named, with_id};
 ghost use Rattle.smp_frame.specs.Records;
-ghost use Rattle.smp_faults.specs.Memory.{Gives};
+ghost use Rattle.smp_frac.specs.Memory.{Gives};
 ghost use Rattle.smp_frame.specs.Faults.{is_memory};
 
 use crate::fields::{prob_in, size_in, text_in, values_in};

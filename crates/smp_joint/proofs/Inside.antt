@@ -1,7 +1,7 @@
 -- The joint probability of two units of a stratum, of which the free ones are drawn by a design put among others.
 use Rattle.std.proofs.Common.{◌≡◌, ℕ, ◌<◌, Bool, true, false, ◌&&◌, length, Option, Some, refl}
-use Rattle.smp_fractions.specs.Fractions.{Fraction, Same, whole}
-use Rattle.smp_fractions.proofs.Fractions.{same_refl, same_trans}
+use Rattle.smp_frac.specs.Fractions.{Fraction, Same, whole}
+use Rattle.smp_frac.proofs.Arithmetic.{same_refl, same_trans}
 use Rattle.smp_prob.specs.declared.requests.Request.{Request}
 use Rattle.smp_prob.specs.declared.inclusions.Inclusion.{Inclusion}
 use Rattle.smp_prob.specs.declared.inclusions.Inclusion.TheVariants.{Certain, Free, Never}
@@ -12,8 +12,8 @@ use Rattle.smp_split.specs.Means.{mean_of, joint_probability}
 use Rattle.smp_split.specs.Trees.{Tree, Lawful}
 use Rattle.smp_split.proofs.Embeds.{embedded_closes, embedded_lawful, embedded_lens}
 use Rattle.smp_split.proofs.MeanOf.{mean_of_same}
-use Rattle.smp_rows.specs.Laws.Rows.{free_within, row_view, rows_close, rows_lawful, rows_lens}
-use Rattle.smp_rows.specs.Rows.{BelongsToRows, rows_tree}
+use Rattle.smp_split.specs.Laws.Rows.{free_within, row_view, rows_close, rows_lawful, rows_lens}
+use Rattle.smp_split.specs.Rows.{BelongsToRows, rows_tree}
 use Rattle.smp_joint.specs.Joints.{joint_at}
 use Rattle.smp_joint.proofs.KeptMeans.{constant_mean, mean_closed, one_mean, one_where}
 

@@ -6,8 +6,8 @@ use Rattle.std.proofs.Math.Seq.{take-suc, take-length}
 use Rattle.std.proofs.lemmas.Bool.{cases_eq, eq-eqb, ne_eqb}
 use Rattle.std.proofs.lemmas.List.{length-map, length-take-le, map-append}
 use Rattle.std.proofs.lemmas.Option.{get_or_from_slice_get, same_Some, slice_get-map, slice_get_within}
-use Rattle.smp_fractions.specs.Fractions.{Fraction, Same, times}
-use Rattle.smp_fractions.proofs.Fractions.{same_trans, times_same}
+use Rattle.smp_frac.specs.Fractions.{Fraction, Same, times}
+use Rattle.smp_frac.proofs.Arithmetic.{same_trans, times_same}
 use Rattle.smp_prob.specs.declared.orders.Order.{Order}
 use Rattle.smp_prob.specs.declared.orders.Order.TheVariants.{Frame}
 use Rattle.smp_prob.specs.declared.requests.Request.{Request}
@@ -24,11 +24,11 @@ use Rattle.smp_values.specs.InOrder.{started}
 use Rattle.smp_methods.specs.declared.any.AnyDesign.TheVariants as designs
 use Rattle.smp_methods.specs.Designs.{design_by, design_of, first_state}
 use Rattle.smp_methods.specs.Methods.{method_of}
-use Rattle.smp_stages.specs.declared.places.Place.{Place}
-use Rattle.smp_stages.specs.declared.places.Seat.TheVariants as seat
-use Rattle.smp_stages.specs.declared.places.Stage.{Stage}
-use Rattle.smp_stages.specs.Laws.Reads.{some_within}
-use Rattle.smp_stages.specs.Stages.{IsUnderWay, Progress, progress}
+use Rattle.smp_split.specs.declared.places.Place.{Place}
+use Rattle.smp_split.specs.declared.places.Seat.TheVariants as seat
+use Rattle.smp_split.specs.declared.places.Stage.{Stage}
+use Rattle.smp_split.specs.Laws.Reads.{some_within}
+use Rattle.smp_split.specs.Stages.{IsUnderWay, Progress, progress}
 use Rattle.smp_strata.specs.Plans.{Parts}
 use Rattle.smp_strata.specs.Seats.{first_fraction, unit_fraction}
 use Rattle.smp_prob.specs.Inclusions.{asked_fraction}
@@ -47,7 +47,7 @@ use Rattle.smp_twostage.proofs.Columns.{is_planned}
 use Rattle.smp_twostage.proofs.Starts.{each_belongs}
 use Rattle.smp_twostage.proofs.StartsBy.{stages_so, states_so, tree_so}
 use Rattle.smp_twostage.proofs.Values.{unit_value_is}
-use Rattle.smp_stages.specs.Stages.{seat_value, unit_value}
+use Rattle.smp_split.specs.Stages.{seat_value, unit_value}
 use Rattle.smp_joint.specs.JointRows.{joint_in, HasJoints, IsSystematicPlan, joint_fraction}
 use Rattle.smp_joint.specs.Joints.{joint_of}
 use Rattle.smp_joint.proofs.StageJoints.{stage_together, stages_apart}

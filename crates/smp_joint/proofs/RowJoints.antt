@@ -6,15 +6,15 @@ use Rattle.std.proofs.Math.Seq.{get_or-append_seam}
 use Rattle.std.proofs.lemmas.Bool.{cases_eq, eq-eqb, ne_eqb}
 use Rattle.std.proofs.lemmas.List.{get_or_append_left, length-map}
 use Rattle.std.proofs.lemmas.Option.{get_or_from_slice_get, same_Some, slice_get-map, slice_get_within}
-use Rattle.smp_fractions.specs.Fractions.{Fraction, Same, over, times}
-use Rattle.smp_fractions.proofs.Fractions.{same_trans, times_same}
+use Rattle.smp_frac.specs.Fractions.{Fraction, Same, over, times}
+use Rattle.smp_frac.proofs.Arithmetic.{same_trans, times_same}
 use Rattle.smp_frac.specs.declared.fractions.Frac.{Frac}
-use Rattle.smp_frac.specs.Fractions.{fraction}
+use Rattle.smp_frac.specs.Exact.{fraction}
 use Rattle.smp_prob.specs.declared.inclusions.Inclusion.TheVariants.{Free}
 use Rattle.smp_prob.specs.Inclusions.{asked_fraction, fraction_at, inclusion}
 use Rattle.smp_prob.specs.Requests.{IsRequest}
 use Rattle.smp_prob.specs.Shares.{Shares, common_divisor, shares_of}
-use Rattle.smp_rows.specs.Laws.Rows.{free_within}
+use Rattle.smp_split.specs.Laws.Rows.{free_within}
 use Rattle.smp_strata.specs.Plans.{Parts}
 use Rattle.smp_strata.specs.Seats.{first_fraction}
 use Rattle.smp_strata.specs.declared.strata.Seat.{Seat}

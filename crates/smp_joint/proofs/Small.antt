@@ -5,9 +5,9 @@ use Rattle.std.proofs.Math.Nat.{dvd-mul_left, le_of_mul-le-mul_right, mul-le-mul
 use Rattle.std.proofs.lemmas.Int.{ints}
 use Rattle.std.proofs.lemmas.Nat.Gcd.{IsGcd-swap, le_of_dvd}
 use Prim.Native.Nat.{◌∣◌}
-use Rattle.smp_fractions.specs.Fractions.{Same, over, positive_product, times}
+use Rattle.smp_frac.specs.Fractions.{Same, over, positive_product, times}
 use Rattle.smp_frac.specs.declared.fractions.Frac.{Frac}
-use Rattle.smp_frac.specs.Fractions.{fraction}
+use Rattle.smp_frac.specs.Exact.{fraction}
 use Rattle.smp_frac.specs.Laws.Coprime.{dvd_of_coprime}
 use Rattle.smp_frac.specs.Laws.Lowest.{coprime_from_lowest}
 use Rattle.smp_prob.specs.declared.requests.Request.{Request}
@@ -15,7 +15,7 @@ use Rattle.smp_prob.specs.declared.inclusions.Inclusion.{Inclusion}
 use Rattle.smp_prob.specs.declared.inclusions.Inclusion.TheVariants.{Certain, Free, Never}
 use Rattle.smp_prob.specs.Requests.{IsRequest}
 use Rattle.smp_prob.specs.Inclusions.{asked_fraction, fraction_at, inclusion}
-use Rattle.smp_rows.specs.Laws.Rows.{free_within}
+use Rattle.smp_split.specs.Laws.Rows.{free_within}
 
 -- a fraction in lowest terms has the smallest numbers
 lowest_den : (f : Frac) (n d : ℕ) → 1 ≤ d → f.num * d ≡ n * f.den → f.den ≤ d

@@ -2,8 +2,8 @@
 use Rattle.std.proofs.Common.{◌≡◌, ℕ, ◌-◌, ◌^◌, ◌<◌, Bool, true, false, true≢false, cond, nat_eq, length, Option, Some, None, refl, sym, arith, ◌∙◌, inl, inr}
 use Rattle.std.specs.Prelude.{slice_index}
 use Rattle.std.proofs.lemmas.Bool.{cases_Bool, eqb-true}
-use Rattle.smp_fractions.specs.Fractions.{Fraction, Same, whole, times, sum_below}
-use Rattle.smp_fractions.proofs.Fractions.{same_refl, same_sym, same_trans, times_same, one-times, sum_same}
+use Rattle.smp_frac.specs.Fractions.{Fraction, Same, whole, times, sum_below}
+use Rattle.smp_frac.proofs.Arithmetic.{same_refl, same_sym, same_trans, times_same, one-times, sum_same}
 use Rattle.smp_prob.specs.declared.orders.Order.TheVariants.{Frame}
 use Rattle.smp_prob.specs.declared.requests.Request.{Request}
 use Rattle.smp_prob.specs.declared.inclusions.Inclusion.TheVariants.{Free}
@@ -22,12 +22,12 @@ use Rattle.smp_values.specs.Values.{fractional_count, is_settled, value_at}
 use Rattle.smp_values.proofs.Requests.{few_shares, requested_in_order, shares_fractional, shares_in_range, starts_in_order, wider}
 use Rattle.smp_values.proofs.Units.{none_fractional}
 use Rattle.smp_values.specs.InOrder.{places_tree, started}
-use Rattle.smp_systematic.specs.Systematic.{IsSystematic, systematic_rule, systematic_tree}
-use Rattle.smp_systematic.specs.Laws.Splits.{leaf_around, systematic_lawful}
-use Rattle.smp_rows.specs.Laws.Rows.{rows_lawful}
-use Rattle.smp_rows.specs.Rows.{BelongsToRows, SelectsAsRequested, rows_tree}
-use Rattle.smp_rows.proofs.Around.{rows_around}
-use Rattle.smp_rows.proofs.Asked.{value_is_asked}
+use Rattle.smp_pivotal.specs.Systematic.{IsSystematic, systematic_rule, systematic_tree}
+use Rattle.smp_pivotal.specs.Laws.SystematicSplits.{leaf_around, systematic_lawful}
+use Rattle.smp_split.specs.Laws.Rows.{rows_lawful}
+use Rattle.smp_split.specs.Rows.{BelongsToRows, SelectsAsRequested, rows_tree}
+use Rattle.smp_split.proofs.RowsAround.{rows_around}
+use Rattle.smp_split.proofs.RowsAsked.{value_is_asked}
 use Rattle.smp_methods.specs.declared.any.AnyDesign.{AnyDesign}
 use Rattle.smp_methods.specs.declared.any.AnyDesign.TheVariants as designs
 use Rattle.smp_methods.specs.declared.any.AnyState.{AnyState}

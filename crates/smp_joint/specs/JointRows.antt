@@ -1,6 +1,6 @@
 -- The joint inclusion probability of two rows by a plan that draws systematically, in the order of the frame and in one stage.
 use Rattle.std.specs.Prelude.{◌≡◌, ℕ, ◌-◌, ◌<◌, cond, nat_eq, if◌then◌else◌, List, length, slice_get, Option, Some, None}
-use Rattle.smp_fractions.specs.Fractions.{Fraction, Same, whole, times, sum_below}
+use Rattle.smp_frac.specs.Fractions.{Fraction, Same, whole, times, sum_below}
 use Rattle.smp_prob.specs.declared.orders.Order.TheVariants.{Frame}
 use Rattle.smp_prob.specs.Inclusions.{asked_fraction}
 use Rattle.smp_split.specs.Means.{joint_probability}

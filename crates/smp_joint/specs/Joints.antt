@@ -1,7 +1,7 @@
 -- The joint inclusion probability of two units of a request (Särndal, Swensson and Wretman 1992), where the free ones are drawn
 -- systematically in the order of the frame.
 use Rattle.std.specs.Prelude.{ℕ}
-use Rattle.smp_fractions.specs.Fractions.{Fraction, whole, over}
+use Rattle.smp_frac.specs.Fractions.{Fraction, whole, over}
 use Rattle.smp_prob.specs.declared.requests.Request.{Request}
 use Rattle.smp_prob.specs.declared.inclusions.Inclusion.{Inclusion}
 use Rattle.smp_prob.specs.declared.inclusions.Inclusion.TheVariants.{Certain, Free}

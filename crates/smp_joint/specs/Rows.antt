@@ -1,7 +1,7 @@
 -- The rows of a plan, looked up once for all their pairs. No public clause cites it.
 use Rattle.std.specs.Prelude.{◌≡◌, ℕ, ◌<◌, List, length, slice_get, slice_index_or, Some}
-use Rattle.smp_fractions.specs.Fractions.{Same}
-use Rattle.smp_frac.specs.Fractions.{fraction}
+use Rattle.smp_frac.specs.Fractions.{Same}
+use Rattle.smp_frac.specs.Exact.{fraction}
 use Rattle.smp_prob.specs.declared.inclusions.Inclusion.TheVariants.{Free}
 use Rattle.smp_prob.specs.Inclusions.{fraction_at, inclusion}
 use Rattle.smp_prob.specs.Shares.{shares_of}

@@ -1,7 +1,7 @@
 //! The joint probabilities of the rows of a plan.
 
 ghost use Rattle.std.specs.Prelude.{◌≡◌, ◌<◌, true, length, is_some, IfOk, OnOk};
-ghost use Rattle.smp_frac.specs.Fractions.{fraction};
+ghost use Rattle.smp_frac.specs.Exact.{fraction};
 ghost use Rattle.smp_twostage.specs.Plans.{CanBeDrawn};
 ghost use Rattle.smp_weights.specs.Rows.{AddsRow};
 ghost use Rattle.smp_joint.specs.JointRows.{HasJoints, IsSystematicPlan};

@@ -1,8 +1,8 @@
 //! The joint probability of two rows of a plan.
 
 ghost use Rattle.std.specs.Prelude.{◌≡◌, ◌<◌, ◌^◌, length, IfOk};
-ghost use Rattle.smp_fractions.specs.Fractions.{Same, times};
-ghost use Rattle.smp_frac.specs.Fractions.{fraction};
+ghost use Rattle.smp_frac.specs.Fractions.{Same, times};
+ghost use Rattle.smp_frac.specs.Exact.{fraction};
 ghost use Rattle.smp_joint.specs.JointRows.{joint_fraction};
 ghost use Rattle.smp_joint.specs.Kept as Kept;
 ghost use Rattle.smp_joint.specs.Rows.{AreRows, StandsAt};

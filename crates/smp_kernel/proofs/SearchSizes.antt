@@ -1,7 +1,7 @@
 -- Where minors are within the gate, no search is too wide.
 use Rattle.std.proofs.Common.{◌≡◌, ℕ, zero, suc, ◌+◌, ◌<◌, ◌≤◌, List, [], ◌∷◌, ◌++◌, ℤ, length, take, get_or, arith, sym, subst, inl, inr, le_of_suc-le-suc}
 use Rattle.std.proofs.lemmas.List.{get_or-map, length-map, take-map, take_more}
-use Rattle.smp_fractions.specs.Limits.{most_entry}
+use Rattle.smp_frac.specs.Limits.{most_entry}
 use Rattle.smp_kernel.proofs.Limits.{entry_within, Within-from_entries}
 use Rattle.smp_kernel.proofs.Independence.{push_independent}
 use Rattle.smp_kernel.proofs.Existence.{has_circuit}

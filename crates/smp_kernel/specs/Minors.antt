@@ -5,7 +5,7 @@ use Rattle.std.specs.Int.RustNames.{unsigned_abs}
 use Rattle.std.specs.List.{Contains}
 use Prim.Native.Nat.{◌∣◌}
 use Rattle.smp_kernel.specs.Vectors.{entry, dot, IsPrimitive, Within}
-use Rattle.smp_fractions.specs.Limits.{most_entry}
+use Rattle.smp_frac.specs.Limits.{most_entry}
 use Rattle.smp_kernel.specs.Searches.{too_wide, IsSearch}
 use Rattle.smp_kernel.specs.Elimination.{cut, AreIndependent, InForce, IsCircuit, IsRelationOn, TableFits}
 

@@ -1,7 +1,7 @@
 -- A row of whole numbers divided by what its entries have in common.
 use Rattle.std.specs.Prelude.{◌≡◌, ℕ, zero, suc, List, ℤ, pos, ◌<ℤ◌, ◌*ℤ◌, length, map}
 use Rattle.std.specs.Int.RustNames.{unsigned_abs, int_div}
-use Rattle.smp_fractions.specs.Limits.{most_entry}
+use Rattle.smp_frac.specs.Limits.{most_entry}
 use Rattle.smp_frac.specs.Divisors.{greatest_common_divisor}
 use Rattle.smp_kernel.specs.Vectors.{entry, IsPrimitive, Within}
 

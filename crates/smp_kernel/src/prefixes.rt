@@ -2,7 +2,7 @@
 
 ghost use Rattle.std.specs.Prelude.{◌≡◌, ◌-◌, ◌≤◌, IfOk, [], length, take};
 ghost use Rattle.std.specs.List.{All};
-ghost use Rattle.smp_fractions.specs.Limits.{number_limit};
+ghost use Rattle.smp_frac.specs.Limits.{number_limit};
 ghost use Rattle.smp_kernel.specs.Vectors.{Within};
 ghost use Rattle.smp_kernel.specs.Elimination.{cut};
 ghost use Rattle.smp_kernel.specs.Searches.{AllEnter, IsSearch};

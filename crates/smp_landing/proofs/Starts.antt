@@ -1,6 +1,6 @@
 -- A selection starts from the values that are requested, and is balanced.
 use Rattle.std.proofs.Common.{ℤ, List, arith, refl, sym, ◌∙◌}
-use Rattle.smp_fractions.proofs.Fractions.{same_refl}
+use Rattle.smp_frac.proofs.Arithmetic.{same_refl}
 use Rattle.smp_prob.specs.declared.requests.Request.{Request}
 use Rattle.smp_prob.specs.Requests.{IsRequest}
 use Rattle.smp_prob.specs.Shares.{shares_of}

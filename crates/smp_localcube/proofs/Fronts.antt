@@ -11,7 +11,7 @@ use Rattle.smp_prob.specs.Shares.{Shares}
 use Rattle.smp_split.specs.Parts.{moved}
 use Rattle.smp_split.specs.Trees.{Part, EachPart}
 use Rattle.smp_split.specs.declared.kind.Kind.TheVariants as kind
-use Rattle.smp_split.proofs.Parts.{each_equal}
+use Rattle.smp_split.specs.Laws.Parts.{each_equal}
 use Rattle.smp_values.specs.Values.{fractional_at, fractional_count, fractional_units, is_fractional}
 use Rattle.smp_moves.specs.Cubes.{flying, pairing, flight_parts, values_in}
 use Rattle.smp_moves.specs.Moves.{IsLine, Move, Next, entry_of, independent, move}

@@ -12,7 +12,7 @@ use Rattle.smp_near.specs.Nearest.{LivingPoints, is_living, removed}
 use Rattle.smp_prob.specs.Shares.{Shares}
 use Rattle.smp_split.specs.Trees.{Part, weight_sum}
 use Rattle.smp_split.proofs.Counts.{count_by-indices, sum_by-map}
-use Rattle.smp_split.proofs.Parts.{weight_sum-equal}
+use Rattle.smp_split.specs.Laws.Parts.{weight_sum-equal}
 use Rattle.smp_values.specs.Values.{fractional, fractional_at, fractional_count, is_fractional}
 use Rattle.smp_moves.specs.Cubes.{flying}
 use Rattle.smp_flight.specs.States.{Tracked, Units}

@@ -2,13 +2,13 @@
 use Rattle.std.proofs.Common.{◌≡◌, ◌≢◌, ℕ, ◌^◌, false, nat_eq, nat_lt, Option, Some, None, get_or, arith, refl, inl, inr}
 use Rattle.std.specs.List.{sum}
 use Rattle.std.proofs.lemmas.Bool.{cases_Bool, eqb-false, ltb-false}
-use Rattle.smp_fractions.specs.Bounds.{IsAround}
-use Rattle.smp_fractions.specs.Fractions.{over}
-use Rattle.smp_fractions.proofs.Fractions.{same_refl}
+use Rattle.smp_frac.specs.Bounds.{IsAround}
+use Rattle.smp_frac.specs.Fractions.{over}
+use Rattle.smp_frac.proofs.Arithmetic.{same_refl}
 use Rattle.smp_split.specs.Counts.{LeavesSelectAround}
 use Rattle.smp_split.specs.Trees.{EachPart}
 use Rattle.smp_split.proofs.Counts.{KeepsCount, leaves_around, count_by-indices}
-use Rattle.smp_split.proofs.Parts.{each_equal, each_moved}
+use Rattle.smp_split.specs.Laws.Parts.{each_equal, each_moved}
 use Rattle.smp_split.proofs.Sums.{list_sum}
 use Rattle.smp_values.specs.Steps.{lone_parts, pair_parts}
 use Rattle.smp_values.specs.Values.{fractional_at, fractional_count, is_settled, value_at}

@@ -1,7 +1,7 @@
 -- A selection starts from any fractional values, and in particular from those of a request.
 use Rattle.std.proofs.Common.{◌≡◌, ℕ, ◌≤◌, Bool, true, List, [], ◌∷◌, length, map, replicate, get_or, suc, ◌<◌, arith, refl, ap, ◌∙◌}
 use Rattle.std.specs.Prelude.{ℤ}
-use Rattle.smp_fractions.proofs.Fractions.{same_refl}
+use Rattle.smp_frac.proofs.Arithmetic.{same_refl}
 use Rattle.smp_near.specs.Nearest.{all_living}
 use Rattle.smp_prob.specs.declared.requests.Request.{Request}
 use Rattle.smp_prob.specs.Requests.{IsRequest}

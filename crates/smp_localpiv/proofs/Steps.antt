@@ -7,7 +7,7 @@ use Rattle.std.proofs.lemmas.List.{get_or-set_same, map-set}
 use Rattle.smp_near.specs.Nearest.{LivingPoints, nearest}
 use Rattle.smp_prob.specs.Shares.{Shares}
 use Rattle.smp_split.specs.Trees.{Part, weight_sum, picked}
-use Rattle.smp_split.proofs.Parts.{weight_sum-equal, picked-equal}
+use Rattle.smp_split.specs.Laws.Parts.{weight_sum-equal, picked-equal}
 use Rattle.smp_values.specs.Pairs.{pair_bound}
 use Rattle.smp_values.specs.Values.{fractional, fractional_at, fractional_count, is_fractional, with_one}
 use Rattle.smp_values.proofs.Units.{fractional_within}

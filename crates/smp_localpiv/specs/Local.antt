@@ -3,7 +3,7 @@
 -- nearest of the others in a pivotal step (Deville and Tillé 1998). A unit that is left alone is settled by itself.
 use Rattle.std.specs.Prelude.{◌≡◌, ℕ, ◌+◌, ◌*◌, ◌^◌, ◌<◌, true, nat_lt, if◌then◌else◌, ℤ, List, length, map}
 use Rattle.std.specs.Prelude.{Option, Some, None, is_some, unwrap_or}
-use Rattle.smp_fractions.specs.Limits.{most_denominator}
+use Rattle.smp_frac.specs.Limits.{most_denominator}
 use Rattle.smp_near.specs.Nearest.{LivingPoints, nearest}
 use Rattle.smp_prob.specs.Shares.{Shares}
 use Rattle.smp_split.specs.Parts.{equal_parts, moved}

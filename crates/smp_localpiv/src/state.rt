@@ -1,7 +1,7 @@
 //! A state of a local pivotal selection, and its steps.
 
 ghost use Rattle.std.specs.Prelude.{◌≡◌, ◌<◌, ◌≤◌, true, length, None};
-ghost use Rattle.smp_fractions.specs.Limits.{most_denominator};
+ghost use Rattle.smp_frac.specs.Limits.{most_denominator};
 ghost use Rattle.smp_split.specs.Trees.{weight_sum, picked};
 ghost use Rattle.smp_values.specs.Values.{fractional_at, fractional_count, is_fractional, with_one};
 ghost use Rattle.smp_localpiv.specs.Local.{IsLocal, Local, MayMeet, local_tree, located_values};

@@ -1,7 +1,7 @@
 -- A script that describes the genuine logs: how the reading of a log by it ends.
 use Rattle.std.proofs.Common.{◌≡◌, ℕ, ◌+◌, ◌<◌, ◌≤◌, true, false, List, [], ◌∷◌, ◌++◌, length, take, Option, Some, None, refl, sym, ap, ◌∙◌, subst, arith, length-append, inl, inr, ◌⊎◌}
 use Rattle.std.proofs.lemmas.List.{append-nil, take_at, length-take-le}
-use Rattle.smp_lines.specs.Cuts.{cut_at}
+use Rattle.smp_frac.specs.Cuts.{cut_at}
 use Rattle.smp_log.specs.Lines.{whole_lines, lines_text, AreLines}
 use Rattle.smp_split.specs.Trees.{Tree}
 use Rattle.smp_split.specs.Paths.{Entry, Leads}

@@ -3,7 +3,7 @@ use Rattle.std.proofs.Common.{◌≡◌, ℕ, suc, ◌+◌, ◌<◌, Bool, true,
 use Rattle.std.proofs.lemmas.Bool.{cases_Bool}
 use Rattle.smp_split.specs.Trees.{Tree, Lawful, weight_sum, picked}
 use Rattle.smp_split.specs.Paths.{Entry, Leads, entry_at}
-use Rattle.smp_split.proofs.Steps.{picked_belongs}
+use Rattle.smp_split.specs.Laws.Steps.{picked_belongs}
 use Rattle.smp_split.proofs.Paths.{below}
 use Rattle.smp_log.specs.Reading.{step_line, Script, LogPlace, heading, stepping, closed, before, step_value, next_step, log_script}
 use Rattle.std.specs.Str.{bytes_eq}

@@ -9,7 +9,7 @@ use Rattle.std.specs.Bool.{Decides}
 use Rattle.std.specs.Option.{option_eq}
 use Rattle.std.specs.Str.{bytes_eq}
 use Rattle.std.specs.Fmt.{decimal}
-use Rattle.smp_lines.specs.Cuts.{cut_at}
+use Rattle.smp_frac.specs.Cuts.{cut_at}
 use Rattle.smp_log.specs.Reading.{behind, written}
 use Rattle.smp_log.proofs.Texts.{cut_behind, cut_parts, behind-append, behind-is}
 use Rattle.smp_log.proofs.Numbers.{decimal_lacks, written-decimal, written-is}

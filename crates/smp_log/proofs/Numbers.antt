@@ -9,7 +9,7 @@ use Rattle.std.specs.Fmt.{decimal, digits, digits_onto, digit_glyph}
 use Rattle.std.specs.List.{list_all}
 use Rattle.std.specs.Char.{is_ascii_digit, digit_value}
 use Rattle.std.specs.Str.Parse.{AllDigits, digits_value, digits_value_after}
-use Rattle.smp_lines.specs.Decimals.{is_decimal, number_below}
+use Rattle.smp_frac.specs.Decimals.{is_decimal, number_below}
 use Rattle.smp_log.specs.Reading.{written}
 use Rattle.smp_log.specs.Lines.{Lacks}
 use Rattle.smp_log.proofs.Options.{some_cond}

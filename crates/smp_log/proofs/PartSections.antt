@@ -11,7 +11,7 @@ use Rattle.smp_split.specs.Kinds.{kind_word}
 use Rattle.smp_split.specs.Trees.{Tree, Lawful, weight_sum, picked}
 use Rattle.smp_split.specs.Paths.{Entry, IsStep, Leads}
 use Rattle.smp_split.specs.Sectioning.{Sectioning, IsSectioned, IsPartOf}
-use Rattle.smp_split.proofs.Steps.{picked_belongs, leads_belong}
+use Rattle.smp_split.specs.Laws.Steps.{picked_belongs, leads_belong}
 use Rattle.smp_log.specs.Lines.{lines_text, AreLines}
 use Rattle.smp_log.specs.Heads.{IsHead}
 use Rattle.smp_log.specs.Logs.{end_text}

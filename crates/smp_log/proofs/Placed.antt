@@ -3,7 +3,7 @@ use Rattle.std.proofs.Common.{◌≡◌, ℕ, ◌<◌, ◌≤◌, List, [], ◌�
 use Rattle.smp_split.specs.Trees.{Tree, Lawful, weight_sum, picked}
 use Rattle.smp_split.specs.Paths.{Entry, IsStep, Leads}
 use Rattle.smp_split.specs.Sectioning.{Sectioning, IsSectioned}
-use Rattle.smp_split.proofs.Steps.{Leads-push, picked_belongs, value_within}
+use Rattle.smp_split.specs.Laws.Steps.{Leads-push, picked_belongs, value_within}
 use Rattle.smp_log.specs.SectionLogs.{ArePlaced, RiseFrom, placed, steps_of}
 use Rattle.smp_log.proofs.SectionScripts.{later_section}
 

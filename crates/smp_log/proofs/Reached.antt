@@ -1,7 +1,7 @@
 -- A reading that is under way: the lines so far lead to a place, and the rest is to be read from there.
 use Rattle.std.proofs.Common.{◌≡◌, ℕ, suc, ◌+◌, true, List, [], ◌∷◌, ◌++◌, length, take, Some, None, refl, sym, ap, ◌∙◌, subst, arith, append_assoc, length-append, inl, inr, ◌⊎◌}
 use Rattle.std.proofs.lemmas.List.{take_at}
-use Rattle.smp_lines.specs.Cuts.{cut_at}
+use Rattle.smp_frac.specs.Cuts.{cut_at}
 use Rattle.smp_log.specs.Lines.{whole_lines, lines_text, AreLines}
 use Rattle.smp_log.specs.Reading.{Script, follows}
 use Rattle.smp_log.proofs.Texts.{AreLines-append, whole_lines-text, whole_lines-none, whole_lines-cons, lines_text-append, cut_parts}

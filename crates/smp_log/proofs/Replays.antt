@@ -2,9 +2,9 @@
 use Rattle.std.proofs.Common.{◌≡◌, ℕ, ◌+◌, ◌<◌, ◌≤◌, Bool, true, false, cond, List, [], ◌∷◌, ◌++◌, length, Some, None, option_map, refl, sym, ap, ◌∙◌, subst, arith, length-append, inl, inr, ◌⊎◌}
 use Rattle.std.specs.Str.{bytes_eq}
 use Rattle.std.proofs.lemmas.Slice.Eq.{bytes_eq-Decides}
-use Rattle.smp_lines.specs.Cuts.{cut_at}
+use Rattle.smp_frac.specs.Cuts.{cut_at}
 use Rattle.smp_split.specs.Trees.{Tree, Lawful, weight_sum, picked}
-use Rattle.smp_split.proofs.Steps.{picked_belongs}
+use Rattle.smp_split.specs.Laws.Steps.{picked_belongs}
 use Rattle.smp_log.specs.Lines.{whole_lines, lines_text}
 use Rattle.smp_log.specs.Fronts.{IsWhole, StopsAt}
 use Rattle.smp_log.specs.Heads.{IsHead}

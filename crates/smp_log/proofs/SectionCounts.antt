@@ -5,7 +5,7 @@ use Rattle.std.proofs.lemmas.Bool.{cases_Bool, cases_eq, eq-eqb, ne_eqb}
 use Rattle.smp_split.specs.Trees.{Tree, Lawful, weight_sum, picked}
 use Rattle.smp_split.specs.Paths.{Entry, Leads}
 use Rattle.smp_split.specs.Sectioning.{Sectioning, IsSectioned}
-use Rattle.smp_split.proofs.Steps.{picked_belongs}
+use Rattle.smp_split.specs.Laws.Steps.{picked_belongs}
 use Rattle.smp_log.specs.Lines.{whole_lines, lines_text}
 use Rattle.smp_log.specs.Heads.{IsHead}
 use Rattle.smp_log.specs.Genuine.{IsFullPath}

@@ -4,7 +4,7 @@ use Rattle.std.specs.Str.{bytes_eq}
 use Rattle.std.proofs.lemmas.Slice.Eq.{bytes_eq-Decides}
 use Rattle.std.proofs.lemmas.Bool.{eq-eqb, ne_eqb, lt-ltb, le-ltb}
 use Rattle.smp_split.specs.Trees.{Tree, Lawful, weight_sum, picked}
-use Rattle.smp_split.proofs.Steps.{picked_belongs}
+use Rattle.smp_split.specs.Laws.Steps.{picked_belongs}
 use Rattle.smp_log.specs.Lines.{whole_lines, lines_text}
 use Rattle.smp_log.specs.Fronts.{IsWhole, StopsAt}
 use Rattle.smp_log.specs.Heads.{IsHead}

@@ -5,7 +5,7 @@ use Rattle.std.proofs.lemmas.Slice.Eq.{bytes_eq-Decides}
 use Rattle.std.proofs.lemmas.Bool.{cases_Bool, eqb-true, eqb-false, eq-eqb, ne_eqb, lt-ltb, le-ltb, ltb-true}
 use Rattle.smp_split.specs.Trees.{Tree, Lawful, weight_sum, picked}
 use Rattle.smp_split.specs.Paths.{Entry, Leads, entry_at, values_of}
-use Rattle.smp_split.proofs.Steps.{picked_is_part, picked_belongs}
+use Rattle.smp_split.specs.Laws.Steps.{picked_is_part, picked_belongs}
 use Rattle.smp_split.proofs.Paths.{below}
 use Rattle.smp_log.specs.Reading.{Script, step_line, end_line, step_value}
 use Rattle.smp_split.specs.Sectioning.{Sectioning, IsSectioned}

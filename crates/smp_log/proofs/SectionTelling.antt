@@ -9,7 +9,7 @@ use Rattle.smp_split.specs.Kinds.{kind_word}
 use Rattle.smp_split.specs.Trees.{Tree, Lawful, weight_sum, picked}
 use Rattle.smp_split.specs.Paths.{Entry, Leads}
 use Rattle.smp_split.specs.Sectioning.{Sectioning, IsSectioned}
-use Rattle.smp_split.proofs.Steps.{picked_belongs, value_within}
+use Rattle.smp_split.specs.Laws.Steps.{picked_belongs, value_within}
 use Rattle.smp_log.specs.Lines.{whole_lines}
 use Rattle.smp_log.specs.Heads.{IsHead}
 use Rattle.smp_log.specs.Reading.{Script, behind, numbers_of, value_of, step_line, step_value, after_line}

@@ -2,11 +2,11 @@
 use Rattle.std.proofs.Common.{◌≡◌, ℕ, ◌+◌, ◌<◌, ◌≤◌, true, false, List, [], ◌∷◌, ◌++◌, length, map, drop, take, Option, Some, None, refl, sym, ap, ◌∙◌, subst, arith, length-append, inl, inr}
 use Rattle.std.proofs.lemmas.Bool.{cases_Bool}
 use Rattle.std.proofs.lemmas.List.{append-nil, drop_all, drop-append-le, length-take}
-use Rattle.smp_lines.specs.Cuts.{cut_at}
+use Rattle.smp_frac.specs.Cuts.{cut_at}
 use Rattle.smp_split.specs.Trees.{Tree, Lawful, weight_sum, picked}
 use Rattle.smp_split.specs.Paths.{Entry, Leads, entry_at}
 use Rattle.smp_split.specs.Runs.{and_then}
-use Rattle.smp_split.proofs.Steps.{Leads-push, picked_belongs, value_within, and_then-nil, and_then-append}
+use Rattle.smp_split.specs.Laws.Steps.{Leads-push, picked_belongs, value_within, and_then-nil, and_then-append}
 use Rattle.smp_log.specs.Lines.{whole_lines}
 use Rattle.smp_log.specs.Fronts.{StopsAt}
 use Rattle.smp_log.specs.Heads.{IsHead}

@@ -1,7 +1,7 @@
 -- How the reading of a front goes on: a text is read as far as it has the front's lines.
 use Rattle.std.specs.Prelude.{◌≡◌, ◌⊎◌, ℕ, ◌+◌, false, Some, None, List, ◌∷◌, ◌++◌, length}
 use Rattle.std.specs.Str.{bytes_eq}
-use Rattle.smp_lines.specs.Cuts.{cut_at}
+use Rattle.smp_frac.specs.Cuts.{cut_at}
 use Rattle.smp_log.specs.Lines.{AreLines, lines_text, whole_lines}
 
 -- a text that ends with its last whole line

@@ -1,6 +1,6 @@
 -- Texts by their whole lines.
 use Rattle.std.specs.Prelude.{◌≡◌, ℕ, ◌≤◌, ◌==◌, if◌then◌else◌, None, List, [], ◌∷◌, ◌++◌, length, take}
-use Rattle.smp_lines.specs.Cuts.{cut_at}
+use Rattle.smp_frac.specs.Cuts.{cut_at}
 
 -- lines with a byte in front of the first one, where there is one
 abbrev pub longer : ℕ → List (List ℕ) → List (List ℕ)

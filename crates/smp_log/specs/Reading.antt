@@ -2,8 +2,8 @@
 use Rattle.std.specs.Prelude.{ℕ, suc, ◌+◌, ◌^◌, nat_lt, ◌==◌, ◌&&◌, Bool, true, false, if◌then◌else◌, List, []}
 use Rattle.std.specs.Prelude.{◌∷◌, ◌++◌, length, slice_index, Option, Some, None, option_map, option_and_then, codes}
 use Rattle.std.specs.Str.{bytes_eq}
-use Rattle.smp_lines.specs.Cuts.{cut_at}
-use Rattle.smp_lines.specs.Decimals.{number_below}
+use Rattle.smp_frac.specs.Cuts.{cut_at}
+use Rattle.smp_frac.specs.Decimals.{number_below}
 use Rattle.smp_split.specs.declared.kind.Kind.{Kind}
 use Rattle.smp_split.specs.Kinds.{kind_word}
 use Rattle.smp_split.specs.Trees.{Tree, weight_sum, picked}

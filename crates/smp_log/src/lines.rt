@@ -1,10 +1,10 @@
 ghost use Rattle.std.specs.Prelude.{◌≡◌, ◌<◌, ◌++◌, ◌∷◌, option_map};
 ghost use Rattle.std.specs.Fmt.{decimal};
 ghost use Rattle.std.specs.Str.{bytes_eq};
-ghost use Rattle.smp_fractions.specs.Limits.{wide_limit};
+ghost use Rattle.smp_frac.specs.Limits.{wide_limit};
 ghost use Rattle.smp_log.specs.Reading as Reading;
 
-use smp_lines::{cut_before, number};
+use smp_frac::{cut_before, number};
 use smp_split::Kind;
 
 // The number that a text is the decimal form of, without leading zeros, where it is below 2^128.

@@ -11,7 +11,7 @@ use crate::lines::{after_numbers, behind, written};
 use crate::replaying::after_front;
 use crate::steps::replay_step;
 use crate::{Head, LogFault, ReplayFault};
-use smp_lines::cut_before;
+use smp_frac::cut_before;
 use smp_split::{NoTrace, Sections, Trace};
 
 /// Replays one section of a log of version 2, from the state in which the design of that section alone begins. Sections

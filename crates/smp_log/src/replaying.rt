@@ -6,7 +6,7 @@ ghost use Rattle.smp_log.specs.Replayed.{Replays, ReplaysUntold, old_form};
 use crate::lines::after_end;
 use crate::steps::replay_step;
 use crate::{Head, LogFault, ReplayFault};
-use smp_lines::cut_before;
+use smp_frac::cut_before;
 use smp_split::{NoTrace, Splitting, Trace};
 
 /// Replays a log from the state in which it began, as a design's `start` gives it. The log is read once, and no memory is

@@ -1,8 +1,8 @@
 -- A design starts so, whoever starts it: as a lemma, without a call.
 use Rattle.std.proofs.Common.{◌≡◌, ℕ, zero, suc, ◌^◌, ◌<◌, true≢false, ℤ, List, [], ◌∷◌, length, get_or, arith, refl, ◌∙◌}
 use Rattle.std.proofs.lemmas.List.{length-map}
-use Rattle.smp_fractions.specs.Fractions.{Same}
-use Rattle.smp_fractions.proofs.Fractions.{same_refl}
+use Rattle.smp_frac.specs.Fractions.{Same}
+use Rattle.smp_frac.proofs.Arithmetic.{same_refl}
 use Rattle.smp_prob.specs.declared.orders.Order.{Order}
 use Rattle.smp_prob.specs.declared.requests.Request.{Request}
 use Rattle.smp_prob.specs.Requests.{IsRequest}
@@ -29,9 +29,9 @@ use Rattle.smp_stratcube.proofs.Layered.{units_are as layers_units}
 use Rattle.smp_stratcube.proofs.Starting.{are_requested, strat_means}
 use Rattle.smp_stratcube.proofs.Stored.{layer_is}
 use Rattle.smp_pivotal.specs.Pivotal.{pivotal_rule}
-use Rattle.smp_pivotal.specs.Laws.Splits.{pivotal_law}
-use Rattle.smp_systematic.specs.Systematic.{systematic_rule}
-use Rattle.smp_systematic.specs.Laws.Splits.{systematic_law}
+use Rattle.smp_pivotal.specs.Laws.PivotalSplits.{pivotal_law}
+use Rattle.smp_pivotal.specs.Systematic.{systematic_rule}
+use Rattle.smp_pivotal.specs.Laws.SystematicSplits.{systematic_law}
 use Rattle.smp_minsup.specs.Support.{support_tree}
 use Rattle.smp_minsup.proofs.FewLeaves.{support_starts}
 use Rattle.smp_minsup.proofs.Requests.{belongs_requested}

@@ -3,7 +3,7 @@ use Rattle.std.proofs.Common.{◌≡◌, ℕ, List, Option, Some, None, refl, sy
 use Rattle.smp_split.specs.Embeds.{embedded}
 use Rattle.smp_split.specs.Parts.{moved}
 use Rattle.smp_split.specs.Trees.{Part, Tree, weight_sum, picked}
-use Rattle.smp_split.proofs.Parts.{weight_sum-moved, picked-moved}
+use Rattle.smp_split.specs.Laws.Parts.{weight_sum-moved, picked-moved}
 use Rattle.smp_methods.specs.declared.any.AnyState.{AnyState}
 use Rattle.smp_methods.specs.Designs.{Variant, tree_among, variant}
 use Rattle.smp_methods.specs.Kept.Alone.{IsStep, StepsAlone}

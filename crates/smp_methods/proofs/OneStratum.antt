@@ -6,8 +6,8 @@ use Rattle.std.proofs.lemmas.Bool.{cases_lt, eqb-true}
 use Rattle.std.proofs.lemmas.List.{get_or_past}
 use Rattle.std.proofs.lemmas.List.FromFn.{length-map-range_with_len}
 use Rattle.std.proofs.lemmas.List.Sums.{sum_by-cons}
-use Rattle.smp_fractions.specs.Fractions.{Same, over, times, whole}
-use Rattle.smp_fractions.proofs.Fractions.{same_refl, same_sym, same_trans, sum_same}
+use Rattle.smp_frac.specs.Fractions.{Same, over, times, whole}
+use Rattle.smp_frac.proofs.Arithmetic.{same_refl, same_sym, same_trans, sum_same}
 use Rattle.smp_prob.specs.declared.requests.Request.{Request}
 use Rattle.smp_prob.specs.Requests.{IsRequest}
 use Rattle.smp_prob.proofs.Fractions.{length-numerators, numerator_is_free_fraction}

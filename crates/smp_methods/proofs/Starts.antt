@@ -2,9 +2,9 @@
 use Rattle.std.proofs.Common.{◌≡◌, ℕ, false, ℤ, List, [], ◌∷◌, Option, Some, None, arith, refl, ap, sym, subst, ◌∙◌, inl, inr}
 use Rattle.std.specs.Prelude.{IsTrue}
 use Rattle.std.proofs.lemmas.Bool.{cases_Bool}
-use Rattle.smp_fractions.specs.Fractions.{Same, whole, over}
-use Rattle.smp_fractions.proofs.Around.{around_over, around_same}
-use Rattle.smp_fractions.proofs.Fractions.{same_trans}
+use Rattle.smp_frac.specs.Fractions.{Same, whole, over}
+use Rattle.smp_frac.proofs.Around.{around_over, around_same}
+use Rattle.smp_frac.proofs.Arithmetic.{same_trans}
 use Rattle.smp_prob.specs.declared.requests.Request.{Request}
 use Rattle.smp_split.specs.Counts.{AddsUp, LeavesSelect, LeavesSelectAround}
 use Rattle.smp_split.specs.Embeds.{embedded}

@@ -7,10 +7,10 @@ use Rattle.smp_split.specs.Trees.{Tree}
 use Rattle.smp_values.specs.InOrder.{placed_tree}
 use Rattle.smp_design.specs.declared.method.Method as named
 use Rattle.smp_design.specs.declared.method.Method.TheVariants as method
-use Rattle.smp_pivotal.specs.Method as pivotal
+use Rattle.smp_pivotal.specs.PivotalMethod as pivotal
 use Rattle.smp_pivotal.specs.Pivotal.{pivotal_rule}
-use Rattle.smp_systematic.specs.Method as systematic
-use Rattle.smp_systematic.specs.Systematic.{systematic_rule}
+use Rattle.smp_pivotal.specs.SystematicMethod as systematic
+use Rattle.smp_pivotal.specs.Systematic.{systematic_rule}
 use Rattle.smp_minsup.specs.Method as support
 use Rattle.smp_minsup.specs.Support.{support_tree}
 use Rattle.smp_brewer.specs.Method as brewer

@@ -4,8 +4,8 @@ use Rattle.smp_split.specs.Embeds.{BelongsInside, embedded}
 use Rattle.smp_split.specs.Methods.{Method}
 use Rattle.smp_split.specs.Trees.{Lawful, Tree}
 use Rattle.smp_split.proofs.Embeds.{embedded_lawful}
-use Rattle.smp_pivotal.specs.Method as pivotal
-use Rattle.smp_systematic.specs.Method as systematic
+use Rattle.smp_pivotal.specs.PivotalMethod as pivotal
+use Rattle.smp_pivotal.specs.SystematicMethod as systematic
 use Rattle.smp_minsup.specs.Method as support
 use Rattle.smp_brewer.specs.Method as brewer
 use Rattle.smp_localpiv.specs.Method as local

@@ -28,7 +28,7 @@ use std::alloc::Global;
 #[derive(Drop)]
 pub enum AnyDesign {
     Pivotal(smp_pivotal::Pivotal),
-    Systematic(smp_systematic::Systematic),
+    Systematic(smp_pivotal::Systematic),
     MinimumSupport(smp_minsup::MinimumSupport),
     Brewer(smp_brewer::Brewer),
     LocalPivotal(smp_localpiv::AnyLocalPivotal),
@@ -42,7 +42,7 @@ pub enum AnyDesign {
 #[derive(Drop)]
 pub enum AnyState {
     Pivotal(Boxed<smp_pivotal::PivotalState>),
-    Systematic(Boxed<smp_systematic::SystematicState>),
+    Systematic(Boxed<smp_pivotal::SystematicState>),
     MinimumSupport(Boxed<smp_minsup::SupportState>),
     Brewer(Boxed<smp_brewer::BrewerState>),
     LocalPivotal(Boxed<smp_localpiv::AnyLocalState>),
@@ -108,7 +108,7 @@ impl AnyDesign {
                 AnyDesign::Pivotal(smp_pivotal::Pivotal::new(alloc, request, order)?)
             }
             Method::Systematic => {
-                AnyDesign::Systematic(smp_systematic::Systematic::new(alloc, request, order)?)
+                AnyDesign::Systematic(smp_pivotal::Systematic::new(alloc, request, order)?)
             }
             Method::MinimumSupport => {
                 AnyDesign::MinimumSupport(smp_minsup::MinimumSupport::new(alloc, request)?)

@@ -4,7 +4,7 @@
 use Rattle.std.specs.Prelude.{ℕ, ◌-◌, ◌/◌, min, Bool, nat_lt, nat_eq, ◌&&◌, ◌||◌, if◌then◌else◌, List, []}
 use Rattle.std.specs.Prelude.{◌∷◌, length, map, slice_index}
 use Rattle.std.specs.List.{sum, count_by, range_with_len}
-use Rattle.smp_fractions.specs.Limits.{wide_limit}
+use Rattle.smp_frac.specs.Limits.{wide_limit}
 use Rattle.smp_prob.specs.Shares.{Shares}
 use Rattle.smp_split.specs.Trees.{Part, Tree}
 use Rattle.smp_split.specs.declared.kind.Kind.TheVariants.{Support}

@@ -4,7 +4,7 @@ ghost use Rattle.std.specs.Prelude.{◌≡◌, ℕ, ◌+◌, ◌-◌, ◌*◌, �
 ghost use Rattle.std.specs.Prelude.{slice_index, IfOk, IfSome, IfNone};
 ghost use Rattle.std.specs.Bool.{OnTrue, OnFalse};
 ghost use Rattle.std.specs.BinaryHeap.{heap_items, heap_len, heap_capacity};
-ghost use Rattle.smp_fractions.specs.Limits.{wide_limit};
+ghost use Rattle.smp_frac.specs.Limits.{wide_limit};
 ghost use Rattle.smp_values.specs.Values.{is_settled};
 ghost use Rattle.smp_minsup.specs.Support.{IsSupport, lambda};
 ghost use Rattle.smp_minsup.specs.Kept.Ranked.{RankedUnits, IsMostSmall, IsLeastLarge, IsParted};

@@ -4,7 +4,7 @@ use Rattle.std.proofs.Common.{◌≡◌, ◌≢◌, ℕ, ◌<◌, ◌≤◌, ◌
 use Rattle.std.proofs.lemmas.Bool.{and_from, and_parts, cases_Bool, le-leb, leb-true, true≢false}
 use Rattle.std.proofs.lemmas.Int.{ints}
 use Rattle.std.proofs.lemmas.List.{length-map, length-take-le, get_or-take}
-use Rattle.smp_fractions.specs.Limits.{most_denominator, most_entry}
+use Rattle.smp_frac.specs.Limits.{most_denominator, most_entry}
 use Rattle.smp_kernel.specs.Vectors.{entry, IsZero}
 use Rattle.smp_kernel.specs.Elimination.{cut}
 use Rattle.smp_kernel.specs.Searches.{Search, found, none, too_wide}

@@ -2,8 +2,8 @@
 use Rattle.std.proofs.Common.{◌≡◌, ℕ, ◌*◌, ◌≤◌, max, arith, ap, ap₂}
 use Rattle.std.proofs.lemmas.Int.{ints}
 use Rattle.std.specs.Int.{IsGcd}
-use Rattle.smp_fractions.specs.Fractions.{AtMost, Same, times, whole}
-use Rattle.smp_fractions.proofs.Fractions.{cancel}
+use Rattle.smp_frac.specs.Fractions.{AtMost, Same, times, whole}
+use Rattle.smp_frac.proofs.Arithmetic.{cancel}
 use Rattle.smp_prob.specs.Shares.{Shares}
 use Rattle.smp_moves.specs.declared.lines.Ratio.{Ratio}
 use Rattle.smp_moves.specs.Moves.{IsGreatest, Line, fraction_of}

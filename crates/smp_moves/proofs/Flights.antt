@@ -1,8 +1,8 @@
 -- The steps of flight and landing by any cube, in whatever the values are kept: their kinds, and how many units are left where the landing began.
 use Rattle.std.proofs.Common.{◌≡◌, ◌≢◌, ℕ, ◌<◌, ◌≤◌, List, [], ◌∷◌, arith, refl, inl, inr}
 use Rattle.std.proofs.lemmas.Bool.{ne_eqb}
-use Rattle.smp_fractions.specs.Fractions.{times, whole}
-use Rattle.smp_fractions.proofs.Fractions.{plus-zero}
+use Rattle.smp_frac.specs.Fractions.{times, whole}
+use Rattle.smp_frac.proofs.Arithmetic.{plus-zero}
 use Rattle.smp_split.specs.Parts.{moved}
 use Rattle.smp_split.specs.Trees.{Part, EachPart, LawfulParts}
 use Rattle.smp_split.specs.declared.kind.Kind.TheVariants as kind

@@ -8,9 +8,9 @@ use Rattle.std.proofs.lemmas.List.FromFn.{get_or-map-range_with_len, length-map-
 use Rattle.std.proofs.lemmas.Nat.Gcd.{dvd_refl, dvd_trans}
 use Rattle.std.proofs.Math.Nat.{mul-dvd-mul_left, mul-div_cancel', dvd-mul_left, dvd-mul_right_of_dvd, dvd_of_mul-dvd-mul_left, pos_of_dvd_of_pos, le_of_dvd}
 use Prim.Native.Nat.{◌∣◌}
-use Rattle.smp_fractions.specs.Fractions.{Same, over}
-use Rattle.smp_fractions.proofs.Fractions.{cancel, same_trans}
-use Rattle.smp_fractions.proofs.Over.{over_same}
+use Rattle.smp_frac.specs.Fractions.{Same, over}
+use Rattle.smp_frac.proofs.Arithmetic.{cancel, same_trans}
+use Rattle.smp_frac.proofs.Over.{over_same}
 use Rattle.smp_frac.specs.Divisors.{greatest_common_divisor}
 use Rattle.smp_frac.specs.Laws.Gcds.{IsGcd-greatest_common_divisor}
 use Rattle.smp_frac.specs.Laws.Coprime.{coprime_parts, divisor_positive, part_positive}

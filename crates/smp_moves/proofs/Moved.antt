@@ -5,8 +5,8 @@ use Rattle.std.proofs.lemmas.Bool.{cases_Bool, cases_lt}
 use Rattle.std.proofs.lemmas.List.Sums.{sum_by-cons}
 use Rattle.std.proofs.Math.Nat.{mul-le-mul_right, dvd-mul_right}
 use Prim.Native.Nat.{◌∣◌}
-use Rattle.smp_fractions.specs.Fractions.{Same}
-use Rattle.smp_fractions.proofs.Fractions.{same_refl, same_trans, plus_same, plus-zero, times-zero}
+use Rattle.smp_frac.specs.Fractions.{Same}
+use Rattle.smp_frac.proofs.Arithmetic.{same_refl, same_trans, plus_same, plus-zero, times-zero}
 use Rattle.smp_prob.specs.Shares.{Shares}
 use Rattle.smp_values.specs.Values.{IsValues, fractional, fractional_count, is_fractional, value_at}
 use Rattle.smp_values.proofs.Fractional.{fractional_is, is_fractional-between}
@@ -14,7 +14,7 @@ use Rattle.smp_values.proofs.Units.{fractional_within}
 use Rattle.smp_moves.specs.Moves.{Line, IsLine, IsMoved, along, entry_of, fraction_of}
 use Rattle.smp_moves.specs.Ends.{extent, end_of}
 use Rattle.smp_moves.specs.Kept.Ends.{IsOver}
-use Rattle.smp_fractions.proofs.Differences.{over_cross, over_at_most_one}
+use Rattle.smp_frac.proofs.Signs.{over_cross, over_at_most_one}
 use Rattle.smp_moves.proofs.Entries.{order_going, off_line, place_or}
 use Rattle.smp_moves.proofs.LineEnds.{moved, greatest, settled_unit, first_unit}
 

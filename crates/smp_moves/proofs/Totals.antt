@@ -1,8 +1,8 @@
 -- Values that move along a line of the total 0 keep their total.
 use Rattle.std.proofs.Common.{◌≡◌, ℕ, ◌*◌, ℤ, pos, neg_ℤ, ◌*ℤ◌, arith, sym, ap, ◌∙◌, subst}
-use Rattle.smp_fractions.specs.Fractions.{Fraction, Same, whole, integer, plus, times, sum_below}
-use Rattle.smp_fractions.proofs.Fractions.{same_refl, same_trans, plus_same, times_same, times-plus, times-zero, times_left_comm, plus-zero, sum_same, sum-plus, sum-times}
-use Rattle.smp_fractions.proofs.Integers.{diff, by_diff, diff-neg, diff-same, diffs, pos-diff}
+use Rattle.smp_frac.specs.Fractions.{Fraction, Same, whole, integer, plus, times, sum_below}
+use Rattle.smp_frac.proofs.Arithmetic.{same_refl, same_trans, plus_same, times_same, times-plus, times-zero, times_left_comm, plus-zero, sum_same, sum-plus, sum-times}
+use Rattle.smp_frac.proofs.Integers.{diff, by_diff, diff-neg, diff-same, diffs, pos-diff}
 use Rattle.smp_moves.specs.Moves.{Line, entry_of, turned}
 use Rattle.smp_moves.proofs.Evens.{entry_of_turned, times_negative}
 

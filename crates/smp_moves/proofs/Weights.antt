@@ -5,8 +5,8 @@ use Rattle.std.specs.Int.RustNames.{unsigned_abs}
 use Rattle.std.proofs.lemmas.Bool.{leb-true, le-leb}
 use Rattle.std.proofs.lemmas.List.Elements.{All-get_or, All-from_get_or}
 use Rattle.std.proofs.lemmas.List.Sums.{AllPass-from_list_all, list_all-from_AllPass}
-use Rattle.smp_fractions.specs.Fractions.{Same, whole, times}
-use Rattle.smp_fractions.proofs.Fractions.{cancel}
+use Rattle.smp_frac.specs.Fractions.{Same, whole, times}
+use Rattle.smp_frac.proofs.Arithmetic.{cancel}
 use Rattle.smp_kernel.specs.Vectors.{entry, Within}
 use Rattle.smp_moves.specs.declared.lines.Ratio.{Ratio}
 use Rattle.smp_prob.specs.Shares.{Shares}

@@ -1,8 +1,8 @@
 -- What a selection keeps that flies and then lands, and what its landing gives up (Deville and Tillé 2004), whatever its method. All
 -- of it is said of every path from a state.
 use Rattle.std.specs.Prelude.{◌≡◌, ◌≢◌, ◌⊎◌, ℕ, ◌<◌, ◌≤◌, true, false, List, [], ◌∷◌, ◌++◌}
-use Rattle.smp_fractions.specs.Fractions.{Fraction, Same}
-use Rattle.smp_fractions.specs.Bounds.{DifferByAtMost}
+use Rattle.smp_frac.specs.Fractions.{Fraction, Same}
+use Rattle.smp_frac.specs.Bounds.{DifferByAtMost}
 use Rattle.smp_split.specs.Trees.{Tree, picked}
 use Rattle.smp_split.specs.Paths.{Entry, IsStep, Leads}
 use Rattle.smp_split.specs.declared.kind.Kind.{Kind}

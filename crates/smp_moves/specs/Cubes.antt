@@ -2,7 +2,7 @@
 -- totals as long as there is a direction for them. Then the landing begins. Where no direction is left, the last row in force is dropped,
 -- and the flight goes on without it. Where a number would pass its gate, pivotal steps finish the selection.
 use Rattle.std.specs.Prelude.{ℕ, ◌+◌, ◌-◌, Bool, true, false, nat_eq, if◌then◌else◌, List, [], ◌∷◌, map}
-use Rattle.smp_fractions.specs.Fractions.{Fraction}
+use Rattle.smp_frac.specs.Fractions.{Fraction}
 use Rattle.smp_kernel.specs.Elimination.{cut, AreIndependent}
 use Rattle.smp_split.specs.Trees.{Part, Tree}
 use Rattle.smp_split.specs.Parts.{moved}

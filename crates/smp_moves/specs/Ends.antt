@@ -3,7 +3,7 @@ use Rattle.std.specs.Prelude.{ℕ, suc, ◌+◌, ◌-◌, ◌*◌, ◌/◌, nat_
 use Rattle.std.specs.Prelude.{[], ◌∷◌, ℤ, pos, negsuc, fold, length, map, slice_index}
 use Rattle.std.specs.List.{range_with_len, list_all}
 use Rattle.std.specs.Int.RustNames.{unsigned_abs}
-use Rattle.smp_fractions.specs.Limits.{most_entry}
+use Rattle.smp_frac.specs.Limits.{most_entry}
 use Rattle.smp_frac.specs.Divisors.{greatest_common_divisor}
 use Rattle.smp_prob.specs.Shares.{Shares}
 use Rattle.smp_moves.specs.declared.lines.Ratio.{Ratio}

@@ -5,7 +5,7 @@ use Rattle.std.specs.Prelude.{pos, neg_ℤ, length, map, slice_index}
 use Rattle.std.specs.List.{All, AllPairs}
 use Rattle.std.specs.Int.{IsGcd}
 use Prim.Native.Nat.{◌∣◌}
-use Rattle.smp_fractions.specs.Fractions.{Fraction, Same, AtMost, whole, integer, plus, times, over}
+use Rattle.smp_frac.specs.Fractions.{Fraction, Same, AtMost, whole, integer, plus, times, over}
 use Rattle.smp_kernel.specs.Vectors.{IsZero}
 use Rattle.smp_prob.specs.Shares.{Shares}
 use Rattle.smp_values.specs.Values.{is_fractional, value_at}

@@ -1,7 +1,7 @@
 -- What a method owes of one step for its selections to be balanced on every path.
 use Rattle.std.specs.Prelude.{◌≡◌, ◌≢◌, ℕ, ◌<◌, ◌≤◌, Bool, false, cond, List}
-use Rattle.smp_fractions.specs.Fractions.{Fraction, Same, whole, over, sum_below}
-use Rattle.smp_fractions.specs.Bounds.{absolute}
+use Rattle.smp_frac.specs.Fractions.{Fraction, Same, whole, over, sum_below}
+use Rattle.smp_frac.specs.Bounds.{absolute}
 use Rattle.smp_split.specs.Trees.{Tree, EachPart, Lawful}
 use Rattle.smp_split.specs.Paths.{Entry, Leads}
 use Rattle.smp_split.specs.Means.{value_sum, selected_sum}

@@ -3,8 +3,8 @@
 use Rattle.std.specs.Prelude.{◌≡◌, ◌⊎◌, ℕ, ◌*◌, ◌/◌, ◌≤◌, Bool, List, [], ◌∷◌, ℤ, pos, negsuc, neg_ℤ, length, map, take, fold}
 use Rattle.std.specs.Int.RustNames.{unsigned_abs}
 use Rattle.std.specs.Int.{IsGcd}
-use Rattle.smp_fractions.specs.Fractions.{Same, whole, times}
-use Rattle.smp_fractions.specs.Limits.{most_denominator, most_entry}
+use Rattle.smp_frac.specs.Fractions.{Same, whole, times}
+use Rattle.smp_frac.specs.Limits.{most_denominator, most_entry}
 use Rattle.smp_kernel.specs.Vectors.{Within}
 use Rattle.smp_kernel.specs.Elimination.{cut}
 use Rattle.smp_kernel.specs.Reduced.{IsReduced}

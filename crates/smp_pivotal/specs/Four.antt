@@ -2,9 +2,9 @@
 -- Each field has the value of the definition that its comment begins with, as that definition's own comment gives it.
 use Rattle.std.specs.Prelude.{◌≡◌, ◌<◌, ℕ, ◌+◌, ◌-◌, ◌*◌, pos, true, false, List, [], ◌∷◌, codes}
 use Rattle.smp_frac.specs.Divisors.{greatest_common_divisor}
-use Rattle.smp_frac.specs.Fractions.{fraction_text, lowest_text}
-use Rattle.smp_fractions.specs.Bounds.{IsAround}
-use Rattle.smp_fractions.specs.Fractions.{Same, over, plus, times, divided, inverse, whole}
+use Rattle.smp_frac.specs.Exact.{fraction_text, lowest_text}
+use Rattle.smp_frac.specs.Bounds.{IsAround}
+use Rattle.smp_frac.specs.Fractions.{Same, over, plus, times, divided, inverse, whole}
 use Rattle.smp_prob.specs.declared.orders.Order.TheVariants.{Frame}
 use Rattle.smp_prob.specs.declared.requests.Request.{Request}
 use Rattle.smp_prob.specs.Requested.{certain_units, is_certain, larger, open_total, requested_fraction, requested_of, rest}

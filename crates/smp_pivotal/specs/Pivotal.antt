@@ -1,6 +1,6 @@
 -- Sequential pivotal selection (Deville and Tillé 1998), in the order of the frame or in an order that is drawn first.
 use Rattle.std.specs.Prelude.{ℕ}
-use Rattle.smp_fractions.specs.Limits.{most_denominator}
+use Rattle.smp_frac.specs.Limits.{most_denominator}
 use Rattle.smp_prob.specs.Shares.{Shares}
 use Rattle.smp_split.specs.Trees.{Tree}
 use Rattle.smp_split.specs.Orders.{Ordered}

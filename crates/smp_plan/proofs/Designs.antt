@@ -6,7 +6,7 @@ use Rattle.std.proofs.lemmas.List.{length-map}
 use Rattle.std.proofs.lemmas.List.FromFn.{length-range_with_len}
 use Rattle.smp_frame.specs.declared.frame.Unit as unit
 use Rattle.std.specs.List.Sorted.{IsStrictlySortedBy}
-use Rattle.smp_fractions.specs.Limits.{most_rows}
+use Rattle.smp_frac.specs.Limits.{most_rows}
 use Rattle.smp_design.specs.Bounds.{Ascend, IsDesign}
 use Rattle.smp_design.specs.Procedures.{AreNeeded, IsProcedure}
 use Rattle.smp_design.specs.Words.{row, draws_together, in_second}

@@ -5,7 +5,7 @@ use Rattle.smp_io.specs.Store.{Files}
 use Rattle.smp_io.proofs.Asked.{only_both, only_first}
 use Rattle.smp_words.specs.Words.{all_distinct}
 use Rattle.smp_status.specs.declared.status.Status.{Status}
-use Rattle.smp_faults.specs.Steps.{◌>>=◌}
+use Rattle.smp_frac.specs.Faults.{◌>>=◌}
 use Rattle.smp_plan.specs.Stops.{Stop, without}
 use Rattle.smp_status.specs.Codes.{Class, IsDone, IsUsage, IsRefusal, IsReadFault, IsWriteFault, IsNoMemory, class_of}
 use Rattle.smp_status.specs.Reports.{IsOfInputs}

@@ -16,7 +16,7 @@ use Rattle.smp_strata.specs.Misfits.{misfit_of}
 use Rattle.smp_strata.specs.declared.misfit.Misfit.{Misfit}
 use Rattle.smp_status.specs.declared.status.Status.TheVariants as status
 use Rattle.smp_status.specs.Codes.{design_status, frame_status}
-use Rattle.smp_faults.specs.Steps.{◌>>=◌}
+use Rattle.smp_frac.specs.Faults.{◌>>=◌}
 use Rattle.smp_plan.specs.Stops.{Stop, or_fault, content_of, Refused}
 
 -- where the design of a command stands: in a file of this name, or with the command, as a design or as the bytes of one

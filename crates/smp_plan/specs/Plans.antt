@@ -1,6 +1,6 @@
 -- What a design asks of a frame.
 use Rattle.std.specs.Prelude.{ℕ, List, [], map, slice_index_or, Some, None, codes}
-use Rattle.smp_fractions.specs.Fractions.{Fraction}
+use Rattle.smp_frac.specs.Fractions.{Fraction}
 use Rattle.smp_frame.specs.declared.columns.Columns.{Columns}
 use Rattle.smp_frame.specs.declared.frame.Unit as unit
 use Rattle.smp_design.specs.declared.design.Design.{Design}

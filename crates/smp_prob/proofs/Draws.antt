@@ -7,7 +7,7 @@ use Rattle.std.proofs.lemmas.List.Sums.{get_or-le-sum_by, sum_by-le}
 use Rattle.std.proofs.lemmas.Nat.Gcd.{dvd_of_mod-eq-zero, mod-eq-zero_of_dvd, le_of_dvd, dvd-zero}
 use Rattle.std.proofs.Math.Nat.{div-mul_cancel, div-le_of_le-mul, div-le_self, mul-lt-mul_of_pos_left, dvd-mul_left}
 use Prim.Native.Nat.{◌∣◌}
-use Rattle.smp_fractions.specs.Limits.{most_rows}
+use Rattle.smp_frac.specs.Limits.{most_rows}
 use Rattle.smp_prob.specs.Shapes.{size_divisor, shape_of}
 use Rattle.smp_prob.specs.Given.{has_whole_sum, draws, out_of, largest_multiple}
 use Rattle.smp_prob.proofs.ShapeLemmas.{divides_each, divisor_positive, length-shape_of, shape-divisor, total-divisor, shape_below, shape_small, sum_narrow}

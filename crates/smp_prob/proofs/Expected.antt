@@ -5,12 +5,12 @@ use Rattle.std.proofs.lemmas.List.{get_or-map, length-map, take_all}
 use Rattle.std.proofs.lemmas.List.Sums.{sum_by_more}
 use Rattle.std.proofs.lemmas.Nat.Gcd.{dvd_refl}
 use Rattle.std.proofs.Math.Nat.{one-dvd}
-use Rattle.smp_fractions.specs.Fractions.{Fraction, Same, whole, plus, over, sum_below, positive_one}
-use Rattle.smp_fractions.proofs.Fractions.{same_sym, same_trans, plus_same}
-use Rattle.smp_fractions.proofs.Integers.{diff-same, diffs}
-use Rattle.smp_fractions.proofs.Over.{zero-over, over_from_cross, cross_from_over}
+use Rattle.smp_frac.specs.Fractions.{Fraction, Same, whole, plus, over, sum_below, positive_one}
+use Rattle.smp_frac.proofs.Arithmetic.{same_sym, same_trans, plus_same}
+use Rattle.smp_frac.proofs.Integers.{diff-same, diffs}
+use Rattle.smp_frac.proofs.Over.{zero-over, over_from_cross, cross_from_over}
 use Rattle.smp_frac.specs.declared.fractions.Frac.{Frac}
-use Rattle.smp_frac.specs.Fractions.{fraction}
+use Rattle.smp_frac.specs.Exact.{fraction}
 use Rattle.smp_frac.specs.Laws.Lowest.{lowest_from_coprime}
 use Rattle.smp_frac.proofs.Unique.{same_frac}
 use Rattle.smp_prob.specs.Given.{IsWholeNumber, common_multiple, numerator_over, given_fraction, expected_size}

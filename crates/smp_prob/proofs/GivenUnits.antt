@@ -8,10 +8,10 @@ use Rattle.std.proofs.lemmas.List.Elements.{All-get_or, All-map, filter_passes}
 use Rattle.std.proofs.lemmas.List.Sums.{length-filter, count_by-le-length, sum_by-cons}
 use Rattle.std.proofs.Math.Nat.{dvd-mul_left}
 use Prim.Native.Nat.{◌∣◌}
-use Rattle.smp_fractions.specs.Fractions.{Same, whole, over}
-use Rattle.smp_fractions.proofs.Fractions.{cancel, same_sym, same_trans}
-use Rattle.smp_fractions.proofs.Over.{over_one, over_zero, over_same}
-use Rattle.smp_fractions.specs.Limits.{most_rows}
+use Rattle.smp_frac.specs.Fractions.{Same, whole, over}
+use Rattle.smp_frac.proofs.Arithmetic.{cancel, same_sym, same_trans}
+use Rattle.smp_frac.proofs.Over.{over_one, over_zero, over_same}
+use Rattle.smp_frac.specs.Limits.{most_rows}
 use Rattle.smp_frac.specs.declared.fractions.Frac.{Frac}
 use Rattle.smp_frac.specs.Laws.Coprime.{dvd_second}
 use Rattle.smp_prob.specs.declared.requests.Request.{Request}

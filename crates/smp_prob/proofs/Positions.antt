@@ -7,9 +7,9 @@ use Rattle.std.proofs.lemmas.List.{get_or_past}
 use Rattle.std.proofs.lemmas.Bool.{cases_Bool, cases_lt, and_parts, and_right, and_cases, lt-ltb, le-ltb, eq-eqb, ne_eqb}
 use Rattle.std.proofs.lemmas.List.Elements.{All-get_or, filter_passes}
 use Rattle.std.proofs.lemmas.List.Sums.{length-filter, sum_by-cons, position_or_len_is, count_by_more_yes, count_by_more_no}
-use Rattle.smp_fractions.specs.Fractions.{Same, whole}
-use Rattle.smp_fractions.proofs.Fractions.{same_refl}
-use Rattle.smp_fractions.proofs.Over.{over_same}
+use Rattle.smp_frac.specs.Fractions.{Same, whole}
+use Rattle.smp_frac.proofs.Arithmetic.{same_refl}
+use Rattle.smp_frac.proofs.Over.{over_same}
 use Rattle.smp_prob.specs.declared.requests.Request.{Request}
 use Rattle.smp_prob.specs.declared.inclusions.Inclusion.TheVariants.{Certain, Free, Never}
 use Rattle.smp_prob.specs.Requested.{is_certain, is_free, certain_units, places, requested_of, requested_fraction}

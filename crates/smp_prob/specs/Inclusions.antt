@@ -5,7 +5,7 @@ use Rattle.std.specs.List.{count_by, range_with_len}
 use Rattle.smp_prob.specs.declared.requests.Request.{Request}
 use Rattle.smp_prob.specs.declared.inclusions.Inclusion.{Inclusion}
 use Rattle.smp_prob.specs.declared.inclusions.Inclusion.TheVariants.{Certain, Free, Never}
-use Rattle.smp_fractions.specs.Fractions.{Fraction, whole, over}
+use Rattle.smp_frac.specs.Fractions.{Fraction, whole, over}
 
 -- each number is below the later ones
 abbrev pub Rises : List ℕ → Type 0

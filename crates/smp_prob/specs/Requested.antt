@@ -1,7 +1,7 @@
 -- Requested inclusion probabilities of n units: in proportion to size, as far as no probability passes 1 (Tillé 2006).
 use Rattle.std.specs.Prelude.{◌≡◌, ◌⊎◌, ℕ, ◌+◌, ◌-◌, ◌*◌, ◌≤◌, ◌<◌, Bool, not, nat_lt, nat_le, ◌&&◌}
 use Rattle.std.specs.Prelude.{if◌then◌else◌, List, [], ◌∷◌, slice_index, drop, sum, sum_by, count_by, filter}
-use Rattle.smp_fractions.specs.Fractions.{Fraction, whole, over}
+use Rattle.smp_frac.specs.Fractions.{Fraction, whole, over}
 use Rattle.smp_prob.specs.declared.requests.Request.{Request}
 use Rattle.smp_prob.specs.Shapes.{shape_of}
 

@@ -1,7 +1,7 @@
 -- Requested inclusion probabilities: in proportion to size (Tillé 2006), or given.
 use Rattle.std.specs.Prelude.{◌≡◌, ℕ, ◌*◌, ◌^◌, ◌<◌, ◌≤◌, List, [], length, slice_index, EachIndex}
 use Rattle.std.specs.List.{range_with_len}
-use Rattle.smp_fractions.specs.Limits.{most_rows, number_limit}
+use Rattle.smp_frac.specs.Limits.{most_rows, number_limit}
 use Rattle.smp_prob.specs.declared.requests.Request.{Request}
 
 -- What every selection method needs: each free unit has a shape, and a probability strictly between 0 and 1.

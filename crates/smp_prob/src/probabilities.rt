@@ -1,8 +1,8 @@
 ghost use Rattle.std.specs.Prelude.{◌≡◌, ◌↔◌, ◌+◌, ◌≤◌, ◌<◌, ◌^◌, ℕ, Bool, Err, IsSome, IfSome, SomeIff, IfOk, IsOkUnless, All, EachIndex, length, map, sum, slice_index, count_by};
 ghost use Rattle.std.specs.List.{range_with_len};
-ghost use Rattle.smp_fractions.specs.Fractions.{Same, whole};
-ghost use Rattle.smp_fractions.specs.Limits.{most_rows};
-ghost use Rattle.smp_frac.specs.Fractions.{fraction};
+ghost use Rattle.smp_frac.specs.Fractions.{Same, whole};
+ghost use Rattle.smp_frac.specs.Limits.{most_rows};
+ghost use Rattle.smp_frac.specs.Exact.{fraction};
 ghost use Rattle.smp_prob.specs.declared.faults.GivenFault.{GivenFault};
 ghost use Rattle.smp_prob.specs.Given as Given;
 ghost use Rattle.smp_prob.specs.Given.{AreGiven, IsLeastMultipleOf, IsWholeNumber, draws, given_fraction, given_of, largest_multiple, out_of};

@@ -8,8 +8,8 @@ ghost use Rattle.smp_prob.specs.Kept.Cuts.{IsFeasible, border};
 ghost use Rattle.smp_prob.specs.Requested.{is_certain, is_free, positive_units, places, free_sizes, requested_of, requested_fraction, IsFalling, IsLeastCut, FirstAreCertain};
 ghost use Rattle.smp_prob.specs.Requests.{IsRequest};
 ghost use Rattle.smp_prob.specs.Inclusions.{AreApart, AreBelow, IsRising, count_taken, asked_fraction};
-ghost use Rattle.smp_fractions.specs.Fractions.{Same};
-ghost use Rattle.smp_fractions.specs.Limits.{most_rows, number_limit};
+ghost use Rattle.smp_frac.specs.Fractions.{Same};
+ghost use Rattle.smp_frac.specs.Limits.{most_rows, number_limit};
 
 use crate::picked::{Picked, pick};
 use crate::shapes::{shape_of, sum_of};

@@ -1,6 +1,6 @@
 ghost use Rattle.std.specs.Prelude.{◌≡◌, ℕ, ◌≤◌, ◌<◌, length, slice_index, position, nat_eq, IfOk};
-ghost use Rattle.smp_frac.specs.Fractions.{fraction};
-ghost use Rattle.smp_fractions.specs.Fractions.{Same, over};
+ghost use Rattle.smp_frac.specs.Exact.{fraction};
+ghost use Rattle.smp_frac.specs.Fractions.{Same, over};
 ghost use Rattle.smp_prob.specs.Inclusions.{Rises};
 
 use crate::{Inclusion, Places, Shapes};

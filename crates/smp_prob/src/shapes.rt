@@ -1,5 +1,5 @@
 ghost use Rattle.std.specs.Prelude.{◌≡◌, ◌^◌, ◌<◌, ◌≤◌, length, slice_index, sum, EachIndex, IfOk};
-ghost use Rattle.smp_fractions.specs.Limits.{most_rows, number_limit};
+ghost use Rattle.smp_frac.specs.Limits.{most_rows, number_limit};
 ghost use Rattle.smp_prob.specs.Shapes as Shapes;
 
 use smp_frac::{NoMemory, gcd};

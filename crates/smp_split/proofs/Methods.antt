@@ -2,7 +2,7 @@
 use Rattle.smp_split.specs.Counts.{LeavesSelectAround}
 use Rattle.smp_split.specs.Methods.{HasCount, HasMeans, Method, Starts}
 use Rattle.smp_split.proofs.Counts.{around_select}
-use Rattle.smp_split.proofs.Means.{mean_is_value, probability_is_value}
+use Rattle.smp_split.specs.Laws.Means.{mean_is_value, probability_is_value}
 
 pub has_means : {State : Type 0} (method : Method State) (state : State) → method.belongs state → HasMeans method state
 has_means method state here = record {

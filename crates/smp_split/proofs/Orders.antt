@@ -8,13 +8,13 @@ use Rattle.std.proofs.lemmas.List.{get_or-set_same, get_or-set_other, get_or-map
 use Rattle.std.proofs.lemmas.List.Edits.{swap_is, length-swap}
 use Rattle.std.proofs.lemmas.List.FromFn.{length-range_with_len, get_or-range_with_len}
 use Rattle.std.proofs.lemmas.List.Sorted.{IsPermutation-refl, IsPermutation-swap, IsPermutation-map, IsPermutation-trans, IsPermutation-keeps, length_permutation}
-use Rattle.smp_fractions.specs.Fractions.{Same, whole, times}
+use Rattle.smp_frac.specs.Fractions.{Same, whole, times}
 use Rattle.smp_split.specs.Trees.{Tree, IsPart, LawfulSplit, Lawful, weight_sum, picked, weighted}
 use Rattle.smp_split.specs.Orders.{exchange, Placing, Ordered, IsPlacing, IsInOrder, IsExchange, exchanged_at, exchanged_order, next_place, frame_order, undrawn_order, order_parts, in_order, ordered_tree}
 use Rattle.smp_split.specs.Lenses.{as_unit, Lens}
-use Rattle.smp_fractions.proofs.Fractions.{same_refl}
-use Rattle.smp_split.proofs.Lenses.{split_through}
-use Rattle.smp_split.proofs.Parts.{weighted-same, weight_sum-equal, picked-equal, each_equal, weight_sum-moved, picked-moved}
+use Rattle.smp_frac.proofs.Arithmetic.{same_refl}
+use Rattle.smp_split.specs.Laws.Lenses.{split_through}
+use Rattle.smp_split.specs.Laws.Parts.{weighted-same, weight_sum-equal, picked-equal, each_equal, weight_sum-moved, picked-moved}
 
 -- ---- exchanges
 

@@ -3,7 +3,7 @@ use Rattle.std.proofs.Common.{◌≡◌, ℕ, zero, suc, ◌<◌, ◌≤◌, fal
 use Rattle.std.proofs.lemmas.Bool.{cases_Bool}
 use Rattle.smp_split.specs.Trees.{Tree, EachPart, Lawful, weight_sum, picked}
 use Rattle.smp_split.specs.Paths.{Entry, entry_at, IsStep, Leads, AtEachLeaf, LeafBelow}
-use Rattle.smp_split.proofs.Steps.{picked_falls, picked_belongs, leads_keep, leads_belong}
+use Rattle.smp_split.specs.Laws.Steps.{picked_falls, picked_belongs, leads_keep, leads_belong}
 
 module _ {State : Type 0} (tree : Tree State) where
   -- ---- joined and split

@@ -7,7 +7,7 @@ use Rattle.smp_tape.specs.Sources.{Drawn, Source}
 use Rattle.smp_split.specs.Trees.{Tree, Lawful, weight_sum, picked}
 use Rattle.smp_split.specs.Paths.{Entry, entry_at, IsStep, Leads}
 use Rattle.smp_split.specs.Runs.{Outcome, leaf, stopped, by_answer, run_within, run, Gives, IsLeaf, IsStop, IsOutcome}
-use Rattle.smp_split.proofs.Steps.{picked_falls, picked_belongs, value_within}
+use Rattle.smp_split.specs.Laws.Steps.{picked_falls, picked_belongs, value_within}
 
 module _ {State Rest : Type 0} (source : Source Rest) (tree : Tree State) (belongs : State → Type 0) (lawful : Lawful tree belongs) where
   -- what a run has come to, after what went before

@@ -3,9 +3,9 @@ use Rattle.std.proofs.Common.{◌≡◌, ℕ, zero, suc, ◌+◌, ◌*◌, ◌<�
 use Rattle.std.specs.List.{sum, sum_by, range_with_len}
 use Rattle.std.proofs.lemmas.List.Sorted.{sum_by-IsPermutation}
 use Rattle.std.proofs.lemmas.List.Sums.{sum_by-cons}
-use Rattle.smp_fractions.specs.Fractions.{Same, positive_one, whole, plus, times, over, sum_below}
-use Rattle.smp_fractions.proofs.Fractions.{same_refl, same_sym, same_trans, plus_same, one-times, sum_same}
-use Rattle.smp_fractions.proofs.Over.{zero-over, over_plus, over_from_cross, cross_from_over}
+use Rattle.smp_frac.specs.Fractions.{Same, positive_one, whole, plus, times, over, sum_below}
+use Rattle.smp_frac.proofs.Arithmetic.{same_refl, same_sym, same_trans, plus_same, one-times, sum_same}
+use Rattle.smp_frac.proofs.Over.{zero-over, over_plus, over_from_cross, cross_from_over}
 use Rattle.smp_split.specs.Counts.{AddsUp}
 use Rattle.smp_split.specs.Means.{value_sum}
 use Rattle.smp_split.specs.Orders.{Placing, Ordered, IsPlacing, ordered_tree}

@@ -1,8 +1,8 @@
 -- How many units the values add up to, and how many the leaves of a design select.
 use Rattle.std.specs.Prelude.{◌≡◌, ℕ, Bool, List}
 use Rattle.std.specs.List.{count_by, filter, range_with_len}
-use Rattle.smp_fractions.specs.Bounds.{IsAround}
-use Rattle.smp_fractions.specs.Fractions.{Same, whole}
+use Rattle.smp_frac.specs.Bounds.{IsAround}
+use Rattle.smp_frac.specs.Fractions.{Same, whole}
 use Rattle.smp_split.specs.Trees.{Tree, weight_sum, picked}
 use Rattle.smp_split.specs.Means.{value_sum}
 use Rattle.smp_split.specs.Paths.{AtEachLeaf}

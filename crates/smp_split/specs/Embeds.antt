@@ -1,6 +1,6 @@
 -- The tree of a design whose states are some of those of a larger type: a variant of an enum of designs.
 use Rattle.std.specs.Prelude.{true, false, [], Option, Some, None}
-use Rattle.smp_fractions.specs.Fractions.{whole}
+use Rattle.smp_frac.specs.Fractions.{whole}
 use Rattle.smp_split.specs.Trees.{Tree}
 use Rattle.smp_split.specs.Parts.{moved}
 use Rattle.smp_split.specs.declared.kind.Kind.TheVariants.{Pivot}

@@ -1,7 +1,7 @@
 -- A tree inside a tree: a lens puts the states of an inner design into those of an outer one, of which the outer design says
 -- while the inner one goes on what the inner one says.
 use Rattle.std.specs.Prelude.{◌≡◌, ℕ, ◌<◌, Bool, true, false, cond}
-use Rattle.smp_fractions.specs.Fractions.{Fraction, Same, whole, times}
+use Rattle.smp_frac.specs.Fractions.{Fraction, Same, whole, times}
 use Rattle.smp_split.specs.Parts.{moved}
 use Rattle.smp_split.specs.Trees.{Tree}
 

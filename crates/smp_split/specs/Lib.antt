@@ -12,3 +12,9 @@ pub mod Counts
 pub mod Methods
 pub mod Leaves
 pub mod Sectioning
+pub mod Rows
+pub mod Laws
+pub mod Stages
+pub mod StagePaths
+pub mod StageStarts
+pub mod OwnStages

@@ -1,7 +1,7 @@
 -- The mean of a list over the selected units, and a unit's probability of selection, where each number below the bound of a step is
 -- drawn as often as any other, whatever numbers came before.
 use Rattle.std.specs.Prelude.{ℕ, zero, suc, cond, nat_eq, ◌&&◌, List}
-use Rattle.smp_fractions.specs.Fractions.{Fraction, whole, times, divided, sum_below}
+use Rattle.smp_frac.specs.Fractions.{Fraction, whole, times, divided, sum_below}
 use Rattle.smp_split.specs.Trees.{Part, Tree, weight_sum, picked}
 
 -- the sum of c over the selected units

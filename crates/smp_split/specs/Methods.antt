@@ -1,6 +1,6 @@
 -- What a selection method owes, and what a selection by it starts with.
 use Rattle.std.specs.Prelude.{ℕ, ◌<◌}
-use Rattle.smp_fractions.specs.Fractions.{Fraction, Same}
+use Rattle.smp_frac.specs.Fractions.{Fraction, Same}
 use Rattle.smp_split.specs.Trees.{Tree, Lawful}
 use Rattle.smp_split.specs.Means.{mean, value_sum, inclusion_probability}
 use Rattle.smp_split.specs.Counts.{AddsUp, LeavesSelect}

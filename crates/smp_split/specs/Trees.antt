@@ -1,8 +1,8 @@
 -- A selection design as a tree of weighted parts, and its lawful splits (Deville and Tillé 1998).
 use Rattle.std.specs.Prelude.{◌≡◌, ℕ, ◌+◌, ◌-◌, ◌*◌, ◌≤◌, ◌<◌, Bool, true, false, cond, nat_lt, List}
 use Rattle.std.specs.Prelude.{[], ◌∷◌}
-use Rattle.smp_fractions.specs.Limits.{wide_limit}
-use Rattle.smp_fractions.specs.Fractions.{Fraction, Same, whole, plus, times}
+use Rattle.smp_frac.specs.Limits.{wide_limit}
+use Rattle.smp_frac.specs.Fractions.{Fraction, Same, whole, plus, times}
 use Rattle.smp_split.specs.declared.kind.Kind.{Kind}
 
 -- a weight, and the state that has it

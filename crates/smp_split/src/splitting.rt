@@ -1,5 +1,5 @@
 ghost use Rattle.std.specs.Prelude.{◌≡◌, ℕ, ◌<◌, true, false, IfOk};
-ghost use Rattle.smp_fractions.specs.Fractions.{Fraction, Same};
+ghost use Rattle.smp_frac.specs.Fractions.{Fraction, Same};
 ghost use Rattle.smp_split.specs.Trees.{weight_sum, picked, weighted};
 ghost use Rattle.smp_split.specs.Methods.{Method};
 ghost use Rattle.smp_split.specs.Counts.{selected_units};

@@ -7,8 +7,8 @@ use Rattle.std.proofs.lemmas.List.{get_or-map, length-map, same_lists}
 use Rattle.std.proofs.lemmas.List.Elements.{All-map}
 use Rattle.std.proofs.lemmas.List.FromFn.{length-range_with_len, get_or-range_with_len, get_or-map-range_with_len, length-map-range_with_len}
 use Rattle.std.proofs.lemmas.Option.{slice_get-map, slice_get_within, get_or_from_slice_get}
-use Rattle.smp_fractions.specs.Fractions.{Same}
-use Rattle.smp_fractions.proofs.Fractions.{times_same}
+use Rattle.smp_frac.specs.Fractions.{Same}
+use Rattle.smp_frac.proofs.Arithmetic.{times_same}
 use Rattle.smp_values.specs.Starts.{IsWhole}
 use Rattle.smp_design.specs.declared.design.Design.{Design}
 use Rattle.smp_design.specs.Words.{row}

@@ -2,10 +2,10 @@
 use Rattle.std.proofs.Common.{◌≡◌, ℕ, List, [], length, get_or, Option, Some, None, arith, ap, ◌∙◌}
 use Rattle.std.specs.Prelude.{IfSome}
 use Rattle.std.proofs.lemmas.List.{get_or-map, length-map}
-use Rattle.smp_fractions.specs.Fractions.{Same, sum_below, whole}
-use Rattle.smp_fractions.proofs.Fractions.{sum_same}
+use Rattle.smp_frac.specs.Fractions.{Same, sum_below, whole}
+use Rattle.smp_frac.proofs.Arithmetic.{sum_same}
 use Rattle.smp_frac.specs.declared.fractions.Frac.{Frac}
-use Rattle.smp_frac.specs.Fractions.{fraction}
+use Rattle.smp_frac.specs.Exact.{fraction}
 use Rattle.smp_prob.specs.Given.{expected_size, given_fraction}
 use Rattle.smp_prob.specs.Inclusions.{asked_fraction}
 use Rattle.smp_prob.specs.declared.requests.Request.{Request}

@@ -8,12 +8,12 @@ use Rattle.std.proofs.lemmas.List.{get_or-map, length-map}
 use Rattle.std.proofs.lemmas.List.Folds.{list_any_at}
 use Rattle.std.proofs.lemmas.List.Elements.{All-filter, All-map}
 use Rattle.std.proofs.lemmas.List.Sums.{count_by-le-length, length-filter}
-use Rattle.smp_fractions.specs.Bounds.{absolute}
-use Rattle.smp_fractions.specs.Fractions.{Fraction, Same, sum_below, whole}
-use Rattle.smp_fractions.proofs.Fractions.{same_sym, same_trans}
-use Rattle.smp_fractions.specs.Limits.{most_rows}
+use Rattle.smp_frac.specs.Bounds.{absolute}
+use Rattle.smp_frac.specs.Fractions.{Fraction, Same, sum_below, whole}
+use Rattle.smp_frac.proofs.Arithmetic.{same_sym, same_trans}
+use Rattle.smp_frac.specs.Limits.{most_rows}
 use Rattle.smp_frac.specs.declared.fractions.Frac.{Frac}
-use Rattle.smp_frac.specs.Fractions.{fraction}
+use Rattle.smp_frac.specs.Exact.{fraction}
 use Rattle.smp_frac.proofs.Unique.{same_frac}
 use Rattle.smp_frame.specs.Bounds.{IsFrame}
 use Rattle.smp_frac.specs.LowestTerms.{lowest_terms}

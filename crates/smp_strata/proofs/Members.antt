@@ -9,8 +9,8 @@ use Rattle.std.proofs.lemmas.List.Sums.{get_or-le-sum_by, sum-map}
 use Rattle.std.proofs.lemmas.List.FromFn.{get_or-map-range_with_len, length-map-range_with_len}
 use Rattle.smp_frac.specs.declared.fractions.Frac.{Frac}
 use Rattle.smp_frame.specs.Bounds.{IsFrame}
-use Rattle.smp_fractions.specs.Fractions.{whole}
-use Rattle.smp_fractions.specs.Limits.{most_rows}
+use Rattle.smp_frac.specs.Fractions.{whole}
+use Rattle.smp_frac.specs.Limits.{most_rows}
 use Rattle.smp_frac.specs.LowestTerms.{lowest_terms}
 use Rattle.smp_prob.specs.Given.{AreGiven, common_multiple, largest_multiple}
 use Rattle.smp_design.specs.declared.design.Second as second

@@ -1,7 +1,7 @@
 -- The inclusion probability that is asked for each row of a frame, in the frame's own words (Tillé 2006).
 use Rattle.std.specs.Prelude.{◌<◌, ℕ, List, ◌∷◌, [], Option, Some, None, length}
-use Rattle.smp_fractions.specs.Fractions.{Fraction, Same, whole, times}
-use Rattle.smp_frac.specs.Fractions.{fraction}
+use Rattle.smp_frac.specs.Fractions.{Fraction, Same, whole, times}
+use Rattle.smp_frac.specs.Exact.{fraction}
 use Rattle.smp_prob.specs.Requested.{requested_fraction}
 use Rattle.smp_design.specs.declared.design.Design.{Design}
 use Rattle.smp_design.specs.declared.design.Second as second

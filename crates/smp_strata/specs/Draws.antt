@@ -1,11 +1,11 @@
 -- How many units a plan draws: the size of the sample is fixed in each stratum, and in each first stage unit (Tillé 2006).
 use Rattle.std.specs.Prelude.{◌≡◌, ℕ, List, Option, Some, None, length, slice_get, All, IfSome}
-use Rattle.smp_fractions.specs.Fractions.{Fraction, Same, whole, sum_below}
+use Rattle.smp_frac.specs.Fractions.{Fraction, Same, whole, sum_below}
 use Rattle.smp_prob.specs.Given.{expected_size}
 use Rattle.smp_prob.specs.Inclusions.{asked_fraction}
 use Rattle.smp_prob.specs.declared.requests.Request.{Request}
 use Rattle.smp_values.specs.Starts.{IsWhole}
-use Rattle.smp_rows.specs.Rows.{AddsUpTo}
+use Rattle.smp_split.specs.Rows.{AddsUpTo}
 use Rattle.smp_design.specs.declared.design.Design.{Design}
 use Rattle.smp_design.specs.declared.design.Second as second
 use Rattle.smp_frame.specs.declared.frame.Unit as unit

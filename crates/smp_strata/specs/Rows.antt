@@ -2,8 +2,8 @@
 use Rattle.std.specs.Prelude.{ℕ, ℤ, pos, ◌+ℤ◌, nat_abs, nat_le, ◌||◌, Bool, List, [], length, map, fold, sum_by}
 use Rattle.std.specs.Prelude.{slice_index, slice_index_or}
 use Rattle.std.specs.List.{list_any, range_with_len}
-use Rattle.smp_fractions.specs.Limits.{number_limit}
-use Rattle.smp_fractions.specs.Fractions.{whole}
+use Rattle.smp_frac.specs.Limits.{number_limit}
+use Rattle.smp_frac.specs.Fractions.{whole}
 use Rattle.smp_frac.specs.LowestTerms.{lowest_terms}
 use Rattle.smp_frac.specs.declared.fractions.Frac.{Frac}
 use Rattle.smp_frame.specs.declared.frame.Unit as unit

@@ -1,6 +1,6 @@
 -- Where the rows of a frame stand in a plan, and the probability that its requests give each of them.
 use Rattle.std.specs.Prelude.{◌≡◌, ℕ, List, Option, Some, None, slice_get, option_and_then}
-use Rattle.smp_fractions.specs.Fractions.{Fraction, whole, times}
+use Rattle.smp_frac.specs.Fractions.{Fraction, whole, times}
 use Rattle.smp_prob.specs.declared.requests.Request.{Request}
 use Rattle.smp_prob.specs.Inclusions.{asked_fraction}
 use Rattle.smp_strata.specs.declared.strata.FirstUnit as first

@@ -1,7 +1,7 @@
 //! The parts of a plan, where the frame serves the design.
 
 ghost use Rattle.std.specs.Prelude.{◌≡◌, ◌<◌, ◌≤◌, ℕ, None, false, [], All, EachIndex, IfOk, IfSome, length, map, option_map, slice_index, slice_index_or, IsSome};
-ghost use Rattle.smp_fractions.specs.Limits.{most_rows, number_limit};
+ghost use Rattle.smp_frac.specs.Limits.{most_rows, number_limit};
 ghost use Rattle.smp_frame.specs.Bounds.{HaveValues, IsFrame};
 ghost use Rattle.smp_design.specs.Bounds.{IsDesign};
 ghost use Rattle.smp_prob.specs.Given.{AreGiven, common_multiple, largest_multiple};

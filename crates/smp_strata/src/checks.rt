@@ -4,7 +4,7 @@ ghost use Rattle.std.specs.Prelude.{◌≡◌, ◌^◌, ◌<◌, ◌≤◌, None
 ghost use Rattle.std.specs.Prelude.{slice_index, slice_index_or, [], ℕ};
 ghost use Rattle.std.specs.List.{range_with_len};
 ghost use Rattle.std.specs.Str.{bytes_eq};
-ghost use Rattle.smp_fractions.specs.Limits.{most_rows};
+ghost use Rattle.smp_frac.specs.Limits.{most_rows};
 ghost use Rattle.smp_frame.specs.Bounds.{HaveValues, IsFrame};
 ghost use Rattle.smp_prob.specs.Given.{AreGiven, common_multiple, largest_multiple};
 ghost use Rattle.smp_strata.specs.Rows as Rows;

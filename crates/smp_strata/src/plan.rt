@@ -1,8 +1,8 @@
 //! A plan: the strata of a frame, and what is asked of each.
 
 ghost use Rattle.std.specs.Prelude.{◌≡◌, ◌^◌, ◌<◌, ◌≤◌, length, slice_index_or};
-ghost use Rattle.smp_frac.specs.Fractions.{fraction};
-ghost use Rattle.smp_fractions.specs.Fractions.{Same, over, times};
+ghost use Rattle.smp_frac.specs.Exact.{fraction};
+ghost use Rattle.smp_frac.specs.Fractions.{Same, over, times};
 ghost use Rattle.smp_prob.specs.Inclusions.{IsRising, asked_fraction};
 ghost use Rattle.smp_prob.specs.Requests.{IsRequest};
 ghost use Rattle.smp_strata.specs.Bounds.{IsStratum};

@@ -3,7 +3,7 @@
 ghost use Rattle.std.specs.Prelude.{◌≡◌, ◌<◌, ◌≤◌, All, IfOk, IfSome, length, map, slice_index, sum};
 ghost use Rattle.std.specs.Ordering.{nat_cmp};
 ghost use Rattle.std.specs.Cmp.Lexicographic.{slice_cmp};
-ghost use Rattle.smp_fractions.specs.Limits.{most_rows, number_limit};
+ghost use Rattle.smp_frac.specs.Limits.{most_rows, number_limit};
 ghost use Rattle.smp_frame.specs.Bounds.{IsFrame};
 ghost use Rattle.smp_design.specs.Bounds.{Ascend, IsDesign};
 ghost use Rattle.smp_prob.specs.Requested as Requested;

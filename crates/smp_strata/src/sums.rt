@@ -1,7 +1,7 @@
 //! Sums over the rows of a first stage unit.
 
 ghost use Rattle.std.specs.Prelude.{◌≡◌, ◌*◌, ◌+◌, ◌-◌, ◌<◌, ◌≤◌, ℕ, IfOk, false, length, nat_abs, nat_le};
-ghost use Rattle.smp_fractions.specs.Limits.{number_limit};
+ghost use Rattle.smp_frac.specs.Limits.{number_limit};
 ghost use Rattle.smp_frame.specs.Bounds.{HaveValues, IsFrame};
 ghost use Rattle.smp_strata.specs.Kept.Layouts.{AreRows};
 ghost use Rattle.smp_strata.specs.Rows.{is_large, size_of, value_of, values_of};

@@ -4,8 +4,8 @@ use Rattle.std.proofs.lemmas.Bool.{cases_Bool, cases_lt, eqb-false, ne_eqb, true
 use Rattle.std.proofs.lemmas.List.{length-map, get_or-map, get_or_past}
 use Rattle.std.specs.Int.{IsGcd}
 use Rattle.std.proofs.lemmas.Nat.Gcd.{dvd_refl, dvd-zero}
-use Rattle.smp_fractions.specs.Fractions.{Fraction, Same, whole, integer, times, inverse}
-use Rattle.smp_fractions.proofs.Fractions.{same_refl, same_trans, plus_same, plus-zero, times_same, times-zero, times-one, sum_same}
+use Rattle.smp_frac.specs.Fractions.{Fraction, Same, whole, integer, times, inverse}
+use Rattle.smp_frac.proofs.Arithmetic.{same_refl, same_trans, plus_same, plus-zero, times_same, times-zero, times-one, sum_same}
 use Rattle.smp_kernel.specs.Vectors.{entry}
 use Rattle.smp_kernel.proofs.Ring.{zero_or}
 use Rattle.smp_split.specs.Trees.{EachPart}

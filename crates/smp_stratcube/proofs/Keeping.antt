@@ -2,8 +2,8 @@
 use Rattle.std.proofs.Common.{◌≡◌, ℕ, ◌+◌, ◌-◌, ◌<◌, ◌≤◌, nat_eq, nat_lt, suc, suc-le-suc, Bool, true, false, Option, Some, None, List, [], ◌∷◌, length, get_or, arith, refl, sym, ap, ◌∙◌, subst, inl, inr, length-take, get_or-take}
 use Rattle.std.proofs.lemmas.Bool.{cases_Bool, lt-ltb, ltb-false, ne_eqb, true≢false}
 use Rattle.smp_split.specs.Trees.{EachPart, picked, weight_sum}
-use Rattle.smp_split.proofs.Parts.{picked-moved, weight_sum-moved}
-use Rattle.smp_split.proofs.Steps.{picked_is_part}
+use Rattle.smp_split.specs.Laws.Parts.{picked-moved, weight_sum-moved}
+use Rattle.smp_split.specs.Laws.Steps.{picked_is_part}
 use Rattle.smp_prob.specs.Shares.{Shares}
 use Rattle.smp_moves.specs.Owed.{HasKept}
 use Rattle.smp_moves.specs.Cubes.{dropped, flying, landed, pairing, values_in}

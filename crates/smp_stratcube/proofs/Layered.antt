@@ -10,8 +10,8 @@ use Rattle.std.proofs.lemmas.List.FromFn.{get_or-map-range_with_len, length-map-
 use Rattle.std.proofs.lemmas.Nat.Gcd.{IsGcd-swap}
 use Rattle.std.proofs.Math.Nat.{div-le_self, dvd-mul_right, mul-div_cancel', mul-le-mul_right}
 use Prim.Native.Nat.{◌∣◌}
-use Rattle.smp_fractions.specs.Fractions.{Same, over, times, whole}
-use Rattle.smp_fractions.proofs.Fractions.{cancel, same_trans}
+use Rattle.smp_frac.specs.Fractions.{Same, over, times, whole}
+use Rattle.smp_frac.proofs.Arithmetic.{cancel, same_trans}
 use Rattle.smp_frac.specs.Divisors.{greatest_common_divisor}
 use Rattle.smp_frac.specs.Laws.Coprime.{divisor_positive, dvd_of_coprime, part_positive}
 use Rattle.smp_frac.specs.Laws.Gcds.{IsGcd-greatest_common_divisor}

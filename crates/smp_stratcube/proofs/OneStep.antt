@@ -1,9 +1,9 @@
 -- The properties of a step fix it: there is one state at the end of a line, and so one step.
 use Rattle.std.proofs.Common.{◌≡◌, ℕ, ◌<◌, Bool, List, length, arith, sym, ap₂, ◌∙◌, inl, inr}
 use Rattle.std.proofs.lemmas.List.{ext_get_or}
-use Rattle.smp_fractions.specs.Fractions.{Same}
-use Rattle.smp_fractions.proofs.Fractions.{same_sym, same_trans}
-use Rattle.smp_fractions.proofs.Differences.{over_cross}
+use Rattle.smp_frac.specs.Fractions.{Same}
+use Rattle.smp_frac.proofs.Arithmetic.{same_sym, same_trans}
+use Rattle.smp_frac.proofs.Signs.{over_cross}
 use Rattle.smp_kernel.proofs.Ring.{zero_or}
 use Rattle.smp_moves.specs.declared.lines.Ratio.{Ratio}
 use Rattle.smp_moves.specs.Moves.{Line, Next, entry_of, fraction_of}

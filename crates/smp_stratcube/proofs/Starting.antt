@@ -9,7 +9,7 @@ use Rattle.smp_values.specs.Values.{fractional}
 use Rattle.smp_values.proofs.Fractional.{is_fractional-between}
 use Rattle.smp_stratcube.specs.declared.fronts.Front.{Front}
 use Rattle.smp_stratcube.specs.declared.values.Value.{Value}
-use Rattle.smp_fractions.specs.Fractions.{Same, over}
+use Rattle.smp_frac.specs.Fractions.{Same, over}
 use Rattle.smp_moves.specs.Moves.{fraction_of}
 use Rattle.smp_stratcube.specs.Layers.{AreLayers, Layer, no_layer}
 use Rattle.smp_stratcube.specs.Units.{Units, IsUnits, member, member_of, share, units_of}

@@ -7,9 +7,9 @@ use Rattle.std.proofs.lemmas.List.{take-map}
 use Rattle.std.proofs.Math.Nat.{mul-div_cancel'}
 use Prim.Native.Nat.{◌∣◌}
 use lib.IntN.{*ℤ_comm}
-use Rattle.smp_fractions.specs.Fractions.{Fraction, Same, whole, integer, times, inverse, over, sum_below}
-use Rattle.smp_fractions.proofs.Fractions.{same_refl, same_sym, same_trans, times_same, times_left_comm, times-zero, zero-times, one-times, times-one}
-use Rattle.smp_fractions.proofs.Integers.{diff, diff-neg, diff-same, same-diff, by_diff, diffs, pos-diff}
+use Rattle.smp_frac.specs.Fractions.{Fraction, Same, whole, integer, times, inverse, over, sum_below}
+use Rattle.smp_frac.proofs.Arithmetic.{same_refl, same_sym, same_trans, times_same, times_left_comm, times-zero, zero-times, one-times, times-one}
+use Rattle.smp_frac.proofs.Integers.{diff, diff-neg, diff-same, same-diff, by_diff, diffs, pos-diff}
 use Rattle.smp_kernel.specs.Vectors.{entry, dot}
 use Rattle.smp_kernel.specs.Searches.{found}
 use Rattle.smp_kernel.proofs.FoundCircuits.{circuit_row, in_row}
@@ -20,7 +20,7 @@ use Rattle.smp_moves.proofs.Evens.{times_assoc}
 use Rattle.smp_moves.proofs.LineEnds.{lowest_is}
 use Rattle.smp_moves.proofs.LineSums.{sum_line, line_dot}
 use Rattle.smp_moves.proofs.Totals.{sum_stays, back_total}
-use Rattle.smp_fractions.proofs.Differences.{neg-diff}
+use Rattle.smp_frac.proofs.Signs.{neg-diff}
 use Rattle.smp_stratcube.specs.Units.{Units, column, columns_of, share, stratum}
 use Rattle.smp_stratcube.specs.Values.{fractional_units, over_common, value_at}
 use Rattle.smp_stratcube.specs.States.{Flight, IsFlying}

@@ -1,8 +1,8 @@
 -- Where the probabilities of a stratum add up to a whole number, each leaf selects that many of its units, after pivotal steps too.
 use Rattle.std.proofs.Common.{◌≡◌, ◌≢◌, ℕ, zero, suc, ◌<◌, ◌≤◌, nat_eq, true, false, Option, Some, None, List, [], ◌∷◌, length, get_or, arith, refl, sym, ap, ◌∙◌, subst, inl, inr, ◌⊎◌}
 use Rattle.std.proofs.lemmas.Bool.{cases_Bool, cases_eq, ne_eqb, true≢false}
-use Rattle.smp_fractions.specs.Fractions.{Same, whole}
-use Rattle.smp_fractions.proofs.Fractions.{same_refl, same_trans}
+use Rattle.smp_frac.specs.Fractions.{Same, whole}
+use Rattle.smp_frac.proofs.Arithmetic.{same_refl, same_trans}
 use Rattle.smp_split.specs.Trees.{EachPart}
 use Rattle.smp_split.specs.Parts.{moved}
 use Rattle.smp_split.proofs.Paths.{at_each_leaf_kept}

@@ -4,7 +4,7 @@ use Rattle.std.proofs.lemmas.Bool.{cases_Bool, cases_eq, eq-eqb, eqb-false, ne_e
 use Rattle.std.proofs.lemmas.List.{ext_get_or, get_or-set_same, get_or-set_other}
 use Rattle.std.proofs.lemmas.Nat.Gcd.{dvd_refl}
 use Prim.Native.Nat.{◌∣◌}
-use Rattle.smp_fractions.proofs.Fractions.{cancel}
+use Rattle.smp_frac.proofs.Arithmetic.{cancel}
 use Rattle.smp_prob.specs.Shares.{Shares}
 use Rattle.smp_split.specs.Trees.{picked, weight_sum}
 use Rattle.smp_values.specs.Pairs.{pair_bound, pair_weights}

@@ -1,7 +1,7 @@
 -- What the cube over all strata keeps: the sum of the values of each stratum, and the total of each variable over all strata (Deville and
 -- Tillé 2004, with the balancing equations of Chauvet 2009).
 use Rattle.std.specs.Prelude.{ℕ, cond, nat_eq, nat_lt, length}
-use Rattle.smp_fractions.specs.Fractions.{Fraction, whole, integer, times, inverse, sum_below}
+use Rattle.smp_frac.specs.Fractions.{Fraction, whole, integer, times, inverse, sum_below}
 use Rattle.smp_kernel.specs.Vectors.{entry}
 use Rattle.smp_moves.specs.Balances as moves
 use Rattle.smp_moves.specs.Cubes.{HasIndependentColumns, left_in, rows_in, values_in}

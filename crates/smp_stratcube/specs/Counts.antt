@@ -1,7 +1,7 @@
 -- How many units of a stratum are selected.
 use Rattle.std.specs.Prelude.{◌≡◌, ℕ, ◌<◌, nat_eq, ◌&&◌, length}
 use Rattle.std.specs.List.{count_by, range_with_len}
-use Rattle.smp_fractions.specs.Fractions.{Same, whole}
+use Rattle.smp_frac.specs.Fractions.{Same, whole}
 use Rattle.smp_split.specs.Paths.{AtEachLeaf}
 use Rattle.smp_split.specs.Trees.{Tree}
 use Rattle.smp_moves.specs.Cubes.{values_in}

@@ -1,7 +1,7 @@
 -- The strata that are balanced together, each by the free units of a request.
 use Rattle.std.specs.Prelude.{◌≡◌, ℕ, ◌+◌, ◌-◌, ◌*◌, ◌/◌, ◌^◌, ◌<◌, ◌≤◌, nat_eq, if◌then◌else◌}
 use Rattle.std.specs.Prelude.{List, [], ◌∷◌, ℤ, length, slice_index, slice_index_or}
-use Rattle.smp_fractions.specs.Limits.{most_rows, number_limit}
+use Rattle.smp_frac.specs.Limits.{most_rows, number_limit}
 use Rattle.smp_frac.specs.Divisors.{greatest_common_divisor}
 use Rattle.smp_kernel.specs.Vectors.{Within}
 use Rattle.smp_prob.specs.declared.requests.Request.{Request}

@@ -2,7 +2,7 @@
 -- whose search goes through the fractional units in order.
 use Rattle.std.specs.Prelude.{◌≡◌, ◌≢◌, ℕ, ◌<◌, true}
 use Rattle.std.specs.Prelude.{List, ◌++◌, pos, length, map}
-use Rattle.smp_fractions.specs.Fractions.{Same, integer, plus, times}
+use Rattle.smp_frac.specs.Fractions.{Same, integer, plus, times}
 use Rattle.smp_moves.specs.declared.lines.Ratio.{Ratio}
 use Rattle.smp_moves.specs.Moves.{Line, Next, Setting, entry_of, fraction_of}
 use Rattle.smp_moves.specs.Steps as steps

@@ -1,7 +1,7 @@
 -- The values with which a selection starts are those that are requested.
 use Rattle.std.specs.Prelude.{ℕ, zero, suc, ◌+◌, ◌*◌, ◌<◌, List, ◌∷◌, [], length, slice_index}
 use Rattle.std.specs.Prelude.{slice_index_or}
-use Rattle.smp_fractions.specs.Fractions.{Same, over}
+use Rattle.smp_frac.specs.Fractions.{Same, over}
 use Rattle.smp_moves.specs.Cubes.{values_in}
 use Rattle.smp_stratcube.specs.Layers.{Layer, no_layer}
 use Rattle.smp_stratcube.specs.Values.{value_at}

@@ -1,6 +1,6 @@
 -- The states of a selection by the cube over all strata, and which of them are the selection's.
 use Rattle.std.specs.Prelude.{◌≡◌, ℕ, ◌<◌, ◌≤◌, false, List, length, map}
-use Rattle.smp_fractions.specs.Limits.{most_denominator}
+use Rattle.smp_frac.specs.Limits.{most_denominator}
 use Rattle.smp_moves.specs.Cubes as cubes
 use Rattle.smp_moves.specs.Cubes.{flying, pairing}
 use Rattle.smp_stratcube.specs.declared.units.Member.{Member}

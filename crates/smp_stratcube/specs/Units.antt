@@ -5,7 +5,7 @@ use Rattle.std.specs.Prelude.{slice_index_or, slice_set}
 use Rattle.std.specs.List.{range_with_len}
 use Rattle.std.specs.Int.{IsGcd}
 use Prim.Native.Nat.{◌∣◌}
-use Rattle.smp_fractions.specs.Fractions.{Fraction, Same, whole, times}
+use Rattle.smp_frac.specs.Fractions.{Fraction, Same, whole, times}
 use Rattle.smp_kernel.specs.Vectors.{entry, Within}
 use Rattle.smp_moves.specs.declared.lines.Ratio.{Ratio}
 use Rattle.smp_moves.specs.Ends.{lowest}

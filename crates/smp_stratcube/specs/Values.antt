@@ -3,7 +3,7 @@ use Rattle.std.specs.Prelude.{◌≡◌, ℕ, ◌*◌, ◌/◌, ◌≤◌, Bool,
 use Rattle.std.specs.Prelude.{length, map, filter, slice_index, slice_index_or}
 use Rattle.std.specs.List.{count_by, range_with_len}
 use Rattle.std.specs.Int.{IsGcd}
-use Rattle.smp_fractions.specs.Fractions.{Fraction}
+use Rattle.smp_frac.specs.Fractions.{Fraction}
 use Rattle.smp_prob.specs.Shares.{Shares}
 use Rattle.smp_values.specs.Values.{fractional}
 use Rattle.smp_moves.specs.Ends.{lowest}

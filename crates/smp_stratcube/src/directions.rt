@@ -3,7 +3,7 @@
 ghost use Rattle.std.specs.Prelude.{◌≡◌, ◌≤◌, ◌<◌, ◌^◌, ◌-◌, ℕ, MatchOption, false, length, map, pos, take};
 ghost use Rattle.std.specs.Prelude.{unsigned_abs};
 ghost use Rattle.std.specs.List.{All};
-ghost use Rattle.smp_fractions.specs.Limits.{most_denominator, most_entry, number_limit};
+ghost use Rattle.smp_frac.specs.Limits.{most_denominator, most_entry, number_limit};
 ghost use Rattle.smp_kernel.specs.Vectors.{IsZero, Within, entry};
 ghost use Rattle.smp_stratcube.specs.Units.{IsUnits, columns_of, share};
 ghost use Rattle.smp_moves.specs.Steps.{product, signed};

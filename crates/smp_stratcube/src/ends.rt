@@ -1,7 +1,7 @@
 //! The ends of a line.
 
 ghost use Rattle.std.specs.Prelude.{◌≡◌, ◌≤◌, ◌<◌, ◌*◌, ◌/◌, ℕ, List, length, nat_le, slice_index, take};
-ghost use Rattle.smp_fractions.specs.Limits.{most_denominator, most_entry};
+ghost use Rattle.smp_frac.specs.Limits.{most_denominator, most_entry};
 ghost use Rattle.smp_moves.specs.Moves.{IsLine, entry_of};
 ghost use Rattle.smp_moves.specs.Ends.{reach};
 ghost use Rattle.smp_moves.specs.Answers.{IsPadded, line_of};

@@ -1,7 +1,7 @@
 //! The states of a selection.
 
 ghost use Rattle.std.specs.Prelude.{◌≡◌, ◌*◌, ◌<◌, ◌≤◌, false, length};
-ghost use Rattle.smp_fractions.specs.Limits.{most_rows};
+ghost use Rattle.smp_frac.specs.Limits.{most_rows};
 ghost use Rattle.smp_split.specs.Trees.{picked, weight_sum};
 ghost use Rattle.smp_moves.specs.Cubes.{landed, values_in};
 ghost use Rattle.smp_stratcube.specs.States.{Balancing, Flight, IsBalancing, IsFlying};

@@ -1,7 +1,7 @@
 //! Values in lowest terms.
 
 ghost use Rattle.std.specs.Prelude.{◌≡◌, ◌*◌, ◌/◌, ◌≤◌, true};
-ghost use Rattle.smp_fractions.specs.Limits.{most_denominator};
+ghost use Rattle.smp_frac.specs.Limits.{most_denominator};
 ghost use Rattle.smp_prob.specs.Given.{least_multiple};
 ghost use Rattle.smp_values.specs.Values.{fractional};
 ghost use Rattle.smp_moves.specs.Ends.{lowest};

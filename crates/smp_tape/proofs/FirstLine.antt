@@ -1,6 +1,6 @@
 -- The lines of a text, by the first one and what comes after it.
 use Rattle.std.proofs.Common.{◌≡◌, ℕ, ◌<◌, Bool, true, false, cond, List, [], ◌∷◌, length, Option, Some, None, option_map, refl, ◌∙◌, ap, arith, ◌==◌}
-use Rattle.smp_lines.specs.Cuts.{cut_at}
+use Rattle.smp_frac.specs.Cuts.{cut_at}
 use Rattle.smp_tape.specs.TapeText.{in_front, lines_in}
 
 abbrev by_first : List ℕ → Option (List ℕ × List ℕ) → List (List ℕ)

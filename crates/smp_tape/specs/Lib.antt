@@ -4,3 +4,8 @@ pub mod TapeSources
 pub mod TapeText
 pub mod Faults
 pub mod Laws
+pub mod Streams
+pub mod Sieves
+pub mod Fair
+pub mod Keys
+pub mod SieveSources

@@ -2,7 +2,7 @@
 use Rattle.std.specs.Prelude.{ℕ, ◌+◌, ◌^◌, ◌==◌, if◌then◌else◌, List, [], ◌∷◌, Option, Some, None, Result, Ok}
 use Rattle.std.specs.Prelude.{Err}
 use Rattle.std.specs.Io.BufRead.{strip_last}
-use Rattle.smp_lines.specs.Decimals.{number_below}
+use Rattle.smp_frac.specs.Decimals.{number_below}
 use Rattle.smp_tape.specs.declared.fault.TapeFault.{TapeFault}
 use Rattle.smp_tape.specs.declared.fault.TapeFault.TheVariants.{Line}
 

@@ -1,5 +1,5 @@
 ghost use Rattle.std.specs.Prelude.{◌≡◌, ◌<◌, ◌≤◌, IfOk};
-ghost use Rattle.smp_fractions.specs.Limits.{wide_limit};
+ghost use Rattle.smp_frac.specs.Limits.{wide_limit};
 ghost use Rattle.smp_tape.specs.Sources.{Source, Drawn};
 
 /// Why a draw was refused.

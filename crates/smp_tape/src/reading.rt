@@ -2,11 +2,11 @@ ghost use Rattle.std.specs.Prelude.{◌≡◌, ◌∷◌, ◌<◌, ◌^◌, leng
 ghost use Rattle.std.specs.Io.BufRead.{strip_last};
 ghost use Rattle.smp_tape.specs.TapeText.{lines_in, tape_of};
 ghost use Rattle.smp_tape.specs.TapeText;
-ghost use Rattle.smp_faults.specs.Memory.{Gives};
+ghost use Rattle.smp_frac.specs.Memory.{Gives};
 ghost use Rattle.smp_tape.specs.Faults.{is_memory};
 
 use crate::TapeFault;
-use smp_lines::{cut_before, number};
+use smp_frac::{cut_before, number};
 use std::alloc::Global;
 
 // The values of a tape, a value a line.

@@ -6,20 +6,20 @@ use Rattle.std.proofs.lemmas.Bool.{cases_Bool, eqb-true}
 use Rattle.std.proofs.lemmas.List.{drop-map, length-map, take-map}
 use Rattle.std.proofs.lemmas.Option.{slice_get_within}
 use Rattle.std.proofs.Math.Seq.{drop-append_seam}
-use Rattle.smp_fractions.specs.Fractions.{Fraction, Same, whole}
-use Rattle.smp_fractions.proofs.Fractions.{same_refl, same_trans}
+use Rattle.smp_frac.specs.Fractions.{Fraction, Same, whole}
+use Rattle.smp_frac.proofs.Arithmetic.{same_refl, same_trans}
 use Rattle.smp_split.specs.Sectioning.{IsPartOf}
 use Rattle.smp_prob.specs.declared.requests.Request.{Request}
 use Rattle.smp_design.specs.declared.method.Method.{Method}
 use Rattle.smp_design.specs.Words.{draws_together}
 use Rattle.smp_methods.specs.declared.any.AnyState.{AnyState}
 use Rattle.smp_methods.specs.Designs.{first_state}
-use Rattle.smp_stages.specs.declared.places.Seat.TheVariants as seat
-use Rattle.smp_stages.specs.declared.places.Stage.{Stage}
-use Rattle.smp_stages.specs.OwnStages.{AreTheirOwn, run_of, seat_later, sections_by, stage_later}
-use Rattle.smp_stages.specs.Starts.{StartsInStages}
-use Rattle.smp_stages.specs.Stages.{IsUnderWay, Progress, progress, seat_selected, seat_value, unit_selected, unit_value}
-use Rattle.smp_stages.proofs.OwnStages.{is_part}
+use Rattle.smp_split.specs.declared.places.Seat.TheVariants as seat
+use Rattle.smp_split.specs.declared.places.Stage.{Stage}
+use Rattle.smp_split.specs.OwnStages.{AreTheirOwn, run_of, seat_later, sections_by, stage_later}
+use Rattle.smp_split.specs.StageStarts.{StartsInStages}
+use Rattle.smp_split.specs.Stages.{IsUnderWay, Progress, progress, seat_selected, seat_value, unit_selected, unit_value}
+use Rattle.smp_split.proofs.OwnStages.{is_part}
 use Rattle.smp_strata.specs.Plans.{Parts}
 use Rattle.smp_strata.specs.declared.strata.FirstUnit.{FirstUnit}
 use Rattle.smp_strata.specs.declared.strata.Seat.{Seat}

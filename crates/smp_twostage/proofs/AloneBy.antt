@@ -1,16 +1,16 @@
 -- What a selection of one section starts with, where it is known whether all strata are drawn together.
 use Rattle.std.proofs.Common.{◌≡◌, ℕ, ◌<◌, Bool, false}
 use Rattle.std.specs.Prelude.{if◌then◌else◌}
-use Rattle.smp_fractions.specs.Fractions.{Fraction, Same, whole}
+use Rattle.smp_frac.specs.Fractions.{Fraction, Same, whole}
 use Rattle.smp_split.specs.Means.{inclusion_probability}
 use Rattle.smp_split.specs.Sectioning.{IsPartOf}
 use Rattle.smp_split.specs.Paths.{IsReached}
 use Rattle.smp_split.specs.Trees.{Tree}
 use Rattle.smp_split.proofs.Sectioned.{part_within}
-use Rattle.smp_split.proofs.Steps.{leads_belong}
+use Rattle.smp_split.specs.Laws.Steps.{leads_belong}
 use Rattle.smp_methods.specs.declared.any.AnyState.{AnyState}
-use Rattle.smp_stages.specs.OwnStages.{own_progress, sections_by}
-use Rattle.smp_stages.specs.Stages.{IsUnderWay, Progress, progress, staged_tree}
+use Rattle.smp_split.specs.OwnStages.{own_progress, sections_by}
+use Rattle.smp_split.specs.Stages.{IsUnderWay, Progress, progress, staged_tree}
 use Rattle.smp_strata.specs.Plans.{Parts}
 use Rattle.smp_twostage.specs.Covered.{StartsAlone, state_alone}
 use Rattle.smp_twostage.specs.Laws.Wholes.{whole_lawful}

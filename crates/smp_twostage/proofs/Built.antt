@@ -3,7 +3,7 @@ use Rattle.std.proofs.Common.{◌≡◌, ℕ, suc, ◌+◌, List, [], ◌∷◌,
 use Rattle.std.specs.List.{slice_get, range_with_len}
 use Rattle.std.proofs.lemmas.List.FromFn.{map-range_with_len_more}
 use Rattle.smp_design.specs.declared.method.Method.{Method}
-use Rattle.smp_stages.specs.declared.places.Stage.{Stage}
+use Rattle.smp_split.specs.declared.places.Stage.{Stage}
 use Rattle.smp_strata.specs.Plans.{Parts}
 use Rattle.smp_strata.specs.declared.strata.FirstUnit.{FirstUnit}
 use Rattle.smp_strata.specs.declared.strata.Stratum.{Stratum}

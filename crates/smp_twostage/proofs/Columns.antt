@@ -4,7 +4,7 @@ use Rattle.std.specs.List.{slice_get}
 use Rattle.std.proofs.lemmas.List.{get_or-map}
 use Rattle.std.proofs.lemmas.List.Elements.{All-get_or, All-map, All-weaker}
 use Rattle.std.proofs.lemmas.Option.{slice_get_read, slice_get_within, get_or_from_slice_get}
-use Rattle.smp_stages.specs.Laws.Reads.{some_within}
+use Rattle.smp_split.specs.Laws.Reads.{some_within}
 use Rattle.smp_frame.specs.Bounds.{AreNear}
 use Rattle.smp_kernel.specs.Vectors.{Within}
 use Rattle.smp_values.specs.Starts.{IsWhole}
@@ -16,7 +16,7 @@ use Rattle.smp_strata.specs.declared.strata.FirstUnit.{FirstUnit}
 use Rattle.smp_strata.specs.declared.strata.Stratum.{Stratum}
 use Rattle.smp_twostage.specs.Kept.Stages.{IsPlanned}
 use Rattle.smp_twostage.specs.Plans.{CanBeDrawn}
-use Rattle.smp_balance.specs.Strata.{free_values, values_of}
+use Rattle.smp_twostage.specs.Strata.{free_values, values_of}
 use Rattle.smp_twostage.specs.Selections.{valued}
 
 -- a stratum that is read at its number

@@ -3,9 +3,9 @@ use Rattle.std.proofs.Common.{◌≡◌, ℕ, suc, Bool, List, map, sym, ap, sub
 use Rattle.std.specs.List.{range_with_len}
 use Rattle.smp_methods.specs.declared.any.AnyState.{AnyState}
 use Rattle.smp_methods.specs.Designs.{first_state}
-use Rattle.smp_stages.specs.declared.places.Stage.{Stage}
-use Rattle.smp_stages.specs.Starts.{StartsInStages}
-use Rattle.smp_stages.specs.Stages.{Progress, progress}
+use Rattle.smp_split.specs.declared.places.Stage.{Stage}
+use Rattle.smp_split.specs.StageStarts.{StartsInStages}
+use Rattle.smp_split.specs.Stages.{Progress, progress}
 use Rattle.smp_twostage.specs.Kept.Stages.{EachStarts, first_numbers}
 use Rattle.smp_twostage.specs.Selections.{Coverage, Selecting, belongs_to, covered_seats, covered_stages, covered_start, covered_states, is_together}
 use Rattle.smp_twostage.specs.Selections.{tree_of}

@@ -9,9 +9,9 @@ use Rattle.smp_split.specs.Lenses.{as_unit}
 use Rattle.smp_split.specs.Paths.{Entry, Leads}
 use Rattle.smp_split.specs.Trees.{Tree}
 use Rattle.smp_split.proofs.Embeds.{embedded_lens, embedded_closes}
-use Rattle.smp_split.proofs.Lenses.{came_whole}
-use Rattle.smp_rows.specs.Rows.{rows_tree}
-use Rattle.smp_rows.specs.Laws.Rows.{row_view, rows_lens, rows_close}
+use Rattle.smp_split.specs.Laws.Lenses.{came_whole}
+use Rattle.smp_split.specs.Rows.{rows_tree}
+use Rattle.smp_split.specs.Laws.Rows.{row_view, rows_lens, rows_close}
 use Rattle.smp_flight.specs.Requests.{units_of}
 use Rattle.smp_moves.specs.Cubes.{values_in}
 use Rattle.smp_flight.specs.Selections.{Balancing, starting}
@@ -30,15 +30,15 @@ use Rattle.smp_methods.specs.declared.any.AnyState.TheVariants as states
 use Rattle.smp_methods.specs.Designs.{design_by, first_state}
 use Rattle.smp_methods.specs.Methods.{method_of}
 use Rattle.smp_methods.specs.Procedures.{balancing_values}
-use Rattle.smp_stages.specs.Paths.{GoesByStages, IsStagePath}
-use Rattle.smp_stages.specs.Stages.{drawn_within, is_drawn, read, unit_selected, within_of}
-use Rattle.smp_stages.specs.Laws.Reads.{some_within}
+use Rattle.smp_split.specs.StagePaths.{GoesByStages, IsStagePath}
+use Rattle.smp_split.specs.Stages.{drawn_within, is_drawn, read, unit_selected, within_of}
+use Rattle.smp_split.specs.Laws.Reads.{some_within}
 use Rattle.smp_strata.specs.Plans.{Parts}
 use Rattle.smp_strata.specs.declared.strata.FirstUnit.{FirstUnit}
 use Rattle.smp_strata.specs.declared.strata.Stratum.{Stratum}
 use Rattle.smp_twostage.specs.Cubes.{IsDrawnByCube, IsDrawnFrom, balancing, by_cube, by_local_cube, leaf_of, local_units}
 use Rattle.smp_twostage.specs.Plans.{CanBeDrawn}
-use Rattle.smp_balance.specs.Strata.{free_units, free_values, values_of}
+use Rattle.smp_twostage.specs.Strata.{free_units, free_values, values_of}
 use Rattle.smp_twostage.specs.Selections.{tree_of, first_number, first_stage, stages_of, valued}
 use Rattle.smp_twostage.specs.Kept.Sides.{states_of}
 use Rattle.smp_twostage.specs.Laws.Numbering.{first_there}

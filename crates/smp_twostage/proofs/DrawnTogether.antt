@@ -13,15 +13,15 @@ use Rattle.smp_split.specs.Lenses.{as_unit}
 use Rattle.smp_split.specs.Paths.{Entry}
 use Rattle.smp_split.specs.Trees.{Tree}
 use Rattle.smp_split.proofs.Embeds.{embedded_lens, embedded_closes}
-use Rattle.smp_split.proofs.Lenses.{came_whole}
-use Rattle.smp_rows.specs.Rows.{rows_tree}
-use Rattle.smp_rows.specs.Laws.Rows.{row_view, rows_lens, rows_close}
+use Rattle.smp_split.specs.Laws.Lenses.{came_whole}
+use Rattle.smp_split.specs.Rows.{rows_tree}
+use Rattle.smp_split.specs.Laws.Rows.{row_view, rows_lens, rows_close}
 use Rattle.smp_methods.specs.declared.any.AnyState.{AnyState}
 use Rattle.smp_methods.specs.declared.any.AnyState.TheVariants as states
 use Rattle.smp_methods.specs.Designs.{first_state}
-use Rattle.smp_stages.specs.Paths.{GoesByStages, IsStagePath}
-use Rattle.smp_stages.specs.Stages.{read}
-use Rattle.smp_stages.specs.Laws.Reads.{some_within}
+use Rattle.smp_split.specs.StagePaths.{GoesByStages, IsStagePath}
+use Rattle.smp_split.specs.Stages.{read}
+use Rattle.smp_split.specs.Laws.Reads.{some_within}
 use Rattle.smp_strata.specs.Plans.{Parts}
 use Rattle.smp_strata.specs.declared.strata.Stratum.{Stratum}
 use Rattle.smp_moves.specs.Cubes.{values_in}

@@ -21,13 +21,13 @@ use Rattle.smp_methods.proofs.Columns.{takes_none}
 use Rattle.smp_methods.proofs.Firsts.{is_first}
 use Rattle.smp_methods.proofs.Starts.{are_started}
 use Rattle.smp_methods.proofs.Wholes.{needs_of, needs_whole}
-use Rattle.smp_stages.specs.declared.places.Stage.{Stage}
-use Rattle.smp_stages.specs.Stages.{EachBelongs}
+use Rattle.smp_split.specs.declared.places.Stage.{Stage}
+use Rattle.smp_split.specs.Stages.{EachBelongs}
 use Rattle.smp_strata.specs.Bounds.{IsFirst, IsWholeOver}
 use Rattle.smp_strata.specs.Plans.{Parts}
 use Rattle.smp_strata.specs.declared.strata.FirstUnit.{FirstUnit}
 use Rattle.smp_strata.specs.declared.strata.Stratum.{Stratum}
-use Rattle.smp_balance.specs.Strata.{StratumUnits, free_values, values_of}
+use Rattle.smp_twostage.specs.Strata.{StratumUnits, free_values, values_of}
 use Rattle.smp_stratcube.specs.Layers.{IsLayer, layer_of, no_layer}
 use Rattle.smp_stratcube.specs.Units.{IsUnits, units_of}
 use Rattle.smp_stratcube.proofs.BySteps.{counts_so, is_balanced}

@@ -3,8 +3,8 @@ use Rattle.std.proofs.Common.{◌≡◌, ℕ, suc, ◌-◌, ◌<◌, ◌≤◌, 
 use Rattle.std.specs.List.Sorted.{IsNonDecreasingBy, IsPartitionedBy, IsPartitionPoint}
 use Rattle.std.proofs.lemmas.Bool.{cases_lt, leb-false, lt-ltb, le-ltb}
 use Rattle.std.proofs.lemmas.List.Sorted.{IsPartitionedBy-leb}
-use Rattle.smp_stages.specs.Laws.Firsts.{first_is, first_unique}
-use Rattle.smp_stages.proofs.Sections.{before_rises, section}
+use Rattle.smp_split.specs.Laws.Firsts.{first_is, first_unique}
+use Rattle.smp_split.proofs.StageSections.{before_rises, section}
 use Rattle.smp_twostage.specs.Kept.Stages.{first_numbers}
 use Rattle.smp_twostage.specs.Laws.Covered.{strata_are_sections}
 use Rattle.smp_twostage.specs.Selections.{Coverage, covered_stages, section_count, stages_before}

@@ -3,9 +3,9 @@ use Rattle.std.proofs.Common.{◌≡◌, ℕ, ◌≤◌, true, List, [], ◌∷�
 use Rattle.std.proofs.lemmas.List.{length-map}
 use Rattle.std.proofs.lemmas.List.Elements.{All-head, All-map}
 use Rattle.std.proofs.lemmas.Option.{slice_get-get_or}
-use Rattle.smp_balance.specs.Totals.{IsBalancedFrame, IsFrame, columns_in}
-use Rattle.smp_balance.specs.Strata.{AreStratumUnits, StratumUnits, column_count}
-use Rattle.smp_balance.proofs.Together.{each_frame_is_balanced}
+use Rattle.smp_twostage.specs.Totals.{IsBalancedFrame, IsFrame, columns_in}
+use Rattle.smp_twostage.specs.Strata.{AreStratumUnits, StratumUnits, column_count}
+use Rattle.smp_twostage.proofs.BalancedTogether.{each_frame_is_balanced}
 use Rattle.smp_design.specs.Words.{row, draws_together}
 use Rattle.smp_design.proofs.Rows.{balance_columns, together_balances}
 use Rattle.smp_strata.specs.Plans.{Parts}

@@ -14,7 +14,7 @@ use Rattle.smp_design.specs.Words.{row, draws_together}
 use Rattle.smp_design.proofs.Rows.{balance_columns, is_together, together_balances}
 use Rattle.smp_methods.proofs.Columns.{are_values}
 use Rattle.smp_methods.proofs.OneStratum.{are_numbers}
-use Rattle.smp_balance.specs.Strata.{StratumUnits, free_values, values_of}
+use Rattle.smp_twostage.specs.Strata.{StratumUnits, free_values, values_of}
 use Rattle.smp_stratcube.specs.Layers.{AreLayers, AreNumbers, Layer, layer_of, no_layer, variables, width}
 use Rattle.smp_prob.specs.declared.requests.Request.{Request}
 use Rattle.smp_strata.specs.Bounds.{IsStratum}

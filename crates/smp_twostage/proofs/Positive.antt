@@ -4,7 +4,7 @@ use Rattle.std.specs.Prelude.{is_some, slice_index, option_and_then}
 use Rattle.std.specs.List.{slice_get}
 use Rattle.std.proofs.lemmas.Bool.{and_parts, cases_Bool}
 use Rattle.std.proofs.lemmas.Option.{slice_get_within}
-use Rattle.smp_fractions.specs.Fractions.{Fraction, times}
+use Rattle.smp_frac.specs.Fractions.{Fraction, times}
 use Rattle.smp_prob.specs.declared.requests.Request.{Request}
 use Rattle.smp_prob.specs.declared.inclusions.Inclusion.{Inclusion}
 use Rattle.smp_prob.specs.declared.inclusions.Inclusion.TheVariants.{Certain, Free, Never}
@@ -12,12 +12,12 @@ use Rattle.smp_prob.specs.Requests.{IsRequest}
 use Rattle.smp_prob.specs.Inclusions.{asked_fraction, fraction_at, is_taken, inclusion}
 use Rattle.smp_design.specs.declared.method.Method.{Method}
 use Rattle.smp_design.specs.Words.{draws_together}
-use Rattle.smp_rows.specs.Laws.Rows.{free_within}
+use Rattle.smp_split.specs.Laws.Rows.{free_within}
 use Rattle.smp_methods.specs.declared.any.AnyState.{AnyState}
 use Rattle.smp_methods.specs.Methods.{method_of}
-use Rattle.smp_stages.specs.declared.places.Place.{Place}
-use Rattle.smp_stages.specs.declared.places.Stage.{Stage}
-use Rattle.smp_stages.specs.Stages.{Progress, read, seat_selected, staged_tree, unit_selected}
+use Rattle.smp_split.specs.declared.places.Place.{Place}
+use Rattle.smp_split.specs.declared.places.Stage.{Stage}
+use Rattle.smp_split.specs.Stages.{Progress, read, seat_selected, staged_tree, unit_selected}
 use Rattle.smp_strata.specs.Bounds.{IsWholeOver}
 use Rattle.smp_strata.specs.Plans.{Parts}
 use Rattle.smp_strata.specs.Seats.{first_at, first_fraction, place_fraction, stage_fraction, unit_fraction}

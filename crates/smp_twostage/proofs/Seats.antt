@@ -7,8 +7,8 @@ use Rattle.std.proofs.lemmas.List.FromFn.{map-range_with_len_more}
 use Rattle.std.proofs.lemmas.Option.{slice_get_within}
 use Rattle.smp_prob.specs.declared.requests.Request.{Request}
 use Rattle.smp_design.specs.declared.method.Method.{Method}
-use Rattle.smp_stages.specs.declared.places.Seat as seats
-use Rattle.smp_stages.specs.declared.places.Seat.TheVariants.{First, Nowhere}
+use Rattle.smp_split.specs.declared.places.Seat as seats
+use Rattle.smp_split.specs.declared.places.Seat.TheVariants.{First, Nowhere}
 use Rattle.smp_strata.specs.Plans.{Parts}
 use Rattle.smp_strata.specs.Seats.{IsSeat}
 use Rattle.smp_strata.specs.declared.strata.Seat.{Seat}

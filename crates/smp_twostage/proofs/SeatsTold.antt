@@ -8,20 +8,20 @@ use Rattle.std.proofs.lemmas.List.Elements.{All-from_get_or, All-get_or, All-tak
 use Rattle.std.proofs.lemmas.List.FromFn.{get_or-map-range_with_len, length-map-range_with_len, map-range_with_len_more}
 use Rattle.std.proofs.lemmas.Option.{get_or_from_slice_get, slice_get-map, slice_get_within}
 use Rattle.std.specs.Int.RustNames.{unsigned_abs}
-use Rattle.smp_fractions.specs.Fractions.{Same}
+use Rattle.smp_frac.specs.Fractions.{Same}
 use Rattle.smp_frac.specs.declared.fractions.Frac.{Frac}
-use Rattle.smp_frac.specs.Fractions.{fraction}
+use Rattle.smp_frac.specs.Exact.{fraction}
 use Rattle.smp_frac.specs.LowestTerms.{lowest_terms}
 use Rattle.smp_kernel.specs.Vectors.{Within}
 use Rattle.smp_prob.specs.Inclusions.{asked_fraction, inclusion}
-use Rattle.smp_balance.specs.Lines as balance
-use Rattle.smp_balance.specs.Lines.{AreTold}
-use Rattle.smp_balance.specs.Strata.{values_of}
-use Rattle.smp_balance.specs.Totals.{can_be_selected}
-use Rattle.smp_balance.proofs.Told.{asked_is, asked_positive}
+use Rattle.smp_twostage.specs.DrawnLines as balance
+use Rattle.smp_twostage.specs.DrawnLines.{AreTold}
+use Rattle.smp_twostage.specs.Strata.{values_of}
+use Rattle.smp_twostage.specs.Totals.{can_be_selected}
+use Rattle.smp_twostage.proofs.ToldLines.{asked_is, asked_positive}
 use Rattle.smp_design.specs.Words.{balances, draws_together}
 use Rattle.smp_methods.specs.declared.any.AnyState.{AnyState}
-use Rattle.smp_stages.specs.Laws.Reads.{some_within}
+use Rattle.smp_split.specs.Laws.Reads.{some_within}
 use Rattle.smp_strata.specs.Bounds.{IsFirst}
 use Rattle.smp_strata.specs.Plans.{Parts}
 use Rattle.smp_strata.specs.Seats.{IsSeat, first_fraction}

@@ -4,9 +4,9 @@ use Rattle.smp_design.specs.Words.{draws_together}
 use Rattle.smp_methods.specs.Designs.{first_state}
 use Rattle.smp_split.specs.Paths.{IsReached}
 use Rattle.smp_split.specs.Sectioning.{IsPartOf}
-use Rattle.smp_stages.specs.OwnStages.{sections_by}
-use Rattle.smp_stages.specs.Stages.{progress}
-use Rattle.smp_stages.specs.Laws.Reads.{some_within}
+use Rattle.smp_split.specs.OwnStages.{sections_by}
+use Rattle.smp_split.specs.Stages.{progress}
+use Rattle.smp_split.specs.Laws.Reads.{some_within}
 use Rattle.smp_strata.specs.Plans.{Parts}
 use Rattle.smp_twostage.specs.Covered.{state_alone}
 use Rattle.smp_twostage.specs.Plans.{CanBeDrawn}

@@ -2,29 +2,29 @@
 use Rattle.std.proofs.Common.{◌≡◌, ℕ, true, false, List, length, Some, arith, refl, subst}
 use Rattle.std.specs.List.{slice_get}
 use Rattle.std.proofs.lemmas.Option.{slice_get_within}
-use Rattle.smp_fractions.specs.Bounds.{IsAround}
-use Rattle.smp_fractions.specs.Fractions.{Same, whole, times}
-use Rattle.smp_fractions.proofs.Around.{around_same}
-use Rattle.smp_fractions.proofs.Fractions.{same_sym, same_trans, one-times, sum_same}
+use Rattle.smp_frac.specs.Bounds.{IsAround}
+use Rattle.smp_frac.specs.Fractions.{Same, whole, times}
+use Rattle.smp_frac.proofs.Around.{around_same}
+use Rattle.smp_frac.proofs.Arithmetic.{same_sym, same_trans, one-times, sum_same}
 use Rattle.smp_prob.specs.Inclusions.{asked_fraction}
 use Rattle.smp_split.specs.Counts.{LeavesSelectAround, selected_count}
 use Rattle.smp_split.specs.Means.{value_sum}
 use Rattle.smp_split.specs.Paths.{AtEachLeaf}
-use Rattle.smp_rows.proofs.Around.{rows_around}
-use Rattle.smp_rows.proofs.Asked.{value_is_asked}
+use Rattle.smp_split.proofs.RowsAround.{rows_around}
+use Rattle.smp_split.proofs.RowsAsked.{value_is_asked}
 use Rattle.smp_design.specs.Words.{balances}
 use Rattle.smp_methods.specs.declared.any.AnyState.{AnyState}
 use Rattle.smp_methods.specs.Methods.{method_of}
 use Rattle.smp_methods.proofs.Ways.{around_unless}
-use Rattle.smp_stages.specs.Paths.{GoesByStages, IsStagePath}
-use Rattle.smp_stages.specs.Stages.{is_drawn, progress}
-use Rattle.smp_stages.specs.Laws.Reads.{some_within}
+use Rattle.smp_split.specs.StagePaths.{GoesByStages, IsStagePath}
+use Rattle.smp_split.specs.Stages.{is_drawn, progress}
+use Rattle.smp_split.specs.Laws.Reads.{some_within}
 use Rattle.smp_strata.specs.Draws.{expected_firsts}
 use Rattle.smp_strata.specs.Plans.{Parts}
 use Rattle.smp_strata.specs.declared.strata.Stratum.{Stratum}
 use Rattle.smp_twostage.specs.Kept.Stages.{EachStarts, StageStarts}
 use Rattle.smp_twostage.specs.Plans.{CanBeDrawn}
-use Rattle.smp_balance.specs.Strata.{free_values}
+use Rattle.smp_twostage.specs.Strata.{free_values}
 use Rattle.smp_twostage.specs.Selections.{Selecting, first_number, first_stage, stages_of, tree_of, valued}
 use Rattle.smp_twostage.specs.Laws.Numbering.{first_there}
 use Rattle.smp_twostage.proofs.Columns.{is_planned}

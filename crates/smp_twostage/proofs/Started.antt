@@ -1,8 +1,8 @@
 -- One more stage in its first state.
 use Rattle.std.proofs.Common.{List, [], ◌∷◌, ◌++◌, arith, refl, length-append}
 use Rattle.smp_methods.specs.declared.any.AnyState.{AnyState}
-use Rattle.smp_stages.specs.declared.places.Stage.{Stage}
-use Rattle.smp_stages.proofs.Grown.{each_more}
+use Rattle.smp_split.specs.declared.places.Stage.{Stage}
+use Rattle.smp_split.proofs.Grown.{each_more}
 use Rattle.smp_twostage.specs.Kept.Stages.{EachStarts, StageStarts}
 use Rattle.smp_twostage.specs.Selections.{Selecting}
 

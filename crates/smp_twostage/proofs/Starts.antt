@@ -2,8 +2,8 @@
 use Rattle.std.proofs.Common.{◌≡◌, ℕ, zero, suc, ◌+◌, ◌*◌, ◌<◌, ◌≤◌, max, true, false, true≢false, ℤ, pos, negsuc, neg_ℤ, ◌*ℤ◌, List, [], ◌∷◌, length, map, Option, Some, None, arith, refl, sym, ap, subst, ◌∙◌}
 use Rattle.std.specs.Prelude.{is_some}
 use Rattle.std.specs.List.{count_by, range_with_len, slice_get}
-use Rattle.smp_fractions.specs.Fractions.{Fraction, Same, whole, integer, inverse, times, sum_below}
-use Rattle.smp_fractions.proofs.Fractions.{same_refl, same_sym, same_trans, times_same, sum_same, times-zero, times-one, times_comm, times_left_comm}
+use Rattle.smp_frac.specs.Fractions.{Fraction, Same, whole, integer, inverse, times, sum_below}
+use Rattle.smp_frac.proofs.Arithmetic.{same_refl, same_sym, same_trans, times_same, sum_same, times-zero, times-one, times_comm, times_left_comm}
 use Rattle.smp_prob.specs.declared.requests.Request.{Request}
 use Rattle.smp_prob.specs.declared.inclusions.Inclusion.{Inclusion}
 use Rattle.smp_prob.specs.declared.inclusions.Inclusion.TheVariants.{Certain, Free, Never}
@@ -12,15 +12,15 @@ use Rattle.smp_design.specs.declared.method.Method.{Method}
 use Rattle.smp_design.specs.Words.{draws_together}
 use Rattle.smp_split.specs.Counts.{LeavesSelect, selected_count}
 use Rattle.smp_split.specs.Paths.{AtEachLeaf}
-use Rattle.smp_rows.proofs.Asked.{rows_select}
+use Rattle.smp_split.proofs.RowsAsked.{rows_select}
 use Rattle.smp_methods.specs.declared.any.AnyState.{AnyState}
 use Rattle.smp_methods.specs.Designs.{first_state}
 use Rattle.smp_methods.specs.Methods.{method_of}
-use Rattle.smp_stages.specs.declared.places.Stage.{Stage}
-use Rattle.smp_stages.specs.Stages.{Progress, EachBelongs, progress, seat_value, unit_value, drawn_within, is_drawn, selected_in, within_of}
-use Rattle.smp_stages.specs.Paths.{GoesByStages}
-use Rattle.smp_stages.specs.Starts.{StartsInStages}
-use Rattle.smp_stages.specs.Laws.Reads.{some_within}
+use Rattle.smp_split.specs.declared.places.Stage.{Stage}
+use Rattle.smp_split.specs.Stages.{Progress, EachBelongs, progress, seat_value, unit_value, drawn_within, is_drawn, selected_in, within_of}
+use Rattle.smp_split.specs.StagePaths.{GoesByStages}
+use Rattle.smp_split.specs.StageStarts.{StartsInStages}
+use Rattle.smp_split.specs.Laws.Reads.{some_within}
 use Rattle.std.proofs.lemmas.Bool.{and_parts}
 use Rattle.std.proofs.lemmas.Option.{slice_get_within}
 use Rattle.smp_strata.specs.Draws.{IsFor}

@@ -1,19 +1,19 @@
 -- What a selection of all strata starts with, where it is known whether they are drawn together.
 use Rattle.std.proofs.Common.{◌≡◌, ℕ, suc, ◌+◌, ◌<◌, Bool, true, false, ℤ, List, length, map, Some}
 use Rattle.std.specs.List.{count_by, range_with_len, slice_get}
-use Rattle.smp_fractions.specs.Bounds.{IsAround}
-use Rattle.smp_fractions.specs.Fractions.{Fraction, Same, integer, sum_below}
+use Rattle.smp_frac.specs.Bounds.{IsAround}
+use Rattle.smp_frac.specs.Fractions.{Fraction, Same, integer, sum_below}
 use Rattle.smp_split.specs.Means.{mean, inclusion_probability}
 use Rattle.smp_split.specs.Paths.{AtEachLeaf, Entry}
 use Rattle.smp_split.specs.Trees.{Tree}
 use Rattle.smp_design.specs.Words.{balances, draws_together}
 use Rattle.smp_prob.specs.declared.requests.Request.{Request}
-use Rattle.smp_balance.specs.Totals.{IsBalancedFrame}
+use Rattle.smp_twostage.specs.Totals.{IsBalancedFrame}
 use Rattle.smp_methods.specs.declared.any.AnyState.{AnyState}
 use Rattle.smp_methods.specs.Designs.{first_state}
-use Rattle.smp_stages.specs.declared.places.Stage.{Stage}
-use Rattle.smp_stages.specs.Paths.{GoesByStages}
-use Rattle.smp_stages.specs.Stages.{IsUnderWay, Progress, selected_in, staged_tree}
+use Rattle.smp_split.specs.declared.places.Stage.{Stage}
+use Rattle.smp_split.specs.StagePaths.{GoesByStages}
+use Rattle.smp_split.specs.Stages.{IsUnderWay, Progress, selected_in, staged_tree}
 use Rattle.smp_strata.specs.Draws.{IsFor, expected_firsts}
 use Rattle.smp_strata.specs.Plans.{Parts}
 use Rattle.smp_strata.specs.declared.strata.FirstUnit.{FirstUnit}

@@ -4,15 +4,15 @@ use Rattle.std.specs.Prelude.{is_some}
 use Rattle.std.specs.List.{count_by, range_with_len, slice_get}
 use Rattle.std.proofs.lemmas.Option.{slice_get_within}
 use Rattle.std.proofs.lemmas.List.{length-map}
-use Rattle.smp_fractions.specs.Fractions.{Fraction, Same, integer, sum_below, times}
-use Rattle.smp_fractions.proofs.Fractions.{same_trans, sum_same}
+use Rattle.smp_frac.specs.Fractions.{Fraction, Same, integer, sum_below, times}
+use Rattle.smp_frac.proofs.Arithmetic.{same_trans, sum_same}
 use Rattle.smp_design.specs.Words.{draws_together}
 use Rattle.smp_design.proofs.Rows.{together_balances}
 use Rattle.smp_methods.specs.declared.any.AnyState.{AnyState}
 use Rattle.smp_methods.specs.Designs.{design_of_strata, first_state}
 use Rattle.smp_methods.specs.Starts.{AreStarted}
-use Rattle.smp_stages.specs.Starts.{StartsInStages}
-use Rattle.smp_stages.specs.Stages.{Progress, progress, seat_value, unit_value}
+use Rattle.smp_split.specs.StageStarts.{StartsInStages}
+use Rattle.smp_split.specs.Stages.{Progress, progress, seat_value, unit_value}
 use Rattle.smp_strata.specs.Draws.{IsFor}
 use Rattle.smp_strata.specs.Plans.{Parts}
 use Rattle.smp_strata.specs.declared.strata.Stratum.{Stratum}

@@ -7,8 +7,8 @@ use Rattle.std.proofs.lemmas.List.{length-map}
 use Rattle.std.proofs.lemmas.List.FromFn.{length-map-range_with_len}
 use Rattle.std.proofs.lemmas.List.Elements.{All-get_or, All-head, All-tail}
 use Rattle.std.proofs.lemmas.Option.{get_or_from_slice_get, same_Some, slice_get-map, slice_get_within}
-use Rattle.smp_fractions.specs.Fractions.{Fraction, Same, over, sum_below, times, whole}
-use Rattle.smp_fractions.proofs.Fractions.{one-times, same_refl, same_sym, same_trans, sum_same, times-one, zero-times}
+use Rattle.smp_frac.specs.Fractions.{Fraction, Same, over, sum_below, times, whole}
+use Rattle.smp_frac.proofs.Arithmetic.{one-times, same_refl, same_sym, same_trans, sum_same, times-one, zero-times}
 use Rattle.smp_prob.specs.declared.requests.Request.{Request}
 use Rattle.smp_prob.specs.declared.inclusions.Inclusion.{Inclusion}
 use Rattle.smp_prob.specs.declared.inclusions.Inclusion.TheVariants.{Certain, Free, Never}
@@ -19,20 +19,20 @@ use Rattle.smp_split.proofs.NumberSums.{sum_by-range, sums}
 use Rattle.smp_values.specs.Starts.{IsWhole}
 use Rattle.smp_values.proofs.Requests.{adds_to_draws, requested_values}
 use Rattle.smp_moves.specs.Moves.{fraction_of}
-use Rattle.smp_rows.specs.Rows.{row_value}
-use Rattle.smp_rows.specs.Laws.Rows.{free_within}
+use Rattle.smp_split.specs.Rows.{row_value}
+use Rattle.smp_split.specs.Laws.Rows.{free_within}
 use Rattle.smp_methods.specs.declared.any.AnyState.{AnyState}
 use Rattle.smp_design.specs.Words.{draws_together}
 use Rattle.smp_methods.specs.Designs.{design_of_strata, first_state}
 use Rattle.smp_methods.specs.Methods.{method_of}
 use Rattle.smp_split.specs.Methods.{HasMeans}
 use Rattle.smp_split.specs.Sectioning.{IsPartOf}
-use Rattle.smp_stages.specs.declared.places.Seat.{Seat as Seat_in_stages}
-use Rattle.smp_stages.specs.declared.places.Seat.TheVariants.{Nowhere, First, Second}
-use Rattle.smp_stages.specs.declared.places.Stage.{Stage}
-use Rattle.smp_stages.specs.OwnStages.{AreTheirOwn, seat_later, sections_by}
-use Rattle.smp_stages.specs.Stages.{IsUnderWay, seat_value, unit_value}
-use Rattle.smp_stages.proofs.OwnStages.{is_part}
+use Rattle.smp_split.specs.declared.places.Seat.{Seat as Seat_in_stages}
+use Rattle.smp_split.specs.declared.places.Seat.TheVariants.{Nowhere, First, Second}
+use Rattle.smp_split.specs.declared.places.Stage.{Stage}
+use Rattle.smp_split.specs.OwnStages.{AreTheirOwn, seat_later, sections_by}
+use Rattle.smp_split.specs.Stages.{IsUnderWay, seat_value, unit_value}
+use Rattle.smp_split.proofs.OwnStages.{is_part}
 use Rattle.smp_strata.specs.Bounds.{IsOver}
 use Rattle.smp_strata.specs.Plans.{Parts}
 use Rattle.smp_strata.specs.Seats.{stage_fraction}
@@ -50,7 +50,7 @@ use Rattle.smp_stratcube.specs.Units.{IsUnits, member_of, members_from, share, s
 use Rattle.smp_stratcube.specs.Values.{is_one, value_at}
 use Rattle.smp_stratcube.proofs.Balances.{first_at}
 use Rattle.smp_stratcube.proofs.StratumSums.{whole_same, whole_sum}
-use Rattle.smp_balance.specs.Strata.{free_values}
+use Rattle.smp_twostage.specs.Strata.{free_values}
 use Rattle.smp_twostage.specs.Cubes.{balancing, units_together}
 use Rattle.smp_twostage.specs.Plans.{CanBeDrawn}
 use Rattle.smp_twostage.specs.Selections.{BelongsToWhole, Selecting, all_of, belongs_to, layers_of, numbers_from, place_of, seat_together}
@@ -64,7 +64,7 @@ use Rattle.smp_twostage.specs.Laws.Staged.{first_is, place_stands}
 use Rattle.smp_twostage.proofs.Columns.{are_over}
 use Rattle.smp_twostage.proofs.OverAll.{free_before, over_rises, stands_behind, stands_over}
 use Rattle.smp_twostage.proofs.AloneBy.{own_state, tree_alone}
-use Rattle.smp_balance.proofs.Runs.{run, term_of}
+use Rattle.smp_twostage.proofs.LayerRuns.{run, term_of}
 use Rattle.smp_twostage.proofs.StartsBy.{tree_so}
 use Rattle.smp_twostage.proofs.Values.{fraction_is}
 

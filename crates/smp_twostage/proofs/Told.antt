@@ -11,16 +11,16 @@ use Rattle.smp_prob.specs.declared.inclusions.Inclusion.TheVariants.{Certain, Fr
 use Rattle.smp_prob.specs.Inclusions.{is_taken, inclusion}
 use Rattle.smp_kernel.specs.Vectors.{Within}
 use Rattle.smp_flight.specs.Requests.{AreValues}
-use Rattle.smp_balance.specs.Strata.{AreStratumUnits, column_count}
-use Rattle.smp_balance.specs.Totals.{can_be_selected}
+use Rattle.smp_twostage.specs.Strata.{AreStratumUnits, column_count}
+use Rattle.smp_twostage.specs.Totals.{can_be_selected}
 use Rattle.smp_design.specs.Words.{row, balances}
 use Rattle.smp_design.proofs.Rows.{balance_columns}
 use Rattle.smp_methods.specs.declared.any.AnyState.{AnyState}
 use Rattle.smp_methods.specs.Methods.{method_of}
 use Rattle.smp_methods.proofs.Columns.{are_values}
-use Rattle.smp_stages.specs.declared.places.Stage.{Stage}
-use Rattle.smp_stages.specs.declared.places.Place.{Place}
-use Rattle.smp_stages.specs.Stages.{is_drawn, read, selected_in, unit_selected}
+use Rattle.smp_split.specs.declared.places.Stage.{Stage}
+use Rattle.smp_split.specs.declared.places.Place.{Place}
+use Rattle.smp_split.specs.Stages.{is_drawn, read, selected_in, unit_selected}
 use Rattle.smp_strata.specs.Bounds.{IsFirst}
 use Rattle.smp_strata.specs.Plans.{Parts}
 use Rattle.smp_strata.specs.declared.strata.FirstUnit.{FirstUnit}

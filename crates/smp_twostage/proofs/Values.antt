@@ -3,18 +3,18 @@ use Rattle.std.proofs.Common.{◌≡◌, ℕ, true, false, suc, ◌+◌, ◌<◌
 use Rattle.std.specs.Prelude.{is_some, option_and_then}
 use Rattle.std.specs.List.{slice_get}
 use Rattle.std.proofs.lemmas.Option.{slice_get_within}
-use Rattle.smp_stages.specs.Laws.Reads.{some_within}
-use Rattle.smp_fractions.specs.Fractions.{Fraction, Same, whole, times}
-use Rattle.smp_fractions.proofs.Fractions.{same_sym, same_trans, times_same, times-one}
+use Rattle.smp_split.specs.Laws.Reads.{some_within}
+use Rattle.smp_frac.specs.Fractions.{Fraction, Same, whole, times}
+use Rattle.smp_frac.proofs.Arithmetic.{same_sym, same_trans, times_same, times-one}
 use Rattle.smp_prob.specs.declared.requests.Request.{Request}
 use Rattle.smp_prob.specs.Inclusions.{asked_fraction}
 use Rattle.smp_design.specs.declared.method.Method.{Method}
-use Rattle.smp_rows.proofs.Asked.{value_is_asked}
+use Rattle.smp_split.proofs.RowsAsked.{value_is_asked}
 use Rattle.smp_methods.specs.declared.any.AnyState.{AnyState}
 use Rattle.smp_methods.specs.Methods.{method_of}
-use Rattle.smp_stages.specs.declared.places.Place.{Place}
-use Rattle.smp_stages.specs.declared.places.Stage.{Stage}
-use Rattle.smp_stages.specs.Stages.{seat_value, unit_value, read}
+use Rattle.smp_split.specs.declared.places.Place.{Place}
+use Rattle.smp_split.specs.declared.places.Stage.{Stage}
+use Rattle.smp_split.specs.Stages.{seat_value, unit_value, read}
 use Rattle.smp_strata.specs.Plans.{Parts}
 use Rattle.smp_strata.specs.Seats.{place_fraction, seat_fraction, stage_fraction, unit_fraction}
 use Rattle.smp_strata.specs.declared.strata.FirstUnit.{FirstUnit}

@@ -2,8 +2,8 @@
 use Rattle.std.proofs.Common.{◌≡◌, Bool, true, false, [], ◌∷◌, refl}
 use Rattle.smp_design.specs.Words.{draws_together}
 use Rattle.smp_methods.specs.Designs.{first_state}
-use Rattle.smp_stages.specs.Stages.{progress}
-use Rattle.smp_stages.proofs.Starts.{starts_in_stages}
+use Rattle.smp_split.specs.Stages.{progress}
+use Rattle.smp_split.proofs.StageStarts.{starts_in_stages}
 use Rattle.smp_strata.specs.Plans.{Parts}
 use Rattle.smp_twostage.specs.Plans.{CanBeDrawn}
 use Rattle.smp_twostage.specs.Selections.{belongs_to, seats_of, seats_together, stage_of_strata, stages_of, start_of, tree_of}

@@ -1,13 +1,13 @@
 -- The strata that a selection covers: what is read of each, and what the selection of one stratum alone starts with.
 use Rattle.std.specs.Prelude.{◌≡◌, ℕ, ◌<◌, false, if◌then◌else◌, List}
 use Rattle.std.specs.List.{slice_get}
-use Rattle.smp_fractions.specs.Fractions.{Fraction, Same, whole}
+use Rattle.smp_frac.specs.Fractions.{Fraction, Same, whole}
 use Rattle.smp_split.specs.Means.{inclusion_probability}
 use Rattle.smp_split.specs.Paths.{IsReached}
 use Rattle.smp_split.specs.Sectioning.{IsPartOf}
 use Rattle.smp_methods.specs.declared.any.AnyState.{AnyState}
-use Rattle.smp_stages.specs.OwnStages.{own_progress}
-use Rattle.smp_stages.specs.Stages.{Progress}
+use Rattle.smp_split.specs.OwnStages.{own_progress}
+use Rattle.smp_split.specs.Stages.{Progress}
 use Rattle.smp_strata.specs.Plans.{Parts}
 use Rattle.smp_twostage.specs.Selections.{Coverage, BelongsToCovered, all_of, covered_stages, covered_tree, first_place}
 use Rattle.smp_twostage.specs.Selections.{is_of_section, one_of, stages_before, start_of, strata_sections, tree_of, whole_tree}

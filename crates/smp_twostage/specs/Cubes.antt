@@ -11,7 +11,7 @@ use Rattle.smp_localcube.specs.Method.{LocalUnits, started}
 use Rattle.smp_stratcube.specs.Cube.{strat_tree}
 use Rattle.smp_stratcube.specs.States as together
 use Rattle.smp_stratcube.specs.Units as strata
-use Rattle.smp_balance.specs.Strata.{StratumUnits, free_units, free_values}
+use Rattle.smp_twostage.specs.Strata.{StratumUnits, free_units, free_values}
 use Rattle.smp_design.specs.declared.method.Method.TheVariants as method
 use Rattle.smp_methods.specs.declared.any.AnyState.{AnyState}
 use Rattle.smp_methods.specs.declared.any.AnyState.TheVariants as states

@@ -6,3 +6,7 @@ pub mod Covered
 pub mod Lines
 pub mod Kept
 pub mod Laws
+pub mod Strata
+pub mod Totals
+pub mod DrawnLines
+pub mod Reports

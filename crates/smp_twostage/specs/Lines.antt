@@ -1,8 +1,8 @@
 -- What the report tells of the strata that are balanced.
 use Rattle.std.specs.Prelude.{ℕ, ◌+◌, if◌then◌else◌, ℤ, List, [], length, map, option_map, unwrap_or}
 use Rattle.std.specs.List.{filter, flat_map, range_with_len, slice_get}
-use Rattle.smp_balance.specs.Lines as balance
-use Rattle.smp_balance.specs.Strata.{values_of}
+use Rattle.smp_twostage.specs.DrawnLines as balance
+use Rattle.smp_twostage.specs.Strata.{values_of}
 use Rattle.smp_design.specs.Words.{balances}
 use Rattle.smp_frac.specs.LowestTerms.{lowest_terms}
 use Rattle.smp_methods.specs.declared.any.AnyState.{AnyState}
@@ -45,4 +45,4 @@ told c states h = record {
 -- the lines of the sections that are told, in their order, where the method balances, and none by any other method
 abbrev pub balance_lines : Coverage → List AnyState → List ℕ
 balance_lines c states =
-    if balances c.plan.procedure.method then flat_map (λ h. balance.balance_lines (told c states h)) (told_sections c) else []
+    if balances c.plan.procedure.method then flat_map (λ h. balance.drawn_lines (told c states h)) (told_sections c) else []

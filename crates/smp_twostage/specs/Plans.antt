@@ -1,6 +1,6 @@
 -- Which plans can be drawn.
 use Rattle.std.specs.Prelude.{◌≡◌, ◌+◌, ◌≤◌, true, IfSome, IsTrue, None, length}
-use Rattle.smp_fractions.specs.Limits.{most_rows}
+use Rattle.smp_frac.specs.Limits.{most_rows}
 use Rattle.smp_design.specs.declared.method.Method.{Method}
 use Rattle.smp_design.specs.Procedures.{IsProcedure}
 use Rattle.smp_design.specs.Words.{draws_together, in_second}

@@ -5,11 +5,11 @@ use Rattle.std.specs.Prelude.{ℕ, zero, Bool, true, suc, ◌+◌, nat_eq, nat_l
 use Rattle.std.specs.Prelude.{List, [], ◌∷◌}
 use Rattle.std.specs.Prelude.{◌++◌, length, map, take, drop, Option, Some, None, option_map, unwrap_or}
 use Rattle.std.specs.List.{slice_get, list_any, position_or_len, range_with_len}
-use Rattle.smp_balance.specs.Strata.{StratumUnits, free_values}
+use Rattle.smp_twostage.specs.Strata.{StratumUnits, free_values}
 use Rattle.smp_prob.specs.declared.requests.Request.{Request}
 use Rattle.smp_split.specs.Sectioning.{Sectioning}
 use Rattle.smp_split.specs.Trees.{Tree}
-use Rattle.smp_rows.specs.Rows.{rows_tree, BelongsToRows}
+use Rattle.smp_split.specs.Rows.{rows_tree, BelongsToRows}
 use Rattle.smp_design.specs.declared.method.Method.{Method}
 use Rattle.smp_design.specs.Procedures.{without_values}
 use Rattle.smp_design.specs.Words.{draws_together}
@@ -21,12 +21,12 @@ use Rattle.smp_strata.specs.Plans.{Parts}
 use Rattle.smp_strata.specs.declared.strata.FirstUnit as unit
 use Rattle.smp_strata.specs.declared.strata.Seat as place
 use Rattle.smp_strata.specs.declared.strata.Stratum as stratum
-use Rattle.smp_stages.specs.declared.places.Place.{Place}
-use Rattle.smp_stages.specs.declared.places.Seat.{Seat}
-use Rattle.smp_stages.specs.declared.places.Seat.TheVariants.{Nowhere, First, Second}
-use Rattle.smp_stages.specs.declared.places.Stage.{Stage}
-use Rattle.smp_stages.specs.OwnStages.{sections_by}
-use Rattle.smp_stages.specs.Stages.{Progress, IsUnderWay, progress, staged_tree}
+use Rattle.smp_split.specs.declared.places.Place.{Place}
+use Rattle.smp_split.specs.declared.places.Seat.{Seat}
+use Rattle.smp_split.specs.declared.places.Seat.TheVariants.{Nowhere, First, Second}
+use Rattle.smp_split.specs.declared.places.Stage.{Stage}
+use Rattle.smp_split.specs.OwnStages.{sections_by}
+use Rattle.smp_split.specs.Stages.{Progress, IsUnderWay, progress, staged_tree}
 use Rattle.smp_stratcube.specs.Layers.{Layer, layer_of}
 use Rattle.smp_twostage.specs.Plans.{CanBeDrawn}
 

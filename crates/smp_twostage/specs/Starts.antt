@@ -2,8 +2,8 @@
 use Rattle.std.specs.Prelude.{◌≡◌, ℕ, zero, suc, ◌+◌, ◌<◌, Bool, true, false, cond, ℤ, pos, negsuc, List}
 use Rattle.std.specs.Prelude.{length, Option, Some}
 use Rattle.std.specs.List.{count_by, range_with_len, slice_get}
-use Rattle.smp_fractions.specs.Bounds.{IsAround}
-use Rattle.smp_fractions.specs.Fractions.{Fraction, Same, integer, inverse, times, sum_below}
+use Rattle.smp_frac.specs.Bounds.{IsAround}
+use Rattle.smp_frac.specs.Fractions.{Fraction, Same, integer, inverse, times, sum_below}
 use Rattle.smp_split.specs.Means.{mean, inclusion_probability}
 use Rattle.smp_split.specs.Paths.{AtEachLeaf, Entry}
 use Rattle.smp_design.specs.Words.{balances, draws_together}
@@ -15,10 +15,10 @@ use Rattle.smp_strata.specs.Seats.{seat_fraction}
 use Rattle.smp_strata.specs.declared.strata.FirstUnit as unit
 use Rattle.smp_strata.specs.declared.strata.Stratum as stratum
 use Rattle.smp_methods.specs.Designs.{left_at}
-use Rattle.smp_stages.specs.declared.places.Stage.{Stage}
-use Rattle.smp_stages.specs.Stages.{Progress, selected_in}
-use Rattle.smp_stages.specs.Paths.{GoesByStages}
-use Rattle.smp_balance.specs.Totals.{IsBalancedFrame}
+use Rattle.smp_split.specs.declared.places.Stage.{Stage}
+use Rattle.smp_split.specs.Stages.{Progress, selected_in}
+use Rattle.smp_split.specs.StagePaths.{GoesByStages}
+use Rattle.smp_twostage.specs.Totals.{IsBalancedFrame}
 use Rattle.smp_twostage.specs.Cubes.{IsDrawnByCube, IsDrawnTogether, frame_of}
 use Rattle.smp_twostage.specs.Selections.{Coverage, Selecting, BelongsToWhole, covered_stages, first_number}
 use Rattle.smp_twostage.specs.Selections.{first_place, place_of, tree_of, whole_place, whole_stages, whole_states, whole_tree}

@@ -11,13 +11,22 @@
 //! whole one.
 //!
 //! [`balance_lines`] is what the report tells of the strata where they are drawn by the cube or the local cube, as `specs/Lines.antt` says.
+//!
+//! Where the method balances, what it keeps and what its landing gives up among the free units of a request is said here of the totals over
+//! all units of a stratum (Deville and Tillé 2004), with those that are certain, which are selected at every leaf. Where the cube draws all
+//! strata together (Chauvet 2009), so it is said of the size of each stratum and of the totals over all strata. [`drawn_lines`] is
+//! what the report tells of it.
 #![tactic(auto)]
 
+mod balance_laws;
+mod drawn;
 mod lines;
 mod made;
 mod stage;
 mod whole;
 
+pub use balance_laws::{balance_law, frame_law, report_law, row_report_law};
+pub use drawn::{DrawnUnits, drawn_lines};
 pub use lines::balance_lines;
 pub use stage::StageDesign;
 pub use whole::{StartedWhole, Whole, section_count};

@@ -11,11 +11,10 @@ ghost use Rattle.smp_twostage.specs.Plans.{CanBeDrawn};
 ghost use Rattle.smp_twostage.specs.Selections.{BelongsToCovered, covered_tree, covers};
 ghost use Rattle.smp_twostage.specs.Starts.{covered_first};
 
-use crate::{Whole, section_count};
-use smp_balance::DrawnUnits;
+use crate::{DrawnUnits, Whole, section_count};
 use smp_frac::{Frac, NoMemory};
 use smp_methods::AnyState;
-use smp_stages::StagesState;
+use smp_split::StagesState;
 use smp_strata::{Plan, Seat, first_asked};
 use std::alloc::Global;
 
@@ -118,7 +117,7 @@ fn section_lines(
         asked: asked.as_slice(),
         chosen: chosen.as_slice(),
     };
-    smp_balance::balance_lines(alloc, &drawn)
+    crate::drawn_lines(alloc, &drawn)
 }
 
 // ---- the first stage units of a section

@@ -3,7 +3,7 @@
 ghost use Rattle.std.specs.Prelude.{◌≡◌};
 ghost use Rattle.smp_methods.specs.Designs.{left_at};
 ghost use Rattle.smp_methods.specs.Methods.{method_of};
-ghost use Rattle.smp_rows.specs.Laws.Rows.{rows_method};
+ghost use Rattle.smp_split.specs.Laws.Rows.{rows_method};
 ghost use Rattle.smp_twostage.specs.Kept.Stages.{asked_view};
 ghost use Rattle.smp_twostage.specs.Selections.{belongs_to, tree_of};
 

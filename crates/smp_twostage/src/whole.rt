@@ -4,7 +4,7 @@ ghost use Rattle.std.specs.Prelude.{◌≡◌, ◌∷◌, [], ◌<◌, ◌≤◌
 ghost use Rattle.std.specs.Prelude.{length, map};
 ghost use Rattle.std.specs.List.{range_with_len, slice_get};
 ghost use Rattle.smp_methods.specs.Designs.{left_at};
-ghost use Rattle.smp_stages.specs.Starts.{StartsInStages};
+ghost use Rattle.smp_split.specs.StageStarts.{StartsInStages};
 ghost use Rattle.smp_strata.specs.declared.strata.Stratum.{Stratum};
 ghost use Rattle.smp_design.specs.Words.{draws_together};
 ghost use Rattle.smp_twostage.specs.Covered.{StartsAlone, covered_left};
@@ -22,8 +22,7 @@ use crate::made::{Made, units_before};
 use smp_design::Method;
 use smp_frac::NoMemory;
 use smp_methods::AnyState;
-use smp_split::{Kind, Sections, Splitting};
-use smp_stages::{Place, Seat, Stages, StagesState};
+use smp_split::{Kind, Place, Seat, Sections, Splitting, Stages, StagesState};
 use smp_strata::Plan;
 use std::alloc::Global;
 use std::marker::Model;

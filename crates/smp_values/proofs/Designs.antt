@@ -4,9 +4,9 @@ use Rattle.std.specs.List.{count_by, sum, swap}
 use Rattle.std.proofs.lemmas.Bool.{eqb-true}
 use Rattle.std.proofs.lemmas.List.Edits.{length-swap}
 use Rattle.std.proofs.lemmas.List.Sorted.{IsPermutation-swap, sum_by-IsPermutation}
-use Rattle.smp_fractions.specs.Bounds.{IsAround}
-use Rattle.smp_fractions.specs.Fractions.{over}
-use Rattle.smp_fractions.proofs.Fractions.{same_refl}
+use Rattle.smp_frac.specs.Bounds.{IsAround}
+use Rattle.smp_frac.specs.Fractions.{over}
+use Rattle.smp_frac.proofs.Arithmetic.{same_refl}
 use Rattle.smp_prob.specs.Shares.{Shares}
 use Rattle.smp_split.specs.Counts.{AddsUp, LeavesSelect, LeavesSelectAround}
 use Rattle.smp_split.specs.Orders.{Ordered, IsInOrder, IsExchange, exchange, ordered_tree}

@@ -4,9 +4,9 @@ use Rattle.std.specs.List.{sum, count_by}
 use Rattle.std.proofs.lemmas.Bool.{and_cases, and_parts, and_right, eq-eqb, lt-ltb, ltb-true, ltb-false, le-ltb, ne_eqb}
 use Rattle.std.proofs.lemmas.List.Sums.{sum_by-cons}
 use Rattle.smp_values.specs.Values.{fractional}
-use Rattle.smp_fractions.specs.Fractions.{Same, whole, over}
-use Rattle.smp_fractions.proofs.Fractions.{cancel}
-use Rattle.smp_fractions.proofs.Over.{over_zero, over_one}
+use Rattle.smp_frac.specs.Fractions.{Same, whole, over}
+use Rattle.smp_frac.proofs.Arithmetic.{cancel}
+use Rattle.smp_frac.proofs.Over.{over_zero, over_one}
 
 pub fractional_is : (den a : ℕ) → fractional den a ≡ true → (0 < a) × (a < den)
 fractional_is den a h =

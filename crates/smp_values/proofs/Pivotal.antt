@@ -4,7 +4,7 @@ use Rattle.std.proofs.lemmas.Bool.{cases_lt, lt-ltb, le-ltb}
 use Rattle.smp_prob.specs.Shares.{Shares}
 use Rattle.smp_split.specs.Trees.{Part, EachPart, IsPart, Lawful, LawfulParts, LawfulSplit, weight_sum, picked}
 use Rattle.smp_split.proofs.Counts.{KeepsCount}
-use Rattle.smp_split.proofs.Steps.{picked_is_part}
+use Rattle.smp_split.specs.Laws.Steps.{picked_is_part}
 use Rattle.smp_values.specs.Kept.Places.{IsGoing, first_of, second_of}
 use Rattle.smp_values.specs.Steps.{lone_parts, pair_parts, pivotal_kind, pivotal_parts, steps_tree}
 use Rattle.smp_values.specs.Values.{AddTo, IsValues, fractional_count, is_fractional, is_settled}

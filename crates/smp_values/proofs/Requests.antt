@@ -3,8 +3,8 @@ use Rattle.std.proofs.Common.{◌≡◌, ℕ, ◌+◌, ◌^◌, ◌<◌, ◌≤�
 use Rattle.std.proofs.lemmas.Bool.{cases_eq, cases_lt}
 use Rattle.std.proofs.lemmas.List.{get_or_past}
 use Rattle.std.proofs.lemmas.List.FromFn.{get_or-range_with_len}
-use Rattle.smp_fractions.specs.Fractions.{Same}
-use Rattle.smp_fractions.proofs.Fractions.{same_trans}
+use Rattle.smp_frac.specs.Fractions.{Same}
+use Rattle.smp_frac.proofs.Arithmetic.{same_trans}
 use Rattle.smp_prob.specs.declared.orders.Order.{Order}
 use Rattle.smp_prob.specs.declared.orders.Order.TheVariants.{Frame, Random}
 use Rattle.smp_prob.specs.declared.requests.Request.{Request}

@@ -1,6 +1,6 @@
 -- Where a selection starts: with the requested probabilities as its values, in the order of the frame or in an order that is drawn first.
 use Rattle.std.specs.Prelude.{◌≡◌, ℕ, ◌≤◌, ◌<◌, length, sum}
-use Rattle.smp_fractions.specs.Fractions.{Same}
+use Rattle.smp_frac.specs.Fractions.{Same}
 use Rattle.smp_prob.specs.declared.orders.Order.{Order}
 use Rattle.smp_prob.specs.declared.orders.Order.TheVariants.{Frame, Random}
 use Rattle.smp_prob.specs.declared.requests.Request.{Request}

@@ -5,7 +5,7 @@ use Rattle.std.specs.Prelude.{◌≡◌, ℕ, ◌*◌, ◌≤◌, ◌<◌, Bool,
 use Rattle.std.specs.Prelude.{slice_index, slice_set}
 use Rattle.std.specs.List.{count_by, filter, range_with_len, swap}
 use Rattle.smp_prob.specs.Shares.{Shares}
-use Rattle.smp_fractions.specs.Fractions.{Fraction, over}
+use Rattle.smp_frac.specs.Fractions.{Fraction, over}
 use Rattle.smp_split.specs.Trees.{Part, Tree}
 use Rattle.smp_split.specs.declared.kind.Kind.{Kind}
 

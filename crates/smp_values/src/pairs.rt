@@ -1,7 +1,7 @@
 //! The pivotal step on a pair of units.
 
 ghost use Rattle.std.specs.Prelude.{◌≡◌, ℕ, ◌+◌, ◌<◌, ◌≤◌};
-ghost use Rattle.smp_fractions.specs.Limits.{most_denominator};
+ghost use Rattle.smp_frac.specs.Limits.{most_denominator};
 ghost use Rattle.smp_values.specs.Pairs.{pair_weights, pair_bound, pair_at};
 
 /// The weights of the two parts of a step on a pair. They are not reduced.

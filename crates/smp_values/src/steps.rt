@@ -1,7 +1,7 @@
 //! Sequential pivotal steps.
 
 ghost use Rattle.std.specs.Prelude.{◌≡◌, ℕ, ◌<◌, false, length};
-ghost use Rattle.smp_fractions.specs.Limits.{most_denominator};
+ghost use Rattle.smp_frac.specs.Limits.{most_denominator};
 ghost use Rattle.smp_split.specs.Trees.{weight_sum, picked};
 ghost use Rattle.smp_prob.specs.Shares.{Shares};
 ghost use Rattle.smp_values.specs.Values.{IsValues, exchanged_values, is_one, is_settled};

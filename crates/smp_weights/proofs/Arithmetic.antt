@@ -5,11 +5,11 @@ use Rattle.std.proofs.lemmas.Bool.{cases_Bool, lt-ltb, le-ltb}
 use Rattle.std.proofs.lemmas.Int.{ints}
 use Rattle.std.proofs.lemmas.Result.{IfOk-weaker}
 use Rattle.std.specs.Prelude.{if◌then◌else◌}
-use Rattle.smp_fractions.specs.Fractions.{Fraction, Same, plus, minus, times, positive_product}
+use Rattle.smp_frac.specs.Fractions.{Fraction, Same, plus, minus, times, positive_product}
 use Rattle.smp_frac.specs.declared.fractions.Frac.{Frac}
 use Rattle.smp_frac.specs.declared.fractions.Wide.{Wide}
 use Rattle.smp_frac.specs.declared.signed.Signed.{Signed}
-use Rattle.smp_frac.specs.Fractions.{fraction, signed_fraction, product_size, sum_size, difference_size}
+use Rattle.smp_frac.specs.Exact.{fraction, signed_fraction, product_size, sum_size, difference_size}
 use Rattle.smp_frac.specs.Laws.Gcds.{IsGcd-greatest_common_divisor}
 use Rattle.smp_frac.specs.Laws.Lowest.{same_value}
 use Rattle.smp_frac.specs.LowestTerms.{lowest_terms}

@@ -5,7 +5,7 @@ use Rattle.smp_frac.specs.declared.fractions.Wide.{Wide}
 use Rattle.smp_frac.specs.declared.signed.Signed.{Signed}
 use Rattle.smp_weights.specs.Arithmetic.{sum_of, difference_of}
 use Rattle.smp_weights.specs.Chosen.{Chosen}
-use Rattle.smp_faults.specs.Steps.{◌>>=◌}
+use Rattle.smp_frac.specs.Faults.{◌>>=◌}
 use Rattle.smp_weights.specs.Totals.{term_of, with_term, total_of, gains, losses, estimate_of}
 
 -- any `Wide` is the same

@@ -1,12 +1,12 @@
 -- Exact arithmetic on fractions in lowest terms.
 use Rattle.std.specs.Prelude.{ℕ, nat_lt, if◌then◌else◌, Result, Ok, Err}
 use Rattle.std.specs.Int.{is_negative}
-use Rattle.smp_fractions.specs.Limits.{wide_limit}
-use Rattle.smp_fractions.specs.Fractions.{Fraction, plus, minus, times}
+use Rattle.smp_frac.specs.Limits.{wide_limit}
+use Rattle.smp_frac.specs.Fractions.{Fraction, plus, minus, times}
 use Rattle.smp_frac.specs.declared.fractions.Frac.{Frac}
 use Rattle.smp_frac.specs.declared.fractions.Wide.{Wide}
 use Rattle.smp_frac.specs.declared.signed.Signed.{Signed}
-use Rattle.smp_frac.specs.Fractions.{fraction, product_size, sum_size, difference_size}
+use Rattle.smp_frac.specs.Exact.{fraction, product_size, sum_size, difference_size}
 use Rattle.smp_frac.specs.LowestTerms.{lowest_terms}
 use Rattle.smp_weights.specs.Signs.{numerator_positive}
 

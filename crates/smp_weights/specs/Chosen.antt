@@ -1,8 +1,8 @@
 -- The chosen units of a sample.
 use Rattle.std.specs.Prelude.{◌≡◌, ◌≤◌, Bool, true, false, List, [], ◌∷◌, EachIndex, HoldsAt, slice_index_or}
-use Rattle.smp_fractions.specs.Fractions.{Fraction, inverse}
+use Rattle.smp_frac.specs.Fractions.{Fraction, inverse}
 use Rattle.smp_frac.specs.declared.fractions.Frac.{Frac}
-use Rattle.smp_frac.specs.Fractions.{fraction}
+use Rattle.smp_frac.specs.Exact.{fraction}
 
 -- a chosen unit: one of its values, and the inclusion probability that was asked for it
 pub record Chosen (A : Type 0) : Type 0 where

@@ -1,9 +1,9 @@
 -- The sample file.
 use Rattle.std.specs.Prelude.{ℕ, Bool, List, [], ◌∷◌, ◌++◌, map, flat_map, codes}
-use Rattle.smp_fractions.specs.Fractions.{Fraction, inverse}
+use Rattle.smp_frac.specs.Fractions.{Fraction, inverse}
 use Rattle.smp_weights.specs.Rows.{row}
 use Rattle.smp_frac.specs.declared.fractions.Frac.{Frac}
-use Rattle.smp_frac.specs.Fractions.{fraction, fraction_text}
+use Rattle.smp_frac.specs.Exact.{fraction, fraction_text}
 use Rattle.smp_weights.specs.Chosen.{Chosen, chosen_units}
 
 -- the row of a unit: its id, and its design weight, the inverse of its inclusion probability (Tillé 2006)

@@ -1,11 +1,11 @@
 -- Weighted totals in exact arithmetic.
 use Rattle.std.specs.Prelude.{Bool, if◌then◌else◌, List, [], ◌∷◌, filter, ℤ, Result, Ok}
 use Rattle.std.specs.Int.{is_negative, is_positive}
-use Rattle.smp_faults.specs.Steps.{◌>>=◌}
+use Rattle.smp_frac.specs.Faults.{◌>>=◌}
 use Rattle.smp_frac.specs.declared.fractions.Frac.{Frac}
 use Rattle.smp_frac.specs.declared.fractions.Wide.{Wide}
 use Rattle.smp_frac.specs.declared.signed.Signed.{Signed}
-use Rattle.smp_fractions.specs.Fractions.{whole, integer}
+use Rattle.smp_frac.specs.Fractions.{whole, integer}
 use Rattle.smp_frac.specs.LowestTerms.{lowest_terms}
 use Rattle.smp_weights.specs.Arithmetic.{product_of, sum_of, difference_of}
 use Rattle.smp_weights.specs.Chosen.{Chosen, weight}

@@ -1,6 +1,6 @@
 -- The weighted total as an exact fraction.
 use Rattle.std.specs.Prelude.{List, [], ◌∷◌, ℤ}
-use Rattle.smp_fractions.specs.Fractions.{Fraction, whole, integer, plus, times}
+use Rattle.smp_frac.specs.Fractions.{Fraction, whole, integer, plus, times}
 use Rattle.smp_weights.specs.Chosen.{Chosen, weight}
 
 -- the sum of the values, each times the weight of its unit (Horvitz and Thompson 1952)

@@ -1,6 +1,6 @@
 ghost use Rattle.std.specs.Prelude.{◌≡◌, ◌≤◌, length, filter, IfOk};
-ghost use Rattle.smp_fractions.specs.Fractions.{Same};
-ghost use Rattle.smp_frac.specs.Fractions.{signed_fraction};
+ghost use Rattle.smp_frac.specs.Fractions.{Same};
+ghost use Rattle.smp_frac.specs.Exact.{signed_fraction};
 ghost use Rattle.smp_weights.specs.Chosen.{ChosenArePositive, chosen_units};
 ghost use Rattle.smp_weights.specs.Totals as Totals;
 ghost use Rattle.smp_weights.specs.Totals.{estimate_of, term_of, total_of};

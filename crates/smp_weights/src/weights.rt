@@ -1,6 +1,6 @@
 ghost use Rattle.std.specs.Prelude.{◌≤◌};
-ghost use Rattle.smp_frac.specs.Fractions.{fraction};
-ghost use Rattle.smp_fractions.specs.Fractions.{Same};
+ghost use Rattle.smp_frac.specs.Exact.{fraction};
+ghost use Rattle.smp_frac.specs.Fractions.{Same};
 ghost use Rattle.smp_weights.specs.Chosen.{weight};
 
 use smp_frac::Frac;

@@ -12,7 +12,7 @@ ghost use Rattle.smp_words.specs.Words.{given_of, options_of, has_only, all_dist
 use crate::command_line::{value_of, values_of};
 use clap::ArgMatches;
 use hex::FromHex;
-use smp_lines::number;
+use smp_frac::number;
 
 /// The command, the words after it, and the value of each option that is there.
 #[derive(Clone, Copy)]

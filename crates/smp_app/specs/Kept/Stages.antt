@@ -8,7 +8,7 @@ use Rattle.smp_split.specs.Paths.{Entry}
 use Rattle.smp_split.specs.Runs.{Outcome, leaf, stopped}
 use Rattle.smp_split.specs.Trees.{weight_sum}
 use Rattle.smp_methods.specs.declared.any.AnyState.{AnyState}
-use Rattle.smp_stages.specs.Stages.{Progress}
+use Rattle.smp_split.specs.Stages.{Progress}
 use Rattle.smp_strata.specs.Plans.{Parts}
 use Rattle.smp_twostage.specs.declared.whole.StartedWhole.{StartedWhole}
 use Rattle.smp_twostage.specs.Covered.{StartsAlone}

@@ -1,6 +1,6 @@
 -- What the code keeps of a state.
 use Rattle.std.specs.Prelude.{◌≡◌, ◌≤◌, length}
-use Rattle.smp_fractions.specs.Limits.{most_rows}
+use Rattle.smp_frac.specs.Limits.{most_rows}
 use Rattle.smp_prob.specs.Shares.{Shares}
 use Rattle.smp_brewer.specs.Brewer.{Brewing, offering, offered, spent, IsOffers}
 use Rattle.smp_brewer.specs.declared.offers.Offers.{Offers}

@@ -5,13 +5,13 @@ use Rattle.std.proofs.Common.{set, arith, refl, ap, ◌∙◌, inl, inr, length-
 use Rattle.std.proofs.Math.Nat.{mul-le-mul_left, one-le-mul}
 use Rattle.std.proofs.lemmas.Bool.{cases_Bool, cases_eq, eq-eqb, ne_eqb}
 use Rattle.std.proofs.lemmas.List.{get_or-set_same, get_or-set_other}
-use Rattle.smp_fractions.specs.Limits.{wide_limit}
-use Rattle.smp_fractions.specs.Fractions.{Fraction, Same, whole, plus, times, over}
-use Rattle.smp_fractions.proofs.Fractions.{same_refl, same_sym, same_trans, plus_same, times-one, divided_same, divided-times, times-back}
+use Rattle.smp_frac.specs.Limits.{wide_limit}
+use Rattle.smp_frac.specs.Fractions.{Fraction, Same, whole, plus, times, over}
+use Rattle.smp_frac.proofs.Arithmetic.{same_refl, same_sym, same_trans, plus_same, times-one, divided_same, divided-times, times-back}
 use Rattle.smp_split.specs.Parts.{moved}
 use Rattle.smp_split.specs.Trees.{EachPart, IsPart, LawfulSplit, weight_sum, weighted}
 use Rattle.smp_split.proofs.Over.{cancel_weight}
-use Rattle.smp_split.proofs.Parts.{plus-whole, weighted-part, weight_sum-part, each_part, weight_sum-moved, weighted-moved, each_moved}
+use Rattle.smp_split.specs.Laws.Parts.{plus-whole, weighted-part, weight_sum-part, each_part, weight_sum-moved, weighted-moved, each_moved}
 use Rattle.smp_brewer.specs.declared.offers.Offers.{Offers}
 use Rattle.smp_brewer.specs.Brewer.{offering, offered, total, largest, size_of, is_taken, allowed, offering_value, offered_value}
 use Rattle.smp_brewer.specs.Brewer.{take_bound, take_weight, after_taken, after_refused, take_parts, brewing_tree, IsOffers}

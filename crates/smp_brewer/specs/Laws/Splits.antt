@@ -5,17 +5,17 @@ use Rattle.std.specs.List.{sum, count_by}
 use Rattle.std.proofs.lemmas.Bool.{cases_Bool, cases_lt, cases_eq, eqb-true, eqb-false, eq-eqb, ne_eqb}
 use Rattle.std.proofs.lemmas.List.{get_or_past, get_or-map, length-map}
 use Rattle.std.proofs.lemmas.List.Sums.{count_by-le-length}
-use Rattle.smp_fractions.specs.Limits.{most_denominator}
-use Rattle.smp_fractions.specs.Fractions.{Fraction, Same, whole, times, over}
-use Rattle.smp_fractions.proofs.Fractions.{same_refl, same_sym, same_trans, plus_same, times_same, times-one, plus-zero}
-use Rattle.smp_fractions.proofs.Over.{over_zero, over_one, over_plus}
+use Rattle.smp_frac.specs.Limits.{most_denominator}
+use Rattle.smp_frac.specs.Fractions.{Fraction, Same, whole, times, over}
+use Rattle.smp_frac.proofs.Arithmetic.{same_refl, same_sym, same_trans, plus_same, times_same, times-one, plus-zero}
+use Rattle.smp_frac.proofs.Over.{over_zero, over_one, over_plus}
 use Rattle.smp_prob.specs.Shares.{Shares}
 use Rattle.smp_split.specs.Lenses.{as_unit, Lens}
 use Rattle.smp_split.specs.Trees.{EachPart, IsPart, LawfulSplit, LawfulEnd, Lawful, weighted}
-use Rattle.smp_split.proofs.Lenses.{split_through}
-use Rattle.smp_split.proofs.Means.{weighted_same}
+use Rattle.smp_split.specs.Laws.Lenses.{split_through}
+use Rattle.smp_split.specs.Laws.Means.{weighted_same}
 use Rattle.smp_split.proofs.Over.{whole-over, over_whole}
-use Rattle.smp_split.proofs.Parts.{plus-whole}
+use Rattle.smp_split.specs.Laws.Parts.{plus-whole}
 use Rattle.smp_values.specs.Steps.{steps_tree}
 use Rattle.smp_values.specs.Values.{IsValues, fractional}
 use Rattle.smp_values.proofs.Pivotal.{steps_lawful}

@@ -6,8 +6,8 @@ use Rattle.std.proofs.Math.Nat.{one-le-mul}
 use Rattle.std.proofs.lemmas.Bool.{cases_Bool, cases_eq, and_parts, eqb-true, eqb-false, eq-eqb, ne_eqb}
 use Rattle.std.proofs.lemmas.List.{get_or-set_same, get_or-set_other}
 use Rattle.std.proofs.lemmas.List.Sums.{sum_by-set}
-use Rattle.smp_fractions.specs.Fractions.{Fraction, Same, whole, times, over, inverse}
-use Rattle.smp_fractions.proofs.Fractions.{same_refl, same_sym, same_trans, times-zero}
+use Rattle.smp_frac.specs.Fractions.{Fraction, Same, whole, times, over, inverse}
+use Rattle.smp_frac.proofs.Arithmetic.{same_refl, same_sym, same_trans, times-zero}
 use Rattle.smp_split.specs.Trees.{IsPart, Lawful, LawfulEnd, LawfulSplit, weighted}
 use Rattle.smp_split.proofs.Units.{each_unit, sum_by-without, weighted-units}
 use Rattle.smp_elim.specs.Elimination.{Remaining, size_of, is_left, left_count, fewer, fraction_at, is_certain_at, draws_at, total_at}

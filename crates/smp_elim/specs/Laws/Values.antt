@@ -1,10 +1,10 @@
 -- The values of units as ratios of probabilities.
 use Rattle.std.proofs.Common.{◌≡◌, ℕ, ◌-◌, ◌*◌, ◌≤◌, true, false, max, List, arith, refl, sym, ap, subst}
 use Rattle.std.proofs.lemmas.Bool.{lt-ltb}
-use Rattle.smp_fractions.specs.Fractions.{Fraction, Same, whole, times, over, inverse}
-use Rattle.smp_fractions.proofs.Fractions.{same_refl, same_sym, same_trans, times_same, times_left_comm}
-use Rattle.smp_fractions.proofs.Integers.{diff-same, diffs}
-use Rattle.smp_fractions.proofs.Over.{over_same, whole-times-over}
+use Rattle.smp_frac.specs.Fractions.{Fraction, Same, whole, times, over, inverse}
+use Rattle.smp_frac.proofs.Arithmetic.{same_refl, same_sym, same_trans, times_same, times_left_comm}
+use Rattle.smp_frac.proofs.Integers.{diff-same, diffs}
+use Rattle.smp_frac.proofs.Over.{over_same, whole-times-over}
 use Rattle.smp_prob.specs.Requested.{is_certain, certain_units, open_total, requested_fraction}
 
 -- ---- the probability of a unit of size z among n

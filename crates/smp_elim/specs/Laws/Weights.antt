@@ -5,7 +5,7 @@ use Rattle.std.specs.List.{range_with_len, sum, sum_by}
 use Rattle.std.proofs.Math.Nat.{mul-le-mul_right, one-le-mul}
 use Rattle.std.proofs.lemmas.Bool.{cases_Bool, and_parts, lt-ltb}
 use Rattle.std.proofs.lemmas.List.Sums.{sum_by-cons, sum_by-le-sum_by, count_by-le-length}
-use Rattle.smp_fractions.specs.Limits.{most_rows}
+use Rattle.smp_frac.specs.Limits.{most_rows}
 use Rattle.smp_prob.specs.Requested.{is_certain, certain_units, open_total, positive_units}
 use Rattle.smp_prob.proofs.Certain.{certain_within, full_share, part_share, some_draw, still_certain}
 use Rattle.smp_split.specs.Trees.{weight_sum}

@@ -1,6 +1,6 @@
 -- What the code keeps of the end of a line.
 use Rattle.std.specs.Prelude.{◌≡◌, ℕ, ◌*◌, ◌/◌, ◌≤◌, Bool, cond}
-use Rattle.smp_fractions.specs.Limits.{most_entry, most_denominator}
+use Rattle.smp_frac.specs.Limits.{most_entry, most_denominator}
 use Rattle.smp_prob.specs.Shares.{Shares}
 use Rattle.smp_moves.specs.Moves.{Line}
 use Rattle.smp_moves.specs.Ends.{reach, advanced_numbers, common_factor}

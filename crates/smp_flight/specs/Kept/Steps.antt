@@ -1,6 +1,6 @@
 -- One step of the flight phase as the code goes: along the circuit that a search finds.
 use Rattle.std.specs.Prelude.{ℕ, nat_le, ◌&&◌, Bool, if◌then◌else◌, List, [], ◌∷◌, ℤ, pos, ◌*ℤ◌, length, take}
-use Rattle.smp_fractions.specs.Limits.{most_denominator}
+use Rattle.smp_frac.specs.Limits.{most_denominator}
 use Rattle.smp_kernel.specs.Searches.{Search, found, none, too_wide}
 use Rattle.smp_kernel.specs.Reduced.{primitive_part}
 use Rattle.smp_prob.specs.Shares.{Shares}

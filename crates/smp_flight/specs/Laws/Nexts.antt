@@ -2,7 +2,7 @@
 use Rattle.std.proofs.Common.{◌≡◌, ℕ, ◌≤◌, true, nat_le, List, ℤ}
 use Rattle.std.proofs.Common.{take, length, get_or, arith, refl, sym, ap, subst}
 use Rattle.std.proofs.lemmas.Bool.{and_from, le-leb}
-use Rattle.smp_fractions.specs.Limits.{most_entry, most_denominator}
+use Rattle.smp_frac.specs.Limits.{most_entry, most_denominator}
 use Rattle.smp_kernel.specs.Vectors.{IsZero, Within}
 use Rattle.smp_kernel.specs.Reduced.{primitive_part}
 use Rattle.smp_kernel.specs.Searches.{Search, found, none, too_wide}

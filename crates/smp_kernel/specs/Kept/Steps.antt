@@ -1,7 +1,7 @@
 -- One step of elimination.
 use Rattle.std.specs.Prelude.{◌≡◌, ◌≢◌, ℕ, ◌<◌, List, ℤ, pos, neg_ℤ, Bool, false, slice_index_or}
 use Rattle.std.specs.List.{All}
-use Rattle.smp_fractions.specs.Limits.{most_entry}
+use Rattle.smp_frac.specs.Limits.{most_entry}
 use Rattle.smp_kernel.specs.Vectors.{entry, plus, times, Within}
 use Rattle.smp_kernel.specs.Reduced.{IsReduced, IsTooLong}
 use Rattle.smp_kernel.specs.Kept.Tables.{at_place}

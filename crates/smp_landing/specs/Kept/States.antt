@@ -1,6 +1,6 @@
 -- What the code keeps of a state.
 use Rattle.std.specs.Prelude.{◌≡◌, ℕ, ◌≤◌, length}
-use Rattle.smp_fractions.specs.Limits.{most_rows}
+use Rattle.smp_frac.specs.Limits.{most_rows}
 use Rattle.smp_prob.specs.Shares.{Shares}
 use Rattle.smp_moves.specs.Cubes.{flying, pairing}
 use Rattle.smp_flight.specs.States.{AreFirst, Flight, Tracked}

@@ -1,7 +1,7 @@
 -- The splits of the cube are lawful, and its steps are those of flight and landing.
 use Rattle.std.proofs.Common.{◌≡◌, false, refl}
 use Rattle.smp_split.specs.Trees.{Lawful, LawfulParts}
-use Rattle.smp_split.proofs.Parts.{moved-same}
+use Rattle.smp_split.specs.Laws.Parts.{moved-same}
 use Rattle.smp_values.specs.Values.{fractional_units, is_settled}
 use Rattle.smp_moves.specs.Cubes.{flying, pairing, values_in}
 use Rattle.smp_flight.specs.States.{Units}

@@ -4,7 +4,7 @@ use Rattle.std.specs.Prelude.{map, take, Option, IfSome, option_map}
 use Rattle.std.specs.Int.RustNames.{unsigned_abs}
 use Rattle.std.specs.List.{filter}
 use Rattle.smp_near.specs.Nearest.{LivingPoints, is_living}
-use Rattle.smp_fractions.specs.Limits.{most_rows}
+use Rattle.smp_frac.specs.Limits.{most_rows}
 use Rattle.smp_prob.specs.Shares.{Shares}
 use Rattle.smp_values.specs.Values.{AllFractional, fractional_units, is_fractional}
 use Rattle.smp_moves.specs.Cubes.{flying, pairing}

@@ -5,15 +5,15 @@ use Rattle.std.specs.Prelude.{unwrap_or}
 use Rattle.std.specs.Int.RustNames.{unsigned_abs}
 use Rattle.std.proofs.lemmas.Bool.{eq-eqb, eqb-false, or_left}
 use Rattle.std.proofs.lemmas.List.Sums.{count_by-le-length}
-use Rattle.smp_fractions.specs.Limits.{most_denominator}
-use Rattle.smp_fractions.specs.Fractions.{whole, times}
-use Rattle.smp_fractions.proofs.Fractions.{plus-zero, same_refl}
+use Rattle.smp_frac.specs.Limits.{most_denominator}
+use Rattle.smp_frac.specs.Fractions.{whole, times}
+use Rattle.smp_frac.proofs.Arithmetic.{plus-zero, same_refl}
 use Rattle.smp_prob.specs.Shares.{Shares}
 use Rattle.smp_split.specs.Lenses.{as_unit}
 use Rattle.smp_split.specs.Parts.{equal_parts, moved}
 use Rattle.smp_split.specs.Trees.{EachPart, Part, IsPart, Lawful, LawfulParts, weight_sum}
-use Rattle.smp_split.proofs.Lenses.{parts_through}
-use Rattle.smp_split.proofs.Parts.{each_equal, weight_sum-equal, weighted-same}
+use Rattle.smp_split.specs.Laws.Lenses.{parts_through}
+use Rattle.smp_split.specs.Laws.Parts.{each_equal, weight_sum-equal, weighted-same}
 use Rattle.smp_values.specs.Steps.{pivotal_parts, steps_tree}
 use Rattle.smp_values.specs.Values.{IsValues, fractional, fractional_at, fractional_count, fractional_units, is_fractional, is_settled}
 use Rattle.smp_values.specs.Values.{value_at}

@@ -1,7 +1,7 @@
 -- What the code keeps of a state, and of a design.
 use Rattle.std.specs.Prelude.{◌≡◌, ℕ, ◌≤◌, ◌<◌, ◌^◌, Bool, if◌then◌else◌, List, ℤ, Option, Some, None, length}
 use Rattle.std.specs.Prelude.{map}
-use Rattle.smp_fractions.specs.Limits.{most_denominator}
+use Rattle.smp_frac.specs.Limits.{most_denominator}
 use Rattle.smp_near.specs.Nearest.{LivingPoints}
 use Rattle.smp_prob.specs.Shares.{Shares}
 use Rattle.smp_values.specs.Values.{AllFractional, IsValues, fractional}

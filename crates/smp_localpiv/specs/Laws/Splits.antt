@@ -3,14 +3,14 @@ use Rattle.std.proofs.Common.{◌≡◌, ◌≢◌, ℕ, ◌<◌, ◌≤◌, tru
 use Rattle.std.proofs.Common.{get_or, refl, arith, inl, inr}
 use Rattle.std.proofs.lemmas.Bool.{cases_Bool, eqb-false, ltb-true}
 use Rattle.std.proofs.lemmas.List.Sums.{count_by-le-length}
-use Rattle.smp_fractions.specs.Limits.{most_denominator}
-use Rattle.smp_fractions.proofs.Fractions.{same_refl}
+use Rattle.smp_frac.specs.Limits.{most_denominator}
+use Rattle.smp_frac.proofs.Arithmetic.{same_refl}
 use Rattle.smp_prob.specs.Shares.{Shares}
 use Rattle.smp_split.specs.Lenses.{as_unit}
 use Rattle.smp_split.specs.Parts.{equal_parts, moved}
 use Rattle.smp_split.specs.Trees.{Part, IsPart, Lawful, LawfulEnd, LawfulParts, weight_sum}
-use Rattle.smp_split.proofs.Lenses.{parts_through}
-use Rattle.smp_split.proofs.Parts.{weighted-same, weight_sum-equal, each_equal}
+use Rattle.smp_split.specs.Laws.Lenses.{parts_through}
+use Rattle.smp_split.specs.Laws.Parts.{weighted-same, weight_sum-equal, each_equal}
 use Rattle.smp_values.specs.Steps.{lone_parts, pair_parts, steps_tree}
 use Rattle.smp_values.specs.Values.{IsValues, fractional, fractional_at, fractional_count, is_settled, value_at}
 use Rattle.smp_values.proofs.Designs.{each_settled}

@@ -6,7 +6,7 @@ use Rattle.std.specs.BinaryHeap.{IsHeap}
 use Rattle.std.specs.Ordering.{nat_cmp, ordering_then}
 use Rattle.std.specs.declared.cmp.Ordering.{Ordering}
 use Rattle.std.specs.declared.cmp.Reverse.{Reverse}
-use Rattle.smp_fractions.specs.Limits.{wide_limit}
+use Rattle.smp_frac.specs.Limits.{wide_limit}
 use Rattle.smp_prob.specs.Shares.{Shares}
 use Rattle.smp_values.specs.Largest.{largest_of}
 use Rattle.smp_minsup.specs.Support.{is_larger, least, draws_of}

@@ -7,17 +7,17 @@ use Rattle.std.proofs.lemmas.Bool.{cases_Bool, cases_lt, ltb-true, ltb-false, eq
 use Rattle.std.proofs.lemmas.List.{get_or_past}
 use Rattle.std.proofs.lemmas.List.FromFn.{length-map-range_with_len, get_or-map-range_with_len}
 use Rattle.smp_prob.specs.Shares.{Shares}
-use Rattle.smp_fractions.specs.Limits.{wide_limit}
-use Rattle.smp_fractions.specs.Fractions.{Same, whole, plus, times, over}
-use Rattle.smp_fractions.proofs.Fractions.{same_refl, same_sym, same_trans, plus_same, times_same, times-zero, times-one}
-use Rattle.smp_fractions.proofs.Over.{over_zero, over_one}
+use Rattle.smp_frac.specs.Limits.{wide_limit}
+use Rattle.smp_frac.specs.Fractions.{Same, whole, plus, times, over}
+use Rattle.smp_frac.proofs.Arithmetic.{same_refl, same_sym, same_trans, plus_same, times_same, times-zero, times-one}
+use Rattle.smp_frac.proofs.Over.{over_zero, over_one}
 use Rattle.smp_split.specs.Counts.{AddsUp, LeavesSelect}
 use Rattle.smp_split.specs.Trees.{EachPart, LawfulSplit, Lawful, weight_sum, weighted}
 use Rattle.smp_split.specs.declared.kind.Kind.TheVariants.{Support}
 use Rattle.smp_split.proofs.NumberSums.{sums, counts, sums_most, sums_less, sums-none, sums_scaled, sums_constant, weight_true}
 use Rattle.smp_split.proofs.NumberSums.{weight_false, counts_found, sum_by-list, sum_by-map-range}
 use Rattle.smp_split.proofs.Over.{whole-over}
-use Rattle.smp_split.proofs.Parts.{plus-whole}
+use Rattle.smp_split.specs.Laws.Parts.{plus-whole}
 use Rattle.smp_values.specs.Values.{AddTo, fractional, fractional_count, is_settled}
 use Rattle.smp_values.proofs.Designs.{values_lawful, values_count}
 use Rattle.smp_values.proofs.Fractional.{fractional_is, is_fractional-between, fractional_den, not_fractional}

@@ -1,6 +1,6 @@
 -- How a step is found, in whatever the values are kept: the direction in whole numbers, and whether each number fits its gate.
 use Rattle.std.specs.Prelude.{◌≡◌, ℕ, nat_le, ◌&&◌, Bool, true, if◌then◌else◌, List, ℤ, length, map, take}
-use Rattle.smp_fractions.specs.Limits.{most_denominator}
+use Rattle.smp_frac.specs.Limits.{most_denominator}
 use Rattle.smp_kernel.specs.Reduced.{primitive_part}
 use Rattle.smp_kernel.specs.Searches.{Search, found, none, too_wide}
 use Rattle.smp_moves.specs.declared.lines.Ratio.{Ratio}

@@ -2,7 +2,7 @@
 use Rattle.std.specs.Prelude.{ℕ, ◌*◌, ◌≤◌, ◌<ℤ◌, List, ℤ, pos, length, slice_index}
 use Prim.Native.Nat.{◌∣◌}
 use Rattle.std.specs.Int.RustNames.{unsigned_abs}
-use Rattle.smp_fractions.specs.Limits.{most_entry, most_denominator}
+use Rattle.smp_frac.specs.Limits.{most_entry, most_denominator}
 use Rattle.smp_prob.specs.Shares.{Shares}
 use Rattle.smp_values.specs.Values.{IsValues}
 use Rattle.smp_moves.specs.Moves.{Line, entry_of}

@@ -1,7 +1,7 @@
 -- What is known of the parts of a plan when they are made.
 use Rattle.std.specs.Prelude.{◌≡◌, ℕ, ◌<◌, ◌≤◌, false, IfSome, IsTrue, List, [], length, Option, Some, None, ⊤}
 use Rattle.std.specs.Prelude.{option_map, slice_index, slice_index_or, EachIndex, All}
-use Rattle.smp_fractions.specs.Fractions.{Same, whole}
+use Rattle.smp_frac.specs.Fractions.{Same, whole}
 use Rattle.smp_frac.specs.declared.fractions.Frac.{Frac}
 use Rattle.smp_prob.specs.Given.{expected_size, given_fraction, given_of}
 use Rattle.smp_prob.specs.declared.requests.Request.{Request}

@@ -1,7 +1,7 @@
 -- How the allocation is found: one number for each stratum, larger the earlier it gets one more.
 use Rattle.std.specs.Prelude.{ℕ, ◌+◌, ◌-◌, ◌*◌, List, length, map, slice_index}
 use Rattle.std.specs.List.{range_with_len}
-use Rattle.smp_fractions.specs.Limits.{most_rows}
+use Rattle.smp_frac.specs.Limits.{most_rows}
 use Rattle.smp_strata.specs.Allocations.{remainder}
 
 abbrev pub key : ℕ → ℕ → ℕ → ℕ → ℕ

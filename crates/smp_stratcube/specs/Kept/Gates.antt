@@ -1,6 +1,6 @@
 -- Common multiples that are held to the gate.
 use Rattle.std.specs.Prelude.{ℕ, ◌≤◌, nat_le, ◌&&◌, if◌then◌else◌, Option, Some, None, List, [], ◌∷◌, ⊤}
-use Rattle.smp_fractions.specs.Limits.{most_denominator}
+use Rattle.smp_frac.specs.Limits.{most_denominator}
 use Rattle.smp_prob.specs.Given.{least_multiple}
 use Rattle.smp_values.specs.Values.{fractional}
 use Rattle.smp_stratcube.specs.declared.values.Value.{Value}

@@ -1,7 +1,7 @@
 -- What the code keeps of a line.
 use Rattle.std.specs.Prelude.{◌≡◌, ℕ, ◌*◌, ◌/◌, ◌<◌, ◌≤◌, ◌&&◌, nat_le, true, Bool}
 use Rattle.std.specs.Prelude.{List, ℤ, slice_index, slice_index_or}
-use Rattle.smp_fractions.specs.Limits.{most_denominator, most_entry}
+use Rattle.smp_frac.specs.Limits.{most_denominator, most_entry}
 use Rattle.smp_kernel.specs.Vectors.{entry}
 use Rattle.smp_moves.specs.declared.lines.Ratio.{Ratio}
 use Rattle.smp_moves.specs.Answers.{IsPadded, line_of}

@@ -4,7 +4,7 @@ use Rattle.std.specs.Prelude.{ℤ, length, slice_index}
 use Prim.Native.Nat.{◌∣◌}
 use Rattle.std.specs.Option.{is_some}
 use Rattle.std.specs.Int.RustNames.{unsigned_abs}
-use Rattle.smp_fractions.specs.Limits.{most_denominator}
+use Rattle.smp_frac.specs.Limits.{most_denominator}
 use Rattle.smp_moves.specs.declared.lines.Line.{Line as LineOfPlaces}
 use Rattle.smp_moves.specs.declared.reaches.Reach.{Reach}
 use Rattle.smp_moves.specs.Moves.{Line, IsLine, entry_of, independent, move, wide}

@@ -5,13 +5,13 @@ use Rattle.std.proofs.Common.{sym, ap, ◌∙◌, subst, inl, inr, ◌⊎◌}
 use Rattle.std.proofs.lemmas.Bool.{cases_Bool, cases_eq, eq-eqb, ne_eqb, true≢false}
 use Rattle.std.proofs.lemmas.Nat.Gcd.{dvd_refl}
 use Prim.Native.Nat.{◌∣◌}
-use Rattle.smp_fractions.specs.Fractions.{Same, whole, over, plus, times}
-use Rattle.smp_fractions.proofs.Fractions.{same_refl, same_sym, same_trans, one-times, plus_same, times_same}
-use Rattle.smp_fractions.proofs.Over.{over_plus}
+use Rattle.smp_frac.specs.Fractions.{Same, whole, over, plus, times}
+use Rattle.smp_frac.proofs.Arithmetic.{same_refl, same_sym, same_trans, one-times, plus_same, times_same}
+use Rattle.smp_frac.proofs.Over.{over_plus}
 use Rattle.smp_prob.specs.Shares.{Shares}
 use Rattle.smp_split.specs.Trees.{Part, EachPart, LawfulParts, weight_sum, weighted}
 use Rattle.smp_split.specs.Parts.{moved}
-use Rattle.smp_split.proofs.Parts.{weighted-same}
+use Rattle.smp_split.specs.Laws.Parts.{weighted-same}
 use Rattle.smp_values.specs.Pairs.{pair_weights, pair_first, pair_second}
 use Rattle.smp_values.specs.Steps.{pair_parts, steps_tree}
 use Rattle.smp_values.specs.Values as shares

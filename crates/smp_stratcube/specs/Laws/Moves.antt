@@ -3,7 +3,7 @@ use Rattle.std.proofs.Common.{◌≡◌, ℕ, ◌+◌, ◌<◌, ◌≤◌, ◌^�
 use Rattle.std.proofs.Common.{take, length, get_or, arith, sym, ap, ◌∙◌, subst, inl, inr}
 use Rattle.std.proofs.lemmas.Bool.{true≢false}
 use Prim.Native.Nat.{◌∣◌}
-use Rattle.smp_fractions.specs.Fractions.{Fraction, Same, whole, integer, plus, times}
+use Rattle.smp_frac.specs.Fractions.{Fraction, Same, whole, integer, plus, times}
 use Rattle.smp_kernel.proofs.Ring.{zero_or}
 use Rattle.smp_split.specs.Trees.{LawfulParts}
 use Rattle.smp_moves.specs.Moves.{Line, Move, IsLine, entry_of, fraction_of, turned, move}

@@ -7,12 +7,12 @@ use Rattle.std.proofs.lemmas.Nat.Gcd.{dvd_refl}
 use Rattle.std.proofs.lemmas.List.{get_or-set_same}
 use Rattle.std.proofs.Math.Nat.{le_of_dvd}
 use Prim.Native.Nat.{◌∣◌}
-use Rattle.smp_fractions.specs.Fractions.{Same, whole, times}
-use Rattle.smp_fractions.proofs.Fractions.{same_refl, same_trans, plus_same, times_same}
+use Rattle.smp_frac.specs.Fractions.{Same, whole, times}
+use Rattle.smp_frac.proofs.Arithmetic.{same_refl, same_trans, plus_same, times_same}
 use Rattle.smp_prob.specs.Shares.{Shares}
 use Rattle.smp_split.specs.Trees.{LawfulParts, weight_sum, weighted}
 use Rattle.smp_split.specs.Parts.{moved}
-use Rattle.smp_split.proofs.Parts.{weighted-same}
+use Rattle.smp_split.specs.Laws.Parts.{weighted-same}
 use Rattle.smp_values.specs.Steps.{lone_parts, steps_tree}
 use Rattle.smp_values.specs.Values.{IsValues, with_one, fractional}
 use Rattle.smp_values.proofs.Fractional.{fractional_den}

@@ -7,8 +7,8 @@ use Rattle.std.proofs.lemmas.List.{length-map, get_or-map, get_or_past}
 use Rattle.std.proofs.lemmas.List.FromFn.{get_or-map-range_with_len, length-map-range_with_len}
 use Rattle.std.proofs.Math.Nat.{mul-le-mul_right, mul-div_cancel'}
 use Prim.Native.Nat.{◌∣◌}
-use Rattle.smp_fractions.specs.Fractions.{Same, over}
-use Rattle.smp_fractions.proofs.Over.{over_same}
+use Rattle.smp_frac.specs.Fractions.{Same, over}
+use Rattle.smp_frac.proofs.Over.{over_same}
 use Rattle.smp_frac.specs.Laws.Coprime.{quotient_divides}
 use Rattle.smp_frac.specs.Laws.Gcds.{IsGcd-greatest_common_divisor}
 use Rattle.smp_frac.specs.Divisors.{greatest_common_divisor}

@@ -2,9 +2,9 @@
 use Rattle.std.specs.Prelude.{ℕ, Bool, true, if◌then◌else◌, List, [], ◌∷◌, map}
 use Rattle.smp_methods.specs.declared.any.AnyState.{AnyState}
 use Rattle.smp_methods.specs.Designs.{first_state}
-use Rattle.smp_stages.specs.declared.places.Place.{Place}
-use Rattle.smp_stages.specs.declared.places.Seat.{Seat}
-use Rattle.smp_stages.specs.declared.places.Stage.{Stage}
+use Rattle.smp_split.specs.declared.places.Place.{Place}
+use Rattle.smp_split.specs.declared.places.Seat.{Seat}
+use Rattle.smp_split.specs.declared.places.Stage.{Stage}
 use Rattle.smp_strata.specs.Plans.{Parts}
 use Rattle.smp_twostage.specs.Selections.{Coverage, Selecting, covered_number, covered_parts, first_number, is_of_stratum, place_together}
 use Rattle.smp_twostage.specs.Selections.{seats_by, seats_together, stage_of_strata, stages_of, strata_count}

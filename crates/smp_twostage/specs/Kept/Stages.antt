@@ -6,12 +6,12 @@ use Rattle.smp_split.specs.Counts.{AddsUp}
 use Rattle.smp_values.specs.Starts.{IsWhole}
 use Rattle.smp_design.specs.Procedures.{IsProcedure}
 use Rattle.smp_design.specs.Words.{row}
-use Rattle.smp_rows.specs.Rows.{SelectsAsRequested}
+use Rattle.smp_split.specs.Rows.{SelectsAsRequested}
 use Rattle.smp_methods.specs.declared.any.AnyState.{AnyState}
 use Rattle.smp_methods.specs.Designs.{first_state}
 use Rattle.smp_methods.specs.Methods.{method_of}
-use Rattle.smp_stages.specs.declared.places.Stage.{Stage}
-use Rattle.smp_stages.specs.Stages.{EachBelongs}
+use Rattle.smp_split.specs.declared.places.Stage.{Stage}
+use Rattle.smp_split.specs.Stages.{EachBelongs}
 use Rattle.smp_methods.specs.Starts.{SelectsAround}
 use Rattle.smp_strata.specs.Bounds.{IsStratum}
 use Rattle.smp_strata.specs.Plans.{Parts}
@@ -20,7 +20,7 @@ use Rattle.smp_strata.specs.declared.strata.Stratum.{Stratum}
 use Rattle.smp_prob.specs.declared.requests.Request.{Request}
 use Rattle.smp_twostage.specs.declared.stage.Asked.{Asked}
 use Rattle.smp_twostage.specs.declared.stage.Asked.TheVariants as asked
-use Rattle.smp_balance.specs.Lines as balance
+use Rattle.smp_twostage.specs.DrawnLines as balance
 use Rattle.smp_twostage.specs.Lines.{told}
 use Rattle.smp_twostage.specs.Plans.{TakesRows}
 use Rattle.smp_twostage.specs.Selections.{Coverage, Selecting, belongs_to, is_together, place_of, section_count}
@@ -87,4 +87,4 @@ each_told says c h n = map (λ i. says (told_seat c h i)) (range_with_len 0 n)
 
 -- the lines of a section
 abbrev pub section_lines : Coverage → List AnyState → ℕ → List ℕ
-section_lines c states h = balance.balance_lines (told c states h)
+section_lines c states h = balance.drawn_lines (told c states h)

@@ -7,12 +7,12 @@ use Rattle.std.proofs.lemmas.Bool.{cases_Bool, eqb-true}
 use Rattle.std.proofs.lemmas.List.{length-map, length-take}
 use Rattle.std.proofs.lemmas.List.FromFn.{length-range_with_len, get_or-range_with_len}
 use Rattle.std.proofs.lemmas.Option.{slice_get_within, slice_get-map, slice_get-get_or, same_Some}
-use Rattle.smp_stages.specs.declared.places.Place.{Place}
-use Rattle.smp_stages.specs.declared.places.Seat as seats
-use Rattle.smp_stages.specs.declared.places.Seat.TheVariants as seat
-use Rattle.smp_stages.specs.OwnStages.{AreSections}
-use Rattle.smp_stages.specs.Stages.{IsFirstUnit, IsStaged, IsUnitWithin, within_of}
-use Rattle.smp_stages.proofs.OwnStages.{run_at}
+use Rattle.smp_split.specs.declared.places.Place.{Place}
+use Rattle.smp_split.specs.declared.places.Seat as seats
+use Rattle.smp_split.specs.declared.places.Seat.TheVariants as seat
+use Rattle.smp_split.specs.OwnStages.{AreSections}
+use Rattle.smp_split.specs.Stages.{IsFirstUnit, IsStaged, IsUnitWithin, within_of}
+use Rattle.smp_split.proofs.OwnStages.{run_at}
 use Rattle.smp_strata.specs.Plans.{Parts}
 use Rattle.smp_strata.specs.declared.strata.Stratum.{Stratum}
 use Rattle.smp_twostage.specs.Plans.{CanBeDrawn}

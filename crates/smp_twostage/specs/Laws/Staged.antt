@@ -7,15 +7,15 @@ use Rattle.std.proofs.lemmas.List.{length-map}
 use Rattle.std.proofs.lemmas.List.FromFn.{length-range_with_len, get_or-range_with_len}
 use Rattle.std.proofs.lemmas.List.Elements.{All-get_or}
 use Rattle.std.proofs.lemmas.Option.{slice_get_within, slice_get-map, slice_get-get_or, get_or_from_slice_get, same_Some}
-use Rattle.smp_stages.specs.Laws.Reads.{some_within}
+use Rattle.smp_split.specs.Laws.Reads.{some_within}
 use Rattle.smp_prob.specs.declared.requests.Request.{Request}
 use Rattle.smp_design.specs.declared.method.Method.{Method}
-use Rattle.smp_stages.specs.declared.places.Place.{Place}
-use Rattle.smp_stages.specs.declared.places.Seat as seats
-use Rattle.smp_stages.specs.declared.places.Seat.TheVariants as seat
-use Rattle.smp_stages.specs.declared.places.Stage.{Stage}
-use Rattle.smp_stages.specs.Stages.{IsStaged, IsFirstUnit, IsUnitWithin, within_of}
-use Rattle.smp_stages.proofs.Grown.{none_staged, one_more_stage}
+use Rattle.smp_split.specs.declared.places.Place.{Place}
+use Rattle.smp_split.specs.declared.places.Seat as seats
+use Rattle.smp_split.specs.declared.places.Seat.TheVariants as seat
+use Rattle.smp_split.specs.declared.places.Stage.{Stage}
+use Rattle.smp_split.specs.Stages.{IsStaged, IsFirstUnit, IsUnitWithin, within_of}
+use Rattle.smp_split.proofs.Grown.{none_staged, one_more_stage}
 use Rattle.smp_strata.specs.Bounds.{IsFirst, IsStratum}
 use Rattle.smp_strata.specs.Plans.{Parts}
 use Rattle.smp_strata.specs.declared.strata.FirstUnit.{FirstUnit}

@@ -5,10 +5,10 @@ use Rattle.smp_split.specs.Sectioning.{IsSectioned}
 use Rattle.smp_split.specs.Trees.{Part, EachPart, IsPart, Lawful}
 use Rattle.smp_methods.specs.declared.any.AnyState.{AnyState}
 use Rattle.smp_methods.specs.Methods.{method_of}
-use Rattle.smp_rows.specs.Laws.Rows.{rows_lawful}
-use Rattle.smp_stages.specs.Stages.{Progress, IsUnderWay}
-use Rattle.smp_stages.specs.Laws.Staged.{staged_lawful}
-use Rattle.smp_stages.proofs.Sections.{staged_sectioned}
+use Rattle.smp_split.specs.Laws.Rows.{rows_lawful}
+use Rattle.smp_split.specs.Stages.{Progress, IsUnderWay}
+use Rattle.smp_split.specs.Laws.Staged.{staged_lawful}
+use Rattle.smp_split.proofs.StageSections.{staged_sectioned}
 use Rattle.smp_strata.specs.Plans.{Parts}
 use Rattle.smp_twostage.specs.Plans.{CanBeDrawn}
 use Rattle.smp_twostage.specs.Selections.{BelongsToCovered, BelongsToWhole, Coverage, Selecting, all_of, belongs_to, covered_seats}

@@ -2,7 +2,7 @@
 use Rattle.std.specs.Prelude.{◌≡◌, ◌≢◌, ℕ, ◌+◌, ◌≤◌, ◌<◌, min, false, nat_lt, if◌then◌else◌}
 use Rattle.std.specs.Prelude.{List, length, slice_index, drop}
 use Rattle.std.specs.List.{position_or_len}
-use Rattle.smp_fractions.specs.Limits.{most_denominator}
+use Rattle.smp_frac.specs.Limits.{most_denominator}
 use Rattle.smp_prob.specs.Shares.{Shares}
 use Rattle.smp_split.specs.Trees.{Part}
 use Rattle.smp_split.specs.declared.kind.Kind.{Kind}

@@ -1,7 +1,7 @@
 use Rattle.std.proofs.Common.{◌≡◌, ◌++◌, codes, option_map, ℕ, List, ◌<◌, ◌≤◌, length, get_or, ap, arith, sym, ◌∙◌, ◌∷◌, []}
 use Rattle.std.specs.List.{flat_map, range_with_len}
 use Rattle.std.proofs.lemmas.List.FromFn.{get_or-range_with_len, length-range_with_len}
-use Rattle.smp_frac.specs.Fractions.{fraction, fraction_text}
+use Rattle.smp_frac.specs.Exact.{fraction, fraction_text}
 use Rattle.smp_frame.specs.declared.frame.Unit as unit
 use Rattle.smp_weights.specs.Rows.{row}
 use Rattle.smp_plan.specs.Planned.{plan_view}

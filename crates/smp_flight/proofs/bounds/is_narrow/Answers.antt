@@ -3,7 +3,7 @@ use Rattle.std.proofs.lemmas.Bool.{cases_eq}
 use Rattle.smp_kernel.specs.Minors.{minor_limit}
 use Rattle.smp_flight.specs.Kept.Narrow.{IsRowBound}
 use Rattle.smp_flight.specs.States.{row_count}
-use Rattle.smp_fractions.specs.Limits.{most_denominator}
+use Rattle.smp_frac.specs.Limits.{most_denominator}
 use Rattle.smp_flight.proofs.RowBounds.{narrow_by, none_below, multiple_within, limit_within, entries_within, denominators_within}
 use Rattle.smp_flight.proofs.bounds.is_narrow.Goals as goal
 use Rattle.smp_flight.proofs.bounds.is_narrow.Goals.{In-Some-limit_of}

@@ -1,5 +1,5 @@
 use Rattle.std.proofs.Common.{◌≡◌, ◌+◌, [], ◌∷◌, ◌++◌, true, nat_le, ◌∙◌, ap, rules, map, string_bytes}
-use Rattle.smp_fractions.specs.Limits.{most_rows}
+use Rattle.smp_frac.specs.Limits.{most_rows}
 use Rattle.smp_frame.specs.Frames.{units_from}
 use Rattle.smp_frame.specs.Kept.Readers.{rows_left}
 use Rattle.smp_frame.specs.Records.{field}

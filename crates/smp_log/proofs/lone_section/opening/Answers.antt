@@ -1,6 +1,6 @@
 use Rattle.std.proofs.Common.{◌≡◌, Bool, true, false, List, ℕ, Option, Some, None, option_map, refl, sym, ap, ◌∙◌, Bor}
 use Rattle.std.specs.Prelude.{is_some}
-use Rattle.smp_lines.proofs.Shorter.{shorter}
+use Rattle.smp_frac.proofs.Shorter.{shorter}
 use Rattle.smp_log.specs.LoneSections.{opens}
 use Rattle.smp_log.proofs.OpeningLines.{none_skipped, one_more, skips_to, skips_all}
 use Rattle.smp_log.proofs.lone_section.opening.Goals as goal

@@ -1,4 +1,4 @@
-use Rattle.smp_split.proofs.Numbers.{draws_are_weights}
+use Rattle.smp_split.specs.Laws.Numbers.{draws_are_weights}
 use Rattle.smp_split.proofs.splitting.draws_are_weights.Goals as goal
 
 pub returns : goal.returns

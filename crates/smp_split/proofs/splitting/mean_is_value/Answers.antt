@@ -1,4 +1,4 @@
-use Rattle.smp_split.proofs.Means.{mean_is_value, probability_is_value}
+use Rattle.smp_split.specs.Laws.Means.{mean_is_value, probability_is_value}
 use Rattle.smp_split.proofs.splitting.mean_is_value.Goals as goal
 
 pub returns-clause-mean : goal.returns-clause-mean

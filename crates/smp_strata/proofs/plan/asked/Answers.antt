@@ -1,6 +1,6 @@
 use Rattle.std.proofs.Common.{◌≡◌, ◌∙◌, ap, sym, refl, get_or, Some, None}
-use Rattle.smp_fractions.specs.Fractions.{Same, over, whole}
-use Rattle.smp_fractions.proofs.Fractions.{same_trans, times_same}
+use Rattle.smp_frac.specs.Fractions.{Same, over, whole}
+use Rattle.smp_frac.proofs.Arithmetic.{same_trans, times_same}
 use Rattle.smp_strata.specs.declared.strata.FirstUnit.{FirstUnit}
 use Rattle.smp_strata.proofs.Seating.{read_fraction}
 use Rattle.smp_strata.proofs.plan.asked.Goals as goal

@@ -1,6 +1,6 @@
 use Rattle.std.proofs.Common.{to_z, w64, ◌+ℤ◌, ◌<◌, ◌^◌, nat_abs, arith, pos, get_or, ◌∙◌, sym, ap, ℤ, ℕ, take}
 use Rattle.std.proofs.lemmas.List.Sums.{fold_more}
-use Rattle.smp_fractions.specs.Limits.{most_rows}
+use Rattle.smp_frac.specs.Limits.{most_rows}
 use Rattle.smp_strata.specs.Rows.{value_at, value_of}
 use Rattle.smp_strata.proofs.Columns.{value_read, value_near, added, added_low, added_high}
 use Rattle.smp_strata.proofs.sums.value_of.Goals as goal

@@ -1,5 +1,5 @@
 use Rattle.std.proofs.Common.{sym}
-use Rattle.smp_lines.proofs.Shorter.{shorter}
+use Rattle.smp_frac.proofs.Shorter.{shorter}
 use Rattle.smp_tape.proofs.FirstLine.{lines_in-no_cut, lines_in-first}
 use Rattle.smp_tape.proofs.reading.first_line.Goals as goal
 

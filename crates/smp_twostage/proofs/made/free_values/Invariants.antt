@@ -1,6 +1,6 @@
 use Rattle.std.proofs.Common.{◌≡◌, ◌++◌, [], drop, map}
 use Rattle.std.specs.Prelude.{slice_index_or}
-use Rattle.smp_balance.specs.Strata.{free_values}
+use Rattle.smp_twostage.specs.Strata.{free_values}
 use Rattle.smp_twostage.specs.Selections.{valued}
 use Rattle.smp_twostage.proofs.made.free_values.Given as goal
 

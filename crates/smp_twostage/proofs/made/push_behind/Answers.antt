@@ -1,5 +1,5 @@
 use Rattle.std.proofs.Common.{◌+◌, ◌<◌, length, arith, refl}
-use Rattle.smp_balance.proofs.Told.{next_mapped}
+use Rattle.smp_twostage.proofs.ToldLines.{next_mapped}
 use Rattle.smp_twostage.proofs.made.push_behind.Goals as goal
 
 pub loop-number-preserved : goal.loop-number-preserved

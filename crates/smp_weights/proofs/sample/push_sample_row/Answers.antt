@@ -1,5 +1,5 @@
 use Rattle.std.proofs.Common.{rules}
-use Rattle.smp_frac.specs.Fractions.{fraction}
+use Rattle.smp_frac.specs.Exact.{fraction}
 use Rattle.smp_frac.proofs.Texts.{fraction_text-same}
 use Rattle.smp_weights.specs.Chosen.{weight}
 use Rattle.smp_weights.proofs.sample.push_sample_row.Goals as goal

@@ -1,6 +1,6 @@
 use Rattle.std.proofs.Common.{ap, ap₂, subst, ℕ, ◌∙◌, to_z-of_z, unsigned_abs}
-use Rattle.smp_fractions.specs.Fractions.{Same, whole, integer}
-use Rattle.smp_frac.specs.Fractions.{fraction}
+use Rattle.smp_frac.specs.Fractions.{Same, whole, integer}
+use Rattle.smp_frac.specs.Exact.{fraction}
 use Rattle.smp_weights.specs.Arithmetic.{product_of}
 use Rattle.smp_weights.specs.Chosen.{weight}
 use Rattle.smp_frac.proofs.LowestTerms.{same-lowest_terms}

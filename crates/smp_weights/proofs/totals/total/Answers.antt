@@ -1,7 +1,7 @@
 use Rattle.std.proofs.Common.{◌≡◌, get_or, true, false, pos, SFits, to_z-of_z, rules, sym, refl, ◌∙◌}
 use Rattle.std.proofs.lemmas.List.{drop_all}
 use mir.Syntax.{w64}
-use Rattle.smp_fractions.specs.Fractions.{whole}
+use Rattle.smp_frac.specs.Fractions.{whole}
 use Rattle.smp_weights.specs.Totals.{has_sign}
 use Rattle.smp_frac.proofs.LowestTerms.{same-lowest_terms}
 use Rattle.smp_weights.proofs.Steps.{is_wide}

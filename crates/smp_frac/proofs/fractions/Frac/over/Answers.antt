@@ -1,5 +1,5 @@
 use Rattle.std.proofs.Common.{arith}
-use Rattle.smp_fractions.proofs.Over.{over_from_cross}
+use Rattle.smp_frac.proofs.Over.{over_from_cross}
 use Rattle.smp_frac.specs.Laws.Coprime.{part_positive}
 use Rattle.smp_frac.specs.Laws.Lowest.{lowest_parts, same_value}
 use Rattle.smp_frac.proofs.LowestTerms.{same-lowest_terms}

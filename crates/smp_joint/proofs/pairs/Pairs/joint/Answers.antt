@@ -1,6 +1,6 @@
 use Rattle.std.proofs.Common.{rules, ◌≡◌, get_or, length, arith}
 use Rattle.std.specs.Vec.{vec_len}
-use Rattle.smp_frac.specs.Fractions.{fraction}
+use Rattle.smp_frac.specs.Exact.{fraction}
 use Rattle.smp_prob.specs.Shares.{Shares, shares_of}
 use Rattle.smp_twostage.specs.Selections.{place_of}
 use Rattle.smp_joint.specs.Rows.{StandsAt}

@@ -10,7 +10,7 @@ use Rattle.smp_localcube.proofs.Around.{carried_now, searched_by}
 use Rattle.smp_localcube.proofs.Moving.{flown_ready, flown_touched, head_found, may_touch}
 use Rattle.smp_localcube.proofs.Picked.{move_picked, move_within}
 use Rattle.smp_split.specs.Trees.{Part, picked, weight_sum}
-use Rattle.smp_split.proofs.Parts.{picked-equal}
+use Rattle.smp_split.specs.Laws.Parts.{picked-equal}
 use Rattle.smp_localcube.specs.Local.{Local, choosing, head_of, order_around, parts_from, untouched}
 use Rattle.smp_localcube.specs.Kept.States.{step_around, touched_in, weights_of}
 use Rattle.smp_localcube.proofs.Touch.{choice_bound, choice_parts, choice_total, none_head, none_touched}

@@ -1,5 +1,5 @@
 use Rattle.std.proofs.Common.{◌≡◌, length, refl, arith, ap, ◌∙◌}
-use Rattle.smp_fractions.proofs.Fractions.{same_refl}
+use Rattle.smp_frac.proofs.Arithmetic.{same_refl}
 use Rattle.smp_prob.specs.Shares.{Shares, shares_of}
 use Rattle.smp_prob.proofs.Fractions.{length-numerators}
 use Rattle.smp_values.specs.Values.{value_at}

@@ -1,6 +1,6 @@
 use Rattle.std.proofs.Common.{◌≡◌, ℕ, zero, suc, List, [], ◌∷◌, ◌++◌, Option, Some, None, length, refl, ap, sym, ◌∙◌}
 use Rattle.std.specs.List.{slice_get}
-use Rattle.smp_stages.specs.declared.places.Stage.{Stage}
+use Rattle.smp_split.specs.declared.places.Stage.{Stage}
 use Rattle.smp_strata.specs.declared.strata.FirstUnit.{FirstUnit}
 use Rattle.smp_twostage.specs.Selections.{Selecting, first_stage, stage_within, stages_within}
 use Rattle.smp_twostage.proofs.made.Made.push_stratum.Goals as goal

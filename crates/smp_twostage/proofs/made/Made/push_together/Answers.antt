@@ -5,7 +5,7 @@ use Rattle.smp_methods.specs.declared.any.AnyState.{AnyState}
 use Rattle.smp_methods.specs.declared.start.Started.{Started}
 use Rattle.smp_methods.specs.Designs.{design_of_strata, first_state}
 use Rattle.smp_methods.specs.Starts.{AreStarted}
-use Rattle.smp_stages.specs.declared.places.Stage.{Stage}
+use Rattle.smp_split.specs.declared.places.Stage.{Stage}
 use Rattle.smp_strata.specs.Plans.{Parts}
 use Rattle.smp_stratcube.specs.Layers.{AreLayers, Layer}
 use Rattle.smp_twostage.specs.Kept.Stages.{EachFirst}

@@ -2,7 +2,7 @@ use Rattle.std.proofs.Common.{◌≡◌, true, false, length, Some, arith, sym, 
 use Rattle.std.specs.Prelude.{IfOk}
 use Rattle.smp_design.specs.declared.procedure.Procedure.{Procedure}
 use Rattle.smp_design.specs.Words.{draws_together}
-use Rattle.smp_stages.specs.Laws.Reads.{some_within}
+use Rattle.smp_split.specs.Laws.Reads.{some_within}
 use Rattle.smp_twostage.specs.Covered.{StartsAlone}
 use Rattle.smp_twostage.specs.Kept.Stages.{EachStarts}
 use Rattle.smp_twostage.specs.Selections.{all_of, one_of, parts_by, section_count, stages_of}

@@ -1,6 +1,6 @@
 use Rattle.std.proofs.Common.{◌≡◌, leb, rules, ap, ◌∙◌}
 use Rattle.std.proofs.lemmas.List.Sorted.{IsPartitionPoint-from_clause}
-use Rattle.smp_stages.proofs.Sections.{section}
+use Rattle.smp_split.proofs.StageSections.{section}
 use Rattle.smp_twostage.specs.Kept.Stages.{first_numbers}
 use Rattle.smp_twostage.specs.Selections.{section_count, stages_before}
 use Rattle.smp_twostage.proofs.Found.{parted, some, stratum_is}

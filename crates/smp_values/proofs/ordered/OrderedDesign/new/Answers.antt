@@ -1,4 +1,4 @@
-use Rattle.smp_fractions.proofs.Fractions.{same_refl}
+use Rattle.smp_frac.proofs.Arithmetic.{same_refl}
 use Rattle.std.proofs.Common.{◌^◌, refl, length}
 use Rattle.smp_prob.specs.Shares.{shares_of}
 use Rattle.smp_values.specs.InOrder.{places_tree}

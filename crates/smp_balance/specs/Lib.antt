@@ -1,4 +1,0 @@
-pub mod Strata
-pub mod Totals
-pub mod Lines
-pub mod Reports

@@ -1,3 +1,0 @@
-pub mod Fractions
-pub mod Bounds
-pub mod Limits

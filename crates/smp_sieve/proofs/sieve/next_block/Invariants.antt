@@ -1,5 +1,0 @@
-use Rattle.smp_sieve.proofs.Blocks.{IsBlock}
-use Rattle.smp_sieve.proofs.sieve.next_block.Given as goal
-
-abbrev pub invariant-loop-k : goal.invariant-loop-k
-invariant-loop-k g l = IsBlock g.W.Words.stream l.fn.words l.words l.block l.k

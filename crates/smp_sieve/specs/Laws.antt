@@ -1,3 +1,0 @@
--- The laws of the definitions. They stand here, and not in proofs/, where a ghost member of the crate cites them.
-pub mod Sieves
-pub mod Keys

@@ -1,5 +1,0 @@
-use Rattle.smp_systematic.proofs.Steps.{draws_in_frame}
-use Rattle.smp_systematic.proofs.draws.draws_in_frame_order.Goals as goal
-
-pub returns : goal.returns
-returns c = rw c.requires.start (draws_in_frame c.args.design.now (rw c.requires.start at c.requires.belongs) c.requires.frame)

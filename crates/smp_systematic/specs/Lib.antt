@@ -1,3 +1,0 @@
-pub mod Systematic
-pub mod Method
-pub mod Laws
