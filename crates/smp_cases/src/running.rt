@@ -11,7 +11,7 @@ ghost use Rattle.smp_methods.specs.Starts.{IsStarted};
 ghost use Rattle.smp_prob.specs.Requests.{IsRequest};
 ghost use Rattle.smp_split.specs.Rows.{BelongsToRows, rows_tree};
 ghost use Rattle.smp_split.specs.Counts.{selected_units};
-ghost use Rattle.smp_values.specs.Starts.{IsWhole};
+ghost use Rattle.smp_values.specs.Starts.{DrawsWhole};
 
 use crate::CaseFault;
 use smp_design::{Method, Procedure};
@@ -33,7 +33,7 @@ pub fn needs_columns(method: Method) -> bool
 fn start(alloc: Global, method: Method, request: &Request) -> Result<Started, NoMemory>
     requires method { needs_columns method ≡ false }
     requires request { IsRequest request.now }
-    requires whole { IsWhole request.now }
+    requires whole { DrawsWhole request.now }
     ensures { IfOk result
         (IsStarted (without_values method) request.now (map (λ _. []) request.now.free)) }
 {

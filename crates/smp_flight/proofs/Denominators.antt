@@ -11,7 +11,7 @@ use Rattle.smp_frac.proofs.Arithmetic.{cancel}
 use Rattle.smp_frac.proofs.Integers.{diff, diffs, diff-neg, diff-same, pos-diff}
 use Rattle.smp_frac.specs.Laws.Coprime.{part_positive}
 use Rattle.smp_kernel.specs.Vectors.{entry, combination, dot, unit}
-use Rattle.smp_kernel.specs.Elimination.{cut, AreIndependent, InForce, IsRelationOn}
+use Rattle.smp_kernel.specs.RowReduction.{cut, AreIndependent, InForce, IsRelationOn}
 use Rattle.smp_kernel.specs.Minors.{HasDenominator, minor_limit}
 use Rattle.smp_kernel.proofs.CircuitSizes.{denominator_of}
 use Rattle.smp_kernel.proofs.Columns.{combination_push}

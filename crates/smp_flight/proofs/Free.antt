@@ -6,7 +6,7 @@ use Rattle.std.proofs.lemmas.List.{get_or-map, length-map, length-take-le, take-
 use Prim.Native.Nat.{◌∣◌}
 use lib.IntN.{*ℤ_comm, *ℤ-zero}
 use Rattle.smp_kernel.specs.Vectors.{entry, dot}
-use Rattle.smp_kernel.specs.Elimination.{cut, AreIndependent, InForce, IsRelationOn}
+use Rattle.smp_kernel.specs.RowReduction.{cut, AreIndependent, InForce, IsRelationOn}
 use Rattle.smp_kernel.specs.Minors.{keep}
 use Rattle.smp_kernel.specs.Searches.{found}
 use Rattle.smp_kernel.proofs.FoundCircuits.{circuit_length, circuit_row, cut_circuit_short, in_row}

@@ -9,7 +9,7 @@ use Rattle.smp_frac.specs.Limits.{most_denominator}
 use Rattle.smp_frac.proofs.Arithmetic.{cancel}
 use Rattle.smp_frac.proofs.Integers.{diff, by_diff, diffs, diff-same}
 use Rattle.smp_kernel.specs.Vectors.{entry}
-use Rattle.smp_kernel.specs.Elimination.{cut, AreIndependent}
+use Rattle.smp_kernel.specs.RowReduction.{cut, AreIndependent}
 use Rattle.smp_kernel.specs.Minors.{minor_limit}
 use Rattle.smp_kernel.specs.Searches.{found}
 use Rattle.smp_kernel.proofs.Ring.{positive_some, zero_or}

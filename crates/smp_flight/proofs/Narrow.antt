@@ -6,7 +6,7 @@ use Rattle.std.proofs.lemmas.List.{get_or_past}
 use Rattle.std.specs.Int.RustNames.{unsigned_abs}
 use Rattle.smp_frac.specs.Limits.{most_entry}
 use Rattle.smp_kernel.specs.Vectors.{entry, Within}
-use Rattle.smp_kernel.specs.Elimination.{cut}
+use Rattle.smp_kernel.specs.RowReduction.{cut}
 use Rattle.smp_kernel.specs.Searches.{found}
 use Rattle.smp_kernel.specs.Minors.{IsFrom, AreFrom, minor_limit}
 use Rattle.smp_kernel.proofs.Limits.{entry_within, Within-from_entries}

@@ -1,7 +1,7 @@
 -- A selection whose numbers are small goes over to pivotal steps on no path, where its searches begin with what moves have changed.
 use Rattle.std.proofs.Common.{◌≡◌, ◌≢◌, ℕ, suc, ◌-◌, ◌≤◌, Bool, true, false, ◌⊎◌, List, [], ◌∷◌, ◌++◌, pos, neg_ℤ, length, arith, refl, sym, ap, ◌∙◌, subst, inl, inr}
 use Rattle.std.proofs.lemmas.List.{get_or_past}
-use Rattle.smp_kernel.specs.Elimination.{cut, AreIndependent}
+use Rattle.smp_kernel.specs.RowReduction.{cut, AreIndependent}
 use Rattle.smp_prob.specs.Shares.{Shares}
 use Rattle.smp_split.specs.Parts.{moved}
 use Rattle.smp_split.specs.Paths.{Entry, Leads}

@@ -2,7 +2,7 @@
 use Rattle.std.proofs.Common.{◌≡◌, ℕ, ◌+◌, ◌≤◌, ◌&&◌, nat_le, if◌then◌else◌, List, ℤ, take, length, arith, refl, sym, ap, ◌∙◌, subst}
 use Rattle.std.proofs.lemmas.List.{take_all, take-map, take-take}
 use Rattle.std.proofs.lemmas.Nat.Gcd.{dvd_refl}
-use Rattle.smp_kernel.specs.Elimination.{cut, AreIndependent}
+use Rattle.smp_kernel.specs.RowReduction.{cut, AreIndependent}
 use Rattle.smp_kernel.specs.Searches.{Search, found, none, too_wide, IsSearch}
 use Rattle.smp_moves.specs.Kept.Searches.{search, search_is}
 use Rattle.smp_kernel.proofs.SearchLaw.{together, one_answer, first_decide, few_enter}

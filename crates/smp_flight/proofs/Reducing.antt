@@ -3,7 +3,7 @@ use Rattle.std.proofs.Common.{◌≡◌, ℕ, ◌<◌, ◌≤◌, ◌^◌, false
 use Rattle.std.proofs.lemmas.Bool.{cases_Bool}
 use Rattle.std.proofs.lemmas.List.{ext_get_or, length-map, get_or-map, take-take}
 use Rattle.smp_kernel.specs.Vectors.{entry, IsZero, Within}
-use Rattle.smp_kernel.specs.Elimination.{cut}
+use Rattle.smp_kernel.specs.RowReduction.{cut}
 use Rattle.smp_kernel.specs.Reduced.{IsReduced, IsTooLong, primitive_part}
 use Rattle.smp_flight.specs.States.{Units, size, column, columns_of}
 use Rattle.smp_moves.specs.Ends.{entries_fit}

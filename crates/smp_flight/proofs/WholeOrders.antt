@@ -1,6 +1,6 @@
 -- Orders of all fractional units: how many they are, and that the order doesn't decide whether their columns are independent.
 use Rattle.std.proofs.Common.{◌≡◌, ℕ, ◌≤◌, true, List, length, arith, subst}
-use Rattle.smp_kernel.specs.Elimination.{AreIndependent, cut}
+use Rattle.smp_kernel.specs.RowReduction.{AreIndependent, cut}
 use Rattle.smp_prob.specs.Shares.{Shares}
 use Rattle.smp_values.specs.Values.{fractional_count, fractional_units, is_fractional}
 use Rattle.smp_values.proofs.Units.{fractional_units_length}

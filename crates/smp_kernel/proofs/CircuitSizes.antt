@@ -22,7 +22,7 @@ use Rattle.smp_kernel.proofs.TableMinors.{used_minor, wedge_off}
 use Rattle.smp_kernel.proofs.UsedLists.{used_unique}
 use Rattle.smp_kernel.proofs.TableSizes.{AreApart, apart_from, minor_within, from_others}
 use Rattle.smp_kernel.specs.Vectors.{entry, plus, times, dot, combination, Within}
-use Rattle.smp_kernel.specs.Elimination.{cut, AreIndependent, InForce, IsRelationOn, IsUsed, IsCircuit}
+use Rattle.smp_kernel.specs.RowReduction.{cut, AreIndependent, InForce, IsRelationOn, IsUsed, IsCircuit}
 use Rattle.smp_kernel.specs.Minors.{wedge, minor, HasDenominator, IsFrom, AreFrom, minor_limit}
 
 -- ---- linear in the column too

@@ -4,7 +4,7 @@ use Rattle.std.proofs.lemmas.Bool.{cases_lt}
 use Rattle.std.proofs.lemmas.List.{get_or-map, get_or_append_left, length-map, take_all, take_more, take-append-le, take-take}
 use Rattle.std.proofs.Math.Seq.{get_or-append_seam}
 use Rattle.smp_kernel.proofs.SearchLaw.{enter_more}
-use Rattle.smp_kernel.specs.Elimination.{cut}
+use Rattle.smp_kernel.specs.RowReduction.{cut}
 use Rattle.smp_kernel.specs.Answers.{Enters}
 use Rattle.smp_kernel.specs.Searches.{AllEnter}
 use Rattle.smp_kernel.specs.Kept.Searched.{AreTables, IsSearching, last_of}

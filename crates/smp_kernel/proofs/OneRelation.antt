@@ -8,7 +8,7 @@ use Rattle.smp_kernel.proofs.Dot.{unit_dot, entry-plus, entry-times, dot-plus, d
 use Rattle.smp_kernel.proofs.Lists.{split_last}
 use Rattle.smp_kernel.proofs.CircuitLaw.{in_proportion, length-plus, length-times}
 use Rattle.smp_kernel.specs.Vectors.{entry, plus, times, dot, combination, unit, IsZero}
-use Rattle.smp_kernel.specs.Elimination.{AreIndependent, InForce, IsRelationOn}
+use Rattle.smp_kernel.specs.RowReduction.{AreIndependent, InForce, IsRelationOn}
 use Rattle.smp_kernel.specs.Minors.{keep}
 
 -- ---- what is kept

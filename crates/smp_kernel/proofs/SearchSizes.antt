@@ -9,7 +9,7 @@ use Rattle.smp_kernel.proofs.SearchLaw.{together}
 use Rattle.smp_kernel.proofs.TableSizes.{table_fits}
 use Rattle.smp_kernel.proofs.CircuitSizes.{circuits_within}
 use Rattle.smp_kernel.specs.Vectors.{Within}
-use Rattle.smp_kernel.specs.Elimination.{cut, AreIndependent, IsCircuit, IsDependent, TableFits}
+use Rattle.smp_kernel.specs.RowReduction.{cut, AreIndependent, IsCircuit, IsDependent, TableFits}
 use Rattle.smp_kernel.specs.Answers.{Closes}
 use Rattle.smp_kernel.specs.Searches.{IsFound, IsTooWide}
 use Rattle.smp_kernel.specs.Minors.{IsFrom, AreFrom, minor_limit}

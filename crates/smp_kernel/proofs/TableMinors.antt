@@ -14,7 +14,7 @@ use Rattle.smp_kernel.proofs.UsedLists.{next_used, used_none, used_push, used_un
 use Rattle.smp_kernel.proofs.Existence.{AllShort, HasElimination, IsFirst, first_or, elimination_of, elimination_to}
 use Rattle.smp_kernel.proofs.Minors.{entry_bound, less_zero, meet, meet_one, minor_alternates, minus_zero, repeated, sum_single, to_front, contains_split}
 use Rattle.smp_kernel.specs.Vectors.{entry, dot, unit}
-use Rattle.smp_kernel.specs.Elimination.{AreIndependent, IsUsed, IsTableRow}
+use Rattle.smp_kernel.specs.RowReduction.{AreIndependent, IsUsed, IsTableRow}
 use Rattle.smp_kernel.specs.Minors.{wedge, minor, IsOrthogonal}
 
 pub orth_from : (e : List ℤ) (cs : List (List ℤ)) → ((j : ℕ) → dot e (get_or cs j []) ≡ pos 0) → IsOrthogonal e cs

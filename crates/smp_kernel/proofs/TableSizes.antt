@@ -11,7 +11,7 @@ use Rattle.smp_kernel.proofs.Minors.{split_rows, contains_split}
 use Rattle.smp_kernel.proofs.MinorSizes.{minor_bound}
 use Rattle.smp_kernel.proofs.TableMinors.{open_bound, used_bound, parts, below_front, used_below, off_open, off_used}
 use Rattle.smp_kernel.specs.Vectors.{entry, Within}
-use Rattle.smp_kernel.specs.Elimination.{cut, AreIndependent, IsUsed, IsTableRow, TableFits}
+use Rattle.smp_kernel.specs.RowReduction.{cut, AreIndependent, IsUsed, IsTableRow, TableFits}
 use Rattle.smp_kernel.specs.Minors.{minor, AreFrom, sign_count, row_product, product_below, minor_limit}
 
 -- ---- rows, each once

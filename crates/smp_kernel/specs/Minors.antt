@@ -7,7 +7,7 @@ use Prim.Native.Nat.{◌∣◌}
 use Rattle.smp_kernel.specs.Vectors.{entry, dot, IsPrimitive, Within}
 use Rattle.smp_frac.specs.Limits.{most_entry}
 use Rattle.smp_kernel.specs.Searches.{too_wide, IsSearch}
-use Rattle.smp_kernel.specs.Elimination.{cut, AreIndependent, InForce, IsCircuit, IsRelationOn, TableFits}
+use Rattle.smp_kernel.specs.RowReduction.{cut, AreIndependent, InForce, IsCircuit, IsRelationOn, TableFits}
 
 -- a column before a function of lists of rows: each row is taken out in turn, with signs that alternate
 abbrev pub wedge : List ℤ → List ℕ → (List ℕ → ℤ) → ℤ

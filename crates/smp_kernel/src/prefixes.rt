@@ -4,7 +4,7 @@ ghost use Rattle.std.specs.Prelude.{◌≡◌, ◌-◌, ◌≤◌, IfOk, [], len
 ghost use Rattle.std.specs.List.{All};
 ghost use Rattle.smp_frac.specs.Limits.{number_limit};
 ghost use Rattle.smp_kernel.specs.Vectors.{Within};
-ghost use Rattle.smp_kernel.specs.Elimination.{cut};
+ghost use Rattle.smp_kernel.specs.RowReduction.{cut};
 ghost use Rattle.smp_kernel.specs.Searches.{AllEnter, IsSearch};
 ghost use Rattle.smp_kernel.specs.Searched.{answer, ArePadded};
 ghost use Rattle.smp_kernel.specs.Answers.{Answers};

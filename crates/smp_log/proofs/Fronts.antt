@@ -2,7 +2,7 @@
 use Rattle.std.proofs.Common.{◌≡◌, ℕ, ◌+◌, ◌≤◌, List, [], ◌∷◌, ◌++◌, length, Some, None, sym, ap, ◌∙◌, arith, append_assoc, length-append}
 use Rattle.smp_frac.specs.Cuts.{cut_at}
 use Rattle.smp_log.specs.Lines.{whole_lines, lines_text, AreLines}
-use Rattle.smp_log.specs.Fronts.{HasOtherLine, IsWhole, StopsAt}
+use Rattle.smp_log.specs.Fronts.{HasOtherLine, IsCompleteLines, StopsAt}
 use Rattle.smp_log.proofs.Texts.{cut_parts, lines_text-append, AreLines-append, whole_lines-text, whole_lines-cons, whole_lines-none}
 use Rattle.std.proofs.lemmas.List.{append-nil}
 
@@ -34,7 +34,7 @@ agrees_more front text wanted rest line wanted_line after wanted_after number a 
       room = omega (arith, a.room, count, size);
     }
 
-pub agrees_all : (front text wanted rest : List ℕ) (number : ℕ) → IsWhole front → Agrees front text wanted rest number → cut_at 10 wanted ≡ None → text ≡ front ++ rest
+pub agrees_all : (front text wanted rest : List ℕ) (number : ℕ) → IsCompleteLines front → Agrees front text wanted rest number → cut_at 10 wanted ≡ None → text ≡ front ++ rest
 agrees_all front text wanted rest number whole a none =
     let lines : whole_lines front ≡ a.same = ap whole_lines a.front_is ∙ whole_lines-text a.same wanted a.are ∙ ap (λ ls. a.same ++ ls) (whole_lines-none wanted none) ∙ append-nil a.same in
     let front_text : front ≡ lines_text a.same = whole ∙ ap lines_text lines in

@@ -6,7 +6,7 @@ use Rattle.smp_frac.specs.Cuts.{cut_at}
 use Rattle.smp_split.specs.Trees.{Tree, Lawful, weight_sum, picked}
 use Rattle.smp_split.specs.Laws.Steps.{picked_belongs}
 use Rattle.smp_log.specs.Lines.{whole_lines, lines_text}
-use Rattle.smp_log.specs.Fronts.{IsWhole, StopsAt}
+use Rattle.smp_log.specs.Fronts.{IsCompleteLines, StopsAt}
 use Rattle.smp_log.specs.Heads.{IsHead}
 use Rattle.smp_log.specs.Genuine.{IsGenuine, DiffersAt}
 use Rattle.smp_log.specs.Reading.{heading, stepping, closed, before, after_line, step_first, step_value, next_step, end_line, log_script}
@@ -23,7 +23,7 @@ pub record IsReplaying {State : Type 0} (tree : Tree State) (belongs : State →
   pub member : belongs s
   pub room : steps + length rest ≤ length log
 
-pub whole_head : (head : List ℕ) → IsHead head → IsWhole head
+pub whole_head : (head : List ℕ) → IsHead head → IsCompleteLines head
 whole_head head h = h.text ∙ ap lines_text (sym (ap whole_lines h.text ∙ whole_text (head_lines h) (head_lines_are h)))
 
 pub head_count : (head : List ℕ) → IsHead head → length (whole_lines head) ≡ 3

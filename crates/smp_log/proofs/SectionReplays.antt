@@ -6,7 +6,7 @@ use Rattle.std.proofs.lemmas.Bool.{eq-eqb, ne_eqb, lt-ltb, le-ltb}
 use Rattle.smp_split.specs.Trees.{Tree, Lawful, weight_sum, picked}
 use Rattle.smp_split.specs.Laws.Steps.{picked_belongs}
 use Rattle.smp_log.specs.Lines.{whole_lines, lines_text}
-use Rattle.smp_log.specs.Fronts.{IsWhole, StopsAt}
+use Rattle.smp_log.specs.Fronts.{IsCompleteLines, StopsAt}
 use Rattle.smp_log.specs.Heads.{IsHead}
 use Rattle.smp_log.specs.Genuine.{DiffersAt}
 use Rattle.smp_log.specs.Reading.{Script, step_value, end_line, after_line, step_first}
@@ -43,7 +43,7 @@ pub record IsInside {State : Type 0} (tree : Tree State) (belongs : State → Ty
   pub room : lines + length rest ≤ length log
   pub counts : (taken ≤ steps) × (own ≤ steps) × (steps ≤ lines)
 
-pub whole_sectioned_head : (head : List ℕ) → IsHead head → IsWhole (sectioned_head head)
+pub whole_sectioned_head : (head : List ℕ) → IsHead head → IsCompleteLines (sectioned_head head)
 whole_sectioned_head head h =
     let text = sectioned_head-text head h in
     text ∙ ap lines_text (sym (ap whole_lines text ∙ whole_text (sectioned_head_lines h) (sectioned_head_lines_are h)))

@@ -5,8 +5,8 @@ use Rattle.smp_frac.specs.Cuts.{cut_at}
 use Rattle.smp_log.specs.Lines.{AreLines, lines_text, whole_lines}
 
 -- a text that ends with its last whole line
-abbrev pub IsWhole : List ℕ → Type 0
-IsWhole text = text ≡ lines_text (whole_lines text)
+abbrev pub IsCompleteLines : List ℕ → Type 0
+IsCompleteLines text = text ≡ lines_text (whole_lines text)
 
 -- a text has no whole line, or its first one is another
 abbrev pub HasOtherLine : List ℕ → List ℕ → Type 0

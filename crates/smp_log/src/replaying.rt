@@ -1,6 +1,6 @@
 ghost use Rattle.std.specs.Prelude.{◌≡◌, ◌++◌, IfErr, IfOk, OnOk};
 ghost use Rattle.smp_split.specs.Runs.{KeepsOn};
-ghost use Rattle.smp_log.specs.Fronts.{IsWhole, StopsAt};
+ghost use Rattle.smp_log.specs.Fronts.{IsCompleteLines, StopsAt};
 ghost use Rattle.smp_log.specs.Replayed.{Replays, ReplaysUntold, old_form};
 
 use crate::lines::after_end;
@@ -74,7 +74,7 @@ pub fn old_replay_into<S: Splitting, T: Trace<S>>(
 
 // What stands behind the lines of a front, or the number of the first line that isn't the front's.
 pub(crate) fn after_front<'a>(text: &'a [u8], front: &[u8]) -> Result<&'a [u8], u64>
-    requires { IsWhole front.now }
+    requires { IsCompleteLines front.now }
     ensures front { IfOk result (λ rest. text.now ≡ front.now ++ rest.now) }
     ensures stops { IfErr result (StopsAt front.now text.now) }
 {

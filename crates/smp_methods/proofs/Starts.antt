@@ -12,7 +12,7 @@ use Rattle.smp_split.specs.Methods.{HasCount, HasMeans, Starts}
 use Rattle.smp_split.specs.Trees.{Tree}
 use Rattle.smp_split.proofs.Embeds.{adds_up_inside, embedded_adds_up, embedded_around, embedded_count}
 use Rattle.smp_split.proofs.Methods.{has_means}
-use Rattle.smp_values.specs.Starts.{IsRequested, IsWhole}
+use Rattle.smp_values.specs.Starts.{IsRequested, DrawsWhole}
 use Rattle.smp_values.proofs.Requests.{adds_to_draws}
 use Rattle.smp_design.specs.declared.method.Method as named
 use Rattle.smp_stratcube.specs.States.{started}
@@ -68,12 +68,12 @@ select_around tree n state adds select path leaf leads done =
 
 -- so each leaf selects one of the whole numbers around the sum where the units drawn are whole in number
 module _ (request : Request) (design : AnyDesign) (starts : Starts (method_of design) (first_state design)) (asked : IsRequested (method_of design).tree request (first_state design)) where
-  whole_around : IsWhole request → LeavesSelectAround (method_of design).tree (first_state design)
+  whole_around : DrawsWhole request → LeavesSelectAround (method_of design).tree (first_state design)
   whole_around whole =
       let adds = adds_to_draws (method_of design).tree request (first_state design) asked whole in
       select_around (method_of design).tree request.r (first_state design) adds (starts.count request.r adds)
 
-  selects_around : (IsTrue (row (drawn_by design)).draws_whole → IsWhole request) → AroundAlone (variant_of design) (first_state design) → SelectsAround design (first_state design)
+  selects_around : (IsTrue (row (drawn_by design)).draws_whole → DrawsWhole request) → AroundAlone (variant_of design) (first_state design) → SelectsAround design (first_state design)
   selects_around whole around unbalanced = elim (cases_Bool (row (drawn_by design)).draws_whole) [
     | inl needed ↦ whole_around (whole needed)
     | inr any ↦ around_among (variant_of design) around any unbalanced
@@ -125,7 +125,7 @@ is_started way request values design state whole made requested there member cou
       state = same;
       starts = subst (λ (s : AnyState). Starts (method_of own) s) (sym same) start;
       requested = subst (λ (s : AnyState). IsRequested (method_of own).tree request s) (sym same) asked;
-      around = subst (λ (s : AnyState). SelectsAround own s) (sym same) (selects_around request own start asked (subst (λ (m : named.Method). IsTrue (row m).draws_whole → IsWhole request) (sym by_way) (is_needed (row way.method).draws_whole (IsWhole request) whole)) (subst (λ (d : AnyDesign). AroundAlone (variant_of d) (first_state d)) made (subst (AroundAlone (variant_of design)) there around)));
+      around = subst (λ (s : AnyState). SelectsAround own s) (sym same) (selects_around request own start asked (subst (λ (m : named.Method). IsTrue (row m).draws_whole → DrawsWhole request) (sym by_way) (is_needed (row way.method).draws_whole (DrawsWhole request) whole)) (subst (λ (d : AnyDesign). AroundAlone (variant_of d) (first_state d)) made (subst (AroundAlone (variant_of design)) there around)));
     }
 
 -- ---- all strata together

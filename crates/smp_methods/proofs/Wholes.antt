@@ -2,7 +2,7 @@
 use Rattle.std.proofs.Common.{◌≡◌, Bool, true, false, refl}
 use Rattle.std.specs.Prelude.{IsTrue}
 use Rattle.smp_prob.specs.declared.requests.Request.{Request}
-use Rattle.smp_values.specs.Starts.{IsWhole}
+use Rattle.smp_values.specs.Starts.{DrawsWhole}
 use Rattle.smp_design.specs.declared.procedure.Procedure.{Procedure}
 use Rattle.smp_design.specs.Words.{row}
 use Rattle.smp_methods.specs.Procedures.{NeededIf, NeedsWhole}
@@ -16,9 +16,9 @@ pub is_needed : (test : Bool) (Needed : Type 0) → NeededIf test Needed → tes
 is_needed true Needed there holds = there
 is_needed false Needed there holds = absurd (cc)
 
-pub needs_whole : (way : Procedure) (request : Request) → IsWhole request → NeedsWhole way request
-needs_whole way request whole = needed_if (row way.method).draws_whole (IsWhole request) (λ _. whole)
+pub needs_whole : (way : Procedure) (request : Request) → DrawsWhole request → NeedsWhole way request
+needs_whole way request whole = needed_if (row way.method).draws_whole (DrawsWhole request) (λ _. whole)
 
 -- a procedure needs a whole number of units only where its method draws such
-pub needs_of : (way : Procedure) (request : Request) → (IsTrue (row way.method).draws_whole → IsWhole request) → NeedsWhole way request
-needs_of way request whole = needed_if (row way.method).draws_whole (IsWhole request) whole
+pub needs_of : (way : Procedure) (request : Request) → (IsTrue (row way.method).draws_whole → DrawsWhole request) → NeedsWhole way request
+needs_of way request whole = needed_if (row way.method).draws_whole (DrawsWhole request) whole

@@ -4,7 +4,7 @@ use Rattle.smp_design.specs.declared.procedure.Procedure.{Procedure}
 use Rattle.smp_design.specs.Procedures.{AreNeeded}
 use Rattle.smp_design.specs.Words.{row, balances}
 use Rattle.smp_prob.specs.declared.requests.Request.{Request}
-use Rattle.smp_values.specs.Starts.{IsWhole}
+use Rattle.smp_values.specs.Starts.{DrawsWhole}
 use Rattle.smp_flight.specs.Requests.{AreValues}
 
 -- the first values of each unit, so many as a method balances on
@@ -18,7 +18,7 @@ NeededIf false Needed = Unit {0}
 
 -- what a procedure needs of the number of units drawn: that it is whole, or nothing
 abbrev pub NeedsWhole : Procedure → Request → Type 0
-NeedsWhole way request = NeededIf (row way.method).draws_whole (IsWhole request)
+NeedsWhole way request = NeededIf (row way.method).draws_whole (DrawsWhole request)
 
 -- What a procedure needs of the values of the units: it has the columns that its method needs; where the method balances, each unit
 -- has a value in each column, and those on which it does are small.

@@ -6,7 +6,7 @@ use Rattle.std.proofs.lemmas.Int.{ints}
 use Rattle.std.proofs.lemmas.List.{length-map, length-take-le, get_or-take}
 use Rattle.smp_frac.specs.Limits.{most_denominator, most_entry}
 use Rattle.smp_kernel.specs.Vectors.{entry, IsZero}
-use Rattle.smp_kernel.specs.Elimination.{cut}
+use Rattle.smp_kernel.specs.RowReduction.{cut}
 use Rattle.smp_kernel.specs.Searches.{Search, found, none, too_wide}
 use Rattle.smp_kernel.proofs.Reduce.{primitive_part_is, length-primitive_part}
 use Rattle.smp_kernel.proofs.FoundCircuits.{circuit_length, circuit_last, cut_circuit_short}

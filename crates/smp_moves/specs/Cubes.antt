@@ -3,7 +3,7 @@
 -- and the flight goes on without it. Where a number would pass its gate, pivotal steps finish the selection.
 use Rattle.std.specs.Prelude.{ℕ, ◌+◌, ◌-◌, Bool, true, false, nat_eq, if◌then◌else◌, List, [], ◌∷◌, map}
 use Rattle.smp_frac.specs.Fractions.{Fraction}
-use Rattle.smp_kernel.specs.Elimination.{cut, AreIndependent}
+use Rattle.smp_kernel.specs.RowReduction.{cut, AreIndependent}
 use Rattle.smp_split.specs.Trees.{Part, Tree}
 use Rattle.smp_split.specs.Parts.{moved}
 use Rattle.smp_split.specs.declared.kind.Kind.{Kind}

@@ -6,7 +6,7 @@ use Rattle.std.specs.Int.{IsGcd}
 use Rattle.smp_frac.specs.Fractions.{Same, whole, times}
 use Rattle.smp_frac.specs.Limits.{most_denominator, most_entry}
 use Rattle.smp_kernel.specs.Vectors.{Within}
-use Rattle.smp_kernel.specs.Elimination.{cut}
+use Rattle.smp_kernel.specs.RowReduction.{cut}
 use Rattle.smp_kernel.specs.Reduced.{IsReduced}
 use Rattle.smp_kernel.specs.Searches.{Search, found, none, too_wide, IsSearch}
 use Rattle.smp_prob.specs.Given.{least_multiple}

@@ -9,7 +9,7 @@ use Rattle.std.proofs.lemmas.List.FromFn.{length-range_with_len, get_or-range_wi
 use Rattle.std.proofs.lemmas.Option.{slice_get-map, slice_get_within, get_or_from_slice_get}
 use Rattle.smp_frac.specs.Fractions.{Same}
 use Rattle.smp_frac.proofs.Arithmetic.{times_same}
-use Rattle.smp_values.specs.Starts.{IsWhole}
+use Rattle.smp_values.specs.Starts.{DrawsWhole}
 use Rattle.smp_design.specs.declared.design.Design.{Design}
 use Rattle.smp_design.specs.Words.{row}
 use Rattle.smp_design.specs.declared.design.Second as second
@@ -77,7 +77,7 @@ module _ (design : Design) (units : List unit.Unit) (rows : All (AreRows (length
   pub are_strata : All (IsStratum (second_method design)) strata
   are_strata k d l = (listed.each k d (omega (arith, l, listed.long))).stratum
 
-  pub are_whole : IsTrue (row design.procedure.method).draws_whole → All (λ s. IsWhole s.request) strata
+  pub are_whole : IsTrue (row design.procedure.method).draws_whole → All (λ s. DrawsWhole s.request) strata
   are_whole needed k d l = (listed.each k d (omega (arith, l, listed.long))).request.whole needed
 
   pub draws_as_asked : (k : ℕ) (s : stratum.Stratum) → slice_get strata k ≡ Some s → DrawsInStratum design units k s

@@ -25,7 +25,7 @@ use Rattle.smp_design.specs.declared.design.Design.{Design}
 use Rattle.smp_frame.specs.declared.frame.Unit as unit
 use Rattle.smp_prob.specs.declared.requests.Request.{Request}
 use Rattle.smp_prob.specs.Requested.{requested_of}
-use Rattle.smp_strata.specs.Bounds.{IsWholeOver}
+use Rattle.smp_strata.specs.Bounds.{DrawsWholeOver}
 use Rattle.smp_strata.specs.Clusters.{clusters, clusters_in, stratum_names, stratum_name, first_row}
 use Rattle.smp_strata.specs.Draws.{IsFor}
 use Rattle.smp_strata.specs.Misfits.{sum_of, unwhole, when}
@@ -45,7 +45,7 @@ module _ (design : Design) (units : List unit.Unit) where
   -- a request in proportion to size
   pub by_sizes : IsSized design units → design.columns.prob ≡ None → (k : ℕ) → k < length (stratum_names units) → (request : Request)
       → request ≡ requested_of (first_sizes design units k) (sample_size design units k)
-      → IsWholeOver (length (first_sizes design units k)) request
+      → DrawsWholeOver (length (first_sizes design units k)) request
       → Asks (first_sizes design units k) (sample_size design units k) request
       → IsFor request (length (first_sizes design units k)) (sample_size design units k)
       → IsFirstRequest design units k request

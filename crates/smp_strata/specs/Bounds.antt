@@ -5,7 +5,7 @@ use Rattle.smp_frame.specs.Bounds.{AreNear}
 use Rattle.smp_prob.specs.declared.requests.Request.{Request}
 use Rattle.smp_prob.specs.Requests.{IsRequest}
 use Rattle.smp_prob.specs.Inclusions.{AreApart, IsRising}
-use Rattle.smp_values.specs.Starts.{IsWhole}
+use Rattle.smp_values.specs.Starts.{DrawsWhole}
 use Rattle.smp_design.specs.declared.method.Method.{Method}
 use Rattle.smp_design.specs.Words.{row}
 use Rattle.smp_strata.specs.Plans.{Parts}
@@ -23,15 +23,15 @@ pub record IsOver (count : ℕ) (request : Request) : Type 0 where
   pub free : All (λ unit. unit < count) request.free
 
 -- a request for a whole number of so many units
-pub record IsWholeOver (count : ℕ) (request : Request) : Type 0 where
+pub record DrawsWholeOver (count : ℕ) (request : Request) : Type 0 where
   pub over : IsOver count request
-  pub whole : IsWhole request
+  pub whole : DrawsWhole request
 
 -- a first stage unit has rows, values within 2,147,483,647 of 0, and a request over its rows where there is a second stage
 pub record IsFirst (method : Option Method) (f : first.FirstUnit) : Type 0 where
   pub some : 1 ≤ length f.rows
   pub near : AreNear f.values
-  pub over : IfSome f.second (IsWholeOver (length f.rows))
+  pub over : IfSome f.second (DrawsWholeOver (length f.rows))
   pub staged : is_some f.second ≡ is_some method
 
 -- a stratum has first stage units, as many as a frame has rows at most, and a request over them
@@ -51,7 +51,7 @@ pub record AreSeated (rows : ℕ) (strata : List stratum.Stratum) : Type 0 where
 pub record IsPlan (plan : Parts) : Type 0 where
   pub strata : All (IsStratum plan.second) plan.strata
   -- where the method draws a whole number of units alone, a whole number is asked of each stratum
-  pub whole : IsTrue (row plan.procedure.method).draws_whole → All (λ s. IsWhole s.request) plan.strata
+  pub whole : IsTrue (row plan.procedure.method).draws_whole → All (λ s. DrawsWhole s.request) plan.strata
   pub columns : All (λ s. All (λ f.
       length f.values ≡ plan.procedure.balance + plan.procedure.near) s.units) plan.strata
   pub seated : AreSeated plan.rows plan.strata

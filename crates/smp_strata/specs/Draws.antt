@@ -4,7 +4,7 @@ use Rattle.smp_frac.specs.Fractions.{Fraction, Same, whole, sum_below}
 use Rattle.smp_prob.specs.Given.{expected_size}
 use Rattle.smp_prob.specs.Inclusions.{asked_fraction}
 use Rattle.smp_prob.specs.declared.requests.Request.{Request}
-use Rattle.smp_values.specs.Starts.{IsWhole}
+use Rattle.smp_values.specs.Starts.{DrawsWhole}
 use Rattle.smp_split.specs.Rows.{AddsUpTo}
 use Rattle.smp_design.specs.declared.design.Design.{Design}
 use Rattle.smp_design.specs.declared.design.Second as second
@@ -15,7 +15,7 @@ use Rattle.smp_strata.specs.declared.strata.Stratum as stratum
 
 -- a request for a whole number of units selects n of so many
 pub record IsFor (request : Request) (units n : ℕ) : Type 0 where
-  pub whole : IsWhole request
+  pub whole : DrawsWhole request
   pub fills : AddsUpTo request units n
 
 -- the request of a second stage draws the second stage's n of so many rows, where there is a second stage

@@ -6,7 +6,7 @@ ghost use Rattle.smp_frame.specs.Bounds.{HaveValues, IsFrame};
 ghost use Rattle.smp_design.specs.Bounds.{IsDesign};
 ghost use Rattle.smp_prob.specs.Given.{AreGiven, common_multiple, largest_multiple};
 ghost use Rattle.smp_prob.specs.Requested.{positive_units, requested_of};
-ghost use Rattle.smp_strata.specs.Bounds.{IsPlan, IsWholeOver};
+ghost use Rattle.smp_strata.specs.Bounds.{IsPlan, DrawsWholeOver};
 ghost use Rattle.smp_strata.specs.Clusters.{clusters as clusters_of, stratum_names};
 ghost use Rattle.smp_strata.specs.Rows.{is_large, size_of};
 ghost use Rattle.smp_strata.specs.Plans as Plans;
@@ -40,7 +40,7 @@ fn request_for(alloc: Global, sizes: &[u32], n: u32) -> Result<Request, NoMemory
     requires some { 1 ≤ n }
     requires enough { n ≤ positive_units sizes.now }
     ensures value { IfOk result (λ request. request ≡ requested_of sizes.now n) }
-    ensures over { IfOk result (IsWholeOver (length sizes.now)) }
+    ensures over { IfOk result (DrawsWholeOver (length sizes.now)) }
     ensures asks { IfOk result (Asks sizes.now n) }
     ensures draws { IfOk result (λ request. IsFor request (length sizes.now) n) }
 {
@@ -64,7 +64,7 @@ fn second_request(
         s.n ≤ positive_units (Plans.second_sizes units.now rows.now)) }
     ensures value { IfOk result (λ request.
         request ≡ Plans.second_request second units.now rows.now) }
-    ensures over { IfOk result (λ request. IfSome request (IsWholeOver (length rows.now))) }
+    ensures over { IfOk result (λ request. IfSome request (DrawsWholeOver (length rows.now))) }
     ensures asks { IfOk result
         (SecondAsks second (Plans.second_sizes units.now rows.now)) }
     ensures draws { IfOk result (SecondDraws second (length rows.now)) }

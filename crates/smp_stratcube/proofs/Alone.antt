@@ -5,7 +5,7 @@ use Rattle.std.proofs.lemmas.Bool.{cases_eq, cases_lt, eq-eqb, ne_eqb}
 use Rattle.std.proofs.lemmas.Int.{ints}
 use Rattle.std.proofs.lemmas.List.{get_or-map, length-map}
 use Rattle.smp_frac.proofs.Integers.{diff, diff-neg, diff-same, diffs, pos-diff}
-use Rattle.smp_kernel.specs.Elimination.{AreIndependent, cut}
+use Rattle.smp_kernel.specs.RowReduction.{AreIndependent, cut}
 use Rattle.smp_kernel.specs.Vectors.{combination, dot, entry}
 use Rattle.smp_kernel.proofs.FoundCircuits.{dot_row, in_row_cut}
 use Rattle.smp_stratcube.specs.declared.values.Value.{Value}

@@ -1,7 +1,7 @@
 -- Where a row is dropped, the columns are independent, and where the landing begins, no direction is left or the next step doesn't fit.
 use Rattle.std.proofs.Common.{◌≡◌, ℕ, ◌≤◌, Option, Some, None, List, ℤ, length, arith, subst, inl, inr, ◌⊎◌}
 use Rattle.std.proofs.lemmas.List.{length-map, take_all}
-use Rattle.smp_kernel.specs.Elimination.{cut, AreIndependent}
+use Rattle.smp_kernel.specs.RowReduction.{cut, AreIndependent}
 use Rattle.smp_kernel.proofs.SearchLaw.{none_is_few, together}
 use Rattle.smp_split.specs.declared.kind.Kind.TheVariants as kind
 use Rattle.smp_moves.specs.Moves.{independent}

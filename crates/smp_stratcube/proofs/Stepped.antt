@@ -4,7 +4,7 @@ use Rattle.std.specs.Int.RustNames.{unsigned_abs}
 use Rattle.std.proofs.lemmas.Bool.{and_from, and_parts, cases_Bool, le-leb, true≢false}
 use Rattle.std.proofs.lemmas.List.{append-nil, length-map, take-append-le, take-map, take-take}
 use Rattle.smp_kernel.specs.Vectors.{entry, IsZero, Within}
-use Rattle.smp_kernel.specs.Elimination.{cut}
+use Rattle.smp_kernel.specs.RowReduction.{cut}
 use Rattle.smp_kernel.specs.Searches.{Search, found, IsSearch}
 use Rattle.smp_kernel.proofs.SearchLaw.{few_enter, first_decide, one_answer}
 use Rattle.smp_kernel.proofs.FoundCircuits.{circuit_length, cut_circuit_short}

@@ -1,7 +1,7 @@
 //! One step of the flight.
 
 ghost use Rattle.std.specs.Prelude.{take};
-ghost use Rattle.smp_kernel.specs.Elimination.{cut};
+ghost use Rattle.smp_kernel.specs.RowReduction.{cut};
 ghost use Rattle.smp_kernel.specs.Searches.{IsSearch};
 ghost use Rattle.smp_kernel.specs.Searched.{answer, ArePadded};
 ghost use Rattle.smp_stratcube.specs.Units.{columns_of};

@@ -7,7 +7,7 @@ use Rattle.std.proofs.lemmas.Option.{slice_get_read, slice_get_within, get_or_fr
 use Rattle.smp_split.specs.Laws.Reads.{some_within}
 use Rattle.smp_frame.specs.Bounds.{AreNear}
 use Rattle.smp_kernel.specs.Vectors.{Within}
-use Rattle.smp_values.specs.Starts.{IsWhole}
+use Rattle.smp_values.specs.Starts.{DrawsWhole}
 use Rattle.smp_methods.specs.Procedures.{TakesValues}
 use Rattle.smp_methods.proofs.Columns.{procedure_takes}
 use Rattle.smp_strata.specs.Bounds.{IsFirst, IsOver, IsStratum}
@@ -69,7 +69,7 @@ module _ (plan : Parts) (drawable : CanBeDrawn plan) (h : ℕ) (s : Stratum) (is
         procedure = drawable.procedure;
         second = drawable.second;
         stratum = subst (IsStratum plan.second) here (All-get_or (IsStratum plan.second) plan.strata h s within drawable.sound.strata);
-        whole = λ needed. subst (λ (t : Stratum). IsWhole t.request) here (All-get_or (λ (t : Stratum). IsWhole t.request) plan.strata h s within (drawable.sound.whole needed));
+        whole = λ needed. subst (λ (t : Stratum). DrawsWhole t.request) here (All-get_or (λ (t : Stratum). DrawsWhole t.request) plan.strata h s within (drawable.sound.whole needed));
         counted = subst (λ (t : Stratum). All (λ u. length u.values ≡ plan.procedure.balance + plan.procedure.near) t.units) here (All-get_or (λ (t : Stratum). All (λ u. length u.values ≡ plan.procedure.balance + plan.procedure.near) t.units) plan.strata h s within drawable.sound.columns);
       }
 

@@ -23,7 +23,7 @@ use Rattle.smp_methods.proofs.Starts.{are_started}
 use Rattle.smp_methods.proofs.Wholes.{needs_of, needs_whole}
 use Rattle.smp_split.specs.declared.places.Stage.{Stage}
 use Rattle.smp_split.specs.Stages.{EachBelongs}
-use Rattle.smp_strata.specs.Bounds.{IsFirst, IsWholeOver}
+use Rattle.smp_strata.specs.Bounds.{IsFirst, DrawsWholeOver}
 use Rattle.smp_strata.specs.Plans.{Parts}
 use Rattle.smp_strata.specs.declared.strata.FirstUnit.{FirstUnit}
 use Rattle.smp_strata.specs.declared.strata.Stratum.{Stratum}
@@ -70,13 +70,13 @@ module _ (plan : Parts) where
 
   -- ---- a second stage
 
-  second_own : (method : Method) (request : Request) (rows at k : ℕ) → TakesRows method → IsWholeOver rows request → Own (second_stage method request rows at k)
+  second_own : (method : Method) (request : Request) (rows at k : ℕ) → TakesRows method → DrawsWholeOver rows request → Own (second_stage method request rows at k)
   second_own method request rows at k takes over =
       stage_starts (without_values method) rows request (map (λ _. []) request.free) over.over.rising
       (is_first (without_values method) request (map (λ _. []) request.free) over.over.sound (length-map request.free (λ _. []))
       (needs_whole (without_values method) request over.whole) (takes_none method request.free (bare method takes)))
 
-  by_request : (method : Option Method) (request : Option Request) (rows at k : ℕ) → IfSome method TakesRows → IfSome request (IsWholeOver rows) → All Own (stage_by method request rows at k)
+  by_request : (method : Option Method) (request : Option Request) (rows at k : ℕ) → IfSome method TakesRows → IfSome request (DrawsWholeOver rows) → All Own (stage_by method request rows at k)
   by_request (Some method) (Some request) rows at k takes over =
       All-cons Own (second_stage method request rows at k) [] (second_own method request rows at k takes over) (All-nil Own)
   by_request (Some method) None rows at k takes over = All-nil Own

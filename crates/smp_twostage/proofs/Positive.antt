@@ -18,7 +18,7 @@ use Rattle.smp_methods.specs.Methods.{method_of}
 use Rattle.smp_split.specs.declared.places.Place.{Place}
 use Rattle.smp_split.specs.declared.places.Stage.{Stage}
 use Rattle.smp_split.specs.Stages.{Progress, read, seat_selected, staged_tree, unit_selected}
-use Rattle.smp_strata.specs.Bounds.{IsWholeOver}
+use Rattle.smp_strata.specs.Bounds.{DrawsWholeOver}
 use Rattle.smp_strata.specs.Plans.{Parts}
 use Rattle.smp_strata.specs.Seats.{first_at, first_fraction, place_fraction, stage_fraction, unit_fraction}
 use Rattle.smp_strata.specs.declared.strata.Seat.{Seat}
@@ -111,7 +111,7 @@ module _ (plan : Parts) (drawable : CanBeDrawn plan) (drawn : Parts) (second_sam
     second_positive : (method : Method) → plan.second ≡ Some method → (request : Option Request) → here.unit.second ≡ request → is_some request ≡ true → is_selected (record { stage = suc (at + place.unit); unit = place.place }) ≡ true
         → is_positive (stage_fraction request place.place).num ≡ true
     second_positive method second (Some request) asks some selected =
-        let over : IsWholeOver (length here.unit.rows) request = rw asks at (first_is plan drawable place.stratum place.unit here.stratum here.unit here.is_stratum here.is_unit).over in
+        let over : DrawsWholeOver (length here.unit.rows) request = rw asks at (first_is plan drawable place.stratum place.unit here.stratum here.unit here.is_stratum here.is_unit).over in
         selected_unit (suc (at + place.unit)) place.place (second_stage method request (length here.unit.rows) at place.unit)
         (second_there drawn number here.stratum found method (second_same ∙ second) (seconds_in plan drawable method second place.stratum here.stratum here.is_stratum) place.unit here.unit here.is_unit request asks)
         over.over.sound selected

@@ -16,7 +16,7 @@ use Rattle.smp_prob.specs.Inclusions.{asked_fraction, fraction_at, free_fraction
 use Rattle.smp_prob.proofs.Fractions.{length-numerators, numerator_is_free_fraction}
 use Rattle.smp_split.specs.Trees.{Tree}
 use Rattle.smp_split.proofs.NumberSums.{sum_by-range, sums}
-use Rattle.smp_values.specs.Starts.{IsWhole}
+use Rattle.smp_values.specs.Starts.{DrawsWhole}
 use Rattle.smp_values.proofs.Requests.{adds_to_draws, requested_values}
 use Rattle.smp_moves.specs.Moves.{fraction_of}
 use Rattle.smp_split.specs.Rows.{row_value}
@@ -139,7 +139,7 @@ module _ (plan : Parts) (drawable : CanBeDrawn plan) (asked : AreRequested (laye
         value = λ t j. value_at (values_in t) (free_before plan.strata h + j);
       }
 
-      adds_run : IsWhole s.request → Same (sum_below (length s.request.free) (λ j. times (whole 1) (start_value (free_before plan.strata h + j)))) (whole s.request.r)
+      adds_run : DrawsWhole s.request → Same (sum_below (length s.request.free) (λ j. times (whole 1) (start_value (free_before plan.strata h + j)))) (whole s.request.r)
       adds_run whole =
           adds_to_draws run_tree s.request (together.started (units_together plan))
           (requested_values s.request own.sound run_tree (together.started (units_together plan)) (sym (length-numerators s.request own.sound))
@@ -165,7 +165,7 @@ module _ (plan : Parts) (drawable : CanBeDrawn plan) (asked : AreRequested (laye
           (subst (λ g. Same (sum_below (length (units_together plan).members) (term_of (units_together plan).members g f)) (sum_below (length (get_or (layers_of plan) h no_layer).shape) (λ j. f (offset (layers_of plan) h + j)))) none
           (run (length (layers_of plan)) 0 (layers_of plan) h f in_layers)))
 
-      pub target_adds : IsWhole s.request → Same (target (units_together plan) h) (whole s.request.r)
+      pub target_adds : DrawsWhole s.request → Same (target (units_together plan) h) (whole s.request.r)
       target_adds whole_sum =
           same_trans
           (sum_same (length (units_together plan).members) (addend (units_together plan) h) (term_of (units_together plan).members h (λ i. fraction_of (share (units_together plan) i)))

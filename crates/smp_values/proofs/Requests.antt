@@ -16,7 +16,7 @@ use Rattle.smp_split.specs.Orders.{IsPlacing, IsInOrder, ordered_tree}
 use Rattle.smp_split.specs.Trees.{Tree}
 use Rattle.smp_split.proofs.Orders.{frame_placing, undrawn_placing}
 use Rattle.smp_split.proofs.Sums.{list_adds_up, none_adds_up}
-use Rattle.smp_values.specs.Starts.{IsRequested, IsWhole, first_order, ordered_values}
+use Rattle.smp_values.specs.Starts.{IsRequested, DrawsWhole, first_order, ordered_values}
 use Rattle.smp_values.specs.Values.{AllFractional, IsValues, exchanged_values, value_at}
 use Rattle.smp_values.proofs.Fractional.{is_fractional-between}
 
@@ -80,7 +80,7 @@ module _ (request : Request) (is : IsRequest request) where
       (λ k h. rw (first_place order (length (numerators request)) k h) (values k))
 
 -- where the number of units drawn is whole, the values add up to it
-pub adds_to_draws : {State : Type 0} (tree : Tree State) (request : Request) (state : State) → IsRequested tree request state → IsWhole request → AddsUp tree request.r state
+pub adds_to_draws : {State : Type 0} (tree : Tree State) (request : Request) (state : State) → IsRequested tree request state → DrawsWhole request → AddsUp tree request.r state
 adds_to_draws tree request state requested whole =
     elim (cases_eq (length request.free) 0) [
       | inl none ↦ rw (whole.none_free none) (none_adds_up tree state (requested.units ∙ none))

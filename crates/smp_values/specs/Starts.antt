@@ -30,6 +30,6 @@ pub record IsRequested {State : Type 0} (tree : Tree State) (request : Request)
       → AddsUp tree request.r state
 
 -- The units drawn are whole in number: the shapes add up to the total, and none is drawn where no unit is free.
-pub record IsWhole (request : Request) : Type 0 where
+pub record DrawsWhole (request : Request) : Type 0 where
   pub total : sum request.shape ≡ request.total
   pub none_free : length request.free ≡ 0 → request.r ≡ 0

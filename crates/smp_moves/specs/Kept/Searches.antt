@@ -1,6 +1,6 @@
 -- The answer of a search. There is one, and only one: that is a law of the kernel.
 use Rattle.std.specs.Prelude.{ℕ, List, ℤ}
-use Rattle.smp_kernel.specs.Elimination.{cut}
+use Rattle.smp_kernel.specs.RowReduction.{cut}
 use Rattle.smp_kernel.specs.Searches.{Search, IsSearch}
 use Rattle.smp_kernel.proofs.SearchLaw.{answer_of}
 

@@ -12,7 +12,7 @@ use Rattle.smp_design.specs.declared.method.Method.{Method}
 use Rattle.smp_design.specs.declared.design.Second as second
 use Rattle.smp_design.specs.Words.{row}
 use Rattle.smp_frame.specs.declared.frame.Unit as unit
-use Rattle.smp_values.specs.Starts.{IsWhole}
+use Rattle.smp_values.specs.Starts.{DrawsWhole}
 use Rattle.smp_strata.specs.Asked.{fraction_by}
 use Rattle.smp_strata.specs.Bounds.{IsFirst, IsOver, IsStratum}
 use Rattle.smp_strata.specs.Draws.{AreAsked, DrawsInStratum, IsFor, SecondDraws}
@@ -57,7 +57,7 @@ pub record IsFirstRequest (design : Design) (units : List unit.Unit) (number : �
   pub some : 1 ≤ length (clusters_in design units number)
   pub value : request ≡ request_by design.columns.prob design units number
   pub over : IsOver (length (clusters_in design units number)) request
-  pub whole : IsTrue (row design.procedure.method).draws_whole → IsWhole request
+  pub whole : IsTrue (row design.procedure.method).draws_whole → DrawsWhole request
   pub asks : FirstAsks design units number request
   pub draws : (n : ℕ) → AreAsked design.columns.prob design units number n
       → IsFor request (length (clusters_in design units number)) n

@@ -3,7 +3,7 @@ use Rattle.std.specs.Prelude.{◌≡◌, ℕ, suc, ◌+◌, ◌<◌, if◌then�
 use Rattle.std.specs.Prelude.{List, Some, length, map}
 use Rattle.std.specs.List.{range_with_len, slice_get}
 use Rattle.smp_split.specs.Counts.{AddsUp}
-use Rattle.smp_values.specs.Starts.{IsWhole}
+use Rattle.smp_values.specs.Starts.{DrawsWhole}
 use Rattle.smp_design.specs.Procedures.{IsProcedure}
 use Rattle.smp_design.specs.Words.{row}
 use Rattle.smp_split.specs.Rows.{SelectsAsRequested}
@@ -36,7 +36,7 @@ pub record IsPlanned (plan : Parts) (s : Stratum) : Type 0 where
   pub procedure : IsProcedure plan.procedure
   pub second : IfSome plan.second TakesRows
   pub stratum : IsStratum plan.second s
-  pub whole : IsTrue (row plan.procedure.method).draws_whole → IsWhole s.request
+  pub whole : IsTrue (row plan.procedure.method).draws_whole → DrawsWhole s.request
   pub counted : All (λ u. length u.values ≡ plan.procedure.balance + plan.procedure.near) s.units
 
 -- the number of the first stage of each section that is covered, and then that of all stages
@@ -54,7 +54,7 @@ pub record StageStarts (s : Selecting) (state : AnyState) : Type 0 where
   pub is : state ≡ first_state s.design
   pub member : belongs_to s state
   pub serves : SelectsAsRequested s.request (method_of s.design).tree state
-  pub adds_up : IsWhole s.request → AddsUp (method_of s.design).tree s.request.r state
+  pub adds_up : DrawsWhole s.request → AddsUp (method_of s.design).tree s.request.r state
   pub around : SelectsAround s.design state
 
 -- each stage is in its first state

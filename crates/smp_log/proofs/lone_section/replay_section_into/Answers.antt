@@ -1,6 +1,6 @@
 use Rattle.std.proofs.Common.{◌≡◌, ◌+◌, ◌++◌, Bool, true, false, Option, Some, None, Err, option_map, length, take, rules, refl, sym, ap, ◌∙◌, subst, arith, length-append}
 use Rattle.std.specs.Prelude.{is_some, not}
-use Rattle.smp_log.specs.Fronts.{IsWhole, StopsAt}
+use Rattle.smp_log.specs.Fronts.{IsCompleteLines, StopsAt}
 use Rattle.smp_log.specs.Lines.{whole_lines}
 use Rattle.smp_log.specs.LoneSections.{from_opening, section_in_first_lines}
 use Rattle.smp_log.specs.declared.fault.ReplayFault.TheVariants.{NoMemory}
@@ -24,7 +24,7 @@ some_from None t is e = absurd (let f : false ≡ true = is ∙ ap not e in cc)
 some_from (Some x) t is e = (x, refl)
 
 pub after_front-requires : goal.after_front-requires
-after_front-requires g c = subst IsWhole (sym c.sectioned.ensures.bytes) (whole_sectioned_head c.args.head.now c.sectioned.ensures.lines)
+after_front-requires g c = subst IsCompleteLines (sym c.sectioned.ensures.bytes) (whole_sectioned_head c.args.head.now c.sectioned.ensures.lines)
 
 pub returns-in-Err-clause-replays : goal.returns-in-Err-clause-replays
 returns-in-Err-clause-replays g c =

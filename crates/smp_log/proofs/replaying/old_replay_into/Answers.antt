@@ -1,6 +1,6 @@
 use Rattle.std.proofs.Common.{◌≡◌, ◌+◌, ◌++◌, ◌∷◌, [], ◌<◌, true, false, length, Ok, Err, rules, sym, ap, ◌∙◌, subst, arith}
 use Rattle.smp_split.specs.Trees.{picked}
-use Rattle.smp_log.specs.Fronts.{IsWhole}
+use Rattle.smp_log.specs.Fronts.{IsCompleteLines}
 use Rattle.smp_log.specs.Reading.{end_line}
 use Rattle.smp_log.specs.declared.fault.ReplayFault.TheVariants.{NoMemory}
 use Rattle.smp_log.specs.Told.{path_in_first_lines, IsToldAlong}
@@ -13,7 +13,7 @@ use Rattle.smp_log.proofs.Telling.{few_told, none_along, told_step, told_over, t
 use Rattle.smp_log.proofs.replaying.old_replay_into.Goals as goal
 
 pub after_front-requires : goal.after_front-requires
-after_front-requires g c = subst IsWhole (sym c.as_slice.ensures.bytes) (whole_head c.args.head.now c.as_slice.ensures.lines)
+after_front-requires g c = subst IsCompleteLines (sym c.as_slice.ensures.bytes) (whole_head c.args.head.now c.as_slice.ensures.lines)
 
 pub returns-in-Err-clause-replays : goal.returns-in-Err-clause-replays
 returns-in-Err-clause-replays g c =

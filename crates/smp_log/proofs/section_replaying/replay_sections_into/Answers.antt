@@ -1,6 +1,6 @@
 use Rattle.std.proofs.Common.{◌≡◌, ◌+◌, ◌++◌, ◌∷◌, [], ◌<◌, ◌≤◌, Bool, true, false, cond, ltb, length, Ok, Err, rules, refl, sym, ap, ◌∙◌, subst, arith}
 use mir.Val.{bool_byte}
-use Rattle.smp_log.specs.Fronts.{IsWhole}
+use Rattle.smp_log.specs.Fronts.{IsCompleteLines}
 use Rattle.smp_log.specs.Reading.{end_line}
 use Rattle.smp_log.specs.declared.fault.ReplayFault.TheVariants.{NoMemory}
 use Rattle.smp_log.proofs.StepsMade.{left_by, made_by}
@@ -17,7 +17,7 @@ bool_cond true = refl
 bool_cond false = refl
 
 pub after_front-requires : goal.after_front-requires
-after_front-requires g c = subst IsWhole (sym c.sectioned.ensures.bytes) (whole_sectioned_head c.args.head.now c.sectioned.ensures.lines)
+after_front-requires g c = subst IsCompleteLines (sym c.sectioned.ensures.bytes) (whole_sectioned_head c.args.head.now c.sectioned.ensures.lines)
 
 pub returns-in-Err-clause-replays : goal.returns-in-Err-clause-replays
 returns-in-Err-clause-replays g c =

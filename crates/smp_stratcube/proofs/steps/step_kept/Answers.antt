@@ -1,5 +1,5 @@
 use Rattle.std.proofs.Common.{List, ℤ, arith, subst}
-use Rattle.smp_kernel.specs.Elimination.{cut}
+use Rattle.smp_kernel.specs.RowReduction.{cut}
 use Rattle.smp_kernel.specs.Searches.{IsSearch}
 use Rattle.smp_kernel.specs.Searched.{answer}
 use Rattle.smp_stratcube.proofs.Ahead.{front_inside}

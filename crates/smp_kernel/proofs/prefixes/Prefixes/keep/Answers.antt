@@ -1,5 +1,5 @@
 use Rattle.std.proofs.Common.{◌≡◌, ◌≤◌, List, ℤ, take, arith, sym, ap, length, subst}
-use Rattle.smp_kernel.specs.Elimination.{cut}
+use Rattle.smp_kernel.specs.RowReduction.{cut}
 use Rattle.smp_kernel.proofs.KeptTables.{taken, taken_searching}
 use Rattle.smp_kernel.proofs.prefixes.Prefixes.keep.Goals as goal
 

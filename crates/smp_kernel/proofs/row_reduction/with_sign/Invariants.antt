@@ -1,6 +1,6 @@
 use Rattle.std.proofs.Common.{◌≡◌, ◌≤◌, ◌<◌, ◌^◌, ℕ, get_or, pos, length, neg_ℤ}
 use Rattle.std.specs.Int.RustNames.{unsigned_abs}
-use Rattle.smp_kernel.proofs.elimination.with_sign.Given as goal
+use Rattle.smp_kernel.proofs.row_reduction.with_sign.Given as goal
 
 abbrev pub invariant-loop-j : goal.invariant-loop-j
 invariant-loop-j g l = record {

@@ -6,7 +6,7 @@ use Rattle.std.proofs.lemmas.List.Elements.{All-from_get_or}
 use Rattle.smp_kernel.proofs.Lists.{each_more}
 use Rattle.smp_kernel.proofs.Primitive.{abs_positive}
 use Rattle.smp_kernel.proofs.Signs.{other_sign, same_sign, turned_past}
-use Rattle.smp_kernel.proofs.elimination.with_sign.Goals as goal
+use Rattle.smp_kernel.proofs.row_reduction.with_sign.Goals as goal
 
 pub returns-then-factor-gt0-clause-is : goal.returns-then-factor-gt0-clause-is
 returns-then-factor-gt0-clause-is g c =
