@@ -1,7 +1,5 @@
-ghost use Rattle.std.specs.Prelude.{◌≡◌, ◌↔◌, ℕ, ◌<◌, ◌≤◌, length, slice_index};
-ghost use Rattle.std.specs.Prelude.{EachIndex, OnOk, IfOk, Err};
-ghost use Rattle.smp_frac.specs.Limits.{most_rows, number_limit};
-ghost use Rattle.smp_frac.specs.Fractions.{Same};
+ghost use Rattle.std.specs.Prelude.{◌≡◌, ◌↔◌, ℕ, ◌<◌, ◌≤◌, length, slice_index, EachIndex, OnOk, IfOk, Err};
+ghost use Rattle.smp_frac.specs.{Limits.{most_rows, number_limit}, Fractions.{Same}};
 ghost use Rattle.smp_prob.specs.Requested.{positive_units, requested_fraction};
 ghost use Rattle.smp_tape.specs.declared.draws.DrawFault.{DrawFault};
 ghost use Rattle.smp_split.specs.Means.{inclusion_probability};

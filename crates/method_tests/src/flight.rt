@@ -2,8 +2,7 @@
 
 ghost use Rattle.std.specs.Prelude.{◌≡◌, ◌+◌, ◌≤◌, ◌≤ℤ◌, IfOk, length, pos};
 ghost use Rattle.smp_prob.specs.Requests.{IsRequest};
-ghost use Rattle.smp_flight.specs.States.{AreFirst, IsFlight};
-ghost use Rattle.smp_flight.specs.Requests.{AreValues};
+ghost use Rattle.smp_flight.specs.{States.{AreFirst, IsFlight}, Requests.{AreValues}};
 
 use smp_flight::*;
 use smp_frac::NoMemory;

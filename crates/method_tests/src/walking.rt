@@ -1,7 +1,6 @@
 //! Walks whose steps are known beforehand, as the tests of the selection methods tell them.
 
-ghost use Rattle.std.specs.Prelude.{◌≡◌, [], IfOk};
-ghost use Rattle.std.specs.Bool.{Decides};
+ghost use Rattle.std.specs.{Prelude.{◌≡◌, [], IfOk}, Bool.{Decides}};
 ghost use Rattle.smp_tape.specs.Tapes.{tape_of_values};
 ghost use Rattle.smp_split.specs.Paths.{values_of};
 ghost use Rattle.method_tests.specs.Walks.{IsWalk};

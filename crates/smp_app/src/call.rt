@@ -1,12 +1,9 @@
 ghost use Rattle.std.specs.Prelude.{◌≡◌, ◌≤◌, ℕ, List, [], Some, map, string_bytes};
 ghost use Rattle.smp_io.specs.Store.{AsksOnly};
 ghost use Rattle.smp_words.specs.Words.{IsAsked, command_of};
-ghost use Rattle.smp_app.specs.Answers.{IsAnswer, outside};
-ghost use Rattle.smp_app.specs.Headline.{Headline};
+ghost use Rattle.smp_app.specs.{Answers.{IsAnswer, outside}, Headline.{Headline}, Kept.Stages.{IsJob, WorkSays, job_view}};
 ghost use Rattle.smp_status.specs.Codes.{class_of};
-ghost use Rattle.smp_app.specs.Commands.{files_named, files_of, inputs_named, inputs_of, job_for, job_of};
-ghost use Rattle.smp_app.specs.Kept.Exact.{ExactSays};
-ghost use Rattle.smp_app.specs.Kept.Stages.{IsJob, WorkSays, job_view};
+ghost use Rattle.smp_app.specs.{Commands.{files_named, files_of, inputs_named, inputs_of, job_for, job_of}, Kept.Exact.{ExactSays}};
 
 use crate::Status;
 use crate::job::Job;

@@ -1,8 +1,7 @@
 //! The table of the commands.
 
 ghost use Rattle.std.specs.Prelude.{◌≡◌, ◌∷◌, [], map, IfOk};
-ghost use Rattle.smp_words.specs.Words.{IsAsked};
-ghost use Rattle.smp_words.specs.declared.command.Command.TheVariants.{Demo, Draw, Joint, Migrate, Quick, Replay};
+ghost use Rattle.smp_words.specs.{Words.{IsAsked}, declared.command.Command.TheVariants.{Demo, Draw, Joint, Migrate, Quick, Replay}};
 ghost use Rattle.smp_plan.specs.declared.source.DesignSource.TheVariants as DesignSource;
 ghost use Rattle.smp_plan.specs.declared.source.FrameSource.TheVariants as FrameSource;
 ghost use Rattle.smp_plan.specs.Inputs.{FrameForJoint, FrameHeld, Held, HeldForJoint};

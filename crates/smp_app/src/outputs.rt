@@ -1,7 +1,5 @@
-ghost use Rattle.std.specs.Prelude.{◌≡◌, ◌≤◌, ◌++◌, ◌∷◌, [], ℕ, List, option_map, OnOk, OnErr, IsErrOf, codes};
-ghost use Rattle.std.specs.List.{flat_map};
-ghost use Rattle.smp_io.specs.Counts.{Rose, NeverFalls};
-ghost use Rattle.smp_io.specs.Sink.{with_bytes};
+ghost use Rattle.std.specs.{Prelude.{◌≡◌, ◌≤◌, ◌++◌, ◌∷◌, [], ℕ, List, option_map, OnOk, OnErr, IsErrOf, codes}, List.{flat_map}};
+ghost use Rattle.smp_io.specs.{Counts.{Rose, NeverFalls}, Sink.{with_bytes}};
 ghost use Rattle.smp_app.specs.Deliveries.{outputs_view, names_of, with_files, StopsAtFile, StopsAt, FailsAtFile, FailsAt};
 
 use smp_frac::{Bytes, Text};

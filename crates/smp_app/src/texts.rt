@@ -1,10 +1,8 @@
-ghost use Rattle.std.specs.Prelude.{◌≡◌, ◌++◌, ◌∷◌, [], ◌<◌, length, map, IfOk, OnOk, Some, codes, string_bytes};
-ghost use Rattle.std.specs.Fmt.{decimal};
+ghost use Rattle.std.specs.{Prelude.{◌≡◌, ◌++◌, ◌∷◌, [], ◌<◌, length, map, IfOk, OnOk, Some, codes, string_bytes}, Fmt.{decimal}};
 ghost use Rattle.smp_app.specs.Texts;
-ghost use Rattle.smp_app.specs.Drawn.{rows_by};
+ghost use Rattle.smp_app.specs.{Drawn.{rows_by}, Kept.Stages.{IsSelection, selection_view}};
 ghost use Rattle.smp_app.specs.Kept.Stages as Stages;
 ghost use Rattle.smp_plan.specs.Planned.{IsPlanned, plan_view};
-ghost use Rattle.smp_app.specs.Kept.Stages.{IsSelection, selection_view};
 ghost use Rattle.smp_frac.specs.Exact.{fraction, fraction_text};
 ghost use Rattle.smp_weights.specs.Rows.{AddsRow, row};
 

@@ -1,12 +1,10 @@
 ghost use Rattle.std.specs.Prelude.{◌≡◌, [], map, IfOk, Ok};
 ghost use Rattle.smp_io.specs.Store.{Files};
 ghost use Rattle.smp_app.specs.Commands.{drawn_names, inputs_of, outputs_of, written_by, written_names, outputs_by};
-ghost use Rattle.smp_app.specs.Verdict.{outputs_stage, work_stage};
-ghost use Rattle.smp_app.specs.Kept.Exact.{EndsExact, EndsExactFrom};
+ghost use Rattle.smp_app.specs.{Verdict.{outputs_stage, work_stage}, Kept.Exact.{EndsExact, EndsExactFrom}};
 ghost use Rattle.smp_app.specs.Deliveries.{outputs_view, names_of};
-ghost use Rattle.smp_plan.specs.Reads.{Reads, Sees, told, result_view};
+ghost use Rattle.smp_plan.specs.{Reads.{Reads, Sees, told, result_view}, Planned.{IsPlanned, plan_view}};
 ghost use Rattle.smp_app.specs.Kept.Stages.{IsJob, IsSelection, IsWorkInRanges, job_view, work_view, file_view, drawn_text, selection_view};
-ghost use Rattle.smp_plan.specs.Planned.{IsPlanned, plan_view};
 
 use crate::job::{DrawnFile, DrawnText, Job, Work};
 use crate::selection::{Selection, selection_from};

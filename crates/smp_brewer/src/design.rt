@@ -4,8 +4,7 @@ ghost use Rattle.std.specs.Prelude.{◌≡◌, sum, IfOk};
 ghost use Rattle.smp_prob.specs.Requests.{IsRequest};
 ghost use Rattle.smp_split.specs.Methods.{Starts};
 ghost use Rattle.smp_values.specs.Starts.{IsRequested};
-ghost use Rattle.smp_brewer.specs.Brewer.{Brewing, offering, units_of, is_spent};
-ghost use Rattle.smp_brewer.specs.Method.{method_of, started};
+ghost use Rattle.smp_brewer.specs.{Brewer.{Brewing, offering, units_of, is_spent}, Method.{method_of, started}};
 ghost use Rattle.smp_brewer.specs.Kept.States.{IsKept, IsStart, brewing_of};
 
 use crate::offers::Offers;

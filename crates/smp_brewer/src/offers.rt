@@ -3,8 +3,7 @@
 ghost use Rattle.std.specs.Prelude.{◌≡◌, ◌+◌, ◌*◌, ◌^◌, ◌<◌, ◌≤◌, length, IfOk};
 ghost use Rattle.smp_split.specs.Trees.{weight_sum, picked};
 ghost use Rattle.smp_brewer.specs.Brewer.{offering, offered, total, largest, size_of, offer_parts};
-ghost use Rattle.smp_brewer.specs.Brewer.{take_bound, take_weight, take_parts, after_taken};
-ghost use Rattle.smp_brewer.specs.Brewer.{shares_left, IsOffered};
+ghost use Rattle.smp_brewer.specs.Brewer.{take_bound, take_weight, take_parts, after_taken, shares_left, IsOffered};
 
 use crate::sizes::OpenSizes;
 use smp_frac::NoMemory;

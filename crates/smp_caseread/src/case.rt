@@ -1,8 +1,6 @@
 //! What a case says.
 
-ghost use Rattle.std.specs.Prelude.{◌≡◌};
-ghost use Rattle.std.specs.List.{list_any};
-ghost use Rattle.std.specs.Str.{bytes_eq};
+ghost use Rattle.std.specs.{Prelude.{◌≡◌}, List.{list_any}, Str.{bytes_eq}};
 
 use smp_frac::{Bytes, Text};
 

@@ -1,7 +1,6 @@
 //! Bytes as printable text.
 
-ghost use Rattle.std.specs.Prelude.{◌≡◌, ◌<◌, ◌↔◌, length, IsTrue, IfOk, IfSome, IsNone, option_map};
-ghost use Rattle.std.specs.List.{All};
+ghost use Rattle.std.specs.{Prelude.{◌≡◌, ◌<◌, ◌↔◌, length, IsTrue, IfOk, IfSome, IsNone, option_map}, List.{All}};
 ghost use Rattle.smp_caseread.specs.Escapes;
 ghost use Rattle.smp_caseread.specs.Escapes.{IsPrintable, StandsFor, StandsForNothing};
 

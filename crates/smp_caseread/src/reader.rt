@@ -1,7 +1,6 @@
 //! The text of a case.
 
-ghost use Rattle.std.specs.Prelude.{◌≡◌, ◌^◌};
-ghost use Rattle.std.specs.Result.{result_ok};
+ghost use Rattle.std.specs.{Prelude.{◌≡◌, ◌^◌}, Result.{result_ok}};
 ghost use Rattle.smp_frac.specs.Decimals.{number_below};
 
 use crate::case::{Case, Wanted, has_name};

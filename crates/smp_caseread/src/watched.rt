@@ -1,9 +1,7 @@
 //! A store that is watched.
 
-ghost use Rattle.std.specs.Prelude.{◌≡◌, ◌++◌, ◌∷◌, [], true, map, option_map};
-ghost use Rattle.std.specs.Prelude.{IfOk, OnOk, OnErr, IsErrOf, string_bytes};
-ghost use Rattle.smp_io.specs.Counts.{Rose, NeverFalls};
-ghost use Rattle.smp_io.specs.Store.{OthersStay, with_file};
+ghost use Rattle.std.specs.Prelude.{◌≡◌, ◌++◌, ◌∷◌, [], true, map, option_map, IfOk, OnOk, OnErr, IsErrOf, string_bytes};
+ghost use Rattle.smp_io.specs.{Counts.{Rose, NeverFalls}, Store.{OthersStay, with_file}};
 ghost use Rattle.smp_io.specs.declared.fault.StoreFault.TheVariants as StoreFault;
 
 use smp_frac::{Bytes, NoMemory};

@@ -3,8 +3,7 @@
 ghost use Rattle.std.specs.Prelude.{◌≡◌, ◌++◌, IfOk, option_map, codes};
 ghost use Rattle.toml.specs.View.{table_view};
 ghost use Rattle.smp_design.specs.Keys;
-ghost use Rattle.smp_frac.specs.Faults.{or_fault};
-ghost use Rattle.smp_frac.specs.Memory.{Reads};
+ghost use Rattle.smp_frac.specs.{Faults.{or_fault}, Memory.{Reads}};
 ghost use Rattle.smp_design.specs.Faults.{is_memory, none_found};
 ghost use Rattle.smp_design.specs.declared.fault.DesignFault.TheVariants as fault;
 

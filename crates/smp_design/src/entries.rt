@@ -2,11 +2,9 @@
 //! there.
 
 ghost use Rattle.std.specs.Prelude.{◌≡◌, IfOk, IfSome, option_and_then};
-ghost use Rattle.toml.specs.Data.{as_str, get_member};
-ghost use Rattle.toml.specs.View.{table_view};
-ghost use Rattle.smp_design.specs.Bounds.{Ascend};
+ghost use Rattle.toml.specs.{Data.{as_str, get_member}, View.{table_view}};
+ghost use Rattle.smp_design.specs.{Bounds.{Ascend}, Values.{optional}};
 ghost use Rattle.smp_design.specs.Values;
-ghost use Rattle.smp_design.specs.Values.{optional};
 
 use crate::Quotas;
 use crate::keys::value_at;

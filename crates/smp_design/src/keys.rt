@@ -1,13 +1,9 @@
 //! The keys of a design: which there can be, which are there, and the first that isn't known; and what `method` and
 //! `second` say of the keys that are needed.
 
-ghost use Rattle.std.specs.Prelude.{◌≡◌, option_map, find, map, not, string_bytes};
-ghost use Rattle.std.specs.List.Sorted.{IsStrictlySortedBy};
-ghost use Rattle.std.specs.String.{string_cmp};
-ghost use Rattle.std.specs.Option.{option_copied};
-ghost use Rattle.std.specs.BTreeMap.{keys};
-ghost use Rattle.toml.specs.Data.{get_member};
-ghost use Rattle.toml.specs.View.{view, table_view};
+ghost use Rattle.std.specs.{Prelude.{◌≡◌, option_map, find, map, not, string_bytes}, List.Sorted.{IsStrictlySortedBy}, String.{string_cmp}};
+ghost use Rattle.std.specs.{Option.{option_copied}, BTreeMap.{keys}};
+ghost use Rattle.toml.specs.{Data.{get_member}, View.{view, table_view}};
 ghost use Rattle.smp_design.specs.Keys;
 
 use crate::method::Needs;

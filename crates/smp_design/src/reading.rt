@@ -1,14 +1,11 @@
 //! Designs from their bytes.
 
 ghost use Rattle.std.specs.Prelude.{◌≡◌, ◌++◌, [], IfOk, codes, unwrap_or};
-ghost use Rattle.toml.specs.Data.{get_member};
-ghost use Rattle.toml.specs.View.{table_view};
-ghost use Rattle.smp_design.specs.Bounds.{IsDesign, Ascend};
+ghost use Rattle.toml.specs.{Data.{get_member}, View.{table_view}};
+ghost use Rattle.smp_design.specs.{Bounds.{IsDesign, Ascend}, Designs.{design_of}, Faults.{is_memory}};
 ghost use Rattle.smp_design.specs.Designs;
-ghost use Rattle.smp_design.specs.Designs.{design_of};
 ghost use Rattle.smp_design.specs.Faults;
 ghost use Rattle.smp_frac.specs.Memory.{Gives, Reads};
-ghost use Rattle.smp_design.specs.Faults.{is_memory};
 
 use crate::check::{check_clash, check_known, check_needed, version_of};
 use crate::entries::{

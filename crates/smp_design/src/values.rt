@@ -1,8 +1,7 @@
 //! What the values of a design's keys mean. `None` is a bad value.
 
 ghost use Rattle.std.specs.Prelude.{◌≡◌, IfOk, IfSome, option_map};
-ghost use Rattle.toml.specs.Data.{as_str};
-ghost use Rattle.toml.specs.View.{view, items_view, table_view};
+ghost use Rattle.toml.specs.{Data.{as_str}, View.{view, items_view, table_view}};
 ghost use Rattle.smp_design.specs.Bounds.{Ascend};
 ghost use Rattle.smp_design.specs.Values;
 

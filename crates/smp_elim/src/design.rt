@@ -1,14 +1,10 @@
 //! The elimination procedure as a design.
 
 ghost use Rattle.std.specs.Prelude.{◌≡◌, ◌^◌, ◌≤◌, length, sum, IfOk};
-ghost use Rattle.smp_prob.specs.Requests.{IsRequest};
-ghost use Rattle.smp_split.specs.Counts.{LeavesSelect};
-ghost use Rattle.smp_split.specs.Methods.{Starts};
+ghost use Rattle.smp_prob.specs.{Requests.{IsRequest}, Shares.{draws_of}};
+ghost use Rattle.smp_split.specs.{Counts.{LeavesSelect}, Methods.{Starts}};
 ghost use Rattle.smp_values.specs.Starts.{IsRequested};
-ghost use Rattle.smp_elim.specs.Elimination.{Remaining, all_left};
-ghost use Rattle.smp_elim.specs.Method.{BoundsAreBelow, HasFractions, method_of};
-ghost use Rattle.smp_prob.specs.Shares.{draws_of};
-ghost use Rattle.smp_elim.specs.Method.{started, started_to};
+ghost use Rattle.smp_elim.specs.{Elimination.{Remaining, all_left}, Method.{BoundsAreBelow, HasFractions, method_of, started, started_to}};
 ghost use Rattle.smp_elim.specs.Kept.States.{IsStart};
 
 use crate::cuts::{Cut, falling_order};

@@ -2,10 +2,8 @@
 
 ghost use Rattle.std.specs.Prelude.{◌≡◌, ◌<◌, true, nat_eq, length};
 ghost use Rattle.smp_split.specs.Trees.{weight_sum, picked};
-ghost use Rattle.smp_elim.specs.Elimination.{Remaining, IsRemaining};
-ghost use Rattle.smp_elim.specs.Elimination.{bound_of, eliminate_parts, factor, is_left, left_count};
-ghost use Rattle.smp_elim.specs.Elimination.{may_go, without};
-ghost use Rattle.smp_elim.specs.Kept.States.{IsKept};
+ghost use Rattle.smp_elim.specs.Elimination.{Remaining, IsRemaining, bound_of, eliminate_parts, factor, is_left, left_count};
+ghost use Rattle.smp_elim.specs.{Elimination.{may_go, without}, Kept.States.{IsKept}};
 
 use crate::cuts::Cut;
 use crate::weights::{prepare, settle};

@@ -3,11 +3,9 @@
 //! Each unit that isn't certain has the same weight, which falls from step to step. So there is a place for each unit, and what
 //! a step sets are the places of those units alone that it makes uncertain.
 
-ghost use Rattle.std.specs.Prelude.{◌≡◌, ◌≢◌, ℕ, ◌-◌, ◌^◌, ◌<◌, ◌≤◌, length, slice_index, sum, EachIndex};
-ghost use Rattle.std.specs.List.{range_with_len, sum_by};
+ghost use Rattle.std.specs.{Prelude.{◌≡◌, ◌≢◌, ℕ, ◌-◌, ◌^◌, ◌<◌, ◌≤◌, length, slice_index, sum, EachIndex}, List.{range_with_len, sum_by}};
 ghost use Rattle.smp_frac.specs.Limits.{most_rows};
-ghost use Rattle.smp_elim.specs.Kept.Cuts.{InFallingOrder, IsCutAt};
-ghost use Rattle.smp_elim.specs.Kept.Weights.{IsReady, fresh_amount};
+ghost use Rattle.smp_elim.specs.{Kept.Cuts.{InFallingOrder, IsCutAt}, Kept.Weights.{IsReady, fresh_amount}};
 
 use crate::cuts::{Cut, cut_below};
 use smp_places::Amounts;

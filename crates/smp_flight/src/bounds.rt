@@ -3,9 +3,7 @@
 ghost use Rattle.std.specs.Prelude.{◌≡◌, ◌↔◌, ℕ, ◌*◌, ◌<◌, ◌≤◌, IfNone, IfSome, length, max, slice_index, true};
 ghost use Rattle.smp_frac.specs.Limits.{most_denominator};
 ghost use Rattle.smp_kernel.specs.Minors.{minor_limit};
-ghost use Rattle.smp_flight.specs.Kept.Narrow.{HasNegative, IsCommon, IsLeast, IsRowBound};
-ghost use Rattle.smp_flight.specs.Narrow.{IsNarrow};
-ghost use Rattle.smp_flight.specs.States.{row_count};
+ghost use Rattle.smp_flight.specs.{Kept.Narrow.{HasNegative, IsCommon, IsLeast, IsRowBound}, Narrow.{IsNarrow}, States.{row_count}};
 
 use crate::shapes::Shape;
 use crate::steps::GATE;

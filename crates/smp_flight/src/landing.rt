@@ -4,9 +4,7 @@ ghost use Rattle.std.specs.Prelude.{◌≡◌, ◌+◌, ◌≤◌, length};
 ghost use Rattle.smp_frac.specs.Limits.{most_rows};
 ghost use Rattle.smp_values.specs.Values.{fractional_count};
 ghost use Rattle.smp_moves.specs.Cubes.{landed};
-ghost use Rattle.smp_flight.specs.States.{AreFirst, IsFlight};
-ghost use Rattle.smp_flight.specs.Steps.{chosen};
-ghost use Rattle.smp_flight.specs.Answers.{IsMoveOf, IsNextWindow, move_of};
+ghost use Rattle.smp_flight.specs.{States.{AreFirst, IsFlight}, Steps.{chosen}, Answers.{IsMoveOf, IsNextWindow, move_of}};
 
 use crate::shapes::Shape;
 use crate::states::FlightState;

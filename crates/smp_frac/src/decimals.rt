@@ -1,7 +1,4 @@
-ghost use Rattle.std.specs.Prelude.{◌≡◌, ◌^◌, ◌≤◌, length, true};
-ghost use Rattle.std.specs.List.{list_all};
-ghost use Rattle.std.specs.Char.{is_ascii_digit};
-ghost use Rattle.std.specs.Str.Parse.{digits_value};
+ghost use Rattle.std.specs.{Prelude.{◌≡◌, ◌^◌, ◌≤◌, length, true}, List.{list_all}, Char.{is_ascii_digit}, Str.Parse.{digits_value}};
 ghost use Rattle.smp_frac.specs.Decimals;
 ghost use Rattle.smp_frac.specs.Decimals.{number_below};
 

@@ -1,7 +1,5 @@
 ghost use Rattle.std.specs.Prelude.{◌<◌, ◌≤◌, IfOk, OnOk, OnErr};
-ghost use Rattle.smp_frac.specs.Exact.{fraction, signed_fraction, difference_size};
-ghost use Rattle.smp_frac.specs.Limits.{wide_limit};
-ghost use Rattle.smp_frac.specs.Fractions.{Same, minus};
+ghost use Rattle.smp_frac.specs.{Exact.{fraction, signed_fraction, difference_size}, Limits.{wide_limit}, Fractions.{Same, minus}};
 
 use crate::fractions::narrow_product;
 use crate::{Frac, Signed, Wide, gcd};

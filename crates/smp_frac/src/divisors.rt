@@ -1,5 +1,4 @@
-ghost use Rattle.std.specs.Prelude.{◌≡◌, ℕ, ◌≤◌, ◌<◌, ◌/◌, ◌%◌, IfSome, IfNone};
-ghost use Rattle.std.specs.Int.{IsGcd};
+ghost use Rattle.std.specs.{Prelude.{◌≡◌, ℕ, ◌≤◌, ◌<◌, ◌/◌, ◌%◌, IfSome, IfNone}, Int.{IsGcd}};
 ghost use Rattle.smp_frac.specs.Divisors.{greatest_common_divisor, IsCommonMultiple, IsLeastMultiple, IsContent};
 
 /// The greatest common divisor; that of 0 and 0 is 0.

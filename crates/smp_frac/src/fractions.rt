@@ -1,9 +1,7 @@
 ghost use Rattle.std.specs.Prelude.{◌≡◌, ◌≢◌, ◌*◌, ◌/◌, ◌<◌, ◌≤◌, ◌↔◌, IsNone, IfSome, IfOk, OnOk, OnErr, OkIff, ◌+◌, ◌++◌, codes, length, take};
-ghost use Rattle.std.specs.Fmt.{decimal};
+ghost use Rattle.std.specs.{Fmt.{decimal}, Int.{IsGcd}};
 ghost use Prim.Native.Nat.{◌∣◌};
-ghost use Rattle.std.specs.Int.{IsGcd};
-ghost use Rattle.smp_frac.specs.Divisors.{greatest_common_divisor};
-ghost use Rattle.smp_frac.specs.Limits.{wide_limit};
+ghost use Rattle.smp_frac.specs.{Divisors.{greatest_common_divisor}, Limits.{wide_limit}};
 ghost use Rattle.smp_frac.specs.Fractions.{Same, AtMost, over, plus, times, inverse};
 
 use crate::{Bytes, NoMemory, gcd};
@@ -82,8 +80,7 @@ fn put_terms(text: &mut [u8; 81], num: u128, den: u128) -> usize
 }
 
 impl Frac {
-    ghost use Rattle.smp_frac.specs.Exact.{fraction, fraction_text, sum_size, product_size};
-    ghost use Rattle.smp_frac.specs.LowestTerms.{lowest_terms};
+    ghost use Rattle.smp_frac.specs.{Exact.{fraction, fraction_text, sum_size, product_size}, LowestTerms.{lowest_terms}};
 
     /// The fraction `num/den` in lowest terms, or `None` where `den` is 0.
     pub fn new(num: u128, den: u128) -> Option<Frac>

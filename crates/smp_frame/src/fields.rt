@@ -1,13 +1,9 @@
 //! What the fields of a row write.
 
-ghost use Rattle.std.specs.Prelude.{◌≡◌, ◌<◌, IfOk, true};
-ghost use Rattle.std.specs.List.{list_all};
-ghost use Rattle.std.specs.Str.{is_utf8};
-ghost use Rattle.smp_frac.specs.Limits.{number_limit};
+ghost use Rattle.std.specs.{Prelude.{◌≡◌, ◌<◌, IfOk, true}, List.{list_all}, Str.{is_utf8}};
+ghost use Rattle.smp_frac.specs.{Limits.{number_limit}, Decimals.{number_below}, Memory.{Reads}};
 ghost use Rattle.csv.specs.Records.{fields_of};
-ghost use Rattle.smp_frac.specs.Decimals.{number_below};
 ghost use Rattle.smp_frame.specs.Fields;
-ghost use Rattle.smp_frac.specs.Memory.{Reads};
 ghost use Rattle.smp_frame.specs.Faults.{is_memory};
 
 use crate::layout::Column;

@@ -1,7 +1,5 @@
 ghost use Rattle.std.specs.Prelude.{◌≡◌, length, IfOk};
-ghost use Rattle.smp_frame.specs.Frames.{frame_of, units_of};
-ghost use Rattle.smp_frame.specs.Bounds.{HaveValues, IsFrame};
-ghost use Rattle.smp_frame.specs.Kept.Readers.{IsReading, rows_left};
+ghost use Rattle.smp_frame.specs.{Frames.{frame_of, units_of}, Bounds.{HaveValues, IsFrame}, Kept.Readers.{IsReading, rows_left}};
 ghost use Rattle.smp_frac.specs.Memory.{Reads};
 ghost use Rattle.smp_frame.specs.Faults.{is_memory};
 

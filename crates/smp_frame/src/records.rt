@@ -1,13 +1,10 @@
 //! The records of a text, one after another, and their fields.
 
-ghost use Rattle.std.specs.Prelude.{◌≡◌, IfOk, true};
-ghost use Rattle.std.specs.List.{list_all};
+ghost use Rattle.std.specs.{Prelude.{◌≡◌, IfOk, true}, List.{list_all}, Str.{is_utf8}};
 ghost use Rattle.std.specs.Str;
-ghost use Rattle.std.specs.Str.{is_utf8};
 ghost use Rattle.csv.specs.Records.{fields_of};
-ghost use Rattle.smp_frame.specs.Records.{records_of};
+ghost use Rattle.smp_frame.specs.{Records.{records_of}, Kept.Readers.{IsReading, Takes, rows_left}};
 ghost use Rattle.smp_frame.specs.Records;
-ghost use Rattle.smp_frame.specs.Kept.Readers.{IsReading, Takes, rows_left};
 
 use csv::{ByteRecord, ErrorKind, Reader, ReaderBuilder};
 use smp_frac::NoMemory;

@@ -1,16 +1,12 @@
 //! The units of the rows of a frame.
 
-ghost use Rattle.std.specs.Prelude.{◌≡◌, ◌++◌, ◌∷◌, [], ◌<◌, ◌≤◌, IfOk, length, map, not, true, string_bytes};
-ghost use Rattle.std.specs.List.{list_any};
+ghost use Rattle.std.specs.{Prelude.{◌≡◌, ◌++◌, ◌∷◌, [], ◌<◌, ◌≤◌, IfOk, length, map, not, true, string_bytes}, List.{list_any}};
 ghost use Rattle.std.specs.Str.{bytes_eq};
 ghost use Rattle.csv.specs.Records.{fields_of};
 ghost use Rattle.smp_frame.specs.Frames;
-ghost use Rattle.smp_frame.specs.Frames.{units_from};
-ghost use Rattle.smp_frame.specs.Kept.Readers.{IsReading, rows_left};
-ghost use Rattle.smp_frame.specs.Kept.Ids.{named, with_id};
+ghost use Rattle.smp_frame.specs.{Frames.{units_from}, Kept.Readers.{IsReading, rows_left}, Kept.Ids.{named, with_id}, Faults.{is_memory}};
 ghost use Rattle.smp_frame.specs.Records;
 ghost use Rattle.smp_frac.specs.Memory.{Gives};
-ghost use Rattle.smp_frame.specs.Faults.{is_memory};
 
 use crate::fields::{prob_in, size_in, text_in, values_in};
 use crate::layout::Layout;

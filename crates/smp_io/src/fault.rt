@@ -34,8 +34,7 @@ impl From<AllocError> for StoreFault {
 }
 
 impl From<io::Error> for StoreFault {
-    ghost use Rattle.std.specs.Prelude.{◌↔◌};
-    ghost use Rattle.std.specs.IoError.{error_kind};
+    ghost use Rattle.std.specs.{Prelude.{◌↔◌}, IoError.{error_kind}};
     ghost use Rattle.std.specs.declared.io.ErrorKind.TheVariants as kinds;
     ghost use Rattle.smp_io.specs.declared.fault.StoreFault.TheVariants as faults;
 

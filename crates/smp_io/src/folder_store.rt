@@ -1,6 +1,5 @@
 ghost use Rattle.std.specs.Prelude.{◌≡◌, ◌≤◌, None, length, option_map, IfSome, SomeIff, IfOk, OnOk, OnErr, IsErrOf};
-ghost use Rattle.smp_io.specs.Counts.{Rose, count_after, shortages_after};
-ghost use Rattle.smp_io.specs.Store.{Holds, OthersStay, with_file};
+ghost use Rattle.smp_io.specs.{Counts.{Rose, count_after, shortages_after}, Store.{Holds, OthersStay, with_file}};
 
 use crate::replacing::write_file;
 use crate::{Store, StoreFault};

@@ -1,7 +1,5 @@
 ghost use Rattle.std.specs.Prelude.{◌≡◌, ◌++◌, ◌≤◌, ◌↔◌, Some, OnOk, OnErr, IsErrOf};
-ghost use Rattle.smp_io.specs.Counts.{Rose, failures_after, shortages_after};
-ghost use Rattle.smp_io.specs.Calls.{after_call, IsDueToFail};
-ghost use Rattle.smp_io.specs.Sink.{AppendsFront};
+ghost use Rattle.smp_io.specs.{Counts.{Rose, failures_after, shortages_after}, Calls.{after_call, IsDueToFail}, Sink.{AppendsFront}};
 ghost use Rattle.smp_io.specs.Memory.{empty_sink};
 
 use crate::calls::FailingCalls;

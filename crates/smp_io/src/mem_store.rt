@@ -1,8 +1,6 @@
 ghost use Rattle.std.specs.Prelude.{◌≡◌, ◌⊎◌, ◌≤◌, ◌↔◌, ◌∷◌, ◌++◌, [], Some, None, IfOk, OnOk, OnErr, IsErrOf, option_map};
-ghost use Rattle.smp_io.specs.Counts.{Rose, failures_after, shortages_after};
-ghost use Rattle.smp_io.specs.Calls.{after_call, IsDueToFail};
-ghost use Rattle.smp_io.specs.Store.{Asks, OthersStay, with_file};
-ghost use Rattle.smp_io.specs.Memory.{held, files_of, store_of, told_where};
+ghost use Rattle.smp_io.specs.{Counts.{Rose, failures_after, shortages_after}, Calls.{after_call, IsDueToFail}};
+ghost use Rattle.smp_io.specs.{Store.{Asks, OthersStay, with_file}, Memory.{held, files_of, store_of, told_where}};
 
 use crate::calls::FailingCalls;
 use crate::{Store, StoreFault};

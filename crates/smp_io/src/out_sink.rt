@@ -1,6 +1,5 @@
 ghost use Rattle.std.specs.Prelude.{◌≡◌, ◌≤◌, None, OnOk, OnErr, IsErrOf};
-ghost use Rattle.smp_io.specs.Counts.{Rose, failures_after, shortages_after};
-ghost use Rattle.smp_io.specs.Sink.{with_bytes, AppendsFront};
+ghost use Rattle.smp_io.specs.{Counts.{Rose, failures_after, shortages_after}, Sink.{with_bytes, AppendsFront}};
 
 use crate::{Sink, StoreFault};
 use std::marker::Model;

@@ -1,6 +1,5 @@
 ghost use Rattle.std.specs.Prelude.{◌≡◌, ◌≤◌, ℕ, List, Option, OnOk, OnErr, IsErrOf};
-ghost use Rattle.smp_io.specs.Counts.{Rose};
-ghost use Rattle.smp_io.specs.Sink.{with_bytes, AppendsFront};
+ghost use Rattle.smp_io.specs.{Counts.{Rose}, Sink.{with_bytes, AppendsFront}};
 
 use crate::StoreFault;
 

@@ -1,6 +1,5 @@
 ghost use Rattle.std.specs.Prelude.{◌≡◌, ◌∷◌, [], ℕ, List, Option, option_map, IfOk, OnOk, OnErr, IsErrOf};
-ghost use Rattle.smp_io.specs.Counts.{Rose, NeverFalls};
-ghost use Rattle.smp_io.specs.Store.{Asks, Files, Holds, OthersStay, with_file};
+ghost use Rattle.smp_io.specs.{Counts.{Rose, NeverFalls}, Store.{Asks, Files, Holds, OthersStay, with_file}};
 
 use crate::StoreFault;
 use smp_frac::Bytes;

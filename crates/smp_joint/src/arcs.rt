@@ -1,8 +1,7 @@
 //! Units as arcs on a circle.
 
 ghost use Rattle.std.specs.Prelude.{◌≡◌, ◌^◌, ◌<◌, ◌≤◌, IfOk, length};
-ghost use Rattle.smp_prob.specs.Requests.{IsRequest};
-ghost use Rattle.smp_prob.specs.Shares.{shares_of};
+ghost use Rattle.smp_prob.specs.{Requests.{IsRequest}, Shares.{shares_of}};
 ghost use Rattle.smp_joint.specs.Both.{both_of};
 ghost use Rattle.smp_joint.specs.Kept as Kept;
 

@@ -4,8 +4,7 @@ ghost use Rattle.std.specs.Prelude.{◌≡◌, ◌<◌, true, length, is_some, I
 ghost use Rattle.smp_frac.specs.Exact.{fraction};
 ghost use Rattle.smp_twostage.specs.Plans.{CanBeDrawn};
 ghost use Rattle.smp_weights.specs.Rows.{AddsRow};
-ghost use Rattle.smp_joint.specs.JointRows.{HasJoints, IsSystematicPlan};
-ghost use Rattle.smp_joint.specs.JointText.{joint_row, joint_rows, joint_text};
+ghost use Rattle.smp_joint.specs.{JointRows.{HasJoints, IsSystematicPlan}, JointText.{joint_row, joint_rows, joint_text}};
 
 use crate::pairs::Pairs;
 use smp_frac::{Bytes, Frac, NoMemory, Text};

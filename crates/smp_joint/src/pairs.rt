@@ -1,11 +1,9 @@
 //! The joint probability of two rows of a plan.
 
 ghost use Rattle.std.specs.Prelude.{◌≡◌, ◌<◌, ◌^◌, length, IfOk};
-ghost use Rattle.smp_frac.specs.Fractions.{Same, times};
-ghost use Rattle.smp_frac.specs.Exact.{fraction};
-ghost use Rattle.smp_joint.specs.JointRows.{joint_fraction};
+ghost use Rattle.smp_frac.specs.{Fractions.{Same, times}, Exact.{fraction}};
+ghost use Rattle.smp_joint.specs.{JointRows.{joint_fraction}, Rows.{AreRows, StandsAt}};
 ghost use Rattle.smp_joint.specs.Kept as Kept;
-ghost use Rattle.smp_joint.specs.Rows.{AreRows, StandsAt};
 
 use crate::Arcs;
 use crate::row::Row;
@@ -26,8 +24,7 @@ pub(crate) struct Pairs<'a> {
 impl<'a> Model for Pairs<'a> {
     ghost use Rattle.std.specs.Prelude.{◌≡◌};
     ghost use Rattle.smp_strata.specs.Plans.{Parts};
-    ghost use Rattle.smp_joint.specs.Kept.{arcs_of};
-    ghost use Rattle.smp_joint.specs.Rows.{AreRows};
+    ghost use Rattle.smp_joint.specs.{Kept.{arcs_of}, Rows.{AreRows}};
 
     ghost Value = { Parts };
 

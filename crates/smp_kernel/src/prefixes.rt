@@ -1,14 +1,9 @@
 //! Tables that are kept from one search to the next.
 
-ghost use Rattle.std.specs.Prelude.{◌≡◌, ◌-◌, ◌≤◌, IfOk, [], length, take};
-ghost use Rattle.std.specs.List.{All};
+ghost use Rattle.std.specs.{Prelude.{◌≡◌, ◌-◌, ◌≤◌, IfOk, [], length, take}, List.{All}};
 ghost use Rattle.smp_frac.specs.Limits.{number_limit};
-ghost use Rattle.smp_kernel.specs.Vectors.{Within};
-ghost use Rattle.smp_kernel.specs.RowReduction.{cut};
-ghost use Rattle.smp_kernel.specs.Searches.{AllEnter, IsSearch};
-ghost use Rattle.smp_kernel.specs.Searched.{answer, ArePadded};
-ghost use Rattle.smp_kernel.specs.Answers.{Answers};
-ghost use Rattle.smp_kernel.specs.Kept.Searched.{IsSearching};
+ghost use Rattle.smp_kernel.specs.{Vectors.{Within}, RowReduction.{cut}, Searches.{AllEnter, IsSearch}, Searched.{answer, ArePadded}};
+ghost use Rattle.smp_kernel.specs.{Answers.{Answers}, Kept.Searched.{IsSearching}};
 
 use crate::searches::{Searched, front, search, search_cut, with_last};
 use crate::tables::{Added, Table};

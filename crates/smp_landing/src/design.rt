@@ -5,13 +5,9 @@ ghost use Rattle.smp_prob.specs.Requests.{IsRequest};
 ghost use Rattle.smp_split.specs.Methods.{Starts};
 ghost use Rattle.smp_values.specs.Starts.{IsRequested};
 ghost use Rattle.smp_moves.specs.Cubes.{left_in};
-ghost use Rattle.smp_flight.specs.Requests.{AreValues, units_of};
-ghost use Rattle.smp_flight.specs.States.{Units};
-ghost use Rattle.smp_flight.specs.Selections.{starting};
-ghost use Rattle.smp_flight.specs.Landings.{IsBalanced};
+ghost use Rattle.smp_flight.specs.{Requests.{AreValues, units_of}, States.{Units}, Selections.{starting}, Landings.{IsBalanced}};
 ghost use Rattle.smp_flight.specs.Narrow.{IsNarrow};
-ghost use Rattle.smp_landing.specs.Cube.{cube_of};
-ghost use Rattle.smp_landing.specs.Method.{method_of};
+ghost use Rattle.smp_landing.specs.{Cube.{cube_of}, Method.{method_of}};
 
 use crate::state::{CubeState, Phase};
 use smp_flight::{Shape, is_narrow, look, start};

@@ -5,8 +5,7 @@ ghost use Rattle.smp_split.specs.Trees.{picked, weight_sum};
 ghost use Rattle.smp_values.specs.Values.{is_one, is_settled};
 ghost use Rattle.smp_moves.specs.Cubes.{values_in};
 ghost use Rattle.smp_flight.specs.Selections.{Balancing, IsBalancing};
-ghost use Rattle.smp_landing.specs.Cube.{cube_kind, cube_parts};
-ghost use Rattle.smp_landing.specs.Kept.States.{IsKept, balancing_of};
+ghost use Rattle.smp_landing.specs.{Cube.{cube_kind, cube_parts}, Kept.States.{IsKept, balancing_of}};
 
 use smp_flight::{FlightState, Next, Shape, fill, fly, landed, look, step};
 use smp_split::Kind;

@@ -4,8 +4,7 @@ ghost use Rattle.std.specs.Prelude.{◌≡◌, IfOk};
 ghost use Rattle.smp_split.specs.Methods.{Starts};
 ghost use Rattle.smp_moves.specs.Cubes.{left_in};
 ghost use Rattle.smp_flight.specs.Landings.{IsBalanced};
-ghost use Rattle.smp_localcube.specs.Local.{local_of};
-ghost use Rattle.smp_localcube.specs.Method.{method_of, started};
+ghost use Rattle.smp_localcube.specs.{Local.{local_of}, Method.{method_of, started}};
 
 use crate::design::LocalCube;
 use crate::state::LocalCubeState;

@@ -6,12 +6,8 @@ ghost use Rattle.smp_prob.specs.Requests.{IsRequest};
 ghost use Rattle.smp_split.specs.Methods.{Starts};
 ghost use Rattle.smp_values.specs.Starts.{IsRequested};
 ghost use Rattle.smp_moves.specs.Cubes.{left_in};
-ghost use Rattle.smp_flight.specs.Landings.{IsBalanced};
-ghost use Rattle.smp_flight.specs.Narrow.{IsNarrow};
-ghost use Rattle.smp_flight.specs.Requests.{AreValues, units_of};
-ghost use Rattle.smp_localcube.specs.Kept.States.{IsPlaced};
-ghost use Rattle.smp_localcube.specs.Local.{local_of};
-ghost use Rattle.smp_localcube.specs.Method.{LocalUnits, method_of, started};
+ghost use Rattle.smp_flight.specs.{Landings.{IsBalanced}, Narrow.{IsNarrow}, Requests.{AreValues, units_of}};
+ghost use Rattle.smp_localcube.specs.{Kept.States.{IsPlaced}, Local.{local_of}, Method.{LocalUnits, method_of, started}};
 
 use crate::state::{LocalCubeState, Phase};
 use smp_flight::{Shape, is_narrow, start};

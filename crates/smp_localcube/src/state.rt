@@ -3,13 +3,9 @@
 ghost use Rattle.std.specs.Prelude.{◌≡◌, ◌+◌, ◌<◌, ◌≤◌, false, length};
 ghost use Rattle.smp_split.specs.Trees.{picked, weight_sum};
 ghost use Rattle.smp_values.specs.Values.{is_one, is_settled};
-ghost use Rattle.smp_moves.specs.Answers.{IsPadded, line_of};
-ghost use Rattle.smp_moves.specs.Cubes.{left_in, values_in};
-ghost use Rattle.smp_flight.specs.Answers.{Allows, IsMoveOf, answer_of};
-ghost use Rattle.smp_moves.specs.Moves.{IsLine, IsOrder};
-ghost use Rattle.smp_flight.specs.States.{IsFlight};
-ghost use Rattle.smp_localcube.specs.Local.{IsLocal, Local, kind_from, parts_from, untouched};
-ghost use Rattle.smp_localcube.specs.Laws.Splits.{HasHead};
+ghost use Rattle.smp_moves.specs.{Answers.{IsPadded, line_of}, Cubes.{left_in, values_in}, Moves.{IsLine, IsOrder}};
+ghost use Rattle.smp_flight.specs.{Answers.{Allows, IsMoveOf, answer_of}, States.{IsFlight}};
+ghost use Rattle.smp_localcube.specs.{Local.{IsLocal, Local, kind_from, parts_from, untouched}, Laws.Splits.{HasHead}};
 ghost use Rattle.smp_localcube.specs.Kept.States.{AreTouched, IsKept, IsSearchable, IsSearched, MayTouch, order_units};
 ghost use Rattle.smp_localcube.specs.Kept.States.{state_of, step_around, touched_in, weights_of};
 

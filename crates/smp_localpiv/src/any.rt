@@ -2,12 +2,9 @@
 
 ghost use Rattle.std.specs.Prelude.{◌≡◌, ◌≤◌, length, IfOk};
 ghost use Rattle.smp_prob.specs.Requests.{IsRequest};
-ghost use Rattle.smp_split.specs.Counts.{LeavesSelectAround};
-ghost use Rattle.smp_split.specs.Methods.{Starts};
+ghost use Rattle.smp_split.specs.{Counts.{LeavesSelectAround}, Methods.{Starts}};
 ghost use Rattle.smp_values.specs.Starts.{IsRequested};
-ghost use Rattle.smp_localpiv.specs.Coordinates.{points_from};
-ghost use Rattle.smp_localpiv.specs.Local.{IsLocal, local_tree};
-ghost use Rattle.smp_localpiv.specs.Method.{method_of, started, started_from};
+ghost use Rattle.smp_localpiv.specs.{Coordinates.{points_from}, Local.{IsLocal, local_tree}, Method.{method_of, started, started_from}};
 
 use crate::design::LocalPivotal;
 use crate::dimensions::{Dimensions, points};

@@ -3,12 +3,9 @@
 ghost use Rattle.std.specs.Prelude.{◌≡◌, ◌≤◌, length, IfOk};
 ghost use Rattle.smp_near.specs.Nearest.{all_living};
 ghost use Rattle.smp_prob.specs.Requests.{IsRequest};
-ghost use Rattle.smp_split.specs.Counts.{LeavesSelectAround};
-ghost use Rattle.smp_split.specs.Methods.{Starts};
+ghost use Rattle.smp_split.specs.{Counts.{LeavesSelectAround}, Methods.{Starts}};
 ghost use Rattle.smp_values.specs.Starts.{IsRequested};
-ghost use Rattle.smp_localpiv.specs.Local.{Local, located_values};
-ghost use Rattle.smp_localpiv.specs.Kept.States.{IsOpen};
-ghost use Rattle.smp_localpiv.specs.Method.{method_of, started};
+ghost use Rattle.smp_localpiv.specs.{Local.{Local, located_values}, Kept.States.{IsOpen}, Method.{method_of, started}};
 
 use crate::state::LocalState;
 use smp_frac::NoMemory;

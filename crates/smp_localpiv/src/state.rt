@@ -4,10 +4,8 @@ ghost use Rattle.std.specs.Prelude.{◌≡◌, ◌<◌, ◌≤◌, true, length,
 ghost use Rattle.smp_frac.specs.Limits.{most_denominator};
 ghost use Rattle.smp_split.specs.Trees.{weight_sum, picked};
 ghost use Rattle.smp_values.specs.Values.{fractional_at, fractional_count, is_fractional, with_one};
-ghost use Rattle.smp_localpiv.specs.Local.{IsLocal, Local, MayMeet, local_tree, located_values};
-ghost use Rattle.smp_localpiv.specs.Local.{meeting, neighbour, settling};
-ghost use Rattle.smp_localpiv.specs.Kept.States.{IsKept, IsWeighed, chosen_unit};
-ghost use Rattle.smp_localpiv.specs.Laws.Neighbours.{IsMet};
+ghost use Rattle.smp_localpiv.specs.Local.{IsLocal, Local, MayMeet, local_tree, located_values, meeting, neighbour, settling};
+ghost use Rattle.smp_localpiv.specs.{Kept.States.{IsKept, IsWeighed, chosen_unit}, Laws.Neighbours.{IsMet}};
 
 use smp_near::Points;
 use smp_places::Amounts;

@@ -1,8 +1,7 @@
 ghost use Rattle.std.specs.Prelude.{◌≡◌, ◌+◌, ◌≤◌, ◌++◌, length, take};
 ghost use Rattle.hex.specs.Hex.{encode_lower};
 ghost use Rattle.sha2.specs.Sha256.{sha256};
-ghost use Rattle.smp_log.specs.Heads.{IsHead, head_of};
-ghost use Rattle.smp_log.specs.SectionLogs.{sectioned_head};
+ghost use Rattle.smp_log.specs.{Heads.{IsHead, head_of}, SectionLogs.{sectioned_head}};
 
 use sha2::{Digest, Sha256};
 use std::marker::Model;

@@ -1,5 +1,4 @@
-ghost use Rattle.smp_log.specs.Answers.{IsExactReading};
-ghost use Rattle.smp_log.specs.Genuine.{IsRunGenuine, IsUnambiguous};
+ghost use Rattle.smp_log.specs.{Answers.{IsExactReading}, Genuine.{IsRunGenuine, IsUnambiguous}};
 
 use crate::Head;
 use smp_split::Splitting;

@@ -1,6 +1,4 @@
-ghost use Rattle.std.specs.Prelude.{◌≡◌, ◌<◌, ◌++◌, ◌∷◌, option_map};
-ghost use Rattle.std.specs.Fmt.{decimal};
-ghost use Rattle.std.specs.Str.{bytes_eq};
+ghost use Rattle.std.specs.{Prelude.{◌≡◌, ◌<◌, ◌++◌, ◌∷◌, option_map}, Fmt.{decimal}, Str.{bytes_eq}};
 ghost use Rattle.smp_frac.specs.Limits.{wide_limit};
 ghost use Rattle.smp_log.specs.Reading as Reading;
 

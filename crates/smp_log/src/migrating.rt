@@ -1,8 +1,6 @@
 ghost use Rattle.std.specs.Prelude.{◌≡◌, ℕ, true, Err, IfOk, OnOk};
-ghost use Rattle.smp_log.specs.Answers.{AnswersAs, log_reading};
-ghost use Rattle.smp_log.specs.Genuine.{DiffersAt, IsGenuine, IsToldGenuine};
-ghost use Rattle.smp_log.specs.SectionLogs.{sectioned_log_text};
-ghost use Rattle.smp_log.specs.Told.{path_told};
+ghost use Rattle.smp_log.specs.{Answers.{AnswersAs, log_reading}, Genuine.{DiffersAt, IsGenuine, IsToldGenuine}};
+ghost use Rattle.smp_log.specs.{SectionLogs.{sectioned_log_text}, Told.{path_told}};
 ghost use Rattle.smp_log.specs.declared.fault.ReplayFault.TheVariants as ReplayFault;
 
 use crate::section_writing::log_bytes;

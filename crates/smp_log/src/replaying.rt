@@ -1,7 +1,6 @@
 ghost use Rattle.std.specs.Prelude.{◌≡◌, ◌++◌, IfErr, IfOk, OnOk};
 ghost use Rattle.smp_split.specs.Runs.{KeepsOn};
-ghost use Rattle.smp_log.specs.Fronts.{IsCompleteLines, StopsAt};
-ghost use Rattle.smp_log.specs.Replayed.{Replays, ReplaysUntold, old_form};
+ghost use Rattle.smp_log.specs.{Fronts.{IsCompleteLines, StopsAt}, Replayed.{Replays, ReplaysUntold, old_form}};
 
 use crate::lines::after_end;
 use crate::steps::replay_step;

@@ -1,7 +1,5 @@
-ghost use Rattle.smp_log.specs.Answers.{IsExactAnswer};
-ghost use Rattle.smp_log.specs.LoneSections.{AreReplayedAlone, IsExactSection};
-ghost use Rattle.smp_log.specs.SectionLogs.{IsAnyGenuine, IsOnePathed, IsRunSectioned};
-ghost use Rattle.smp_log.specs.SectionReading.{any_reading};
+ghost use Rattle.smp_log.specs.{Answers.{IsExactAnswer}, LoneSections.{AreReplayedAlone, IsExactSection}};
+ghost use Rattle.smp_log.specs.{SectionLogs.{IsAnyGenuine, IsOnePathed, IsRunSectioned}, SectionReading.{any_reading}};
 
 use crate::Head;
 use smp_split::{Sections, Splitting};

@@ -1,5 +1,4 @@
-ghost use Rattle.std.specs.Prelude.{◌≡◌, ◌++◌, IfOk, OnOk, codes};
-ghost use Rattle.std.specs.Fmt.{decimal};
+ghost use Rattle.std.specs.{Prelude.{◌≡◌, ◌++◌, IfOk, OnOk, codes}, Fmt.{decimal}};
 ghost use Rattle.smp_log.specs.SectionLogs.{RiseFrom, done_text, sections_text, stratum_text};
 
 use crate::writing::{push_end, push_number, push_step};

@@ -1,7 +1,5 @@
-ghost use Rattle.std.specs.Prelude.{◌≡◌, ◌++◌, IfOk, OnOk, map};
-ghost use Rattle.std.specs.Fmt.{decimal};
-ghost use Rattle.smp_log.specs.Logs.{end_text, log_text, step_text, steps_text};
-ghost use Rattle.smp_log.specs.SectionLogs.{section_line, steps_of};
+ghost use Rattle.std.specs.{Prelude.{◌≡◌, ◌++◌, IfOk, OnOk, map}, Fmt.{decimal}};
+ghost use Rattle.smp_log.specs.{Logs.{end_text, log_text, step_text, steps_text}, SectionLogs.{section_line, steps_of}};
 
 use crate::{Head, SectionLines};
 use itoa::Buffer;

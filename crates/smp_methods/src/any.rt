@@ -4,11 +4,8 @@ ghost use Rattle.std.specs.Prelude.{◌≡◌, ◌<◌, false, length, IfOk};
 ghost use Rattle.smp_prob.specs.Requests.{IsRequest};
 ghost use Rattle.smp_split.specs.Trees.{weight_sum};
 ghost use Rattle.smp_stratcube.specs.States as stratified;
-ghost use Rattle.smp_stratcube.specs.Layers.{AreLayers};
-ghost use Rattle.smp_stratcube.specs.Requests.{AreRequested};
-ghost use Rattle.smp_stratcube.specs.Units.{units_of};
-ghost use Rattle.smp_methods.specs.Designs.{design_of, design_of_strata, first_state, left_at, variant_of};
-ghost use Rattle.smp_methods.specs.Methods.{method_of};
+ghost use Rattle.smp_stratcube.specs.{Layers.{AreLayers}, Requests.{AreRequested}, Units.{units_of}};
+ghost use Rattle.smp_methods.specs.{Designs.{design_of, design_of_strata, first_state, left_at, variant_of}, Methods.{method_of}};
 ghost use Rattle.smp_methods.specs.Kept.Alone.{AroundAlone, CountAlone, RequestedAlone, StepsAlone, StrataAlone};
 ghost use Rattle.smp_methods.specs.Procedures.{NeedsWhole, TakesValues};
 

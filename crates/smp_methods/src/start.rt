@@ -3,8 +3,7 @@
 ghost use Rattle.std.specs.Prelude.{◌≡◌, [], length, map, IfOk};
 ghost use Rattle.smp_prob.specs.Requests.{IsRequest};
 ghost use Rattle.smp_stratcube.specs.Layers.{AreLayers};
-ghost use Rattle.smp_methods.specs.Procedures.{NeedsWhole, TakesValues};
-ghost use Rattle.smp_methods.specs.Starts.{AreStarted, IsStarted};
+ghost use Rattle.smp_methods.specs.{Procedures.{NeedsWhole, TakesValues}, Starts.{AreStarted, IsStarted}};
 
 use crate::{AnyDesign, AnyState};
 use smp_design::Procedure;

@@ -4,10 +4,7 @@ ghost use Rattle.std.specs.Prelude.{◌≡◌, ◌∷◌, [], IfOk, length};
 ghost use Rattle.smp_prob.specs.Requests.{IsRequest};
 ghost use Rattle.smp_values.specs.Starts.{IsRequested};
 ghost use Rattle.smp_flight.specs.Requests.{AreValues};
-ghost use Rattle.smp_stratcube.specs.States.{started};
-ghost use Rattle.smp_stratcube.specs.Layers.{layer_of};
-ghost use Rattle.smp_stratcube.specs.Method.{method_of};
-ghost use Rattle.smp_stratcube.specs.Units.{units_of};
+ghost use Rattle.smp_stratcube.specs.{States.{started}, Layers.{layer_of}, Method.{method_of}, Units.{units_of}};
 
 use smp_frac::NoMemory;
 use smp_frame::Numbers;

@@ -1,13 +1,10 @@
 //! Minimum support as a design.
 
 ghost use Rattle.std.specs.Prelude.{◌≡◌, ◌≤◌, length, sum, IfOk};
-ghost use Rattle.smp_prob.specs.Requests.{IsRequest};
-ghost use Rattle.smp_prob.specs.Shares.{Shares};
-ghost use Rattle.smp_split.specs.Leaves.{leaves};
-ghost use Rattle.smp_split.specs.Methods.{Starts};
+ghost use Rattle.smp_prob.specs.{Requests.{IsRequest}, Shares.{Shares}};
+ghost use Rattle.smp_split.specs.{Leaves.{leaves}, Methods.{Starts}};
 ghost use Rattle.smp_values.specs.Starts.{IsRequested};
-ghost use Rattle.smp_minsup.specs.Method.{method_of, started};
-ghost use Rattle.smp_minsup.specs.Kept.Starts.{IsStart};
+ghost use Rattle.smp_minsup.specs.{Method.{method_of, started}, Kept.Starts.{IsStart}};
 
 use crate::ranked::Ranked;
 use crate::state::SupportState;

@@ -1,15 +1,11 @@
 //! Units in two groups, the large ones and the small ones.
 
-ghost use Rattle.std.specs.Prelude.{◌≡◌, ℕ, ◌+◌, ◌-◌, ◌*◌, ◌<◌, ◌≤◌, true, false, length};
-ghost use Rattle.std.specs.Prelude.{slice_index, IfOk, IfSome, IfNone};
-ghost use Rattle.std.specs.Bool.{OnTrue, OnFalse};
-ghost use Rattle.std.specs.BinaryHeap.{heap_items, heap_len, heap_capacity};
+ghost use Rattle.std.specs.Prelude.{◌≡◌, ℕ, ◌+◌, ◌-◌, ◌*◌, ◌<◌, ◌≤◌, true, false, length, slice_index, IfOk, IfSome, IfNone};
+ghost use Rattle.std.specs.{Bool.{OnTrue, OnFalse}, BinaryHeap.{heap_items, heap_len, heap_capacity}};
 ghost use Rattle.smp_frac.specs.Limits.{wide_limit};
 ghost use Rattle.smp_values.specs.Values.{is_settled};
-ghost use Rattle.smp_minsup.specs.Support.{IsSupport, lambda};
-ghost use Rattle.smp_minsup.specs.Kept.Ranked.{RankedUnits, IsMostSmall, IsLeastLarge, IsParted};
-ghost use Rattle.smp_minsup.specs.Kept.Ranked.{IsMixed, IsKept, IsCut, is_in, large_count};
-ghost use Rattle.smp_minsup.specs.Kept.Ranked.{largest_small, least_large, placed, lowered_by};
+ghost use Rattle.smp_minsup.specs.{Support.{IsSupport, lambda}, Kept.Ranked.{RankedUnits, IsMostSmall, IsLeastLarge, IsParted}};
+ghost use Rattle.smp_minsup.specs.Kept.Ranked.{IsMixed, IsKept, IsCut, is_in, large_count, largest_small, least_large, placed, lowered_by};
 ghost use Rattle.smp_minsup.specs.Kept.Ranked.{ranked_of, shares_over};
 
 use smp_frac::NoMemory;

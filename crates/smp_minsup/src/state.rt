@@ -2,8 +2,7 @@
 
 ghost use Rattle.std.specs.Prelude.{◌≡◌, false, length};
 ghost use Rattle.smp_prob.specs.Shares.{Shares};
-ghost use Rattle.smp_minsup.specs.Support.{IsSupport, support_tree};
-ghost use Rattle.smp_minsup.specs.Kept.Ranked.{IsCut, shares_over, shares_kept};
+ghost use Rattle.smp_minsup.specs.{Support.{IsSupport, support_tree}, Kept.Ranked.{IsCut, shares_over, shares_kept}};
 
 use crate::ranked::Ranked;
 use smp_split::Kind;

@@ -1,8 +1,7 @@
 //! The numbers of living points at the roots of a tree.
 #![tactic(auto)]
 
-ghost use Rattle.std.specs.Prelude.{◌≡◌, ℕ, ◌+◌, ◌-◌, ◌≤◌, ◌<◌, true, false, length, slice_index, slice_set};
-ghost use Rattle.std.specs.Prelude.{IfOk};
+ghost use Rattle.std.specs.Prelude.{◌≡◌, ℕ, ◌+◌, ◌-◌, ◌≤◌, ◌<◌, true, false, length, slice_index, slice_set, IfOk};
 ghost use Rattle.smp_near.specs.Kept.Trees.{AreUnits, IsAlone, IsCounted, lives_at, living_before};
 ghost use Rattle.smp_places.specs.Trees.{EachRoot};
 

@@ -2,8 +2,7 @@
 #![tactic(auto)]
 
 ghost use Rattle.std.specs.Prelude.{◌≡◌, ◌+◌, ◌*◌, ◌^◌, ◌<◌, ◌-ℤ◌, unsigned_abs};
-ghost use Rattle.smp_near.specs.Nearest.{squared_distance};
-ghost use Rattle.smp_near.specs.Kept.Regions.{region_distance, squared_gap};
+ghost use Rattle.smp_near.specs.{Nearest.{squared_distance}, Kept.Regions.{region_distance, squared_gap}};
 
 // The square of the difference of two coordinates.
 fn squared_difference(a: i32, b: i32) -> u128

@@ -1,8 +1,7 @@
 //! The order in which a tree has its points.
 #![tactic(auto)]
 
-ghost use Rattle.std.specs.Prelude.{◌≡◌, ◌<◌, length, ◌∷◌, ◌++◌, IfOk};
-ghost use Rattle.std.specs.List.Sorted.{IsPermutation};
+ghost use Rattle.std.specs.{Prelude.{◌≡◌, ◌<◌, length, ◌∷◌, ◌++◌, IfOk}, List.Sorted.{IsPermutation}};
 ghost use Rattle.smp_near.specs.Kept.Trees.{IsOrder};
 
 use smp_places::numbers_below;

@@ -1,12 +1,8 @@
 //! How many draws select a unit.
 
-ghost use Rattle.std.specs.Prelude.{◌≡◌, ℕ, ◌<◌, false, length, slice_index};
-ghost use Rattle.std.specs.Bool.{Decides};
-ghost use Rattle.smp_split.specs.Counts.{draws_selecting, selected_after};
-ghost use Rattle.smp_split.specs.Orders.{frame_order};
-ghost use Rattle.smp_split.specs.Trees.{weight_sum};
-ghost use Rattle.smp_pivotal.specs.Systematic.{PointsAt, numerator_of};
-ghost use Rattle.smp_pivotal.specs.SystematicMethod.{method_of};
+ghost use Rattle.std.specs.{Prelude.{◌≡◌, ℕ, ◌<◌, false, length, slice_index}, Bool.{Decides}};
+ghost use Rattle.smp_split.specs.{Counts.{draws_selecting, selected_after}, Orders.{frame_order}, Trees.{weight_sum}};
+ghost use Rattle.smp_pivotal.specs.{Systematic.{PointsAt, numerator_of}, SystematicMethod.{method_of}};
 
 use crate::{Systematic, SystematicState};
 

@@ -1,7 +1,6 @@
 //! Pivotal steps on the values at places.
 
-ghost use Rattle.smp_pivotal.specs.Pivotal.{pivotal_rule};
-ghost use Rattle.smp_pivotal.specs.Laws.PivotalSplits.{pivotal_law};
+ghost use Rattle.smp_pivotal.specs.{Pivotal.{pivotal_rule}, Laws.PivotalSplits.{pivotal_law}};
 
 use smp_split::Kind;
 use smp_values::{PivotalSteps, PlaceSteps, Values};

@@ -1,7 +1,6 @@
 //! The systematic step on the values at places.
 
-ghost use Rattle.smp_pivotal.specs.Systematic.{systematic_rule};
-ghost use Rattle.smp_pivotal.specs.Laws.SystematicSplits.{systematic_law};
+ghost use Rattle.smp_pivotal.specs.{Systematic.{systematic_rule}, Laws.SystematicSplits.{systematic_law}};
 
 use crate::sample::take_sample;
 use smp_split::Kind;

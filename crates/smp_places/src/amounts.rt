@@ -1,8 +1,7 @@
 //! Amounts at places, which are summed by a tree.
 #![tactic(auto)]
 
-ghost use Rattle.std.specs.Prelude.{◌≡◌, ◌+◌, ◌*◌, ◌^◌, ◌<◌, ◌≤◌};
-ghost use Rattle.std.specs.Prelude.{length, replicate, slice_index, slice_set, sum, IfOk};
+ghost use Rattle.std.specs.Prelude.{◌≡◌, ◌+◌, ◌*◌, ◌^◌, ◌<◌, ◌≤◌, length, replicate, slice_index, slice_set, sum, IfOk};
 ghost use Rattle.smp_places.specs.Amounts.{sum_before, weighted_before};
 
 use crate::sums::{change, find, sum_up};

@@ -1,8 +1,7 @@
 //! The whole numbers from 0 on.
 #![tactic(auto)]
 
-ghost use Rattle.std.specs.Prelude.{◌≡◌, IfOk};
-ghost use Rattle.std.specs.List.{range_with_len};
+ghost use Rattle.std.specs.{Prelude.{◌≡◌, IfOk}, List.{range_with_len}};
 
 use std::alloc::{AllocError, Global};
 

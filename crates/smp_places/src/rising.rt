@@ -1,8 +1,7 @@
 //! Places in the order of their amounts.
 #![tactic(auto)]
 
-ghost use Rattle.std.specs.Prelude.{◌≡◌, ℕ, ◌<◌, ◌≤◌, length, slice_index, IfOk};
-ghost use Rattle.std.specs.List.Sorted.{IsPermutation};
+ghost use Rattle.std.specs.{Prelude.{◌≡◌, ℕ, ◌<◌, ◌≤◌, length, slice_index, IfOk}, List.Sorted.{IsPermutation}};
 ghost use Rattle.smp_places.specs.Orders.{InRisingOrder};
 
 use crate::numbers::numbers_below;

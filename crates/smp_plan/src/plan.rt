@@ -2,11 +2,9 @@ ghost use Rattle.std.specs.Prelude.{◌≡◌, ◌∷◌, [], IfOk, length, true
 ghost use Rattle.smp_frame.specs.Bounds.{HaveValues, IsFrame};
 ghost use Rattle.smp_design.specs.Bounds.{IsDesign};
 ghost use Rattle.smp_words.specs.Words.{all_distinct};
-ghost use Rattle.smp_plan.specs.Stops.{content_of};
+ghost use Rattle.smp_plan.specs.{Stops.{content_of}, Inputs.{design_names, frame_names, input_names}};
 ghost use Rattle.smp_plan.specs.Inputs as Inputs;
-ghost use Rattle.smp_plan.specs.Inputs.{design_names, frame_names, input_names};
-ghost use Rattle.smp_plan.specs.Inputs.{design_stage, frame_content, frame_stage, plan_of, plan_stage};
-ghost use Rattle.smp_plan.specs.Reads.{Reads, told, result_view};
+ghost use Rattle.smp_plan.specs.{Inputs.{design_stage, frame_content, frame_stage, plan_of, plan_stage}, Reads.{Reads, told, result_view}};
 ghost use Rattle.smp_plan.specs.Planned.{GivesPlan, IsFrameInRanges, IsInRanges, IsPlanned, source_view, frame_view, read_view, plan_view};
 
 use crate::quick::quick_design;

@@ -1,6 +1,5 @@
 ghost use Rattle.std.specs.Prelude.{◌≡◌};
-ghost use Rattle.smp_prob.specs.declared.faults.GivenFault.{GivenFault};
-ghost use Rattle.smp_prob.specs.declared.faults.ProbFault.{ProbFault};
+ghost use Rattle.smp_prob.specs.{declared.faults.GivenFault.{GivenFault}, declared.faults.ProbFault.{ProbFault}};
 
 use smp_frac::NoMemory;
 

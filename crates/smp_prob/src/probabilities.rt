@@ -1,15 +1,10 @@
 ghost use Rattle.std.specs.Prelude.{◌≡◌, ◌↔◌, ◌+◌, ◌≤◌, ◌<◌, ◌^◌, ℕ, Bool, Err, IsSome, IfSome, SomeIff, IfOk, IsOkUnless, All, EachIndex, length, map, sum, slice_index, count_by};
 ghost use Rattle.std.specs.List.{range_with_len};
-ghost use Rattle.smp_frac.specs.Fractions.{Same, whole};
-ghost use Rattle.smp_frac.specs.Limits.{most_rows};
-ghost use Rattle.smp_frac.specs.Exact.{fraction};
-ghost use Rattle.smp_prob.specs.declared.faults.GivenFault.{GivenFault};
+ghost use Rattle.smp_frac.specs.{Fractions.{Same, whole}, Limits.{most_rows}, Exact.{fraction}};
+ghost use Rattle.smp_prob.specs.{declared.faults.GivenFault.{GivenFault}, Kept.Numerators.{over_of}, Requests.{IsRequest}};
 ghost use Rattle.smp_prob.specs.Given as Given;
 ghost use Rattle.smp_prob.specs.Given.{AreGiven, IsLeastMultipleOf, IsWholeNumber, draws, given_fraction, given_of, largest_multiple, out_of};
-ghost use Rattle.smp_prob.specs.Kept.Numerators.{over_of};
-ghost use Rattle.smp_prob.specs.Requests.{IsRequest};
-ghost use Rattle.smp_prob.specs.Shapes.{shape_of};
-ghost use Rattle.smp_prob.specs.Inclusions.{AreApart, AreBelow, IsRising, count_taken, asked_fraction};
+ghost use Rattle.smp_prob.specs.{Shapes.{shape_of}, Inclusions.{AreApart, AreBelow, IsRising, count_taken, asked_fraction}};
 
 use crate::picked::pick;
 use crate::shapes::{shape_of, size_divisor, sum_of};

@@ -1,6 +1,5 @@
 ghost use Rattle.std.specs.Prelude.{◌≡◌, ℕ, ◌≤◌, ◌<◌, length, slice_index, position, nat_eq, IfOk};
-ghost use Rattle.smp_frac.specs.Exact.{fraction};
-ghost use Rattle.smp_frac.specs.Fractions.{Same, over};
+ghost use Rattle.smp_frac.specs.{Exact.{fraction}, Fractions.{Same, over}};
 ghost use Rattle.smp_prob.specs.Inclusions.{Rises};
 
 use crate::{Inclusion, Places, Shapes};
@@ -30,8 +29,7 @@ pub struct Request {
 
 impl Request {
     ghost use Rattle.std.specs.Prelude.{◌≡◌, EachIndex, slice_index};
-    ghost use Rattle.smp_prob.specs.Requests.{IsRequest, all_free};
-    ghost use Rattle.smp_prob.specs.Inclusions.{IsRising, inclusion, free_fraction, asked_fraction};
+    ghost use Rattle.smp_prob.specs.{Requests.{IsRequest, all_free}, Inclusions.{IsRising, inclusion, free_fraction, asked_fraction}};
     ghost use Rattle.smp_prob.specs.Shares.{common_divisor, common_denominator, numerators};
 
     /// The request in which every unit is free: unit i is selected with the probability `shapes[i] * r / total`. The

@@ -1,5 +1,4 @@
-ghost use Rattle.std.specs.Prelude.{◌≡◌, ◌+◌, ◌<◌, ◌≤◌, true, length, slice_index, nat_eq, if◌then◌else◌, IfOk};
-ghost use Rattle.std.specs.List.{range_with_len};
+ghost use Rattle.std.specs.{Prelude.{◌≡◌, ◌+◌, ◌<◌, ◌≤◌, true, length, slice_index, nat_eq, if◌then◌else◌, IfOk}, List.{range_with_len}};
 ghost use Rattle.smp_split.specs.Orders.{Placing, IsMirrored, frame_order, undrawn_order, exchanged_order, next_place};
 
 use crate::NoMemory;

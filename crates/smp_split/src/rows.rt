@@ -1,10 +1,8 @@
 ghost use Rattle.std.specs.Prelude.{ℕ, ◌<◌, All};
-ghost use Rattle.smp_split.specs.Counts.{AddsUp, LeavesSelect, LeavesSelectAround};
+ghost use Rattle.smp_split.specs.{Counts.{AddsUp, LeavesSelect, LeavesSelectAround}, Means.{inclusion_probability}};
 ghost use Rattle.smp_frac.specs.Fractions.{Same};
-ghost use Rattle.smp_split.specs.Means.{inclusion_probability};
-ghost use Rattle.smp_split.specs.Rows.{rows_tree, BelongsToRows, SelectsAsRequested, AddsUpTo};
+ghost use Rattle.smp_split.specs.{Rows.{rows_tree, BelongsToRows, SelectsAsRequested, AddsUpTo}, Laws.Rows.{rows_method}};
 ghost use Rattle.smp_prob.specs.Inclusions.{AreApart, asked_fraction};
-ghost use Rattle.smp_split.specs.Laws.Rows.{rows_method};
 
 use crate::{Kind, Splitting};
 use smp_prob::{Inclusion, Request};

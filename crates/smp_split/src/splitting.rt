@@ -1,8 +1,6 @@
 ghost use Rattle.std.specs.Prelude.{◌≡◌, ℕ, ◌<◌, true, false, IfOk};
 ghost use Rattle.smp_frac.specs.Fractions.{Fraction, Same};
-ghost use Rattle.smp_split.specs.Trees.{weight_sum, picked, weighted};
-ghost use Rattle.smp_split.specs.Methods.{Method};
-ghost use Rattle.smp_split.specs.Counts.{selected_units};
+ghost use Rattle.smp_split.specs.{Trees.{weight_sum, picked, weighted}, Methods.{Method}, Counts.{selected_units}};
 ghost use Rattle.smp_split.specs.Means.{sum_over_draws, mean, value_sum, inclusion_probability};
 
 use crate::{Kind, NoMemory};

@@ -1,10 +1,8 @@
 //! Laws of selections in stages.
 
 ghost use Rattle.std.specs.Prelude.{◌≡◌, ◌+◌, ◌<◌, ℕ, Bool, length, suc};
-ghost use Rattle.smp_split.specs.Methods.{owns, trees};
-ghost use Rattle.smp_split.specs.Sectioning.{IsPartOf, IsSectioned};
-ghost use Rattle.smp_split.specs.OwnStages.{AreSections, AreTheirOwn, own_progress, sections_by};
-ghost use Rattle.smp_split.specs.Stages.{IsUnderWay, staged_tree};
+ghost use Rattle.smp_split.specs.{Methods.{owns, trees}, Sectioning.{IsPartOf, IsSectioned}};
+ghost use Rattle.smp_split.specs.{OwnStages.{AreSections, AreTheirOwn, own_progress, sections_by}, Stages.{IsUnderWay, staged_tree}};
 
 use crate::{Splitting, Stages};
 

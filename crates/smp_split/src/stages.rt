@@ -1,16 +1,12 @@
 //! The stages, and the selection through them.
 
 ghost use Rattle.std.proofs.Props.{props};
-ghost use Rattle.std.specs.Prelude.{◌≡◌, ◌<◌, true, length, set, Option, Some};
-ghost use Rattle.std.specs.List.{slice_get};
-ghost use Rattle.smp_split.specs.Laws.Staged.{staged_method};
+ghost use Rattle.std.specs.{Prelude.{◌≡◌, ◌<◌, true, length, set, Option, Some}, List.{slice_get}};
+ghost use Rattle.smp_split.specs.{Laws.Staged.{staged_method}, Stages.{stage_parts, staged_tree, unit_selected, units_of, waits}};
 ghost use Rattle.smp_split.specs.Stages.{AreOwn, IsFirstUnit, IsStaged, IsUnderWay, IsUnitWithin, NoneWaits, is_drawn};
 ghost use Rattle.smp_split.specs.Stages.{next_stage, progress, seat_selected, selected_in, stage_done, stage_kind};
-ghost use Rattle.smp_split.specs.Stages.{stage_parts, staged_tree, unit_selected, units_of, waits};
-ghost use Rattle.smp_split.specs.StageStarts.{StartsInStages};
-ghost use Rattle.smp_split.specs.declared.places.Place.{Place};
+ghost use Rattle.smp_split.specs.{StageStarts.{StartsInStages}, declared.places.Place.{Place}, Methods.{owns, trees}};
 ghost use Rattle.smp_split.specs.declared.places.Seat.TheVariants as Seat;
-ghost use Rattle.smp_split.specs.Methods.{owns, trees};
 ghost use Rattle.smp_split.specs.Trees.{weight_sum, picked};
 
 use crate::{Kind, Place, Seat, Splitting, Stage, StagesState};

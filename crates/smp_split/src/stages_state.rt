@@ -1,7 +1,6 @@
 //! The states of a selection in stages.
 
-ghost use Rattle.std.specs.Prelude.{◌≡◌, ◌<◌, length, Some};
-ghost use Rattle.std.specs.List.{slice_get};
+ghost use Rattle.std.specs.{Prelude.{◌≡◌, ◌<◌, length, Some}, List.{slice_get}};
 ghost use Rattle.smp_split.specs.Stages.{Progress};
 
 use std::marker::Model;

@@ -1,6 +1,5 @@
 ghost use Rattle.std.specs.Prelude.{◌≡◌, Bool, true, false, List, [], ◌∷◌, ◌++◌, Option, Some, None, OnOk, OnErr};
-ghost use Rattle.smp_split.specs.Paths.{Entry};
-ghost use Rattle.smp_split.specs.Runs.{KeepsStep, and_then};
+ghost use Rattle.smp_split.specs.{Paths.{Entry}, Runs.{KeepsStep, and_then}};
 
 use crate::{Kind, Splitting};
 use std::alloc::{AllocError, AllocFailed, Global};

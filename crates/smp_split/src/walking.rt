@@ -1,8 +1,7 @@
 ghost use Rattle.std.specs.Prelude.{◌≡◌, ℕ, ◌<◌, true, OnOk, Err};
 ghost use Rattle.smp_frac.specs.Fractions.{Fraction, Same};
 ghost use Rattle.smp_tape.specs.declared.draws.DrawFault.{DrawFault};
-ghost use Rattle.smp_split.specs.Means.{mean, value_sum, inclusion_probability};
-ghost use Rattle.smp_split.specs.Runs.{position, Arrived, KeepsOn, Refused, Untold};
+ghost use Rattle.smp_split.specs.{Means.{mean, value_sum, inclusion_probability}, Runs.{position, Arrived, KeepsOn, Refused, Untold}};
 ghost use Rattle.smp_split.specs.declared.walking.WalkFault.TheVariants as fault;
 
 use crate::{NoMemory, Splitting, Trace};

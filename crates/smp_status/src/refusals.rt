@@ -1,7 +1,6 @@
 ghost use Rattle.std.specs.Prelude.{◌≡◌, ◌≤◌, None, Ok, IfOk, option_map, string_bytes};
 ghost use Rattle.smp_status.specs.FaultLines;
-ghost use Rattle.smp_status.specs.FaultLines.{fault_line, design_line, frame_line, misfit_line};
-ghost use Rattle.smp_status.specs.Reports.{Reports, kept_status, put_by};
+ghost use Rattle.smp_status.specs.{FaultLines.{fault_line, design_line, frame_line, misfit_line}, Reports.{Reports, kept_status, put_by}};
 
 use crate::Status;
 use smp_design::DesignFault;

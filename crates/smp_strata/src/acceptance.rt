@@ -3,10 +3,7 @@
 ghost use Rattle.std.specs.Prelude.{◌≡◌, IfOk, length};
 ghost use Rattle.smp_frame.specs.Bounds.{HaveValues, IsFrame};
 ghost use Rattle.smp_design.specs.Bounds.{IsDesign};
-ghost use Rattle.smp_strata.specs.Asked.{AsksAsFrame};
-ghost use Rattle.smp_strata.specs.Bounds.{IsPlan};
-ghost use Rattle.smp_strata.specs.Draws.{DrawsAsAsked, IsAllocated};
-ghost use Rattle.smp_strata.specs.Misfits.{Reports, misfit_of};
+ghost use Rattle.smp_strata.specs.{Asked.{AsksAsFrame}, Bounds.{IsPlan}, Draws.{DrawsAsAsked, IsAllocated}, Misfits.{Reports, misfit_of}};
 ghost use Rattle.smp_strata.specs.Plans.{parts_of};
 
 use crate::building::planned;

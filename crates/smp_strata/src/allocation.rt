@@ -1,14 +1,12 @@
 //! Proportional allocation: how many first stage units each stratum gets.
 
 ghost use Rattle.std.specs.Prelude.{◌≡◌, ℕ, ◌+◌, ◌-◌, ◌*◌, ◌^◌, ◌<◌, ◌≤◌, List, length, map, nat_eq, nat_le, nat_lt, slice_index, sum, sum_by, count_by, EachIndex, IfOk, OnOk, if◌then◌else◌};
-ghost use Rattle.std.specs.List.{range_with_len};
-ghost use Rattle.std.specs.List.Sorted.{IsPermutation};
+ghost use Rattle.std.specs.{List.{range_with_len}, List.Sorted.{IsPermutation}};
 ghost use Rattle.smp_frac.specs.Limits.{most_rows};
 ghost use Rattle.smp_prob.specs.Requested.{IsFalling};
 ghost use Rattle.smp_strata.specs.Allocations;
-ghost use Rattle.smp_strata.specs.Allocations.{IsAllocation, allocation, comes_before, left_over};
+ghost use Rattle.smp_strata.specs.{Allocations.{IsAllocation, allocation, comes_before, left_over}, Kept.Keys.{keys}};
 ghost use Rattle.smp_strata.specs.Kept.Keys;
-ghost use Rattle.smp_strata.specs.Kept.Keys.{keys};
 
 use smp_frac::NoMemory;
 use std::alloc::Global;

@@ -4,22 +4,14 @@ ghost use Rattle.std.specs.Prelude.{◌≡◌, ◌<◌, ◌≤◌, ℕ, None, fa
 ghost use Rattle.smp_frac.specs.Limits.{most_rows, number_limit};
 ghost use Rattle.smp_frame.specs.Bounds.{HaveValues, IsFrame};
 ghost use Rattle.smp_design.specs.Bounds.{IsDesign};
-ghost use Rattle.smp_prob.specs.Given.{AreGiven, common_multiple, largest_multiple};
-ghost use Rattle.smp_prob.specs.Requested.{positive_units, requested_of};
-ghost use Rattle.smp_strata.specs.Bounds.{IsPlan, DrawsWholeOver};
-ghost use Rattle.smp_strata.specs.Clusters.{clusters as clusters_of, stratum_names};
-ghost use Rattle.smp_strata.specs.Rows.{is_large, size_of};
+ghost use Rattle.smp_prob.specs.{Given.{AreGiven, common_multiple, largest_multiple}, Requested.{positive_units, requested_of}};
+ghost use Rattle.smp_strata.specs.{Bounds.{IsPlan, DrawsWholeOver}, Clusters.{clusters as clusters_of, stratum_names}};
+ghost use Rattle.smp_strata.specs.{Rows.{is_large, size_of}, Plans.{parts_of, sample_sizes}, Asked.{AsksAsFrame}};
 ghost use Rattle.smp_strata.specs.Plans as Plans;
-ghost use Rattle.smp_strata.specs.Plans.{parts_of, sample_sizes};
-ghost use Rattle.smp_strata.specs.Asked.{AsksAsFrame};
-ghost use Rattle.smp_strata.specs.Draws.{DrawsAsAsked, IsFor, SecondDraws};
-ghost use Rattle.smp_strata.specs.declared.strata.FirstUnit.{FirstUnit};
-ghost use Rattle.smp_strata.specs.declared.strata.Seat.{Seat};
-ghost use Rattle.smp_strata.specs.declared.strata.Stratum.{Stratum};
-ghost use Rattle.smp_strata.specs.Misfits.{misfit_of};
-ghost use Rattle.smp_strata.specs.Kept.Layouts.{AreGroups, AreRows, IsLaidOut, homes_of};
+ghost use Rattle.smp_strata.specs.{Draws.{DrawsAsAsked, IsFor, SecondDraws}, declared.strata.FirstUnit.{FirstUnit}};
+ghost use Rattle.smp_strata.specs.{declared.strata.Seat.{Seat}, declared.strata.Stratum.{Stratum}, Misfits.{misfit_of}};
+ghost use Rattle.smp_strata.specs.{Kept.Layouts.{AreGroups, AreRows, IsLaidOut, homes_of}, Kept.Sized.{AreSizes, HasSizes}};
 ghost use Rattle.smp_strata.specs.Kept.Built.{Asks, CanBuild, IsBuilt, IsBuiltFirst, IsFirstRequest, IsGivenRequest, SecondAsks, seat_by};
-ghost use Rattle.smp_strata.specs.Kept.Sized.{AreSizes, HasSizes};
 
 use crate::checks::Sizes;
 use crate::groups::Group;

@@ -1,16 +1,12 @@
 //! Why a frame doesn't serve a design: each kind of misfit is looked for in the whole frame.
 
 ghost use Rattle.std.specs.Prelude.{◌≡◌, ◌^◌, ◌<◌, ◌≤◌, None, Some, true, All, IfOk, length, map, nat_eq};
-ghost use Rattle.std.specs.Prelude.{slice_index, slice_index_or, [], ℕ};
-ghost use Rattle.std.specs.List.{range_with_len};
-ghost use Rattle.std.specs.Str.{bytes_eq};
+ghost use Rattle.std.specs.{Prelude.{slice_index, slice_index_or, [], ℕ}, List.{range_with_len}, Str.{bytes_eq}};
 ghost use Rattle.smp_frac.specs.Limits.{most_rows};
 ghost use Rattle.smp_frame.specs.Bounds.{HaveValues, IsFrame};
 ghost use Rattle.smp_prob.specs.Given.{AreGiven, common_multiple, largest_multiple};
 ghost use Rattle.smp_strata.specs.Rows as Rows;
-ghost use Rattle.smp_strata.specs.Rows.{psu_at, stratum_at};
-ghost use Rattle.smp_strata.specs.Clusters.{clusters as clusters_of, first_row};
-ghost use Rattle.smp_strata.specs.Draws.{IsAllocated};
+ghost use Rattle.smp_strata.specs.{Rows.{psu_at, stratum_at}, Clusters.{clusters as clusters_of, first_row}, Draws.{IsAllocated}};
 ghost use Rattle.smp_strata.specs.Misfits.{Reports, first_apart, first_found, misfit_by, misfit_of, probs_misfit, psu_short};
 ghost use Rattle.smp_strata.specs.Misfits.{psu_too_large, row_limit_by, second_too_many, short, sizes_misfit, unit_in_two, when};
 ghost use Rattle.smp_strata.specs.declared.misfit.Misfit.TheVariants as misfits;

@@ -2,8 +2,7 @@
 
 ghost use Rattle.std.specs.Prelude.{◌≡◌, ◌≤◌, ◌<◌, All, IfOk, length, map, slice_index};
 ghost use Rattle.smp_frame.specs.Bounds.{IsFrame};
-ghost use Rattle.smp_strata.specs.Clusters.{clusters, first_row, psu_names, stratum_names, stratum_number};
-ghost use Rattle.smp_strata.specs.Rows.{rows_of};
+ghost use Rattle.smp_strata.specs.{Clusters.{clusters, first_row, psu_names, stratum_names, stratum_number}, Rows.{rows_of}};
 ghost use Rattle.smp_strata.specs.Kept.Layouts as Layouts;
 ghost use Rattle.smp_strata.specs.Kept.Layouts.{AreGroups, AreRows, home_count, psu_number, strata_homes};
 

@@ -1,10 +1,7 @@
 //! Texts numbered in order of first appearance.
 
-ghost use Rattle.std.specs.Prelude.{◌≡◌, map, IfOk};
-ghost use Rattle.std.specs.List.{position_or_len};
-ghost use Rattle.std.specs.Str.{bytes_eq};
-ghost use Rattle.smp_strata.specs.Appearances.{distinct};
-ghost use Rattle.smp_strata.specs.Kept.Seen.{with_text};
+ghost use Rattle.std.specs.{Prelude.{◌≡◌, map, IfOk}, List.{position_or_len}, Str.{bytes_eq}};
+ghost use Rattle.smp_strata.specs.{Appearances.{distinct}, Kept.Seen.{with_text}};
 
 use indexmap::IndexSet;
 use smp_frac::{NoMemory, Text};

@@ -1,13 +1,9 @@
 //! A plan: the strata of a frame, and what is asked of each.
 
 ghost use Rattle.std.specs.Prelude.{◌≡◌, ◌^◌, ◌<◌, ◌≤◌, length, slice_index_or};
-ghost use Rattle.smp_frac.specs.Exact.{fraction};
-ghost use Rattle.smp_frac.specs.Fractions.{Same, over, times};
-ghost use Rattle.smp_prob.specs.Inclusions.{IsRising, asked_fraction};
-ghost use Rattle.smp_prob.specs.Requests.{IsRequest};
-ghost use Rattle.smp_strata.specs.Bounds.{IsStratum};
-ghost use Rattle.smp_strata.specs.Seats.{IsSeat, first_fraction, seat_fraction};
-ghost use Rattle.smp_strata.specs.declared.strata.Seat.{Seat};
+ghost use Rattle.smp_frac.specs.{Exact.{fraction}, Fractions.{Same, over, times}};
+ghost use Rattle.smp_prob.specs.{Inclusions.{IsRising, asked_fraction}, Requests.{IsRequest}};
+ghost use Rattle.smp_strata.specs.{Bounds.{IsStratum}, Seats.{IsSeat, first_fraction, seat_fraction}, declared.strata.Seat.{Seat}};
 
 use crate::{Seat, Stratum};
 use smp_design::{Method, Procedure};
@@ -26,9 +22,7 @@ pub struct Plan {
 
 impl Model for Plan {
     ghost use Rattle.std.specs.Prelude.{All, length};
-    ghost use Rattle.smp_strata.specs.Plans.{Parts};
-    ghost use Rattle.smp_strata.specs.Bounds.{IsStratum};
-    ghost use Rattle.smp_strata.specs.Kept.Built.{AreSeats};
+    ghost use Rattle.smp_strata.specs.{Plans.{Parts}, Bounds.{IsStratum}, Kept.Built.{AreSeats}};
 
     ghost Value = { Parts };
 

@@ -1,17 +1,14 @@
 //! Sizes of first stage units, and how many of these are drawn from each stratum.
 
-ghost use Rattle.std.specs.Prelude.{◌≡◌, ◌<◌, ◌≤◌, All, IfOk, IfSome, length, map, slice_index, sum};
-ghost use Rattle.std.specs.Ordering.{nat_cmp};
+ghost use Rattle.std.specs.{Prelude.{◌≡◌, ◌<◌, ◌≤◌, All, IfOk, IfSome, length, map, slice_index, sum}, Ordering.{nat_cmp}};
 ghost use Rattle.std.specs.Cmp.Lexicographic.{slice_cmp};
 ghost use Rattle.smp_frac.specs.Limits.{most_rows, number_limit};
 ghost use Rattle.smp_frame.specs.Bounds.{IsFrame};
 ghost use Rattle.smp_design.specs.Bounds.{Ascend, IsDesign};
 ghost use Rattle.smp_prob.specs.Requested as Requested;
-ghost use Rattle.smp_strata.specs.Allocations.{IsAllocation};
+ghost use Rattle.smp_strata.specs.{Allocations.{IsAllocation}, Plans.{sizes_by}, Kept.Layouts.{AreRows, prob_of}};
 ghost use Rattle.smp_strata.specs.Rows as Rows;
 ghost use Rattle.smp_strata.specs.Plans as Plans;
-ghost use Rattle.smp_strata.specs.Plans.{sizes_by};
-ghost use Rattle.smp_strata.specs.Kept.Layouts.{AreRows, prob_of};
 
 use crate::allocation::allocation;
 use crate::groups::Group;

@@ -3,8 +3,7 @@
 ghost use Rattle.std.specs.Prelude.{◌≡◌, ◌*◌, ◌+◌, ◌-◌, ◌<◌, ◌≤◌, ℕ, IfOk, false, length, nat_abs, nat_le};
 ghost use Rattle.smp_frac.specs.Limits.{number_limit};
 ghost use Rattle.smp_frame.specs.Bounds.{HaveValues, IsFrame};
-ghost use Rattle.smp_strata.specs.Kept.Layouts.{AreRows};
-ghost use Rattle.smp_strata.specs.Rows.{is_large, size_of, value_of, values_of};
+ghost use Rattle.smp_strata.specs.{Kept.Layouts.{AreRows}, Rows.{is_large, size_of, value_of, values_of}};
 
 use crate::MAX_SUM;
 use smp_frac::NoMemory;

@@ -2,14 +2,9 @@
 
 ghost use Rattle.std.specs.Prelude.{◌≡◌, ◌≤◌, IfOk, length};
 ghost use Rattle.smp_moves.specs.Cubes.{left_in};
-ghost use Rattle.smp_stratcube.specs.Layers.{AreLayers};
-ghost use Rattle.smp_stratcube.specs.Units.{IsUnits, Units, units_of};
-ghost use Rattle.smp_stratcube.specs.Requests.{AreRequested};
-ghost use Rattle.smp_stratcube.specs.States.{requested_values, started};
-ghost use Rattle.smp_stratcube.specs.Balances.{IsBalanced};
-ghost use Rattle.smp_stratcube.specs.Counts.{HasCounts};
+ghost use Rattle.smp_stratcube.specs.{Layers.{AreLayers}, Units.{IsUnits, Units, units_of}, Requests.{AreRequested}};
+ghost use Rattle.smp_stratcube.specs.{States.{requested_values, started}, Balances.{IsBalanced}, Counts.{HasCounts}, Method.{method_of}};
 ghost use Rattle.smp_split.specs.Methods.{HasMeans};
-ghost use Rattle.smp_stratcube.specs.Method.{method_of};
 
 use crate::fronts::{EMPTY, front_of};
 use crate::layers::Layers;

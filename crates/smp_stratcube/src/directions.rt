@@ -1,16 +1,11 @@
 //! The direction of a circuit.
 
-ghost use Rattle.std.specs.Prelude.{◌≡◌, ◌≤◌, ◌<◌, ◌^◌, ◌-◌, ℕ, MatchOption, false, length, map, pos, take};
-ghost use Rattle.std.specs.Prelude.{unsigned_abs};
-ghost use Rattle.std.specs.List.{All};
+ghost use Rattle.std.specs.{Prelude.{◌≡◌, ◌≤◌, ◌<◌, ◌^◌, ◌-◌, ℕ, MatchOption, false, length, map, pos, take, unsigned_abs}, List.{All}};
 ghost use Rattle.smp_frac.specs.Limits.{most_denominator, most_entry, number_limit};
 ghost use Rattle.smp_kernel.specs.Vectors.{IsZero, Within, entry};
-ghost use Rattle.smp_stratcube.specs.Units.{IsUnits, columns_of, share};
-ghost use Rattle.smp_moves.specs.Steps.{product, signed};
-ghost use Rattle.smp_moves.specs.Steps.{common_multiple};
-ghost use Rattle.smp_stratcube.specs.Kept.Gates.{IsSome, held};
+ghost use Rattle.smp_stratcube.specs.{Units.{IsUnits, columns_of, share}, Kept.Gates.{IsSome, held}};
+ghost use Rattle.smp_moves.specs.Steps.{product, signed, common_multiple, scale_of, scaled};
 ghost use Rattle.smp_stratcube.specs.Kept.Lines.{AreInside, AreParts, IsLineOf, IsPart, direction_fits, over, part};
-ghost use Rattle.smp_moves.specs.Steps.{scale_of, scaled};
 
 use crate::fronts::Front;
 use crate::units::Units;

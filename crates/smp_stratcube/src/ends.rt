@@ -2,16 +2,10 @@
 
 ghost use Rattle.std.specs.Prelude.{◌≡◌, ◌≤◌, ◌<◌, ◌*◌, ◌/◌, ℕ, List, length, nat_le, slice_index, take};
 ghost use Rattle.smp_frac.specs.Limits.{most_denominator, most_entry};
-ghost use Rattle.smp_moves.specs.Moves.{IsLine, entry_of};
-ghost use Rattle.smp_moves.specs.Ends.{reach};
-ghost use Rattle.smp_moves.specs.Answers.{IsPadded, line_of};
+ghost use Rattle.smp_moves.specs.{Moves.{IsLine, entry_of}, Ends.{reach}, Answers.{IsPadded, line_of}};
 ghost use Rattle.smp_moves.specs.Kept.Ends.{CanMove, HasSmallEntries};
-ghost use Rattle.smp_stratcube.specs.Units.{IsUnits};
-ghost use Rattle.smp_stratcube.specs.Values.{IsValue, AreValues, over_common, value};
-ghost use Rattle.smp_stratcube.specs.Moves.{line_common};
-ghost use Rattle.smp_stratcube.specs.Kept.Fronts.{IsFront};
-ghost use Rattle.smp_stratcube.specs.Kept.Gates.{held};
-ghost use Rattle.smp_stratcube.specs.Kept.Lines.{AreInside};
+ghost use Rattle.smp_stratcube.specs.{Units.{IsUnits}, Values.{IsValue, AreValues, over_common, value}, Moves.{line_common}};
+ghost use Rattle.smp_stratcube.specs.{Kept.Fronts.{IsFront}, Kept.Gates.{held}, Kept.Lines.{AreInside}};
 ghost use Rattle.smp_stratcube.specs.Kept.Moves.{AreMoved, IsAlong, end_gathered, moved_value};
 
 use crate::fronts::Front;

@@ -1,9 +1,7 @@
 //! Common denominators that are held to the gate.
 
 ghost use Rattle.std.specs.Prelude.{◌≡◌, ℕ, ◌<◌, ◌≤◌, Some, length, slice_index, take};
-ghost use Rattle.smp_stratcube.specs.Units.{IsUnits, first, stratum};
-ghost use Rattle.smp_stratcube.specs.Values.{IsValue, value};
-ghost use Rattle.smp_stratcube.specs.Kept.Gates.{IsSome, gathered, with_unit};
+ghost use Rattle.smp_stratcube.specs.{Units.{IsUnits, first, stratum}, Values.{IsValue, value}, Kept.Gates.{IsSome, gathered, with_unit}};
 
 use crate::fronts::Front;
 use crate::units::Units;

@@ -2,8 +2,7 @@
 
 ghost use Rattle.std.specs.Prelude.{◌≡◌, ◌∷◌, ◌++◌, ◌≤◌, ◌<◌, [], IfErr, IfOk, length, map, slice_index_or, take};
 ghost use Rattle.smp_prob.specs.Requests.{IsRequest};
-ghost use Rattle.smp_stratcube.specs.Layers.{AreNumbers, layer_of};
-ghost use Rattle.smp_stratcube.specs.Kept.Layers.{IsFilledUp};
+ghost use Rattle.smp_stratcube.specs.{Layers.{AreNumbers, layer_of}, Kept.Layers.{IsFilledUp}};
 
 use smp_frac::NoMemory;
 use smp_frame::Numbers;

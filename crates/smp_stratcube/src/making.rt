@@ -1,15 +1,11 @@
 //! The units of some strata.
 
-ghost use Rattle.std.specs.Prelude.{◌≡◌, ℕ, ◌+◌, ◌<◌, ◌≤◌, ◌++◌, IfOk, length, map, slice_index};
-ghost use Rattle.std.specs.Prelude.{slice_index_or, take};
+ghost use Rattle.std.specs.Prelude.{◌≡◌, ℕ, ◌+◌, ◌<◌, ◌≤◌, ◌++◌, IfOk, length, map, slice_index, slice_index_or, take};
 ghost use Rattle.std.specs.List.{range_with_len};
 ghost use Rattle.smp_frac.specs.Limits.{number_limit};
 ghost use Rattle.smp_kernel.specs.Vectors.{entry};
-ghost use Rattle.smp_stratcube.specs.Layers.{AreLayers, variables, width};
-ghost use Rattle.smp_stratcube.specs.Units.{IsUnits, column_of, member_of, units_of};
-ghost use Rattle.smp_stratcube.specs.Requests.{AreRequested};
-ghost use Rattle.smp_stratcube.specs.States.{started};
-ghost use Rattle.smp_stratcube.specs.Kept.Behind.{AreBehind, HaveCommon};
+ghost use Rattle.smp_stratcube.specs.{Layers.{AreLayers, variables, width}, Units.{IsUnits, column_of, member_of, units_of}};
+ghost use Rattle.smp_stratcube.specs.{Requests.{AreRequested}, States.{started}, Kept.Behind.{AreBehind, HaveCommon}};
 ghost use Rattle.smp_stratcube.specs.Kept.Layers.{EachIsLayer};
 
 use crate::layers::{Layer, Layers};

@@ -2,11 +2,8 @@
 
 ghost use Rattle.std.specs.Prelude.{◌≡◌, ◌<◌, ◌≤◌, Some, false, length};
 ghost use Rattle.smp_split.specs.Trees.{picked, weight_sum};
-ghost use Rattle.smp_stratcube.specs.Units.{IsUnits};
-ghost use Rattle.smp_stratcube.specs.Values.{fractional_units, is_settled, stratum_common, value};
-ghost use Rattle.smp_stratcube.specs.Pairs.{first_pair, paired_kind, paired_parts};
-ghost use Rattle.smp_stratcube.specs.States.{IsPairing};
-ghost use Rattle.smp_stratcube.specs.Kept.Fronts.{IsFront};
+ghost use Rattle.smp_stratcube.specs.{Units.{IsUnits}, Values.{fractional_units, is_settled, stratum_common, value}};
+ghost use Rattle.smp_stratcube.specs.{Pairs.{first_pair, paired_kind, paired_parts}, States.{IsPairing}, Kept.Fronts.{IsFront}};
 ghost use Rattle.smp_stratcube.specs.Kept.Pairs.{AreMet, HasStratum, IsOfFront, settled_value};
 
 use crate::fronts::Front;

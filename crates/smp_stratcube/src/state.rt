@@ -4,13 +4,9 @@ ghost use Rattle.std.specs.Prelude.{◌≡◌, ◌*◌, ◌<◌, ◌≤◌, fals
 ghost use Rattle.smp_frac.specs.Limits.{most_rows};
 ghost use Rattle.smp_split.specs.Trees.{picked, weight_sum};
 ghost use Rattle.smp_moves.specs.Cubes.{landed, values_in};
-ghost use Rattle.smp_stratcube.specs.States.{Balancing, Flight, IsBalancing, IsFlying};
-ghost use Rattle.smp_stratcube.specs.Values.{fractional_count, is_one, is_settled};
-ghost use Rattle.smp_stratcube.specs.Kept.Trees.{strat_kind, strat_parts};
-ghost use Rattle.smp_stratcube.specs.Kept.Fronts.{IsFront};
-ghost use Rattle.smp_stratcube.specs.Kept.Moves.{HasGone, IsMoveOf};
-ghost use Rattle.smp_stratcube.specs.Kept.Computed.{flight_of};
-ghost use Rattle.smp_stratcube.specs.Kept.States.{IsKept, balancing_of};
+ghost use Rattle.smp_stratcube.specs.{States.{Balancing, Flight, IsBalancing, IsFlying}, Values.{fractional_count, is_one, is_settled}};
+ghost use Rattle.smp_stratcube.specs.{Kept.Trees.{strat_kind, strat_parts}, Kept.Fronts.{IsFront}, Kept.Moves.{HasGone, IsMoveOf}};
+ghost use Rattle.smp_stratcube.specs.{Kept.Computed.{flight_of}, Kept.States.{IsKept, balancing_of}};
 
 use crate::ends::go;
 use crate::fronts::{Front, front_of};

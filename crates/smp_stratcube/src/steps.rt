@@ -1,15 +1,9 @@
 //! One step of the flight.
 
 ghost use Rattle.std.specs.Prelude.{take};
-ghost use Rattle.smp_kernel.specs.RowReduction.{cut};
-ghost use Rattle.smp_kernel.specs.Searches.{IsSearch};
-ghost use Rattle.smp_kernel.specs.Searched.{answer, ArePadded};
-ghost use Rattle.smp_stratcube.specs.Units.{columns_of};
-ghost use Rattle.smp_stratcube.specs.States.{IsFlying};
-ghost use Rattle.smp_stratcube.specs.Kept.Fronts.{IsFront};
-ghost use Rattle.smp_stratcube.specs.Kept.Moves.{IsStep};
-ghost use Rattle.smp_stratcube.specs.Kept.Computed.{flight_of};
-ghost use Rattle.smp_stratcube.specs.Kept.Steps.{HasDirection};
+ghost use Rattle.smp_kernel.specs.{RowReduction.{cut}, Searches.{IsSearch}, Searched.{answer, ArePadded}};
+ghost use Rattle.smp_stratcube.specs.{Units.{columns_of}, States.{IsFlying}, Kept.Fronts.{IsFront}, Kept.Moves.{IsStep}};
+ghost use Rattle.smp_stratcube.specs.{Kept.Computed.{flight_of}, Kept.Steps.{HasDirection}};
 
 use crate::directions::{columns_of, direction};
 use crate::ends::{denominator, end_fits, reach_along};

@@ -1,8 +1,7 @@
 //! The units of all strata.
 
 ghost use Rattle.std.specs.Prelude.{◌≡◌, ◌<◌, ◌≤◌, ◌^◌, length, slice_index};
-ghost use Rattle.smp_stratcube.specs.Units.{IsUnits, column, first, member, share, stratum};
-ghost use Rattle.smp_stratcube.specs.States.{requested_value};
+ghost use Rattle.smp_stratcube.specs.{Units.{IsUnits, column, first, member, share, stratum}, States.{requested_value}};
 ghost use Rattle.smp_stratcube.specs.Kept.Behind.{IsBehind};
 
 use crate::values::Value;

@@ -5,8 +5,7 @@ ghost use Rattle.smp_frac.specs.Limits.{most_denominator};
 ghost use Rattle.smp_prob.specs.Given.{least_multiple};
 ghost use Rattle.smp_values.specs.Values.{fractional};
 ghost use Rattle.smp_moves.specs.Ends.{lowest};
-ghost use Rattle.smp_stratcube.specs.Values.{IsValue};
-ghost use Rattle.smp_stratcube.specs.Kept.Gates.{IsSome, gated};
+ghost use Rattle.smp_stratcube.specs.{Values.{IsValue}, Kept.Gates.{IsSome, gated}};
 
 use smp_frac::{gcd, lcm_within, quotient};
 use smp_moves::{Ratio, lowest};

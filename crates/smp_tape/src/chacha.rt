@@ -1,8 +1,6 @@
 ghost use Rattle.std.specs.Prelude.{◌≡◌, ℕ};
 ghost use Rattle.rand_chacha.specs.ChaCha.{key_of};
-ghost use Rattle.smp_tape.specs.Keys.{key_word, words_of_seed};
-ghost use Rattle.smp_tape.specs.SieveSources.{key_stream};
-ghost use Rattle.smp_tape.specs.Streams.{ahead};
+ghost use Rattle.smp_tape.specs.{Keys.{key_word, words_of_seed}, SieveSources.{key_stream}, Streams.{ahead}};
 
 use crate::Words;
 use rand_chacha::ChaCha20Rng;

@@ -1,9 +1,7 @@
-ghost use Rattle.std.specs.Prelude.{◌≡◌, ◌∷◌, ◌<◌, ◌^◌, length};
-ghost use Rattle.std.specs.Io.BufRead.{strip_last};
-ghost use Rattle.smp_tape.specs.TapeText.{lines_in, tape_of};
+ghost use Rattle.std.specs.{Prelude.{◌≡◌, ◌∷◌, ◌<◌, ◌^◌, length}, Io.BufRead.{strip_last}};
+ghost use Rattle.smp_tape.specs.{TapeText.{lines_in, tape_of}, Faults.{is_memory}};
 ghost use Rattle.smp_tape.specs.TapeText;
 ghost use Rattle.smp_frac.specs.Memory.{Gives};
-ghost use Rattle.smp_tape.specs.Faults.{is_memory};
 
 use crate::TapeFault;
 use smp_frac::{cut_before, number};

@@ -1,8 +1,6 @@
 ghost use Rattle.std.specs.Prelude.{◌≡◌, ◌*◌, ◌^◌, ◌<◌, ◌≤◌, IfOk, IfErr};
 ghost use Rattle.smp_frac.specs.Limits.{wide_limit};
-ghost use Rattle.smp_tape.specs.Fair.{IsFair};
-ghost use Rattle.smp_tape.specs.SieveSources.{sieve_source};
-ghost use Rattle.smp_tape.specs.Streams.{ahead, behind};
+ghost use Rattle.smp_tape.specs.{Fair.{IsFair}, SieveSources.{sieve_source}, Streams.{ahead, behind}};
 ghost use Rattle.smp_tape.specs.Sieves.{AllThrown, IsFirst, block, first_below, sieve_next};
 
 use crate::{DrawFault, Draws, Words};

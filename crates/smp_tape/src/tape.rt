@@ -1,9 +1,6 @@
 ghost use Rattle.std.specs.Prelude.{◌≡◌, ◌≤◌, [], length, take, drop, IfOk};
-ghost use Rattle.smp_tape.specs.TapeSources.{tape_source};
+ghost use Rattle.smp_tape.specs.{TapeSources.{tape_source}, Faults.{is_memory}, TapeText.{tape_of}, Tapes.{Values}};
 ghost use Rattle.smp_frac.specs.Memory.{Gives};
-ghost use Rattle.smp_tape.specs.Faults.{is_memory};
-ghost use Rattle.smp_tape.specs.TapeText.{tape_of};
-ghost use Rattle.smp_tape.specs.Tapes.{Values};
 
 use crate::reading::values_in;
 use crate::{DrawFault, Draws, TapeFault};

@@ -1,7 +1,6 @@
 //! What holds of every selection from a stratum, or from all strata together.
 
-ghost use Rattle.smp_twostage.specs.Totals.{EachFrameIsBalanced, EachIsBalanced};
-ghost use Rattle.smp_twostage.specs.Reports.{EachLineTells, EachRowTells};
+ghost use Rattle.smp_twostage.specs.{Totals.{EachFrameIsBalanced, EachIsBalanced}, Reports.{EachLineTells, EachRowTells}};
 
 /// The law that every selection from a stratum by the cube, or by the local cube, is balanced: its flight keeps each total in force
 /// exactly, its landing begins only where no direction is left or the next step doesn't fit, and the units that are undecided there

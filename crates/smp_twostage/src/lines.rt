@@ -1,15 +1,12 @@
 //! What the report tells of the strata that are balanced.
 
-ghost use Rattle.std.specs.Prelude.{◌≡◌, ◌++◌, ◌+◌, ◌^◌, ◌<◌, true, length, map, IfOk, OnOk, string_bytes};
-ghost use Rattle.std.specs.List.{flat_map, slice_get};
+ghost use Rattle.std.specs.{Prelude.{◌≡◌, ◌++◌, ◌+◌, ◌^◌, ◌<◌, true, length, map, IfOk, OnOk, string_bytes}, List.{flat_map, slice_get}};
 ghost use Rattle.smp_design.specs.Words.{balances};
 ghost use Rattle.smp_frac.specs.LowestTerms.{lowest_terms};
 ghost use Rattle.smp_strata.specs.Seats.{first_fraction};
 ghost use Rattle.smp_twostage.specs.Kept.Stages.{IsThere, each_told, section_lines, told_count, told_seat};
-ghost use Rattle.smp_twostage.specs.Lines.{balance_lines, seat_values, told_sections};
-ghost use Rattle.smp_twostage.specs.Plans.{CanBeDrawn};
-ghost use Rattle.smp_twostage.specs.Selections.{BelongsToCovered, covered_tree, covers};
-ghost use Rattle.smp_twostage.specs.Starts.{covered_first};
+ghost use Rattle.smp_twostage.specs.{Lines.{balance_lines, seat_values, told_sections}, Plans.{CanBeDrawn}};
+ghost use Rattle.smp_twostage.specs.{Selections.{BelongsToCovered, covered_tree, covers}, Starts.{covered_first}};
 
 use crate::{DrawnUnits, Whole, section_count};
 use smp_frac::{Frac, NoMemory};

@@ -1,17 +1,13 @@
 //! The stages of a plan, each with the state that it starts from.
 
 ghost use Rattle.std.specs.Prelude.{◌≡◌, ◌<◌, ◌≤◌, ◌+◌, ◌^◌, suc, ◌++◌, ◌∷◌, [], true, None};
-ghost use Rattle.std.specs.Prelude.{Some, All, IfOk, OnOk, length, map, slice_index_or};
-ghost use Rattle.std.specs.List.{range_with_len};
-ghost use Rattle.smp_prob.specs.Requests.{IsRequest};
-ghost use Rattle.smp_prob.specs.Inclusions.{IsRising};
+ghost use Rattle.std.specs.{Prelude.{Some, All, IfOk, OnOk, length, map, slice_index_or}, List.{range_with_len}};
+ghost use Rattle.smp_prob.specs.{Requests.{IsRequest}, Inclusions.{IsRising}};
 ghost use Rattle.smp_design.specs.Words.{draws_together};
-ghost use Rattle.smp_methods.specs.Designs.{design_of, design_of_strata, first_state};
-ghost use Rattle.smp_methods.specs.Procedures.{NeedsWhole, TakesValues};
+ghost use Rattle.smp_methods.specs.{Designs.{design_of, design_of_strata, first_state}, Procedures.{NeedsWhole, TakesValues}};
 ghost use Rattle.smp_methods.specs.Starts.{AreStarted};
 ghost use Rattle.smp_strata.specs.Bounds.{IsFirst};
-ghost use Rattle.smp_twostage.specs.Kept.Stages.{EachFirst, EachStarts, IsPlanned, StageStarts};
-ghost use Rattle.smp_twostage.specs.Plans.{CanBeDrawn, TakesRows};
+ghost use Rattle.smp_twostage.specs.{Kept.Stages.{EachFirst, EachStarts, IsPlanned, StageStarts}, Plans.{CanBeDrawn, TakesRows}};
 ghost use Rattle.smp_twostage.specs.Strata as Strata;
 ghost use Rattle.smp_twostage.specs.Selections as Selections;
 ghost use Rattle.smp_twostage.specs.Selections.{first_number, first_stage, layers_of, parts_by, stage_of_strata, valued};

@@ -1,11 +1,9 @@
 //! How the units of one stage are drawn.
 
 ghost use Rattle.std.specs.Prelude.{◌≡◌};
-ghost use Rattle.smp_methods.specs.Designs.{left_at};
-ghost use Rattle.smp_methods.specs.Methods.{method_of};
+ghost use Rattle.smp_methods.specs.{Designs.{left_at}, Methods.{method_of}};
 ghost use Rattle.smp_split.specs.Laws.Rows.{rows_method};
-ghost use Rattle.smp_twostage.specs.Kept.Stages.{asked_view};
-ghost use Rattle.smp_twostage.specs.Selections.{belongs_to, tree_of};
+ghost use Rattle.smp_twostage.specs.{Kept.Stages.{asked_view}, Selections.{belongs_to, tree_of}};
 
 use smp_methods::{AnyDesign, AnyState};
 use smp_prob::{Inclusion, Request};
@@ -40,8 +38,7 @@ pub struct StageDesign<'a> {
 }
 
 impl<'a> Model for StageDesign<'a> {
-    ghost use Rattle.smp_twostage.specs.Kept.Stages.{asked_view};
-    ghost use Rattle.smp_twostage.specs.Selections.{Selecting};
+    ghost use Rattle.smp_twostage.specs.{Kept.Stages.{asked_view}, Selections.{Selecting}};
 
     ghost Value = { Selecting };
 

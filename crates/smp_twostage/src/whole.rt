@@ -1,16 +1,13 @@
 //! The whole selection.
 
-ghost use Rattle.std.specs.Prelude.{◌≡◌, ◌∷◌, [], ◌<◌, ◌≤◌, ◌^◌, suc, ◌+◌, true, is_some, None, Some, IfOk};
-ghost use Rattle.std.specs.Prelude.{length, map};
+ghost use Rattle.std.specs.Prelude.{◌≡◌, ◌∷◌, [], ◌<◌, ◌≤◌, ◌^◌, suc, ◌+◌, true, is_some, None, Some, IfOk, length, map};
 ghost use Rattle.std.specs.List.{range_with_len, slice_get};
 ghost use Rattle.smp_methods.specs.Designs.{left_at};
 ghost use Rattle.smp_split.specs.StageStarts.{StartsInStages};
 ghost use Rattle.smp_strata.specs.declared.strata.Stratum.{Stratum};
 ghost use Rattle.smp_design.specs.Words.{draws_together};
-ghost use Rattle.smp_twostage.specs.Covered.{StartsAlone, covered_left};
-ghost use Rattle.smp_twostage.specs.Kept.Stages.{EachFirst, first_numbers};
-ghost use Rattle.smp_twostage.specs.Laws.Wholes.{covered_method, strata_sectioned};
-ghost use Rattle.smp_twostage.specs.Plans.{CanBeDrawn};
+ghost use Rattle.smp_twostage.specs.{Covered.{StartsAlone, covered_left}, Kept.Stages.{EachFirst, first_numbers}};
+ghost use Rattle.smp_twostage.specs.{Laws.Wholes.{covered_method, strata_sectioned}, Plans.{CanBeDrawn}};
 ghost use Rattle.smp_twostage.specs.Selections as Selections;
 ghost use Rattle.smp_twostage.specs.Selections.{BelongsToCovered, all_of, belongs_to, covered_seats, covered_stages, covered_start};
 ghost use Rattle.smp_twostage.specs.Selections.{covered_states, covered_tree, covers, first_place, is_only, one_of, seat_by};
@@ -46,8 +43,7 @@ pub struct Whole<'a> {
 
 impl<'a> Model for Whole<'a> {
     ghost use Rattle.std.specs.Prelude.{◌≡◌};
-    ghost use Rattle.smp_twostage.specs.Kept.Stages.{first_numbers};
-    ghost use Rattle.smp_twostage.specs.Selections.{Coverage, covered_seats, covered_stages};
+    ghost use Rattle.smp_twostage.specs.{Kept.Stages.{first_numbers}, Selections.{Coverage, covered_seats, covered_stages}};
 
     ghost Value = { Coverage };
 

@@ -1,13 +1,9 @@
 //! The design of a method that settles the values at places, over units that stand in an order.
 
 ghost use Rattle.std.specs.Prelude.{◌≡◌, ℕ, ◌^◌, ◌<◌, length, IfOk};
-ghost use Rattle.smp_prob.specs.Requests.{IsRequest};
-ghost use Rattle.smp_prob.specs.Shares.{Shares};
-ghost use Rattle.smp_split.specs.Counts.{LeavesSelectAround};
-ghost use Rattle.smp_split.specs.Methods.{Starts};
-ghost use Rattle.smp_split.specs.Orders.{Ordered, in_order};
-ghost use Rattle.smp_values.specs.InOrder.{IsPlacedBy, placed_method, placed_tree, started};
-ghost use Rattle.smp_values.specs.Starts.{IsRequested, ordered_values};
+ghost use Rattle.smp_prob.specs.{Requests.{IsRequest}, Shares.{Shares}};
+ghost use Rattle.smp_split.specs.{Counts.{LeavesSelectAround}, Methods.{Starts}, Orders.{Ordered, in_order}};
+ghost use Rattle.smp_values.specs.{InOrder.{IsPlacedBy, placed_method, placed_tree, started}, Starts.{IsRequested, ordered_values}};
 ghost use Rattle.smp_values.specs.Values.{IsValues};
 
 use crate::{PlaceSteps, SelectionState, Values, unit_order};

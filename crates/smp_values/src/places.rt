@@ -3,8 +3,7 @@
 ghost use Rattle.std.specs.Prelude.{◌≡◌, ℕ, ◌<◌, false, length};
 ghost use Rattle.smp_split.specs.Trees.{weight_sum, picked};
 ghost use Rattle.smp_prob.specs.Shares.{Shares};
-ghost use Rattle.smp_values.specs.InOrder.{StepRule, LawfulRule};
-ghost use Rattle.smp_values.specs.Values.{IsValues, exchanged_values, is_one, is_settled};
+ghost use Rattle.smp_values.specs.{InOrder.{StepRule, LawfulRule}, Values.{IsValues, exchanged_values, is_one, is_settled}};
 
 use crate::Values;
 use smp_split::Kind;

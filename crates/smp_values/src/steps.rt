@@ -4,8 +4,7 @@ ghost use Rattle.std.specs.Prelude.{◌≡◌, ℕ, ◌<◌, false, length};
 ghost use Rattle.smp_frac.specs.Limits.{most_denominator};
 ghost use Rattle.smp_split.specs.Trees.{weight_sum, picked};
 ghost use Rattle.smp_prob.specs.Shares.{Shares};
-ghost use Rattle.smp_values.specs.Values.{IsValues, exchanged_values, is_one, is_settled};
-ghost use Rattle.smp_values.specs.Steps.{pivotal_kind, pivotal_parts};
+ghost use Rattle.smp_values.specs.{Values.{IsValues, exchanged_values, is_one, is_settled}, Steps.{pivotal_kind, pivotal_parts}};
 ghost use Rattle.smp_values.specs.Kept.Places.{IsPlaced};
 
 use crate::Values;

@@ -1,14 +1,10 @@
 //! Values from 0 to 1, as numerators over one denominator.
 
-ghost use Rattle.std.specs.Prelude.{◌≡◌, ℕ, ◌+◌, ◌^◌, ◌<◌, ◌≤◌, true, IfOk, length, replicate};
-ghost use Rattle.std.specs.Prelude.{slice_index};
-ghost use Rattle.smp_prob.specs.Requests.{IsRequest};
-ghost use Rattle.smp_prob.specs.Shares.{Shares, shares_of};
+ghost use Rattle.std.specs.Prelude.{◌≡◌, ℕ, ◌+◌, ◌^◌, ◌<◌, ◌≤◌, true, IfOk, length, replicate, slice_index};
+ghost use Rattle.smp_prob.specs.{Requests.{IsRequest}, Shares.{Shares, shares_of}};
 ghost use Rattle.smp_split.specs.Trees.{weight_sum, picked};
-ghost use Rattle.smp_values.specs.Values.{exchanged_values, fractional_at, fractional_count};
-ghost use Rattle.smp_values.specs.Values.{is_fractional, is_one, is_settled, with_one};
-ghost use Rattle.smp_values.specs.Kept.Places.{IsGoing, OnlyBefore, fractional_from, first_of};
-ghost use Rattle.smp_values.specs.Kept.Places.{second_of, parts_at};
+ghost use Rattle.smp_values.specs.Values.{exchanged_values, fractional_at, fractional_count, is_fractional, is_one, is_settled, with_one};
+ghost use Rattle.smp_values.specs.Kept.Places.{IsGoing, OnlyBefore, fractional_from, first_of, second_of, parts_at};
 
 use crate::pairs::{pair_apply, pair_bound};
 use smp_frac::NoMemory;

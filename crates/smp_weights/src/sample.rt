@@ -1,8 +1,6 @@
 ghost use Rattle.std.specs.Prelude.{◌≡◌, ◌≤◌, [], None, Some, length, IfOk, OnErr, OnOk};
 ghost use Rattle.smp_frac.specs.Exact.{fraction};
-ghost use Rattle.smp_weights.specs.Chosen.{ChosenArePositive};
-ghost use Rattle.smp_weights.specs.Rows.{AddsRow};
-ghost use Rattle.smp_weights.specs.Sample.{sample_row, sample_file, sample_text};
+ghost use Rattle.smp_weights.specs.{Chosen.{ChosenArePositive}, Rows.{AddsRow}, Sample.{sample_row, sample_file, sample_text}};
 
 use crate::CsvRows;
 use crate::weights::weight_of;

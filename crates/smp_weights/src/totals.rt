@@ -1,9 +1,7 @@
 ghost use Rattle.std.specs.Prelude.{◌≡◌, ◌≤◌, length, filter, IfOk};
-ghost use Rattle.smp_frac.specs.Fractions.{Same};
-ghost use Rattle.smp_frac.specs.Exact.{signed_fraction};
-ghost use Rattle.smp_weights.specs.Chosen.{ChosenArePositive, chosen_units};
+ghost use Rattle.smp_frac.specs.{Fractions.{Same}, Exact.{signed_fraction}};
+ghost use Rattle.smp_weights.specs.{Chosen.{ChosenArePositive, chosen_units}, Totals.{estimate_of, term_of, total_of}};
 ghost use Rattle.smp_weights.specs.Totals as Totals;
-ghost use Rattle.smp_weights.specs.Totals.{estimate_of, term_of, total_of};
 ghost use Rattle.smp_weights.specs.Values.{weighted_total};
 
 use crate::weights::weight_of;

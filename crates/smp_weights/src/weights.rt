@@ -1,6 +1,5 @@
 ghost use Rattle.std.specs.Prelude.{◌≤◌};
-ghost use Rattle.smp_frac.specs.Exact.{fraction};
-ghost use Rattle.smp_frac.specs.Fractions.{Same};
+ghost use Rattle.smp_frac.specs.{Exact.{fraction}, Fractions.{Same}};
 ghost use Rattle.smp_weights.specs.Chosen.{weight};
 
 use smp_frac::Frac;

@@ -2,9 +2,8 @@
 
 ghost use Rattle.std.specs.Prelude.{◌≡◌, IfOk, map, option_map, string_bytes, false};
 ghost use Rattle.clap.specs.Words.{app_of, rule_of, rows_of, found_of, first_of, all_of};
-ghost use Rattle.smp_words.specs.Views.{names_view};
+ghost use Rattle.smp_words.specs.{Views.{names_view}, CommandLine.{command_rule, rest_rule, option_rule, with_options}};
 ghost use Rattle.smp_words.specs.CommandLine;
-ghost use Rattle.smp_words.specs.CommandLine.{command_rule, rest_rule, option_rule, with_options};
 ghost use Rattle.smp_words.specs.CommandLine.{plain_app, sampler_app, words_of};
 
 use clap::error::ErrorKind;

@@ -1,11 +1,8 @@
 //! What a command line gives.
 
-ghost use Rattle.std.specs.Prelude.{◌≡◌, map};
-ghost use Rattle.std.specs.List.{list_any};
-ghost use Rattle.std.specs.Str.{bytes_eq};
+ghost use Rattle.std.specs.{Prelude.{◌≡◌, map}, List.{list_any}, Str.{bytes_eq}};
 ghost use Rattle.clap.specs.Words.{rows_of, found_of};
-ghost use Rattle.smp_words.specs.CommandLine.{option_names};
-ghost use Rattle.smp_words.specs.Views.{given_view, named_view, names_view};
+ghost use Rattle.smp_words.specs.{CommandLine.{option_names}, Views.{given_view, named_view, names_view}};
 ghost use Rattle.smp_words.specs.Words;
 ghost use Rattle.smp_words.specs.Words.{given_of, options_of, has_only, all_distinct, number_from, seed_from};
 
