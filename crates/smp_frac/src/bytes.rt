@@ -1,4 +1,4 @@
-ghost use Rattle.std.specs.Prelude.{◌≡◌, ◌++◌, [], OnOk, OnErr};
+ghost use Rattle.std.specs.Prelude.{◌≡◌, ◌+◌, ◌≤◌, ◌++◌, [], length, take, OnOk, OnErr};
 
 use crate::NoMemory;
 use std::alloc::Global;
@@ -50,4 +50,12 @@ impl Bytes {
     {
         self.bytes.as_slice()
     }
+}
+
+/// Puts a piece at a place of a text of a fixed length. What stands before it stays, and what stands behind it isn't told.
+pub fn put(text: &mut [u8], at: usize, piece: &[u8])
+    requires { at + length piece.now ≤ length text.old }
+    ensures { take (at + length piece.now) text.new ≡ take at text.old ++ piece.now }
+{
+    text[at..at + piece.len()].copy_from_slice(piece);
 }

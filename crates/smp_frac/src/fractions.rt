@@ -4,7 +4,7 @@ ghost use Prim.Native.Nat.{◌∣◌};
 ghost use Rattle.smp_frac.specs.{Divisors.{greatest_common_divisor}, Limits.{wide_limit}};
 ghost use Rattle.smp_frac.specs.Fractions.{Same, AtMost, over, plus, times, inverse};
 
-use crate::{Bytes, NoMemory, gcd};
+use crate::{Bytes, NoMemory, gcd, put};
 use itoa::Buffer;
 use std::cmp::Ordering;
 use std::marker::Model;
@@ -55,14 +55,6 @@ impl FractionText {
     {
         &self.text[..self.length]
     }
-}
-
-// Puts a piece at a place. What stands before it stays.
-fn put(text: &mut [u8], at: usize, piece: &[u8])
-    requires { at + length piece.now ≤ length text.old }
-    ensures { take (at + length piece.now) text.new ≡ take at text.old ++ piece.now }
-{
-    text[at..at + piece.len()].copy_from_slice(piece);
 }
 
 // Puts a numerator, a slash and a denominator at the front of a text, and says how many bytes they take.

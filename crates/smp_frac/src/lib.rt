@@ -17,7 +17,7 @@ mod memory;
 mod signed;
 mod text;
 
-pub use bytes::Bytes;
+pub use bytes::{Bytes, put};
 pub use cuts::cut_before;
 pub use decimals::{is_decimal, number};
 pub use differences::difference;

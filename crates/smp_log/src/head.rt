@@ -1,9 +1,10 @@
-ghost use Rattle.std.specs.Prelude.{◌≡◌, ◌+◌, ◌≤◌, ◌++◌, length, take};
+ghost use Rattle.std.specs.Prelude.{◌≡◌, length};
 ghost use Rattle.hex.specs.Hex.{encode_lower};
 ghost use Rattle.sha2.specs.Sha256.{sha256};
 ghost use Rattle.smp_log.specs.{Heads.{IsHead, head_of}, SectionLogs.{sectioned_head}};
 
 use sha2::{Digest, Sha256};
+use smp_frac::put;
 use std::marker::Model;
 
 /// The first three lines of a log, in 157 bytes. It is seen as these bytes.
@@ -51,14 +52,6 @@ fn digest_digits(bytes: &[u8]) -> [u8; 64]
     let mut digits = [0; 64];
     let _ = hex::encode_to_slice(Sha256::digest(bytes), &mut digits);
     digits
-}
-
-// Puts a piece at a place. What stands before it stays.
-fn put(head: &mut [u8], at: usize, piece: &[u8])
-    requires { at + length piece.now ≤ length head.old }
-    ensures { take (at + length piece.now) head.new ≡ take at head.old ++ piece.now }
-{
-    head[at..at + piece.len()].copy_from_slice(piece);
 }
 
 /// The first lines of a log for these bytes of a design and of a frame: the version, and the SHA-256 of both in lower
