@@ -7,7 +7,7 @@ ghost use Rattle.smp_prob.specs.Requests.{IsRequest, all_free};
 ghost use Rattle.smp_flight.specs.{Narrow.{IsNarrow}, Requests.{AreValues, units_of}};
 
 use smp_flight::{Shape, is_narrow};
-use smp_frac::NoMemory;
+use smp_frac::{MOST_ROWS, NoMemory};
 use smp_frame::Numbers;
 use smp_prob::Request;
 use std::alloc::Global;
@@ -35,7 +35,7 @@ pub fn answer(
 fn is_request(sizes: &[u32], denominator: u64) -> bool
     ensures { result ≡ true → IsRequest (all_free sizes.now 1 denominator) }
 {
-    if sizes.len() > 200_000 || denominator >= 1 << 49 {
+    if sizes.len() > MOST_ROWS as usize || denominator >= 1 << 49 {
         return false;
     }
     are_below(sizes, denominator)

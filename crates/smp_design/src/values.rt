@@ -7,7 +7,7 @@ ghost use Rattle.smp_design.specs.Values;
 
 use crate::method::order_from_word;
 use crate::{Method, Quota, Quotas};
-use smp_frac::{NoMemory, Text};
+use smp_frac::{MOST_ROWS, NoMemory, Text};
 use smp_frame::Names;
 use smp_prob::Order;
 use std::alloc::Global;
@@ -15,9 +15,6 @@ use toml::{Table, Value};
 
 // The versions of a design go from 1 to this one.
 const LAST_VERSION: u32 = 2;
-
-// The most units that a design draws from all strata, from one of them, or from a first stage unit.
-const MAX_UNITS: u32 = 200_000;
 
 pub(crate) fn text(alloc: Global, value: &Value) -> Result<Option<Text>, NoMemory>
     ensures { IfOk result (λ o. o ≡ as_str (view value.now)) }
@@ -45,11 +42,11 @@ pub(crate) fn version(value: &Value) -> Option<u32>
     integer_to(LAST_VERSION, value)
 }
 
-// A number of units.
+// A number of units, that a design draws from all strata, from one of them, or from a first stage unit.
 pub(crate) fn number(value: &Value) -> Option<u32>
     ensures { result ≡ Values.number (view value.now) }
 {
-    integer_to(MAX_UNITS, value)
+    integer_to(MOST_ROWS, value)
 }
 
 // A method of designs of this version.

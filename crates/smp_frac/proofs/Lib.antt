@@ -1,4 +1,5 @@
 pub mod Contents
+pub mod Constants
 pub mod LowestTerms
 pub mod Orders
 pub mod Products

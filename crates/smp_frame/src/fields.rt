@@ -10,10 +10,8 @@ use crate::layout::Column;
 use crate::records::{field, text};
 use crate::{FrameFault, Numbers};
 use csv::ByteRecord;
-use smp_frac::{Frac, NoMemory, Text, cut_before, is_decimal, number};
+use smp_frac::{Frac, NUMBER_LIMIT, NoMemory, Text, cut_before, is_decimal, number};
 use std::alloc::Global;
-
-const MAX_NUMBER: u128 = 2_147_483_647;
 
 /// The text in an asked column, or the empty text.
 pub(crate) fn text_in(
@@ -137,7 +135,7 @@ fn small_number(text: &[u8]) -> Option<u128>
     ensures { result ≡ number_below number_limit text.now }
 {
     match number(text) {
-        Some(value) if value <= MAX_NUMBER => Some(value),
+        Some(value) if value < NUMBER_LIMIT as u128 => Some(value),
         _ => None,
     }
 }

@@ -14,10 +14,8 @@ use crate::records::{is_text, next_record, text};
 use crate::{FrameFault, Unit};
 use csv::{ByteRecord, Reader};
 use indexmap::IndexSet;
-use smp_frac::{NoMemory, Text};
+use smp_frac::{MOST_ROWS, NoMemory, Text};
 use std::alloc::Global;
-
-const MAX_ROWS: u64 = 200_000;
 
 /// The units of the rows that a reader has left, of which the first is row 1.
 pub(crate) fn units_left(
@@ -55,7 +53,7 @@ fn add_units(
     ensures paired { IfOk result
         (λ _. length units.new.items ≡ length (map string_bytes seen.new.keys)) }
 {
-    for number in 1..=MAX_ROWS {
+    for number in 1..=MOST_ROWS as u64 {
         if !next_record(reader, row)? {
             return Ok(());
         }

@@ -25,6 +25,3 @@ pub use misfit::Misfit;
 pub use plan::{Plan, asked, first_asked};
 pub use second::SecondRequest;
 pub use strata::{FirstUnit, Seat, Stratum, Units};
-
-/// A sum of sizes, and the absolute value of a sum of values, is so large at most.
-const MAX_SUM: u64 = 2_147_483_647;

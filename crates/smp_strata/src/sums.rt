@@ -5,8 +5,7 @@ ghost use Rattle.smp_frac.specs.Limits.{number_limit};
 ghost use Rattle.smp_frame.specs.Bounds.{HaveValues, IsFrame};
 ghost use Rattle.smp_strata.specs.{Kept.Layouts.{AreRows}, Rows.{is_large, size_of, value_of, values_of}};
 
-use crate::MAX_SUM;
-use smp_frac::NoMemory;
+use smp_frac::{NUMBER_LIMIT, NoMemory};
 use smp_frame::Unit;
 use std::alloc::Global;
 
@@ -42,7 +41,7 @@ fn value_of(units: &[Unit], columns: usize, rows: &[usize], column: usize) -> i6
 fn is_above(value: i64) -> bool
     ensures { result ≡ nat_le number_limit (nat_abs value) }
 {
-    value.unsigned_abs() > MAX_SUM
+    value.unsigned_abs() >= NUMBER_LIMIT as u64
 }
 
 /// Whether a sum of sizes, or the absolute value of a sum of values, is above the limit.
@@ -52,7 +51,7 @@ pub(crate) fn is_large(units: &[Unit], columns: usize, rows: &[usize]) -> bool
     requires rows { AreRows (length units.now) rows.now }
     ensures { result ≡ is_large units.now columns rows.now }
 {
-    if size_of(units, rows) > MAX_SUM {
+    if size_of(units, rows) >= NUMBER_LIMIT as u64 {
         return true;
     }
     for column in 0..columns {

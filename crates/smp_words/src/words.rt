@@ -11,16 +11,12 @@ use crate::{
     Chance, Command, DemoArguments, DesignArguments, DrawArguments, MigrateArguments,
     QuickArguments, ReplayArguments,
 };
-use smp_frac::{NoMemory, Text};
+use smp_frac::{MOST_ROWS, NoMemory, Text};
 use std::alloc::Global;
-
-const MAX_QUICK_UNITS: u128 = 200_000;
 
 const MIN_DEMO_UNITS: u128 = 30;
 
 const MAX_DEMO_UNITS: u128 = 100_000;
-
-const MAX_STRATA: u128 = 200_000;
 
 const MAX_DEMO_SEED: u128 = u64::MAX as u128;
 
@@ -81,7 +77,7 @@ fn quick(alloc: Global, given: &Given) -> Result<Option<Command>, NoMemory>
 {
     match given.rest {
         Some([frame, n, tape, out]) if are_distinct(&[frame, tape, out]) => {
-            let Some(n) = number_from(1, MAX_QUICK_UNITS, n) else {
+            let Some(n) = number_from(1, MOST_ROWS as u128, n) else {
                 return Ok(None);
             };
             Ok(Some(Command::Quick(QuickArguments {
@@ -237,7 +233,7 @@ fn stratum_from(number: Option<&str>) -> Option<Option<u32>>
 {
     match number {
         None => Some(None),
-        Some(number) => Some(Some(number_from(1, MAX_STRATA, number)? as u32)),
+        Some(number) => Some(Some(number_from(1, MOST_ROWS as u128, number)? as u32)),
     }
 }
 
