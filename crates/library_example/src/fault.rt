@@ -2,6 +2,7 @@ ghost use Rattle.std.specs.Prelude.{◌≡◌};
 ghost use Rattle.library_example.specs.Faults.{of_request, of_walk};
 ghost use Rattle.library_example.specs.declared.fault.Fault.TheVariants as Fault;
 
+use smp_frac::NoMemory;
 use smp_prob::ProbFault;
 use smp_split::WalkFault;
 use smp_tape::DrawFault;
@@ -39,26 +40,10 @@ impl From<WalkFault> for Fault {
     }
 }
 
-impl From<smp_frac::NoMemory> for Fault {
+impl From<NoMemory> for Fault {
     ghost from_gives = { λ _ result. result ≡ Fault.NoMemory };
 
-    fn from(_: smp_frac::NoMemory) -> Fault {
-        Fault::NoMemory
-    }
-}
-
-impl From<smp_split::NoMemory> for Fault {
-    ghost from_gives = { λ _ result. result ≡ Fault.NoMemory };
-
-    fn from(_: smp_split::NoMemory) -> Fault {
-        Fault::NoMemory
-    }
-}
-
-impl From<smp_tape::NoMemory> for Fault {
-    ghost from_gives = { λ _ result. result ≡ Fault.NoMemory };
-
-    fn from(_: smp_tape::NoMemory) -> Fault {
+    fn from(_: NoMemory) -> Fault {
         Fault::NoMemory
     }
 }

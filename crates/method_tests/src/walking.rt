@@ -5,7 +5,8 @@ ghost use Rattle.smp_tape.specs.Tapes.{tape_of_values};
 ghost use Rattle.smp_split.specs.Paths.{values_of};
 ghost use Rattle.method_tests.specs.Walks.{IsWalk};
 
-use smp_split::{Kind, Lines, NoMemory, Splitting, WalkFault, selected_units, walk};
+use smp_frac::NoMemory;
+use smp_split::{Kind, Lines, Splitting, WalkFault, selected_units, walk};
 use smp_tape::Tape;
 use std::alloc::Global;
 
@@ -49,5 +50,5 @@ fn tape_for(alloc: Global, path: &[(Kind, u128, u128)]) -> Result<Tape, NoMemory
             values.push(value)?;
         }
     }
-    Tape::from_values(alloc, values.as_slice()).map_err(|_| NoMemory)
+    Tape::from_values(alloc, values.as_slice())
 }

@@ -87,7 +87,7 @@ fn points_at<const K: usize>(alloc: Global, coords: &[[i32; K]]) -> Result<Point
     requires { (1 ≤ K) × (K ≤ 4) }
     ensures { IfOk result (λ points. points ≡ all_living coords.now) }
 {
-    Points::new(alloc, coords).map_err(|_| NoMemory)
+    Points::new(alloc, coords)
 }
 
 impl<const K: usize> Splitting for LocalPivotal<K> {

@@ -1,7 +1,7 @@
 ghost use Rattle.std.specs.Prelude.{◌≡◌};
 ghost use Rattle.smp_log.specs.declared.fault.ReplayFault.TheVariants as fault;
 
-use smp_split::NoMemory;
+use smp_frac::NoMemory;
 
 /// Why a log isn't replayed.
 #[derive(Clone, Copy, Debug, PartialEq, Eq)]

@@ -1,7 +1,8 @@
 ghost use Rattle.std.specs.Prelude.{◌≡◌, true, [], ◌∷◌, ◌++◌, Some, OnOk, OnErr, length, map};
 ghost use Rattle.smp_log.specs.SectionLogs.{ArePlaced, section_line, steps_of};
 
-use smp_split::{Kind, NoMemory, Sections, Trace};
+use smp_frac::NoMemory;
+use smp_split::{Kind, Sections, Trace};
 use std::alloc::Global;
 use std::marker::Model;
 

@@ -5,7 +5,8 @@ ghost use Rattle.smp_split.specs.Runs.{KeepsOn};
 ghost use Rattle.smp_log.specs.Steps.{StepsOn};
 
 use crate::lines::step_first;
-use smp_split::{NoMemory, Splitting, Trace};
+use smp_frac::NoMemory;
+use smp_split::{Splitting, Trace};
 
 // Makes the step whose line stands first in a text, and tells it to a trace. Gives what stands behind the line, and the
 // bound of the step, or `None` where the first line isn't that of the state's next step. Nothing is done then.

@@ -16,4 +16,4 @@ mod searches;
 mod tree;
 
 pub use crate::dimensions::ByDimensions;
-pub use crate::points::{NoMemory, Points};
+pub use crate::points::Points;

@@ -34,5 +34,5 @@ pub use splitting::{Splitting, draws_are_weights, mean_is_value, selected_units}
 pub use stage_laws::{own_stages_are_a_part, stages_go_by_sections};
 pub use stages::Stages;
 pub use stages_state::StagesState;
-pub use trace::{Lines, NoMemory, NoTrace, Trace};
+pub use trace::{Lines, NoTrace, Trace};
 pub use walking::{WalkFault, walk};

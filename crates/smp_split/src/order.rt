@@ -1,7 +1,7 @@
 ghost use Rattle.std.specs.{Prelude.{◌≡◌, ◌+◌, ◌<◌, ◌≤◌, true, length, slice_index, nat_eq, if◌then◌else◌, IfOk}, List.{range_with_len}};
 ghost use Rattle.smp_split.specs.Orders.{Placing, IsMirrored, frame_order, undrawn_order, exchanged_order, next_place};
 
-use crate::NoMemory;
+use smp_frac::NoMemory;
 use smp_places::numbers_below;
 use std::alloc::Global;
 use std::marker::Model;

@@ -3,7 +3,8 @@ ghost use Rattle.smp_frac.specs.Fractions.{Fraction, Same};
 ghost use Rattle.smp_split.specs.{Trees.{weight_sum, picked, weighted}, Methods.{Method}, Counts.{selected_units}};
 ghost use Rattle.smp_split.specs.Means.{sum_over_draws, mean, value_sum, inclusion_probability};
 
-use crate::{Kind, NoMemory};
+use crate::Kind;
+use smp_frac::NoMemory;
 use std::alloc::Global;
 
 /// A selection design: its states, the weighted parts of each, and what its leaves select. The value that implements it

@@ -2,24 +2,9 @@ ghost use Rattle.std.specs.Prelude.{◌≡◌, Bool, true, false, List, [], ◌�
 ghost use Rattle.smp_split.specs.{Paths.{Entry}, Runs.{KeepsStep, and_then}};
 
 use crate::{Kind, Splitting};
-use std::alloc::{AllocError, AllocFailed, Global};
+use smp_frac::NoMemory;
+use std::alloc::Global;
 use std::marker::Model;
-
-/// There was no memory.
-#[derive(Clone, Copy, Debug, PartialEq, Eq)]
-pub struct NoMemory;
-
-impl From<AllocError> for NoMemory {
-    fn from(_: AllocError) -> NoMemory {
-        NoMemory
-    }
-}
-
-impl<T: Drop> From<AllocFailed<T>> for NoMemory {
-    fn from(_: AllocFailed<T>) -> NoMemory {
-        NoMemory
-    }
-}
 
 /// What is told of each step of a walk down a design of this type.
 pub trait Trace<S: Splitting> {

@@ -4,7 +4,8 @@ ghost use Rattle.smp_tape.specs.declared.draws.DrawFault.{DrawFault};
 ghost use Rattle.smp_split.specs.{Means.{mean, value_sum, inclusion_probability}, Runs.{position, Arrived, KeepsOn, Refused, Untold}};
 ghost use Rattle.smp_split.specs.declared.walking.WalkFault.TheVariants as fault;
 
-use crate::{NoMemory, Splitting, Trace};
+use crate::{Splitting, Trace};
+use smp_frac::NoMemory;
 use smp_tape::{DrawFault, Draws};
 
 /// Why a walk stopped before the end.

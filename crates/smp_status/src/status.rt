@@ -101,14 +101,6 @@ impl From<NoMemory> for Status {
     }
 }
 
-impl From<smp_split::NoMemory> for Status {
-    ghost from_gives = { λ _ answer. answer ≡ status.NoMemory };
-
-    fn from(_: smp_split::NoMemory) -> Status {
-        Status::NoMemory
-    }
-}
-
 impl From<DesignFault> for Status {
     ghost from_gives = { λ fault answer. answer ≡ design_status fault };
 

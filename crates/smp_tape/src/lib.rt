@@ -17,5 +17,5 @@ pub use chacha::ChaChaWords;
 pub use draws::{DrawFault, Draws};
 pub use fault::TapeFault;
 pub use sieve::Sieve;
-pub use tape::{NoMemory, Tape};
+pub use tape::Tape;
 pub use words::Words;

@@ -4,12 +4,9 @@ ghost use Rattle.smp_frac.specs.Memory.{Gives};
 
 use crate::reading::values_in;
 use crate::{DrawFault, Draws, TapeFault};
+use smp_frac::NoMemory;
 use std::alloc::Global;
 use std::marker::Model;
-
-/// There was no memory.
-#[derive(Clone, Copy, Debug, PartialEq, Eq)]
-pub struct NoMemory;
 
 /// Values that are drawn in their order. It is seen as the values taken and the values left.
 #[derive(Drop)]

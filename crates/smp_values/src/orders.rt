@@ -14,6 +14,6 @@ pub fn unit_order(alloc: Global, order: Order, units: usize) -> Result<UnitOrder
 {
     match order {
         Order::Frame => Ok(UnitOrder::in_frame(alloc, units)),
-        Order::Random => UnitOrder::undrawn(alloc, units).map_err(|_| NoMemory),
+        Order::Random => UnitOrder::undrawn(alloc, units),
     }
 }
