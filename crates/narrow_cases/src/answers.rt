@@ -7,7 +7,7 @@ ghost use Rattle.smp_prob.specs.Requests.{IsRequest, all_free};
 ghost use Rattle.smp_flight.specs.{Narrow.{IsNarrow}, Requests.{AreValues, units_of}};
 
 use smp_flight::{Shape, is_narrow};
-use smp_frac::{MOST_ROWS, NoMemory};
+use smp_frac::{MOST_ROWS, NUMBER_LIMIT, NoMemory};
 use smp_frame::Numbers;
 use smp_prob::Request;
 use std::alloc::Global;
@@ -46,7 +46,7 @@ fn are_below(sizes: &[u32], denominator: u64) -> bool
     ensures { result ≡ true → EachIndex sizes.now (λ i. (1 ≤ slice_index sizes.now i)
         × (slice_index sizes.now i < number_limit) × (slice_index sizes.now i < denominator)) }
 {
-    sizes.iter().all(|&size| size >= 1 && size < 1 << 31 && (size as u64) < denominator)
+    sizes.iter().all(|&size| size >= 1 && size < NUMBER_LIMIT && (size as u64) < denominator)
 }
 
 // Whether these are balancing values: at most 15 of each unit, and as many of each.
@@ -65,5 +65,5 @@ fn is_row(own: &[i32], columns: usize) -> bool
     ensures count { result ≡ true → length own.now ≡ columns }
     ensures within { result ≡ true → Within (number_limit - 1) own.now }
 {
-    own.len() == columns && own.iter().all(|&value| value.unsigned_abs() < 1 << 31)
+    own.len() == columns && own.iter().all(|&value| value.unsigned_abs() < NUMBER_LIMIT)
 }

@@ -4,7 +4,7 @@ ghost use Prim.Native.Nat.{◌∣◌};
 ghost use Rattle.smp_frac.specs.{Divisors.{greatest_common_divisor}, Limits.{wide_limit}};
 ghost use Rattle.smp_frac.specs.Fractions.{Same, AtMost, over, plus, times, inverse};
 
-use crate::{Bytes, NoMemory, gcd, put};
+use crate::{Bytes, NoMemory, WIDE_LIMIT, gcd, put};
 use itoa::Buffer;
 use std::cmp::Ordering;
 use std::marker::Model;
@@ -12,9 +12,6 @@ use std::marker::Model;
 /// A result needs a number of 2^126 or more.
 #[derive(Clone, Copy, Debug, PartialEq, Eq)]
 pub struct Wide;
-
-/// Sums, products and differences need numbers below this one.
-const LIMIT: u128 = 1 << 126;
 
 /// A fraction in lowest terms; zero is 0/1. No other numbers fit in its fields, so each value has
 /// one fraction.
@@ -153,7 +150,7 @@ impl Frac {
         let common = gcd(self.den, other.den);
         let first = narrow_product(self.num, other.den / common)?;
         let second = narrow_product(other.num, self.den / common)?;
-        if first + second >= LIMIT {
+        if first + second >= WIDE_LIMIT {
             return Err(Wide);
         }
         Frac::reduced(first + second, self.den / common, other.den, common)
@@ -219,7 +216,7 @@ pub(crate) fn narrow_product(a: u128, b: u128) -> Result<u128, Wide>
     ensures { OkIff result (a * b < wide_limit) (a * b) }
 {
     match a.checked_mul(b) {
-        Some(product) if product < LIMIT => Ok(product),
+        Some(product) if product < WIDE_LIMIT => Ok(product),
         _ => Err(Wide),
     }
 }

@@ -25,7 +25,7 @@ pub use differences::difference;
 pub use divisors::{content, gcd, lcm_within, quotient};
 pub use fractions::{Frac, FractionText, Wide};
 pub use items::Items;
-pub use limits::{MOST_ROWS, NUMBER_LIMIT};
+pub use limits::{MOST_ROWS, NUMBER_LIMIT, WIDE_LIMIT};
 pub use memory::NoMemory;
 pub use signed::Signed;
 pub use text::Text;

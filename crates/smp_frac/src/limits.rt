@@ -5,3 +5,6 @@ pub const MOST_ROWS: u32 = 200_000;
 
 /// Each number of a frame is below this, and each sum of its numbers over a psu.
 pub const NUMBER_LIMIT: u32 = 1 << 31;
+
+/// Each number that a sum, a product or a difference of fractions needs is below this.
+pub const WIDE_LIMIT: u128 = 1 << 126;
