@@ -4,7 +4,6 @@ ghost use Rattle.std.specs.Prelude.{◌≡◌};
 ghost use Rattle.smp_design.specs.declared.fault.DesignFault.TheVariants as fault;
 
 use smp_frac::{NoMemory, Text};
-use std::alloc::AllocError;
 
 /// Why no design was read: the first fault of its bytes, in the order of the variants.
 #[derive(Debug, Drop)]
@@ -29,14 +28,6 @@ impl From<NoMemory> for DesignFault {
     ghost from_gives = { λ _ f. f ≡ fault.NoMemory };
 
     fn from(_: NoMemory) -> DesignFault {
-        DesignFault::NoMemory
-    }
-}
-
-impl From<AllocError> for DesignFault {
-    ghost from_gives = { λ _ f. f ≡ fault.NoMemory };
-
-    fn from(_: AllocError) -> DesignFault {
         DesignFault::NoMemory
     }
 }

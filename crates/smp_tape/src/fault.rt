@@ -1,7 +1,7 @@
 ghost use Rattle.std.specs.Prelude.{◌≡◌};
 ghost use Rattle.smp_tape.specs.declared.fault.TapeFault.TheVariants as fault;
 
-use std::alloc::{AllocError, AllocFailed};
+use std::alloc::AllocFailed;
 
 /// Why no tape was read.
 #[derive(Clone, Copy, Debug, PartialEq, Eq)]
@@ -10,14 +10,6 @@ pub enum TapeFault {
     Line { line: u64 },
     /// There was no memory.
     NoMemory,
-}
-
-impl From<AllocError> for TapeFault {
-    ghost from_gives = { λ _ f. f ≡ fault.NoMemory };
-
-    fn from(_: AllocError) -> TapeFault {
-        TapeFault::NoMemory
-    }
 }
 
 impl<T: Drop> From<AllocFailed<T>> for TapeFault {
