@@ -73,11 +73,7 @@ impl Brewer {
             IsRequested (method_of design).tree request.now design) }
     {
         let sizes = OpenSizes::new(alloc, request.shape.as_slice())?;
-        let draws = if request.free.as_slice().is_empty() {
-            0
-        } else {
-            request.r
-        };
+        let draws = request.draws();
         Ok(Brewer {
             offers: Offers {
                 sizes,

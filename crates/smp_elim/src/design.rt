@@ -45,13 +45,7 @@ impl Elimination {
         ensures requested { IfOk result (λ design.
             IsRequested (method_of design).tree request.now design) }
     {
-        let draws = if request.free.as_slice().is_empty() {
-            0
-        } else {
-            request.r
-        };
-        let design = Elimination::to(alloc, request, draws)?;
-        Ok(design)
+        Elimination::to(alloc, request, request.draws())
     }
 
     /// The design that goes on until so many units are left, at least as many as the request draws.

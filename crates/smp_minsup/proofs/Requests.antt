@@ -1,10 +1,11 @@
 -- The shares of a request are values that add up to a whole number.
-use Rattle.std.proofs.Common.{◌≡◌, ℕ, ◌-◌, ◌*◌, ◌^◌, ◌≤◌, List, [], ◌∷◌, length, arith, refl, sym, ◌∙◌, inl, inr}
-use Rattle.std.specs.Prelude.{sum}
-use Rattle.std.proofs.lemmas.Bool.{cases_eq}
+use Rattle.std.proofs.Common.{◌≡◌, ℕ, ◌-◌, ◌*◌, ◌^◌, ◌≤◌, List, [], ◌∷◌, length, arith, refl, sym, ap, ◌∙◌, inl, inr}
+use Rattle.std.specs.Prelude.{Bool, ◌==◌, if◌then◌else◌, sum}
+use Rattle.std.proofs.lemmas.Bool.{cases_Bool, cases_eq, eqb-false, eqb-true}
 use Rattle.smp_prob.specs.declared.requests.Request.{Request}
 use Rattle.smp_prob.specs.Requests.{IsRequest}
 use Rattle.smp_prob.specs.Shares.{numerators, common_denominator}
+use Rattle.smp_prob.specs.Shares as shares
 use Rattle.smp_prob.proofs.Fractions.{denominator_positive, length-numerators, sum-numerators}
 use Rattle.smp_values.proofs.Requests.{shares_in_range, wider}
 use Rattle.smp_minsup.specs.Method.{started}
@@ -36,12 +37,15 @@ module _ (request : Request) (is : IsRequest request) (whole : sum request.shape
     ];
   }
 
-  -- the design, with this number of units to select
-  pub start_requested : (draws : ℕ) → (length request.free ≡ 0 → draws ≡ 0) → (1 ≤ length request.free → draws ≡ request.r) → IsStart draws (started request)
-  start_requested draws none some = record {
+  abbrev drawn : Bool → ℕ
+  drawn none = if none then 0 else request.r
+
+  -- the design, with as many units to select as are drawn
+  pub start_requested : IsStart (shares.draws_of request) (started request)
+  start_requested = record {
     state = belongs_requested;
-    draws_are = elim (cases_eq (length request.free) 0) [
-      | inl e ↦ none e ∙ sym (none_requested e)
-      | inr ne ↦ some (omega (arith, ne)) ∙ sym (draws_requested (omega (arith, ne)))
+    draws_are = elim (cases_Bool (length request.free == 0)) [
+      | inl none ↦ ap drawn none ∙ sym (none_requested (eqb-true _ _ none))
+      | inr some ↦ ap drawn some ∙ sym (draws_requested (omega (arith, eqb-false (length request.free) 0 some)))
     ];
   }

@@ -42,13 +42,10 @@ impl MinimumSupport {
         ensures requested { IfOk result (λ design.
             IsRequested (method_of design).tree request.now design) }
     {
-        let values = Values::requested(alloc, request)?;
-        let draws = if values.len() == 0 {
-            0
-        } else {
-            request.r as usize
-        };
-        Ok(MinimumSupport { values, draws })
+        Ok(MinimumSupport {
+            values: Values::requested(alloc, request)?,
+            draws: request.draws() as usize,
+        })
     }
 
     /// The state before the first step. Over all draws, each unit is selected with the probability that is its value, and each leaf selects

@@ -30,7 +30,7 @@ pub struct Request {
 impl Request {
     ghost use Rattle.std.specs.Prelude.{◌≡◌, EachIndex, slice_index};
     ghost use Rattle.smp_prob.specs.{Requests.{IsRequest, all_free}, Inclusions.{IsRising, inclusion, free_fraction, asked_fraction}};
-    ghost use Rattle.smp_prob.specs.Shares.{common_divisor, common_denominator, numerators};
+    ghost use Rattle.smp_prob.specs.Shares.{common_divisor, common_denominator, draws_of, numerators};
 
     /// The request in which every unit is free: unit i is selected with the probability `shapes[i] * r / total`. The
     /// number of units that are selected needn't be whole.
@@ -46,6 +46,16 @@ impl Request {
             r,
             total,
         })
+    }
+
+    /// How many of the free units are drawn, where the shapes add up to the total: none where none is free.
+    pub fn draws(&self) -> u32
+        ensures { result ≡ draws_of self.now }
+    {
+        if self.free.as_slice().is_empty() {
+            return 0;
+        }
+        self.r
     }
 
     // The divisor that brings r / total to lowest terms.
