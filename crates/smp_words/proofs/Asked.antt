@@ -8,7 +8,7 @@ use Rattle.smp_words.specs.declared.command.DesignArguments.{DesignArguments}
 use Rattle.smp_words.specs.declared.command.Command.TheVariants.{Probs, Check, Joint}
 use Rattle.smp_words.specs.declared.command.Chance.TheVariants.{Seed}
 use Rattle.smp_frac.specs.Limits.{most_rows}
-use Rattle.smp_words.specs.Words.{Given, LogFiles, IsAsked, ◌>>=◌, when, in_range, number_from, all_distinct, is_empty, has_only, options_for, seed_from, have_own_names, least_demo_units, most_demo_units, stratum_from, draw_command, migrate_command, replay_command, quick_words, demo_words, design_arguments, log_files, draw_by, draw, replay, migrate, by_name, command_given}
+use Rattle.smp_words.specs.Words.{Given, LogFiles, IsAsked, ◌>>=◌, when, in_range, number_from, all_distinct, is_empty, has_only, options_for, seed_from, have_own_names, least_demo_units, most_demo_units, stratum_from, draw_command, migrate_command, replay_command, quick_words, demo_words, design_arguments, log_files, own_log_files, draw_by, draw, replay, migrate, by_name, command_given}
 
 -- ---- what holds of something that may not be there
 
@@ -84,14 +84,25 @@ stratum_ranged : (number : Option (List ℕ)) → IfSome (stratum_from number) W
 stratum_ranged (Some number) = some_map WithinStrata Some (number_from 1 most_rows number) (number_ranged 1 most_rows number)
 stratum_ranged None = tt
 
-replay_asked : (files : LogFiles) (number : Option (List ℕ)) → IfSome (when (have_own_names files) (option_map (replay_command files) (stratum_from number))) IsAsked
-replay_asked files number =
-    when_some IsAsked (have_own_names files) (option_map (replay_command files) (stratum_from number)) (λ apart.
-    some_map IsAsked (replay_command files) (stratum_from number)
-    (if_some WithinStrata (λ stratum. IsAsked (replay_command files stratum)) (stratum_from number) (stratum_ranged number) (λ stratum within. record { distinct = apart; sized = within })))
+-- no two of the files have the same name
+abbrev HaveOwnNames : LogFiles → Type 0
+HaveOwnNames files = have_own_names files ≡ true
 
-migrate_asked : (files : LogFiles) → IfSome (when (have_own_names files) (Some (migrate_command files))) IsAsked
-migrate_asked files = when_some IsAsked (have_own_names files) (Some (migrate_command files)) (λ apart. record { distinct = apart; sized = tt })
+own_names : (g : Given) (last : Option (List ℕ)) → IfSome (own_log_files g last) HaveOwnNames
+own_names g last =
+    some_then HaveOwnNames (log_files g last) (λ files. when (have_own_names files) (Some files))
+    (λ files. when_some HaveOwnNames (have_own_names files) (Some files) (λ apart. apart))
+
+replay_asked : (g : Given) → IfSome (replay g) IsAsked
+replay_asked g =
+    some_after IsAsked HaveOwnNames (own_log_files g g.sample) (λ files. option_map (replay_command files) (stratum_from g.stratum)) (own_names g g.sample) (λ files apart.
+    some_map IsAsked (replay_command files) (stratum_from g.stratum)
+    (if_some WithinStrata (λ stratum. IsAsked (replay_command files stratum)) (stratum_from g.stratum) (stratum_ranged g.stratum) (λ stratum within. record { distinct = apart; sized = within })))
+
+migrate_asked : (g : Given) → IfSome (migrate g) IsAsked
+migrate_asked g =
+    some_map IsAsked migrate_command (own_log_files g g.to)
+    (if_some HaveOwnNames (λ files. IsAsked (migrate_command files)) (own_log_files g g.to) (own_names g g.to) (λ files apart. record { distinct = apart; sized = tt }))
 
 -- the two files have names of their own
 abbrev Apart : DesignArguments → Type 0
@@ -118,8 +129,8 @@ named_asked : (name : List ℕ) (g : Given) → IfSome (by_name name g) IsAsked
 named_asked name g =
     either_some IsAsked (bytes_eq name (codes "quick")) (quick_words g.rest) _ (quick_asked g.rest)
     (either_some IsAsked (bytes_eq name (codes "draw")) (draw g) _ (some_then IsAsked (log_files g g.sample) (λ files. draw_by files g.tape g.seed) (λ files. draw_asked files g.tape g.seed))
-    (either_some IsAsked (bytes_eq name (codes "replay")) (replay g) _ (some_then IsAsked (log_files g g.sample) _ (λ files. replay_asked files g.stratum))
-    (either_some IsAsked (bytes_eq name (codes "migrate")) (migrate g) _ (some_then IsAsked (log_files g g.to) _ migrate_asked)
+    (either_some IsAsked (bytes_eq name (codes "replay")) (replay g) _ (replay_asked g)
+    (either_some IsAsked (bytes_eq name (codes "migrate")) (migrate g) _ (migrate_asked g)
     (either_some IsAsked (bytes_eq name (codes "probs")) (option_map Probs (design_arguments g)) _ (some_map IsAsked Probs (design_arguments g) (probs_asked g))
     (either_some IsAsked (bytes_eq name (codes "check")) (option_map Check (design_arguments g)) _ (some_map IsAsked Check (design_arguments g) (check_asked g))
     (either_some IsAsked (bytes_eq name (codes "joint")) (option_map Joint (design_arguments g)) _ (some_map IsAsked Joint (design_arguments g) (joint_asked g))

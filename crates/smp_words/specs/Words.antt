@@ -153,6 +153,10 @@ log_files g last = when (is_empty g.rest) (do
 abbrev pub have_own_names : LogFiles → Bool
 have_own_names files = all_distinct (files.design ∷ files.frame ∷ files.log ∷ files.out ∷ [])
 
+-- the files of a command on a log, where no two of them have the same name
+abbrev pub own_log_files : Given → Option (List ℕ) → Option LogFiles
+own_log_files g last = log_files g last >>= λ files. when (have_own_names files) (Some files)
+
 -- a draw to these files
 abbrev pub draw_command : LogFiles → Chance → Command
 draw_command files chance = Draw (record {
@@ -194,7 +198,7 @@ replay_command files stratum = Replay (record {
 
 -- the command `replay`, where its files are given with names of their own
 abbrev pub replay : Given → Option Command
-replay g = log_files g g.sample >>= λ files. when (have_own_names files) (option_map (replay_command files) (stratum_from g.stratum))
+replay g = own_log_files g g.sample >>= λ files. option_map (replay_command files) (stratum_from g.stratum)
 
 -- a log is read, and another one is written of it
 abbrev pub migrate_command : LogFiles → Command
@@ -202,7 +206,7 @@ migrate_command files = Migrate (record { design = files.design; frame = files.f
 
 -- the command `migrate`, where its files are given with names of their own
 abbrev pub migrate : Given → Option Command
-migrate g = log_files g g.to >>= λ files. when (have_own_names files) (Some (migrate_command files))
+migrate g = option_map migrate_command (own_log_files g g.to)
 
 -- the options that a command takes
 abbrev pub options_for : List ℕ → List (List ℕ)

@@ -157,6 +157,15 @@ fn log_files<'a>(given: &Given<'_, 'a>, out: Option<&'a str>) -> Option<LogFiles
     })
 }
 
+// The same, where no two of the names are the same.
+fn own_log_files<'a>(given: &Given<'_, 'a>, out: Option<&'a str>) -> Option<LogFiles<'a>>
+    ensures { option_map files_view result
+        ≡ Words.own_log_files (given_view given.now) (option_view out.entry) }
+{
+    let files = log_files(given, out)?;
+    files.are_distinct().then_some(files)
+}
+
 fn draw(alloc: Global, given: &Given) -> Result<Option<Command>, NoMemory>
     ensures { IfOk result (λ command. command ≡ Words.draw (given_view given.now)) }
 {
@@ -209,12 +218,9 @@ fn draw_command(alloc: Global, files: &LogFiles, chance: Chance) -> Result<Comma
 fn replay(alloc: Global, given: &Given) -> Result<Option<Command>, NoMemory>
     ensures { IfOk result (λ command. command ≡ Words.replay (given_view given.now)) }
 {
-    let Some(files) = log_files(given, given.sample) else {
+    let Some(files) = own_log_files(given, given.sample) else {
         return Ok(None);
     };
-    if !files.are_distinct() {
-        return Ok(None);
-    }
     let Some(stratum) = stratum_from(given.stratum) else {
         return Ok(None);
     };
@@ -240,12 +246,9 @@ fn stratum_from(number: Option<&str>) -> Option<Option<u32>>
 fn migrate(alloc: Global, given: &Given) -> Result<Option<Command>, NoMemory>
     ensures { IfOk result (λ command. command ≡ Words.migrate (given_view given.now)) }
 {
-    let Some(files) = log_files(given, given.to) else {
+    let Some(files) = own_log_files(given, given.to) else {
         return Ok(None);
     };
-    if !files.are_distinct() {
-        return Ok(None);
-    }
     Ok(Some(Command::Migrate(MigrateArguments {
         design: Text::from_str(alloc, files.design)?,
         frame: Text::from_str(alloc, files.frame)?,
