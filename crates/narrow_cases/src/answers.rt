@@ -2,9 +2,8 @@
 
 ghost use Rattle.std.specs.Prelude.{◌≡◌, ◌↔◌, ◌-◌, ◌<◌, ◌≤◌, EachIndex, IfOk, IfSome, length, slice_index, true};
 ghost use Rattle.smp_frac.specs.Limits.{number_limit};
-ghost use Rattle.smp_kernel.specs.Vectors.{Within};
 ghost use Rattle.smp_prob.specs.Requests.{IsRequest, all_free};
-ghost use Rattle.smp_flight.specs.{Narrow.{IsNarrow}, Requests.{AreValues, units_of}};
+ghost use Rattle.smp_flight.specs.{Narrow.{IsNarrow}, Requests.{AreValues, Within, units_of}};
 
 use smp_flight::{Shape, is_narrow};
 use smp_frac::{MOST_ROWS, NUMBER_LIMIT, NoMemory};

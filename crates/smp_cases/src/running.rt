@@ -4,10 +4,9 @@ ghost use Rattle.std.specs.Prelude.{◌≡◌, ◌<◌, ◌≤◌, true, false, 
 ghost use Rattle.smp_frac.specs.{Limits.{number_limit}, Memory.{Reads}};
 ghost use Rattle.smp_cases.specs.Cases.{drawn, is_memory, mask, verdict};
 ghost use Rattle.smp_design.specs.{Procedures.{without_values}, Words.{needs_columns}};
-ghost use Rattle.smp_methods.specs.{Methods.{method_of}, Starts.{IsStarted}};
+ghost use Rattle.smp_methods.specs.{Methods.{method_of}, Procedures.{DrawsWhole}, Starts.{IsStarted}};
 ghost use Rattle.smp_prob.specs.Requests.{IsRequest};
 ghost use Rattle.smp_split.specs.{Rows.{BelongsToRows, rows_tree}, Counts.{selected_units}};
-ghost use Rattle.smp_values.specs.Starts.{DrawsWhole};
 
 use crate::CaseFault;
 use smp_design::{Method, Procedure};

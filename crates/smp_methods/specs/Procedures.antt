@@ -4,7 +4,7 @@ use Rattle.smp_design.specs.declared.procedure.Procedure.{Procedure}
 use Rattle.smp_design.specs.Procedures.{AreNeeded}
 use Rattle.smp_design.specs.Words.{row, balances}
 use Rattle.smp_prob.specs.declared.requests.Request.{Request}
-use Rattle.smp_values.specs.Starts.{DrawsWhole}
+pub use Rattle.smp_values.specs.Starts.{DrawsWhole}
 use Rattle.smp_flight.specs.Requests.{AreValues}
 
 -- the first values of each unit, so many as a method balances on

@@ -8,7 +8,7 @@ returns c is =
     let count : length (range_with_len 0 (length c.args.sizes.now)) ≡ length c.args.sizes.now = length-range_with_len 0 (length c.args.sizes.now) in
     let each = c.are_below.ensures is in
     record {
-      few = omega (arith, count, c.if-sizes-gt200000.false);
+      few = omega (arith, count, c.if-sizes.false);
       paired = sym count;
       positive = λ i l. (each i l).0;
       small = λ i l. (each i l).1;
