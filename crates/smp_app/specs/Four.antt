@@ -1,7 +1,6 @@
 -- The draw of two of the four units a, b, c and d, of the sizes 1, 2, 3 and 4, by pivotal steps and the numbers 0, 3 and 4, as the draw
 -- of a plan. Each field has the value of the definition that its comment begins with, as that definition's own comment gives it.
 use Rattle.std.specs.Prelude.{◌≡◌, ℕ, pos, true, None, List, [], ◌∷◌, codes, length, Ok}
-use Rattle.smp_frac.specs.LowestTerms.{lowest_terms}
 use Rattle.smp_frac.specs.Fractions.{Same, integer, over, sum_below, whole}
 use Rattle.smp_split.specs.Means.{inclusion_probability, mean}
 use Rattle.smp_split.specs.Orders.{frame_order, in_order}
@@ -9,6 +8,7 @@ use Rattle.smp_split.specs.Paths.{Leads, values_of}
 use Rattle.smp_split.specs.declared.kind.Kind.TheVariants.{Pivot}
 use Rattle.smp_tape.specs.TapeText.{tape_of}
 use Rattle.smp_frame.specs.Frames.{frame_of}
+use Rattle.smp_frame.specs.Sized.{sized_unit}
 use Rattle.smp_frame.specs.declared.frame.Unit as unit
 use Rattle.smp_methods.specs.declared.any.AnyState.{AnyState}
 use Rattle.smp_methods.specs.declared.any.AnyState.TheVariants.{Pivotal}
@@ -27,21 +27,9 @@ use Rattle.smp_app.specs.Drawn.{Drawn, selected_rows, start_of, tree_of}
 use Rattle.smp_app.specs.Draws.{firsts_drawn}
 use Rattle.smp_app.specs.Texts.{draw_sample, report_text, weighted_row}
 
--- a row of the frame: its id and its size, of columns `id` and `size`
-abbrev pub unit_of : List ℕ → ℕ → unit.Unit
-unit_of id size = record {
-  id = id;
-  stratum = [];
-  psu = [];
-  size = size;
-  second_size = 1;
-  prob = lowest_terms (over 1 1);
-  values = [];
-}
-
--- the rows
+-- the rows of the frame
 abbrev pub units : List unit.Unit
-units = unit_of (codes "a") 1 ∷ unit_of (codes "b") 2 ∷ unit_of (codes "c") 3 ∷ unit_of (codes "d") 4 ∷ []
+units = sized_unit (codes "a") 1 ∷ sized_unit (codes "b") 2 ∷ sized_unit (codes "c") 3 ∷ sized_unit (codes "d") 4 ∷ []
 
 -- the design's plan: two units by pivotal steps, in frame order
 abbrev pub plan : Plan

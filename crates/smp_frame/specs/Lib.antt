@@ -4,4 +4,5 @@ pub mod Frames
 pub mod Layouts
 pub mod Faults
 pub mod Records
+pub mod Sized
 pub mod Kept

@@ -1,32 +1,20 @@
 -- What a design asks of a frame.
-use Rattle.std.specs.Prelude.{ℕ, List, [], map, slice_index_or, Some, None, codes}
+use Rattle.std.specs.Prelude.{ℕ, List, [], map, slice_index_or, Some, None}
 use Rattle.smp_frac.specs.Fractions.{Fraction}
-use Rattle.smp_frame.specs.declared.columns.Columns.{Columns}
 use Rattle.smp_frame.specs.declared.frame.Unit as unit
+use Rattle.smp_frame.specs.Sized.{sized_columns}
 use Rattle.smp_design.specs.declared.design.Design.{Design}
 use Rattle.smp_design.specs.declared.method.Method.TheVariants.{Pivotal}
 use Rattle.smp_design.specs.Procedures.{without_values}
 use Rattle.smp_strata.specs.Asked.{row_fraction}
 use Rattle.smp_strata.specs.Plans.{Parts, parts_of}
 
--- the columns that `quick` asks for: `id` and `size`
-abbrev pub quick_columns : Columns
-quick_columns = record {
-  id = codes "id";
-  stratum = None;
-  psu = None;
-  size = Some (codes "size");
-  second_size = None;
-  prob = None;
-  values = [];
-}
-
--- the design of `quick`: n units by pivotal steps in frame order, with these columns
+-- the design of `quick`: n units by pivotal steps in frame order, with the columns `id` and `size`
 abbrev pub quick_design : ℕ → Design
 quick_design n = record {
   version = 1;
   procedure = without_values Pivotal;
-  columns = quick_columns;
+  columns = sized_columns;
   n = Some n;
   sizes = [];
   second = None;

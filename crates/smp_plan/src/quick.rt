@@ -1,7 +1,8 @@
 //! The design of `quick`.
 
 ghost use Rattle.std.specs.Prelude.{◌≡◌, IfOk};
-ghost use Rattle.smp_plan.specs.Plans.{quick_columns, quick_design};
+ghost use Rattle.smp_frame.specs.Sized.{sized_columns};
+ghost use Rattle.smp_plan.specs.Plans.{quick_design};
 
 use smp_design::{Design, Method, Procedure, Quotas};
 use smp_frac::{NoMemory, Text};
@@ -23,7 +24,7 @@ pub(crate) fn quick_design(alloc: Global, n: u32) -> Result<Design, NoMemory>
 }
 
 fn quick_columns(alloc: Global) -> Result<Columns, NoMemory>
-    ensures { IfOk result (λ columns. columns ≡ quick_columns) }
+    ensures { IfOk result (λ columns. columns ≡ sized_columns) }
 {
     Ok(Columns {
         id: Text::from_str(alloc, "id")?,
