@@ -1,10 +1,11 @@
 -- What the columns of a method's row say.
-use Rattle.std.proofs.Common.{◌≡◌, ◌⊎◌, ℕ, ◌+◌, ◌≤◌, true, false, refl, ap, inl, inr, arith}
+use Rattle.std.proofs.Common.{◌≡◌, ◌⊎◌, ℕ, ◌+◌, ◌≤◌, true, false, refl, ap, subst, inl, inr, arith}
 use Rattle.std.specs.Prelude.{not}
 use Rattle.smp_design.specs.declared.method.Method.{Method}
 use Rattle.smp_design.specs.declared.method.Method.TheVariants.{Cube, LocalCube, StratifiedCube, Systematic}
 use Rattle.smp_design.specs.declared.method.Needs.{Needs}
 use Rattle.smp_design.specs.declared.method.Needs.TheVariants.{Nothing, Balance, Near, Both}
+use Rattle.smp_design.specs.declared.procedure.Procedure.{Procedure}
 use Rattle.smp_design.specs.Procedures.{AreNeeded, From1To, IsProcedure, without_values}
 use Rattle.smp_design.specs.Words.{row, balances, draws_together, in_second, is_balance, is_nothing, most_balance, most_near, needs_columns}
 
@@ -51,6 +52,15 @@ pub is_together : (method : Method) → draws_together method ≡ true → metho
 unfolding row
 is_together StratifiedCube together = refl
 is_together other together = absurd (cc)
+
+-- it has no coordinates
+no_near : (balance near : ℕ) → AreNeeded (row StratifiedCube).needs balance near → near ≡ 0
+unfolding row
+no_near balance near are = are.1
+
+pub no_coordinates : (way : Procedure) → draws_together way.method ≡ true → IsProcedure way → way.near ≡ 0
+no_coordinates way together is =
+    no_near way.balance way.near (subst (λ m. AreNeeded (row m).needs way.balance way.near) (is_together way.method together) is.columns)
 
 -- it balances
 pub together_balances : (method : Method) → draws_together method ≡ true → balances method ≡ true

@@ -8,14 +8,12 @@ use Rattle.smp_frame.specs.declared.frame.Unit as unit
 use Rattle.std.specs.List.Sorted.{IsStrictlySortedBy}
 use Rattle.smp_frac.specs.Limits.{most_rows}
 use Rattle.smp_design.specs.Bounds.{Ascend, IsDesign}
-use Rattle.smp_design.specs.Procedures.{AreNeeded, IsProcedure}
 use Rattle.smp_design.specs.Words.{row, draws_together, in_second}
-use Rattle.smp_design.proofs.Rows.{bare, is_together}
+use Rattle.smp_design.proofs.Rows.{bare, no_coordinates}
 use Rattle.smp_design.specs.declared.design.Design.{Design}
 use Rattle.smp_design.specs.declared.design.Second.{Second}
 use Rattle.smp_design.specs.declared.method.Method.{Method}
-use Rattle.smp_design.specs.declared.procedure.Procedure.{Procedure}
-use Rattle.smp_design.specs.declared.method.Method.TheVariants.{Pivotal, StratifiedCube}
+use Rattle.smp_design.specs.declared.method.Method.TheVariants.{Pivotal}
 use Rattle.smp_strata.specs.Bounds.{IsPlan}
 use Rattle.smp_strata.specs.Clusters.{strata_numbers, stratum_names}
 use Rattle.smp_strata.specs.Misfits.{misfit_of, row_limit_by}
@@ -39,15 +37,6 @@ few_rows : (together : Bool) (strata variables : ℕ) → row_limit_by together 
 few_rows true strata variables fits joined =
     ltb-false 16 (strata + variables) (when_false (nat_lt 16 (strata + variables)) (RowLimit strata variables) fits)
 few_rows false strata variables fits joined = absurd (cc)
-
--- a method that draws all strata together has no coordinates
-no_near : (balance near : ℕ) → AreNeeded (row StratifiedCube).needs balance near → near ≡ 0
-unfolding row
-no_near balance near are = are.1
-
-no_coordinates : (way : Procedure) → draws_together way.method ≡ true → IsProcedure way → way.near ≡ 0
-no_coordinates way together is =
-    no_near way.balance way.near (subst (λ m. AreNeeded (row m).needs way.balance way.near) (is_together way.method together) is.columns)
 
 -- a frame has a stratum
 some_names : (units : List unit.Unit) → 1 ≤ length units → 1 ≤ length (stratum_names units)

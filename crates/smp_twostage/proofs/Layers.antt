@@ -7,11 +7,8 @@ use Rattle.std.proofs.lemmas.Bool.{cases_Bool, eqb-true}
 use Rattle.std.proofs.lemmas.List.{append-nil, drop_all, length-map, take_all}
 use Rattle.std.proofs.lemmas.List.Elements.{All-get_or, All-head, All-map, All-tail, All-weaker}
 use Rattle.std.proofs.lemmas.Option.{get_or_from_slice_get, slice_get-get_or, slice_get_within}
-use Rattle.smp_design.specs.declared.procedure.Procedure.{Procedure}
-use Rattle.smp_design.specs.declared.method.Method.TheVariants.{StratifiedCube}
-use Rattle.smp_design.specs.Procedures.{AreNeeded, IsProcedure}
 use Rattle.smp_design.specs.Words.{row, draws_together}
-use Rattle.smp_design.proofs.Rows.{balance_columns, is_together, together_balances}
+use Rattle.smp_design.proofs.Rows.{balance_columns, no_coordinates, together_balances}
 use Rattle.smp_methods.proofs.Columns.{are_values}
 use Rattle.smp_methods.proofs.OneStratum.{are_numbers}
 use Rattle.smp_twostage.specs.Strata.{StratumUnits, free_values, values_of}
@@ -74,15 +71,6 @@ last_numbers counted strata h before all done whole so_far =
     sym (append-nil done) ∙ ap (λ (rest : List Stratum). done ++ numbers_from counted before rest) (sym none) ∙ so_far
 
 -- ---- what is balanced
-
--- a method that draws all strata together takes no coordinates
-no_near : (balance near : ℕ) → AreNeeded (row StratifiedCube).needs balance near → near ≡ 0
-unfolding row
-no_near balance near are = are.1
-
-no_coordinates : (way : Procedure) → draws_together way.method ≡ true → IsProcedure way → way.near ≡ 0
-no_coordinates way together is =
-    no_near way.balance way.near (subst (λ m. AreNeeded (row m).needs way.balance way.near) (is_together way.method together) is.columns)
 
 -- where no value is cut off
 cut : (n m : ℕ) (units : List FirstUnit) → All (λ (u : FirstUnit). length u.values ≡ n) units → n ≤ m → map (λ (u : FirstUnit). take m u.values) units ≡ map (λ (u : FirstUnit). u.values) units
