@@ -20,7 +20,7 @@ use Rattle.smp_strata.specs.Misfits.{misfit_of, row_limit_by}
 use Rattle.smp_strata.specs.Plans.{Parts, parts_of, stratum_of}
 use Rattle.smp_strata.specs.declared.misfit.Misfit.TheVariants.{RowLimit}
 use Rattle.smp_strata.proofs.Founds.{when_false}
-use Rattle.smp_strata.proofs.MisfitOrder.{served}
+use Rattle.smp_strata.proofs.MisfitOrder.{rows_fit}
 use Rattle.smp_twostage.specs.Plans.{CanBeDrawn, IsTogether, TakesRows}
 use Rattle.smp_plan.specs.Plans.{quick_design}
 
@@ -53,7 +53,7 @@ module _ (design : Design) (units : List unit.Unit) (is : IsDesign design) (some
     one_stage = no_second design.procedure.method design.second is.second_apart joined;
     some = (let names = some_names units some in omega (arith, names, strata_count));
     rows =
-        (let few = few_rows (draws_together design.procedure.method) (length (stratum_names units)) (length design.columns.values) (served design units fits).rows joined in
+        (let few = few_rows (draws_together design.procedure.method) (length (stratum_names units)) (length design.columns.values) (rows_fit design units fits) joined in
         omega (arith, few, strata_count, is.values, no_coordinates design.procedure joined is.procedure));
     few = few;
   }

@@ -1,6 +1,6 @@
 -- The sum of fractions over the least common multiple of their denominators.
-use Rattle.std.proofs.Common.{◌≡◌, ◌↔◌, ℕ, zero, suc, ◌+◌, ◌*◌, ◌<◌, ◌≤◌, List, length, get_or, map, take, pos, ◌*ℤ◌, Option, Some, None, arith, refl, sym, ap, add-one}
-use Rattle.std.specs.Prelude.{sum, IfSome, IsNone, IsSome}
+use Rattle.std.proofs.Common.{◌≡◌, ◌↔◌, ℕ, zero, suc, ◌+◌, ◌*◌, ◌<◌, ◌≤◌, List, length, get_or, map, take, pos, ◌*ℤ◌, arith, sym, ap, add-one}
+use Rattle.std.specs.Prelude.{sum}
 use Rattle.std.proofs.lemmas.List.{get_or-map, length-map, take_all}
 use Rattle.std.proofs.lemmas.List.Sums.{sum_by_more}
 use Rattle.std.proofs.lemmas.Nat.Gcd.{dvd_refl}
@@ -73,21 +73,14 @@ module _ (probs : List Frac) where
         same_trans expected_is_over (same_sym (over_from_cross n (sum numerators) multiple 1 positive_one (common_multiple_positive probs) cross)))),
   )
 
--- ---- what is found in lowest terms
+-- ---- the sum in lowest terms
 
--- a fraction over a denominator that isn't 0
-pub is_found : (found : Option Frac) (den : ℕ) → (IsNone found → den ≡ 0) → 1 ≤ den → IsSome found
-is_found None den none some = absurd (omega (arith, none refl, some))
-is_found (Some p) den none some = refl
-
-pub found_expected : (probs : List Frac) (found : Option Frac) (den total : ℕ) → den ≡ common_multiple probs → total ≡ sum (map (numerator_over den) probs) → IfSome found (λ p. Same (fraction p) (over total den)) → IfSome found (λ p. Same (fraction p) (expected_size probs))
-found_expected probs None den total den_is total_is same = tt
-found_expected probs (Some p) den total den_is total_is same =
+pub sum_expected : (probs : List Frac) (p : Frac) (den total : ℕ) → den ≡ common_multiple probs → total ≡ sum (map (numerator_over den) probs) → Same (fraction p) (over total den) → Same (fraction p) (expected_size probs)
+sum_expected probs p den total den_is total_is same =
     same_trans (rw (total_is, den_is) at same) (same_sym (expected_is_over probs))
 
-pub found_whole : (a : Fraction) (found : Option Frac) → IfSome found (λ p. Same (fraction p) a) → IfSome found (λ p. (p.den ≡ 1) ↔ IsWholeNumber a)
-found_whole a None same = tt
-found_whole a (Some p) same = (
+pub whole_expected : (a : Fraction) (p : Frac) → Same (fraction p) a → (p.den ≡ 1) ↔ IsWholeNumber a
+whole_expected a p same = (
   (λ one. (let is = (whole_den p).0 one in (is.0, same_trans (same_sym same) is.1))),
   (λ (n, is). (whole_den p).1 (n, same_trans same is)),
 )

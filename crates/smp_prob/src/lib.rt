@@ -15,6 +15,6 @@ pub use faults::{GivenFault, ProbFault};
 pub use inclusions::Inclusion;
 pub use lists::{Places, Shapes};
 pub use orders::Order;
-pub use probabilities::{expected_size, given};
+pub use probabilities::{GivenRequest, given};
 pub use proportional::requested;
 pub use requests::Request;

@@ -1,4 +1,4 @@
-ghost use Rattle.std.specs.Prelude.{◌≡◌, ◌↔◌, ◌+◌, ◌≤◌, ◌<◌, ◌^◌, ℕ, Bool, Err, IsSome, IfSome, SomeIff, IfOk, IsOkUnless, All, EachIndex, length, map, sum, slice_index, count_by};
+ghost use Rattle.std.specs.Prelude.{◌≡◌, ◌↔◌, ◌+◌, ◌≤◌, ◌<◌, ◌^◌, ℕ, Bool, Err, SomeIff, IfOk, IsOkUnless, All, EachIndex, length, map, sum, slice_index, count_by};
 ghost use Rattle.std.specs.List.{range_with_len};
 ghost use Rattle.smp_frac.specs.{Fractions.{Same, whole}, Limits.{most_rows}, Exact.{fraction}};
 ghost use Rattle.smp_prob.specs.{declared.faults.GivenFault.{GivenFault}, Kept.Numerators.{over_of}, Requests.{IsRequest}};
@@ -89,7 +89,16 @@ fn request_over(alloc: Global, den: u32, numerators: &[u32]) -> Result<Request, 
     })
 }
 
-/// The request for units whose probabilities are given.
+/// The request for units whose probabilities are given, and how many of them are expected.
+#[derive(Debug, Drop)]
+pub struct GivenRequest {
+    /// The request.
+    pub request: Request,
+    /// The sum of the probabilities in lowest terms.
+    pub expected: Frac,
+}
+
+/// The request for units whose probabilities are given, and their sum in lowest terms.
 ///
 /// The units with the fraction 1 are certain, and those with a fraction strictly between 0 and 1
 /// are free. Over the least common multiple of the denominators, the shapes are the numerators of
@@ -98,58 +107,48 @@ fn request_over(alloc: Global, den: u32, numerators: &[u32]) -> Result<Request, 
 /// least common multiple, and `r` the greatest common divisor of the numerators.
 ///
 /// `Denominator` comes exactly where the least common multiple passes 2,147,483,647.
-pub fn given(alloc: Global, probs: &[Frac]) -> Result<Request, GivenFault>
+pub fn given(alloc: Global, probs: &[Frac]) -> Result<GivenRequest, GivenFault>
     requires { AreGiven probs.now }
-    ensures value { IfOk result (λ request. request ≡ given_of probs.now) }
-    ensures request { IfOk result IsRequest }
+    ensures value { IfOk result (λ given. given.request ≡ given_of probs.now) }
+    ensures request { IfOk result (λ given. IsRequest given.request) }
     ensures denominator { largest_multiple < Given.common_multiple probs.now
         → result ≡ Err GivenFault.Denominator }
     ensures within { Given.common_multiple probs.now ≤ largest_multiple
         → IsOkUnless result GivenFault.NoMemory }
     ensures multiple { IsLeastMultipleOf probs.now (Given.common_multiple probs.now) }
 
+    // how many units are expected to be selected
+    ensures expected { IfOk result (λ given.
+        Same (fraction given.expected) (Given.expected_size probs.now)) }
+    ensures whole_expected { IfOk result (λ given.
+        (given.expected.den ≡ 1) ↔ IsWholeNumber (Given.expected_size probs.now)) }
     // each unit has the probability that is given for it
-    ensures probabilities { IfOk result (λ request. EachIndex probs.now (λ unit.
-        Same (asked_fraction request unit) (given_fraction probs.now unit))) }
+    ensures probabilities { IfOk result (λ given. EachIndex probs.now (λ unit.
+        Same (asked_fraction given.request unit) (given_fraction probs.now unit))) }
     // where the expected size is whole, the certain units and the draws add up to it
-    ensures size { IfOk result (λ request. (n : ℕ)
+    ensures size { IfOk result (λ given. (n : ℕ)
         → Same (Given.expected_size probs.now) (whole n)
-        → length request.certain + request.r ≡ n) }
+        → length given.request.certain + given.request.r ≡ n) }
     // so where r of the free units are selected, that many are selected in all
-    ensures drawn { IfOk result (λ request. (n : ℕ)
+    ensures drawn { IfOk result (λ given. (n : ℕ)
         → Same (Given.expected_size probs.now) (whole n) → (drawn : ℕ → Bool)
-        → count_by drawn (range_with_len 0 (length request.free)) ≡ request.r
-        → count_taken request drawn (length probs.now) ≡ n) }
+        → count_by drawn (range_with_len 0 (length given.request.free)) ≡ given.request.r
+        → count_taken given.request drawn (length probs.now) ≡ n) }
     // it is whole exactly where the shapes add up to the total
-    ensures whole { IfOk result (λ request.
-        IsWholeNumber (Given.expected_size probs.now) ↔ (sum request.shape ≡ request.total)) }
-    ensures ordered { IfOk result IsRising }
-    ensures apart { IfOk result AreApart }
-    ensures below { IfOk result (AreBelow (length probs.now)) }
-    ensures none_free { IfOk result (λ request.
-        length request.free ≡ 0 → (request.r ≡ 0) × (request.total ≡ 0)) }
+    ensures whole { IfOk result (λ given.
+        IsWholeNumber (Given.expected_size probs.now)
+        ↔ (sum given.request.shape ≡ given.request.total)) }
+    ensures ordered { IfOk result (λ given. IsRising given.request) }
+    ensures apart { IfOk result (λ given. AreApart given.request) }
+    ensures below { IfOk result (λ given. AreBelow (length probs.now) given.request) }
+    ensures none_free { IfOk result (λ given. length given.request.free ≡ 0
+        → (given.request.r ≡ 0) × (given.request.total ≡ 0)) }
 {
     let Some(multiple) = common_multiple(probs) else {
         return Err(GivenFault::Denominator);
     };
     let numerators = numerators(alloc, multiple, probs)?;
-    Ok(request_over(alloc, multiple, &numerators)?)
-}
-
-/// How many units are expected to be selected: the sum of the probabilities in lowest terms, or
-/// `None` where the least common multiple of their denominators passes 2,147,483,647.
-pub fn expected_size(probs: &[Frac]) -> Option<Frac>
-    requires { AreGiven probs.now }
-    ensures some { IsSome result ↔ (Given.common_multiple probs.now ≤ largest_multiple) }
-    ensures value { IfSome result (λ size.
-        Same (fraction size) (Given.expected_size probs.now)) }
-    ensures whole { IfSome result (λ size.
-        (size.den ≡ 1) ↔ IsWholeNumber (Given.expected_size probs.now)) }
-{
-    let multiple = common_multiple(probs)?;
-    let mut sum: u64 = 0;
-    for &prob in probs {
-        sum += numerator_over(multiple, prob) as u64;
-    }
-    Frac::new(sum as u128, multiple as u128)
+    let expected = Frac::over(sum_of(&numerators) as u128, multiple as u128);
+    let request = request_over(alloc, multiple, &numerators)?;
+    Ok(GivenRequest { request, expected })
 }

@@ -5,7 +5,7 @@ use Rattle.std.specs.Str.{bytes_eq}
 use Rattle.std.specs.List.{position_or_len}
 use Rattle.std.proofs.lemmas.Bool.{cases_Bool}
 use Rattle.std.proofs.lemmas.Slice.Eq.{bytes_eq-Decides}
-use Rattle.std.proofs.lemmas.List.{append_assoc, append-nil}
+use Rattle.std.proofs.lemmas.List.{append_assoc}
 use Rattle.std.proofs.lemmas.List.Folds.{list_any-append}
 use Rattle.smp_strata.specs.Appearances.{distinct}
 
@@ -101,9 +101,6 @@ all_new (t ∷ texts) = ap (λ rest. t ∷ rest) (all_new texts)
 -- before the first text, and after the last
 pub none_seen : (texts : List (List ℕ)) → with_new [] texts ≡ distinct texts
 none_seen texts = all_new (distinct texts)
-
-pub all_seen : (seen : List (List ℕ)) → with_new seen [] ≡ seen
-all_seen seen = append-nil seen
 
 -- ---- the place of a text stays
 

@@ -1,9 +1,9 @@
 -- The plan of a frame that serves a design: it is sound, and gives each row the probability that is asked for it.
-use Rattle.std.proofs.Common.{◌≡◌, ℕ, ◌+◌, ◌<◌, List, [], ◌∷◌, length, map, get_or, Option, Some, None, arith, refl, sym, ap, ◌∙◌}
+use Rattle.std.proofs.Common.{◌≡◌, ℕ, ◌+◌, ◌<◌, List, [], ◌∷◌, length, get_or, Option, Some, None, arith, refl, sym, ap, ◌∙◌}
 use Rattle.std.specs.Prelude.{All, IsTrue, slice_get, option_map}
 use Rattle.std.specs.List.{range_with_len, position_or_len}
 use Rattle.std.specs.Str.{bytes_eq}
-use Rattle.std.proofs.lemmas.List.{get_or-map, length-map, same_lists}
+use Rattle.std.proofs.lemmas.List.{get_or-map, length-map}
 use Rattle.std.proofs.lemmas.List.Elements.{All-map}
 use Rattle.std.proofs.lemmas.List.FromFn.{length-range_with_len, get_or-range_with_len, get_or-map-range_with_len, length-map-range_with_len}
 use Rattle.std.proofs.lemmas.Option.{slice_get-map, slice_get_within, get_or_from_slice_get}
@@ -26,12 +26,11 @@ use Rattle.smp_strata.specs.Seats.{IsSeat, seat_fraction, stage_fraction}
 use Rattle.smp_strata.specs.declared.strata.FirstUnit as first
 use Rattle.smp_strata.specs.declared.strata.Seat as seat
 use Rattle.smp_strata.specs.declared.strata.Stratum as stratum
-use Rattle.smp_strata.specs.Kept.Built.{AreSeats, IsBuilt, SecondAsks, second_method, seat_by}
+use Rattle.smp_strata.specs.Kept.Built.{AreBuilt, AreSeats, SecondAsks, second_method, seat_by}
 use Rattle.smp_strata.specs.Kept.Groups.{places_of}
 use Rattle.smp_strata.specs.Kept.Layouts.{AreRows, AreGroups, homes_of}
 use Rattle.smp_strata.proofs.Apart.{home_is, together}
 use Rattle.smp_strata.proofs.Members.{home_at, homes, members_are}
-use Rattle.smp_strata.proofs.MisfitOrder.{IsServed}
 use Rattle.smp_strata.proofs.Seating.{are_seats, home_within, place_is, seat_fraction_is, seat_only, stratum_at_home, stratum_is, unit_is}
 
 -- the cluster of a row, by its number
@@ -55,43 +54,34 @@ second_same units (Some s) g row place asks at is =
     let size : get_or (second_sizes units g) place 0 ≡ second_size_at units row = get_or-map (second_size_at units) g place 0 0 here ∙ ap (second_size_at units) (get_or_from_slice_get g place row 0 at) in
     rw (← is) (rw size at (asks place (omega (arith, here, length-map g (second_size_at units)))))
 
--- each stratum of the frame is in the list, as it is built
-pub record AreListed (design : Design) (units : List unit.Unit) (strata : List stratum.Stratum) : Type 0 where
-  pub long : length strata ≡ length (stratum_names units)
-  pub each : (k : ℕ) (d : stratum.Stratum) → k < length (stratum_names units) → IsBuilt design units k (get_or strata k d)
-
-module _ (design : Design) (units : List unit.Unit) (rows : All (AreRows (length units)) (clusters design.second units)) (served : IsServed design units)
-    (strata : List stratum.Stratum) (listed : AreListed design units strata) where
+module _ (design : Design) (units : List unit.Unit) (rows : All (AreRows (length units)) (clusters design.second units)) (strata : List stratum.Stratum) (built : AreBuilt design units strata) where
   abbrev numbers : List ℕ
   numbers = range_with_len 0 (length (stratum_names units))
 
-  pub strata_are : strata ≡ map (stratum_of design units) numbers
-  strata_are =
-      same_lists strata (map (stratum_of design units) numbers) (listed.long ∙ sym (length-map-range_with_len (stratum_of design units) 0 (length (stratum_names units))))
-      (λ k d l. (let here : k < length (stratum_names units) = omega (arith, l, listed.long) in
-      (listed.each k d here).value ∙ sym (get_or-map-range_with_len (stratum_of design units) 0 (length (stratum_names units)) k k d here (omega arith))))
+  long : length strata ≡ length (stratum_names units)
+  long = ap length built.are ∙ length-map-range_with_len (stratum_of design units) 0 (length (stratum_names units))
 
-  built : (k : ℕ) → k < length (stratum_names units) → IsBuilt design units k (stratum_of design units k)
-  built k l = (let b = listed.each k (stratum_of design units k) l in rw b.value at b)
+  nth : (k : ℕ) (d : stratum.Stratum) → k < length strata → get_or strata k d ≡ stratum_of design units k
+  nth k d l = ap (λ ss. get_or ss k d) built.are ∙ get_or-map-range_with_len (stratum_of design units) 0 (length (stratum_names units)) k k d (omega (arith, l, long)) (omega arith)
 
   pub are_strata : All (IsStratum (second_method design)) strata
-  are_strata k d l = (listed.each k d (omega (arith, l, listed.long))).stratum
+  are_strata k d l = rw (nth k d l) ((built.each k (omega (arith, l, long))).stratum)
 
   pub are_whole : IsTrue (row design.procedure.method).draws_whole → All (λ s. DrawsWhole s.request) strata
-  are_whole needed k d l = (listed.each k d (omega (arith, l, listed.long))).request.whole needed
+  are_whole needed k d l = rw (nth k d l) ((built.each k (omega (arith, l, long))).request.whole needed)
 
   pub draws_as_asked : (k : ℕ) (s : stratum.Stratum) → slice_get strata k ≡ Some s → DrawsInStratum design units k s
   draws_as_asked k s e =
-      rw (get_or_from_slice_get strata k s s e) at ((listed.each k s (omega (arith, slice_get_within strata k s e, listed.long))).draws)
+      let within : k < length strata = slice_get_within strata k s e in
+      rw (sym (get_or_from_slice_get strata k s s e) ∙ nth k s within) ((built.each k (omega (arith, within, long))).draws)
 
   pub have_columns : All (λ s. All (λ f. length f.values ≡ length design.columns.values) s.units) strata
   have_columns k d l =
-      let here : k < length (stratum_names units) = omega (arith, l, listed.long) in
-      rw (listed.each k d here).value (All-map (λ (f : first.FirstUnit). length f.values ≡ length design.columns.values) (first_of design units) (clusters_in design units k)
+      rw (nth k d l) (All-map (λ (f : first.FirstUnit). length f.values ≡ length design.columns.values) (first_of design units) (clusters_in design units k)
       (λ j g m. length-map-range_with_len (value_of units (get_or (clusters_in design units k) j g)) 0 (length design.columns.values)))
 
   module _ (row_places : List ℕ) (row_groups : AreGroups (homes_of design.second units) (length (clusters design.second units)) (clusters design.second units) row_places)
-      (long_rows : length (homes_of design.second units) ≡ length units)
+      (long_rows : length (homes_of design.second units) ≡ length units) (together : unit_in_two design.second units ≡ None)
       (members : List (List ℕ)) (places : List ℕ) (groups : AreGroups (homes design units rows) (length (stratum_names units)) members places) where
     abbrev row_homes : List ℕ
     row_homes = homes_of design.second units
@@ -103,7 +93,7 @@ module _ (design : Design) (units : List unit.Unit) (rows : All (AreRows (length
     by row = seat_by (homes design units rows) places row_homes row_places row
 
     pub seats_are : (seats : List seat.Seat) → length seats ≡ length row_homes → ((row : ℕ) (d : seat.Seat) → row < length row_homes → get_or seats row d ≡ by row) → AreSeats strata seats
-    seats_are = are_seats design units rows strata strata_are row_homes row_places row_groups members places groups
+    seats_are = are_seats design units rows strata built.are row_homes row_places row_groups members places groups
 
     fractions : (row : ℕ) → row < length units → Same (seat_fraction strata (by row)) (row_fraction design units row)
     fractions row l =
@@ -112,30 +102,30 @@ module _ (design : Design) (units : List unit.Unit) (rows : All (AreRows (length
         let g : List ℕ = get_or all i [] in
         let k : ℕ = (by row).stratum in
         let u : ℕ = (by row).unit in
-        let home = home_within design units rows strata strata_are row_homes row_places row_groups members places groups row lr in
-        let here = stratum_at_home design units rows strata strata_are row_homes row_places row_groups members places groups i home in
+        let home = home_within design units rows strata built.are row_homes row_places row_groups members places groups row lr in
+        let here = stratum_at_home design units rows strata built.are row_homes row_places row_groups members places groups i home in
         let cluster : g ≡ cluster_of design.second units row = cluster_home units design.second row l in
         let number : stratum_number units row ≡ k =
         sym (home_at design units rows i home ∙ ap (λ x. stratum_number units (first_row x)) cluster
-        ∙ ap (λ t. position_or_len (bytes_eq t) (stratum_names units)) (first_stratum units design.second served.together row l)) in
+        ∙ ap (λ t. position_or_len (bytes_eq t) (stratum_names units)) (first_stratum units design.second together row l)) in
         let chosen : slice_get (places_of (homes design units rows) k) u ≡ Some i = groups.seated i (omega (arith, home, length-map all (λ x. stratum_number units (first_row x)))) in
         let in_stratum : slice_get (clusters_in design units k) u ≡ Some g =
         ap (λ gs. slice_get gs u) (sym (members_are design units rows k here)) ∙ slice_get-map (λ j. get_or all j []) (places_of (homes design units rows) k) u ∙ ap (option_map (λ j. get_or all j [])) chosen in
         let within : u < length (clusters_in design units k) = slice_get_within (clusters_in design units k) u g in_stratum in
         let first : Same (asked_fraction (stratum_of design units k).request u) (fraction_by design.columns.prob design units k g) =
-        rw (get_or_from_slice_get (clusters_in design units k) u g [] in_stratum) at ((built k here).request.asks u within) in
+        rw (get_or_from_slice_get (clusters_in design units k) u g [] in_stratum) at ((built.each k here).request.asks u within) in
         let in_its_stratum : Same (asked_fraction (stratum_of design units k).request u) (fraction_in_stratum design units row) = rw (number, ← cluster) first in
         let second : Same (stage_fraction (second_request design.second units g) (by row).place) (fraction_in_psu design.second units row) =
         second_same units design.second g row (by row).place
-        (rw (get_or_from_slice_get (clusters_in design units k) u g g in_stratum) at ((built k here).firsts u g within))
-        (place_is design units rows strata strata_are row_homes row_places row_groups members places groups row lr) cluster in
-        rw (seat_fraction_is strata (by row) (stratum_of design units k) (first_of design units g) (stratum_is design units rows strata strata_are k here)
-        (unit_is design units rows strata strata_are row_homes row_places row_groups members places groups row lr))
+        (rw (get_or_from_slice_get (clusters_in design units k) u g g in_stratum) at ((built.each k here).firsts u g within).asks)
+        (place_is design units rows strata built.are row_homes row_places row_groups members places groups row lr) cluster in
+        rw (seat_fraction_is strata (by row) (stratum_of design units k) (first_of design units g) (stratum_is design units rows strata built.are k here)
+        (unit_is design units rows strata built.are row_homes row_places row_groups members places groups row lr))
         (times_same in_its_stratum second)
 
     pub asks_as_frame : (row : ℕ) (s : seat.Seat) → row < length units → IsSeat strata row s → Same (seat_fraction strata s) (row_fraction design units row)
     asks_as_frame row s l is =
-        rw (← (seat_only design units rows strata strata_are row_homes row_places row_groups members places groups row s is).1) (fractions row l)
+        rw (← (seat_only design units rows strata built.are row_homes row_places row_groups members places groups row s is).1) (fractions row l)
 
 -- seats that are those of the rows
 pub seated_by : (strata : List stratum.Stratum) (seats : List seat.Seat) → AreSeats strata seats → AreSeated (length seats) strata

@@ -1,13 +1,13 @@
 -- The first stage units of a frame and their strata, by the numbers that the code keeps.
 use Rattle.std.proofs.Common.{◌≡◌, ℕ, zero, suc, ◌+◌, ◌<◌, ◌≤◌, Bool, true, nat_eq, List, [], ◌∷◌, length, map, filter, get_or, Option, Some, None, inl, inr, arith, refl, sym, ap, ◌∙◌}
-use Rattle.std.specs.Prelude.{All}
+use Rattle.std.specs.Prelude.{All, slice_get}
 use Rattle.std.specs.List.{list_any, range_with_len}
 use Rattle.std.specs.Str.{bytes_eq}
 use Rattle.std.proofs.lemmas.Bool.{cases_Bool, true≢false}
-use Rattle.std.proofs.lemmas.List.{length-map}
+use Rattle.std.proofs.lemmas.List.{get_or-map, length-map}
 use Rattle.std.proofs.lemmas.List.Elements.{All-map, All-filter, All-from_get_or}
 use Rattle.std.proofs.lemmas.List.Folds.{list_any_at}
-use Rattle.std.proofs.lemmas.List.FromFn.{length-range_with_len, get_or-range_with_len, get_or-map-range_with_len, length-map-range_with_len}
+use Rattle.std.proofs.lemmas.List.FromFn.{fill_by_all, length-range_with_len, get_or-range_with_len, get_or-map-range_with_len, length-map-range_with_len}
 use Rattle.std.proofs.lemmas.List.Sums.{length-filter, count_by-le-length}
 use Rattle.smp_frac.specs.Limits.{most_rows}
 use Rattle.smp_design.specs.declared.design.Second as second
@@ -15,7 +15,8 @@ use Rattle.smp_frame.specs.declared.frame.Unit as unit
 use Rattle.smp_strata.specs.Clusters.{clusters, in_psu, psu_names, stratum_names, stratum_number, first_row}
 use Rattle.smp_strata.specs.Rows.{rows_of, psu_at}
 use Rattle.smp_strata.specs.Kept.Groups.{places_of}
-use Rattle.smp_strata.specs.Kept.Layouts.{AreRows, psu_number, homes_of, home_count, strata_homes}
+use Rattle.smp_strata.specs.Kept.Layouts.{AreGroups, AreRows, psu_number, strata_homes}
+use Rattle.smp_strata.proofs.Totals.{map_twice}
 use Rattle.smp_strata.proofs.Ranges.{map_range_ext, filter_range_ext, map_by_places, one_place}
 use Rattle.smp_strata.proofs.TextPlaces.{itself, once, there, any_distinct, places_by_name}
 
@@ -82,9 +83,8 @@ module _ (units : List unit.Unit) where
       add_zero : (k : ℕ) → 0 + k ≡ k
       add_zero k = omega arith
 
-  pub homes_within : (second : Option second.Second) → All (λ h. h < home_count second units) (homes_of second units)
-  homes_within None = below (length units)
-  homes_within (Some second) = numbers_within (psu_number units) (length (psu_names units)) psu_within
+  pub homes_within : All (λ h. h < length (psu_names units)) (map (psu_number units) (rows_of units))
+  homes_within = numbers_within (psu_number units) (length (psu_names units)) psu_within
 
   alone : (k : ℕ) → k < length units → places_of (rows_of units) k ≡ k ∷ []
   alone k l =
@@ -92,10 +92,23 @@ module _ (units : List unit.Unit) where
       (filter_range_ext (λ p. nat_eq (get_or (rows_of units) p 0) k) (λ p. nat_eq p k) 0 (length units)
       (λ p m u. ap (λ x. nat_eq x k) (get_or-range_with_len 0 (length units) p 0 (omega (arith, u)) ∙ omega arith)) ∙ one_place k (length units) l)
 
-  pub clusters_are : (second : Option second.Second) → map (places_of (homes_of second units)) (range_with_len 0 (home_count second units)) ≡ clusters second units
-  clusters_are None = map_range_ext (places_of (rows_of units)) (λ row. row ∷ []) 0 (length units) (λ k m u. alone k (omega (arith, u)))
-  clusters_are (Some second) =
-      map_range_ext (places_of (homes_of (Some second) units)) (λ k. in_psu units (get_or (psu_names units) k [])) 0 (length (psu_names units))
+  -- where each row is by itself, it is the one place of its group
+  pub alone_groups : AreGroups (rows_of units) (length (clusters None units)) (clusters None units) (map (λ row. 0) (rows_of units))
+  alone_groups = rw (length-map (rows_of units) (λ row. row ∷ []), length-range_with_len 0 (length units)) record {
+    each = sym (map_range_ext (places_of (rows_of units)) (λ row. row ∷ []) 0 (length units) (λ k m u. alone k (omega (arith, u))));
+    within = below (length units);
+    seated = λ place l. (let here : place < length units = omega (arith, l, length-range_with_len 0 (length units)) in
+        rw (get_or-range_with_len 0 (length units) place 0 here, zero_plus place, get_or-map {Y = ℕ} (λ (row : ℕ). 0) (rows_of units) place 0 0 l)
+        (ap (λ ps. slice_get ps 0) (alone place here)));
+    paired = length-map (rows_of units) (λ (row : ℕ). 0);
+  }
+    where
+      zero_plus : (k : ℕ) → 0 + k ≡ k
+      zero_plus k = omega arith
+
+  pub psus_are : map (places_of (map (psu_number units) (rows_of units))) (range_with_len 0 (length (psu_names units))) ≡ map (in_psu units) (psu_names units)
+  psus_are =
+      map_range_ext (places_of (map (psu_number units) (rows_of units))) (λ k. in_psu units (get_or (psu_names units) k [])) 0 (length (psu_names units))
       (λ k m u. rw long_psus at (places_by_name (psu_names units) (once psus) psus (map (psu_number units) (rows_of units))
       (length-map-range_with_len (psu_number units) 0 (length units) ∙ sym long_psus)
       (λ i here. number_at (psu_number units) i (omega (arith, here, long_psus)))
@@ -128,3 +141,9 @@ module _ (units : List unit.Unit) where
     pub strata_homes_within : All (λ h. h < length (stratum_names units)) (strata_homes units groups)
     strata_homes_within = All-map (λ h. h < length (stratum_names units)) (λ g. stratum_number units (first_row g)) groups
         (λ k d l. stratum_within (first_row (get_or groups k d)) (first_within k d l))
+
+-- numbers by the rows that are by themselves
+pub by_themselves : (numbers : List ℕ) (n : ℕ) → n ≡ length numbers → map (λ rows. get_or numbers (first_row rows) 0) (map (λ row. row ∷ []) (range_with_len 0 n)) ≡ numbers
+by_themselves numbers n is =
+    map_twice (λ rows. get_or numbers (first_row rows) 0) (λ row. row ∷ []) (range_with_len 0 n)
+    ∙ sym (fill_by_all (λ k. get_or numbers k 0) numbers n 0 (sym is) (λ k l. refl))

@@ -1,9 +1,9 @@
 -- The request over the first stage units of a stratum.
-use Rattle.std.proofs.Common.{◌≡◌, ℕ, zero, suc, ◌+◌, ◌*◌, ◌<◌, ◌≤◌, ◌==◌, pos, true, false, not, Bool, List, [], ◌∷◌, length, map, filter, get_or, true≢false, nat_lt, Option, Some, None, inl, inr, arith, refl, sym, ap, ◌∙◌}
+use Rattle.std.proofs.Common.{◌≡◌, ℕ, zero, suc, ◌+◌, ◌*◌, ◌<◌, ◌≤◌, ◌==◌, pos, true, false, not, Bool, List, [], ◌∷◌, length, map, filter, get_or, true≢false, nat_eq, nat_lt, Option, Some, None, inl, inr, arith, refl, sym, ap, subst, ◌∙◌}
 use Rattle.std.specs.Prelude.{All, IsSome, IsTrue, OnSome}
 use Rattle.std.specs.List.{list_any}
 use Rattle.std.specs.Str.{bytes_eq}
-use Rattle.std.proofs.lemmas.Bool.{cases_Bool, eqb-true, ltb-false}
+use Rattle.std.proofs.lemmas.Bool.{cases_Bool, eqb-false, eqb-true, ltb-false}
 use Rattle.std.proofs.lemmas.List.{get_or-map, length-map}
 use Rattle.std.proofs.lemmas.List.Folds.{list_any_at}
 use Rattle.std.proofs.lemmas.List.Elements.{All-filter, All-map}
@@ -18,46 +18,44 @@ use Rattle.smp_frac.proofs.Unique.{same_frac}
 use Rattle.smp_frame.specs.Bounds.{IsFrame}
 use Rattle.smp_frac.specs.LowestTerms.{lowest_terms}
 use Rattle.smp_frac.proofs.LowestTerms.{lowest_terms-value}
-use Rattle.smp_prob.specs.Given.{AreGiven, IsWholeNumber, common_multiple, expected_size, given_fraction, largest_multiple}
+use Rattle.smp_prob.specs.Given.{AreGiven, IsWholeNumber, expected_size, given_fraction, given_of}
 use Rattle.smp_design.specs.Bounds.{HasOnlyProbabilities, IsDesign}
 use Rattle.smp_design.specs.Words.{row}
 use Rattle.smp_design.specs.declared.design.Design.{Design}
 use Rattle.smp_frame.specs.declared.frame.Unit as unit
+use Rattle.smp_strata.specs.declared.strata.Stratum as stratum
 use Rattle.smp_prob.specs.declared.requests.Request.{Request}
-use Rattle.smp_prob.specs.Requested.{requested_of}
-use Rattle.smp_strata.specs.Bounds.{DrawsWholeOver}
+use Rattle.smp_prob.specs.Requested.{positive_units}
 use Rattle.smp_strata.specs.Clusters.{clusters, clusters_in, stratum_names, stratum_name, first_row}
-use Rattle.smp_strata.specs.Draws.{IsFor}
-use Rattle.smp_strata.specs.Misfits.{sum_of, unwhole, when}
-use Rattle.smp_strata.specs.Plans.{first_probs, first_sizes, sample_size}
-use Rattle.smp_strata.specs.declared.misfit.Misfit.TheVariants.{Denominator, NotWhole}
+use Rattle.smp_strata.specs.Misfits.{no_size, not_whole, short, sum_of, unwhole, when}
+use Rattle.smp_strata.specs.Plans.{first_probs, first_sizes, request_by, sample_size}
+use Rattle.smp_strata.specs.declared.misfit.Misfit.TheVariants.{NoSize, NotWhole, TooMany}
 use Rattle.smp_strata.specs.Rows.{prob_at, rows_of, size_of, stratum_at}
-use Rattle.smp_strata.specs.Kept.Built.{Asks, IsFirstRequest, IsGivenRequest}
+use Rattle.smp_strata.specs.Kept.Built.{IsFirstRequest, IsGivenRequest, IsSizedRequest}
 use Rattle.smp_strata.proofs.ClusterRows.{any_by_places, strata}
 use Rattle.smp_strata.proofs.Founds.{none_at, when_false}
-use Rattle.smp_strata.proofs.MisfitOrder.{HasProbs, IsServed, IsSized, has_probs}
 use Rattle.smp_strata.proofs.Members.{count_all}
 use Rattle.smp_strata.specs.Kept.Layouts.{AreRows}
-use Rattle.smp_strata.proofs.Serving.{enough, sized}
 use Rattle.smp_strata.proofs.TextPlaces.{any_distinct, itself}
 
 module _ (design : Design) (units : List unit.Unit) where
+  -- the request itself, and what is known of it
+  pub asked : (k : ℕ) (request : Request) → IsFirstRequest design units k request
+      → IsFirstRequest design units k (request_by design.columns.prob design units k)
+  asked k request is = subst (IsFirstRequest design units k) is.value is
+
   -- a request in proportion to size
-  pub by_sizes : IsSized design units → design.columns.prob ≡ None → (k : ℕ) → k < length (stratum_names units) → (request : Request)
-      → request ≡ requested_of (first_sizes design units k) (sample_size design units k)
-      → DrawsWholeOver (length (first_sizes design units k)) request
-      → Asks (first_sizes design units k) (sample_size design units k) request
-      → IsFor request (length (first_sizes design units k)) (sample_size design units k)
-      → IsFirstRequest design units k request
-  by_sizes is none k here request value over asks draws =
+  pub by_sizes : design.columns.prob ≡ None → (k : ℕ) → 1 ≤ sample_size design units k → sample_size design units k ≤ positive_units (first_sizes design units k)
+      → (request : Request) → IsSizedRequest (first_sizes design units k) (sample_size design units k) request → IsFirstRequest design units k request
+  by_sizes none k some enough request is =
       let long : length (first_sizes design units k) ≡ length (clusters_in design units k) = length-map (clusters_in design units k) (size_of units) in
       record {
-        some = omega (arith, sized design units is k here, enough design units is k here, count_by-le-length (nat_lt 0) (first_sizes design units k), long);
-        value = rw none value;
-        over = rw (← long) over.over;
-        whole = λ whole. over.whole;
-        asks = λ u l. rw none (rw (get_or-map (size_of units) (clusters_in design units k) u [] 0 l) at (asks u (omega (arith, l, long))));
-        draws = λ n asked. (let is_n : n ≡ sample_size design units k = rw none at asked in rw (is_n, ← long) draws);
+        some = omega (arith, some, enough, count_by-le-length (nat_lt 0) (first_sizes design units k), long);
+        value = rw none is.value;
+        over = rw (← long) is.over.over;
+        whole = λ whole. is.over.whole;
+        asks = λ u l. rw none (rw (get_or-map (size_of units) (clusters_in design units k) u [] 0 l) at (is.asks u (omega (arith, l, long))));
+        draws = λ n number. (let is_n : n ≡ sample_size design units k = rw none at number in rw (is_n, ← long) is.draws);
       }
 
 -- ---- strata have rows
@@ -123,26 +121,21 @@ module _ (probs : List Frac) where
   pub whole_sum : (sum_of probs).den ≡ 1 → IsWholeNumber size
   whole_sum one = ((sum_of probs).num, same_trans (same_sym sum_of-value) record { cross = rw one refl })
 
-module _ (design : Design) (units : List unit.Unit) (column : List ℕ) (is : design.columns.prob ≡ Some column) (probs : HasProbs design units) where
-  -- each stratum has a common denominator within the limit
-  pub within : (k : ℕ) → k < length (stratum_names units) → common_multiple (first_probs design units k) ≤ largest_multiple
-  within k here =
-      ltb-false largest_multiple (common_multiple (first_probs design units k))
-      (when_false _ (Denominator (stratum_name units k))
-      (none_at (λ j. when (nat_lt largest_multiple (common_multiple (first_probs design units j))) (Denominator (stratum_name units j))) (length (stratum_names units)) probs.denominators k here))
+-- where sums are whole that are looked at, a whole number is expected of each stratum
+pub whole_size : (design : Design) (units : List unit.Unit) → not_whole design units ≡ None → IsTrue (row design.procedure.method).draws_whole → (k : ℕ) → k < length (stratum_names units)
+    → IsWholeNumber (expected_size (first_probs design units k))
+whole_size design units none_is needed k here =
+    let sum : Frac = sum_of (first_probs design units k) in
+    let none = rw needed at none_is in
+    let here_none = none_at (λ j. unwhole (stratum_name units j) (sum_of (first_probs design units j))) (length (stratum_names units)) none k here in
+    let one : (sum.den == 1) ≡ true = not_false (sum.den == 1) (when_false (not (sum.den == 1)) (NotWhole (stratum_name units k) sum) here_none) in
+    whole_sum (first_probs design units k) (eqb-true sum.den 1 one)
+  where
+    not_false : (b : Bool) → not b ≡ false → b ≡ true
+    not_false true e = refl
+    not_false false e = absurd (true≢false e)
 
-  whole_size : IsTrue (row design.procedure.method).draws_whole → (k : ℕ) → k < length (stratum_names units) → IsWholeNumber (expected_size (first_probs design units k))
-  whole_size needed k here =
-      let sum : Frac = sum_of (first_probs design units k) in
-      let none = rw needed at probs.whole in
-      let here_none = none_at (λ j. unwhole (stratum_name units j) (sum_of (first_probs design units j))) (length (stratum_names units)) none k here in
-      let one : (sum.den == 1) ≡ true = not_false (sum.den == 1) (when_false (not (sum.den == 1)) (NotWhole (stratum_name units k) sum) here_none) in
-      whole_sum (first_probs design units k) (eqb-true sum.den 1 one)
-    where
-      not_false : (b : Bool) → not b ≡ false → b ≡ true
-      not_false true e = refl
-      not_false false e = absurd (true≢false e)
-
+module _ (design : Design) (units : List unit.Unit) (column : List ℕ) (is : design.columns.prob ≡ Some column) (whole_sums : not_whole design units ≡ None) where
   -- a request by given probabilities
   pub by_probs : design.second ≡ None → (k : ℕ) → k < length (stratum_names units) → (request : Request) → IsGivenRequest (first_probs design units k) request
       → IsFirstRequest design units k request
@@ -154,7 +147,7 @@ module _ (design : Design) (units : List unit.Unit) (column : List ℕ) (is : de
         some = has_rows design units one k here;
         value = rw is given.value;
         over = rw (← long) given.over;
-        whole = λ needed. (let size = whole_size needed k here in (given.draws size.0 size.1).whole);
+        whole = λ needed. (let size = whole_size design units whole_sums needed k here in (given.draws size.0 size.1).whole);
         asks = λ u l. (let value : given_fraction (first_probs design units k) u ≡ fraction (prob (get_or cs u [])) =
             get_or-map fraction (first_probs design units k) u (prob []) (whole 0) (omega (arith, l, long)) ∙ ap fraction (get_or-map prob cs u [] (prob []) l) in
             rw is (rw value at (given.asks u (omega (arith, l, long)))));
@@ -182,16 +175,35 @@ module _ (design : Design) (units : List unit.Unit) where
             (frame.probabilities (first_row (get_or cs j d)) (lowest_terms (whole 1)) (omega (arith, here, length-map units (λ (u : unit.Unit). u.prob)))).at_most_one));
       }
 
-  module _ (is : IsServed design units) where
-    pub within_given : IsSome design.columns.prob → (k : ℕ) → k < length (stratum_names units) → common_multiple (first_probs design units k) ≤ largest_multiple
-    within_given some k here = (let column = what_is design.columns.prob some in within design units column.0 column.1 (has_probs design units is some) k here)
+  -- the request of the probabilities, where they are given
+  pub given_is : (prob : Option (List ℕ)) → IsSome prob → (k : ℕ) → given_of (first_probs design units k) ≡ request_by prob design units k
+  given_is (Some column) some k = refl
+  given_is None some k = absurd (cc)
 
-    pub by_given : IsDesign design → IsSome design.columns.prob → (k : ℕ) → k < length (stratum_names units) → (request : Request) → IsGivenRequest (first_probs design units k) request
-        → IsFirstRequest design units k request
-    by_given asked some k here request given =
-        let column = what_is design.columns.prob some in
-        by_probs design units column.0 column.1 (has_probs design units is some) (only design.columns.prob asked.prob some).one_stage k here request given
-      where
-        only : (prob : Option (List ℕ)) → OnSome prob (HasOnlyProbabilities design) → IsSome prob → HasOnlyProbabilities design
-        only (Some name) given there = given
-        only None given there = absurd (cc)
+  pub by_given : IsDesign design → IsSome design.columns.prob → not_whole design units ≡ None → (k : ℕ) → k < length (stratum_names units) → (request : Request)
+      → IsGivenRequest (first_probs design units k) request → IsFirstRequest design units k request
+  by_given is some whole k here request given =
+      let column = what_is design.columns.prob some in
+      by_probs design units column.0 column.1 whole (only design.columns.prob is.prob some).one_stage k here request given
+    where
+      only : (prob : Option (List ℕ)) → OnSome prob (HasOnlyProbabilities design) → IsSome prob → HasOnlyProbabilities design
+      only (Some name) given there = given
+      only None given there = absurd (cc)
+
+-- a number of units is given for each stratum
+pub some_size : (design : Design) (units : List unit.Unit) → no_size design units ≡ None → (k : ℕ) → k < length (stratum_names units) → 1 ≤ sample_size design units k
+some_size design units none k l =
+    let is = when_false (nat_eq (sample_size design units k) 0) (NoSize (stratum_name units k))
+    (none_at (λ j. when (nat_eq (sample_size design units j) 0) (NoSize (stratum_name units j))) (length (stratum_names units)) none k l) in
+    omega (arith, eqb-false (sample_size design units k) 0 is)
+
+-- enough of them have a positive size where no stratum is short
+pub enough_positive : (name sizes : List ℕ) (n : ℕ) → short name sizes n ≡ None → n ≤ positive_units sizes
+enough_positive name sizes n none = ltb-false (positive_units sizes) n (when_false (nat_lt (positive_units sizes) n) (TooMany name n (positive_units sizes)) none)
+
+-- a stratum by what stands in it
+pub is_stratum : (s t : stratum.Stratum) → s.name ≡ t.name → s.units ≡ t.units → s.request ≡ t.request → s ≡ t
+is_stratum s t name us request =
+    ap (λ n. record { name = n; units = s.units; request = s.request }) name
+    ∙ ap (λ u. record { name = t.name; units = u; request = s.request }) us
+    ∙ ap (λ r. record { name = t.name; units = t.units; request = r }) request

@@ -1,8 +1,9 @@
 -- The first that is found: in a list, and over numbers from 0 on.
-use Rattle.std.proofs.Common.{◌≡◌, ℕ, zero, suc, ◌+◌, ◌<◌, ◌≤◌, Bool, true, false, List, [], ◌∷◌, ◌++◌, Option, Some, None, inl, inr, arith, refl, sym, ap, ◌∙◌}
+use Rattle.std.proofs.Common.{◌≡◌, ℕ, zero, suc, ◌+◌, ◌<◌, ◌≤◌, Bool, true, false, List, [], ◌∷◌, ◌++◌, drop, get_or, length, Option, Some, None, inl, inr, arith, refl, sym, ap, ◌∙◌}
 use Rattle.std.specs.Prelude.{All}
 use Rattle.std.specs.List.{range_with_len}
 use Rattle.std.proofs.lemmas.Bool.{cases_eq}
+use Rattle.std.proofs.lemmas.List.{at_drop_more}
 use Rattle.smp_design.specs.Keys.{or_else}
 use Rattle.smp_strata.specs.Misfits.{first_found, when}
 use Rattle.smp_strata.proofs.Ranges.{range_more}
@@ -18,13 +19,23 @@ pub when_false : {B : Type 0} (b : Bool) (x : B) → when b x ≡ None → b ≡
 when_false false x e = refl
 when_false true x e = cc
 
+pub or_else_assoc : {C : Type 0} (a b c : Option C) → or_else (or_else a b) c ≡ or_else a (or_else b c)
+or_else_assoc None b c = refl
+or_else_assoc (Some x) b c = refl
+
 pub found-append : {A B : Type 0} (f : A → Option B) (xs ys : List A) → first_found f (xs ++ ys) ≡ or_else (first_found f xs) (first_found f ys)
 found-append f [] ys = refl
 found-append f (x ∷ xs) ys = ap (or_else (f x)) (found-append f xs ys) ∙ sym (or_else_assoc (f x) (first_found f xs) (first_found f ys))
-  where
-    or_else_assoc : {C : Type 0} (a b c : Option C) → or_else (or_else a b) c ≡ or_else a (or_else b c)
-    or_else_assoc None b c = refl
-    or_else_assoc (Some x) b c = refl
+
+-- what is found from a place on: what is there, or what is found behind
+pub found_from_place : {A B : Type 0} (f : A → Option B) (xs : List A) (k : ℕ) (d : A) → k < length xs
+    → first_found f (drop k xs) ≡ or_else (f (get_or xs k d)) (first_found f (drop (k + 1) xs))
+found_from_place f xs k d l = at_drop_more (first_found f) xs k d l
+
+-- nothing at any element, and so nothing
+pub each_none : {A B : Type 0} (f : A → Option B) (xs : List A) → All (λ x. f x ≡ None) xs → first_found f xs ≡ None
+each_none f [] none = refl
+each_none f (x ∷ xs) none = rw (none 0 x (omega arith)) (each_none f xs (λ k d l. none (suc k) d (omega (arith, l))))
 
 -- where nothing is found, there is nothing at any element
 pub none_each : {A B : Type 0} (f : A → Option B) (xs : List A) → first_found f xs ≡ None → All (λ x. f x ≡ None) xs

@@ -10,16 +10,30 @@ use Rattle.std.proofs.lemmas.Option.{slice_get_within, slice_get-get_or, get_or_
 use Rattle.smp_strata.specs.Kept.Groups.{places_below, AreAmong}
 use Rattle.smp_strata.proofs.Ranges.{range_more}
 
+-- one entry of a list of so many is written anew
+pub put_by : {X : Type 0} (f g : ℕ → X) (count number : ℕ) (d x : X) (xs : List X) → number < count → xs ≡ map f (range_with_len 0 count)
+    → x ≡ g number → ((k : ℕ) → (k ≡ number → ⊥) → f k ≡ g k) → set xs number x ≡ map g (range_with_len 0 count)
+put_by f g count number d x xs within are here others =
+    let long : length xs ≡ count = ap length are ∙ length-map-range_with_len f 0 count in
+    ext_get_or d _ _ (length-set xs number x ∙ long ∙ sym (length-map-range_with_len g 0 count))
+    (λ k l. elim (cases_eq k number) [
+      | inl e ↦ rw e (get_or-set_same xs number x d (omega (arith, within, long)) ∙ here
+          ∙ sym (get_or-map-range_with_len g 0 count number number d within (omega arith)))
+      | inr other ↦ (let inside : k < count = omega (arith, l, length-set xs number x, long) in
+          get_or-set_other xs number k x d other ∙ ap (λ ys. get_or ys k d) are ∙ get_or-map-range_with_len f 0 count k k d inside (omega arith)
+          ∙ others k other ∙ sym (get_or-map-range_with_len g 0 count k k d inside (omega arith)))
+    ])
+
 module _ (numbers : List ℕ) where
   pub below_more : (i k : ℕ) → places_below numbers (i + 1) k ≡ places_below numbers i k ++ cond (nat_eq (get_or numbers i 0) k) (i ∷ []) []
   below_more i k =
       ap (filter (λ p. nat_eq (get_or numbers p 0) k)) (range_more i)
       ∙ filter-append (λ p. nat_eq (get_or numbers p 0) k) (range_with_len 0 i) (i ∷ [])
 
-  same_group : (i k : ℕ) → get_or numbers i 0 ≡ k → places_below numbers (i + 1) k ≡ places_below numbers i k ++ i ∷ []
+  pub same_group : (i k : ℕ) → get_or numbers i 0 ≡ k → places_below numbers (i + 1) k ≡ places_below numbers i k ++ i ∷ []
   same_group i k e = below_more i k ∙ ap (λ b. places_below numbers i k ++ cond b (i ∷ []) []) (eq-eqb _ k e)
 
-  other_group : (i k : ℕ) → (get_or numbers i 0 ≡ k → ⊥) → places_below numbers (i + 1) k ≡ places_below numbers i k
+  pub other_group : (i k : ℕ) → (get_or numbers i 0 ≡ k → ⊥) → places_below numbers (i + 1) k ≡ places_below numbers i k
   other_group i k d = below_more i k ∙ ap (λ b. places_below numbers i k ++ cond b (i ∷ []) []) (ne_eqb _ k d) ∙ append-nil (places_below numbers i k)
 
   pub group_at : (i count k : ℕ) (groups : List (List ℕ)) → k < count → groups ≡ map (places_below numbers i) (range_with_len 0 count) → get_or groups k [] ≡ places_below numbers i k
@@ -29,17 +43,9 @@ module _ (numbers : List ℕ) where
       → groups ≡ map (places_below numbers i) (range_with_len 0 count)
       → set groups number (get_or groups number [] ++ i ∷ []) ≡ map (places_below numbers (i + 1)) (range_with_len 0 count)
   put i count number groups is within groups_are =
-      let long : length groups ≡ count = ap length groups_are ∙ length-map-range_with_len (places_below numbers i) 0 count in
-      let at : (k : ℕ) → k < count → get_or groups k [] ≡ places_below numbers i k = λ k l. group_at i count k groups l groups_are in
-      ext_get_or [] _ _ (length-set groups number _ ∙ long ∙ sym (length-map-range_with_len (places_below numbers (i + 1)) 0 count))
-      (λ k l. elim (cases_eq k number) [
-        | inl e ↦ rw e (get_or-set_same groups number _ [] (omega (arith, within, long))
-            ∙ ap (λ g. g ++ i ∷ []) (at number within)
-            ∙ sym (get_or-map-range_with_len (places_below numbers (i + 1)) 0 count number number [] within (omega arith) ∙ same_group i number (sym is)))
-        | inr d ↦ (let here : k < count = omega (arith, l, length-set groups number (get_or groups number [] ++ i ∷ []), long) in
-            get_or-set_other groups number k _ [] d ∙ at k here
-            ∙ sym (get_or-map-range_with_len (places_below numbers (i + 1)) 0 count k k [] here (omega arith) ∙ other_group i k (λ e. d (sym e ∙ sym is))))
-      ])
+      put_by (places_below numbers i) (places_below numbers (i + 1)) count number [] _ groups within groups_are
+      (ap (λ g. g ++ i ∷ []) (group_at i count number groups within groups_are) ∙ sym (same_group i number (sym is)))
+      (λ k d. sym (other_group i k (λ e. d (sym e ∙ sym is))))
 
   get_front : (xs ys : List ℕ) (i x : ℕ) → slice_get xs i ≡ Some x → slice_get (xs ++ ys) i ≡ Some x
   get_front xs ys i x e =

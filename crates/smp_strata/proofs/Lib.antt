@@ -18,10 +18,11 @@ pub mod Founds
 pub mod Apart
 pub mod Members
 pub mod Laid
-pub mod Looked
 pub mod MisfitOrder
-pub mod Pushes
 pub mod Serving
+pub mod SizedRequests
+pub mod GivenRequests
 pub mod FirstRequests
+pub mod FirstUnits
 pub mod Seating
 pub mod Asking

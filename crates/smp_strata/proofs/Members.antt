@@ -1,28 +1,24 @@
 -- The first stage units of a stratum, by their numbers.
-use Rattle.std.proofs.Common.{◌≡◌, ℕ, ◌<◌, ◌≤◌, ◌^◌, false, Option, Some, None, List, [], ◌∷◌, length, map, filter, get_or, nat_lt, arith, sym, ap, ◌∙◌}
+use Rattle.std.proofs.Common.{◌≡◌, ℕ, ◌<◌, ◌≤◌, ◌^◌, false, Option, Some, None, List, [], ◌∷◌, length, map, filter, get_or, arith, sym, ap, ◌∙◌}
 use Rattle.std.specs.Prelude.{All, sum}
 use Rattle.std.specs.List.{range_with_len, position_or_len}
 use Rattle.std.specs.Str.{bytes_eq}
 use Rattle.std.proofs.lemmas.List.{get_or-map, length-map}
-use Rattle.std.proofs.lemmas.List.Elements.{All-filter, All-map}
+use Rattle.std.proofs.lemmas.List.Elements.{All-filter}
 use Rattle.std.proofs.lemmas.List.Sums.{get_or-le-sum_by, sum-map}
 use Rattle.std.proofs.lemmas.List.FromFn.{get_or-map-range_with_len, length-map-range_with_len}
 use Rattle.smp_frac.specs.declared.fractions.Frac.{Frac}
-use Rattle.smp_frame.specs.Bounds.{IsFrame}
-use Rattle.smp_frac.specs.Fractions.{whole}
 use Rattle.smp_frac.specs.Limits.{most_rows}
-use Rattle.smp_frac.specs.LowestTerms.{lowest_terms}
-use Rattle.smp_prob.specs.Given.{AreGiven, common_multiple, largest_multiple}
 use Rattle.smp_design.specs.declared.design.Second as second
 use Rattle.smp_design.specs.declared.design.Design.{Design}
 use Rattle.smp_frame.specs.declared.frame.Unit as unit
 use Rattle.smp_strata.specs.Clusters.{clusters, clusters_in, in_psu, psu_names, stratum_names, stratum_name, stratum_number, first_row}
-use Rattle.smp_strata.specs.Plans.{cluster_counts, first_probs, first_sizes, quota_of, sample_size, sample_sizes, sizes_by}
+use Rattle.smp_strata.specs.Plans.{cluster_counts, first_probs, first_sizes, quota_of, sample_sizes, sizes_by}
 use Rattle.smp_strata.specs.Rows.{prob_at, stratum_at, psu_at, size_of, is_large}
 use Rattle.smp_strata.specs.Kept.Groups.{places_of}
 use Rattle.smp_strata.specs.Kept.Layouts.{AreRows, AreGroups, prob_of, strata_homes}
-use Rattle.smp_strata.specs.Misfits.{denominator, first_found, large, psu_too_large, short, sum_of, too_many, unwhole, when}
-use Rattle.smp_strata.specs.declared.misfit.Misfit.TheVariants.{Denominator, PsuTooLarge}
+use Rattle.smp_strata.specs.Misfits.{first_found, large, psu_too_large, sum_of, unwhole}
+use Rattle.smp_strata.specs.declared.misfit.Misfit.TheVariants.{PsuTooLarge}
 use Rattle.smp_strata.proofs.Columns.{small_size}
 use Rattle.smp_strata.proofs.Founds.{found_ext, none_each, when_false}
 use Rattle.smp_strata.proofs.Rule.{paired}
@@ -100,31 +96,15 @@ module _ (design : Design) (units : List unit.Unit) (rows : All (AreRows (length
   pub group_of : (k : ℕ) → k < length (stratum_names units) → (groups : List (List ℕ)) (among : List ℕ) → AreGroups homes (length (stratum_names units)) groups among → get_or groups k [] ≡ places_of homes k
   group_of k l groups among are = ap (λ gs. get_or gs k []) are.each ∙ get_or-map-range_with_len (places_of homes) 0 (length (stratum_names units)) k k [] l (omega arith)
 
-  -- the strata that are short, by the numbers of their first stage units
-  pub short_are : (groups : List (List ℕ)) (among : List ℕ) → AreGroups homes (length (stratum_names units)) groups among
-      → first_found (λ k. short (stratum_name units k) (map (λ i. get_or (map (size_of units) all) i 0) (get_or groups k [])) (sample_size design units k)) (range_with_len 0 (length (stratum_names units)))
-      ≡ too_many design units
-  short_are groups among are =
-      found_ext _ _ 0 (length (stratum_names units)) (λ k m u. ap (λ xs. short (stratum_name units k) xs (sample_size design units k))
-      (ap (map (λ i. get_or (map (size_of units) all) i 0)) (group_of k (omega (arith, u)) groups among are) ∙ sizes_are k (omega (arith, u))))
-
-  -- the strata without a common denominator, and those whose sum isn't whole, by the same numbers
-  pub denominators_are : (groups : List (List ℕ)) (among : List ℕ) → AreGroups homes (length (stratum_names units)) groups among
-      → first_found (λ k. when (nat_lt largest_multiple (common_multiple (map (prob_of units all) (get_or groups k [])))) (Denominator (stratum_name units k))) (range_with_len 0 (length (stratum_names units)))
-      ≡ denominator design units
-  denominators_are groups among are =
-      found_ext _ _ 0 (length (stratum_names units)) (λ k m u. ap (λ ps. when (nat_lt largest_multiple (common_multiple ps)) (Denominator (stratum_name units k)))
-      (ap (map (prob_of units all)) (group_of k (omega (arith, u)) groups among are) ∙ probs_are k (omega (arith, u))))
-
-  pub unwhole_are : (groups : List (List ℕ)) (among : List ℕ) → AreGroups homes (length (stratum_names units)) groups among
-      → first_found (λ k. unwhole (stratum_name units k) (sum_of (map (prob_of units all) (get_or groups k [])))) (range_with_len 0 (length (stratum_names units)))
+  -- the sums that aren't whole, as they are kept
+  pub wholes_are : (names : List (List ℕ)) (sums : List Frac) → names ≡ stratum_names units → sums ≡ map (λ k. sum_of (first_probs design units k)) (range_with_len 0 (length names)) → (d : Frac)
+      → first_found (λ k. unwhole (get_or names k []) (get_or sums k d)) (range_with_len 0 (length names))
       ≡ first_found (λ k. unwhole (stratum_name units k) (sum_of (first_probs design units k))) (range_with_len 0 (length (stratum_names units)))
-  unwhole_are groups among are =
-      found_ext _ _ 0 (length (stratum_names units)) (λ k m u. ap (λ ps. unwhole (stratum_name units k) (sum_of ps))
-      (ap (map (prob_of units all)) (group_of k (omega (arith, u)) groups among are) ∙ probs_are k (omega (arith, u))))
-
-  pub groups_within : (groups : List (List ℕ)) (among : List ℕ) → AreGroups homes (length (stratum_names units)) groups among → All (All (λ i. i < length all)) groups
-  groups_within groups among are = rw are.each (All-map (All (λ i. i < length all)) (places_of homes) (range_with_len 0 (length (stratum_names units))) (λ k d l. places_within (get_or (range_with_len 0 (length (stratum_names units))) k d)))
+  wholes_are names sums same are d =
+      found_ext _ _ 0 (length names) (λ k m u. ap (λ ns. unwhole (get_or ns k []) (get_or sums k d)) same
+      ∙ ap (unwhole (stratum_name units k)) (ap (λ ss. get_or ss k d) are
+      ∙ get_or-map-range_with_len (λ j. sum_of (first_probs design units j)) 0 (length names) k k d (omega (arith, u)) (omega arith)))
+      ∙ ap (λ ns. first_found (λ k. unwhole (stratum_name units k) (sum_of (first_probs design units k))) (range_with_len 0 (length ns))) same
 
   pub total_is : (groups : List (List ℕ)) (among : List ℕ) → AreGroups homes (length (stratum_names units)) groups among → sum (map length groups) ≡ length all
   total_is groups among are = total homes (length (stratum_names units)) groups among are ∙ length-map all (λ g. stratum_number units (first_row g))
@@ -156,15 +136,3 @@ none_large design units e k d l = when_false _ (PsuTooLarge (psu_at units (first
 
 pub sizes_small : (design : Design) (units : List unit.Unit) → psu_too_large design units ≡ None → All (λ g. size_of units g < 2 ^ 31) (clusters design.second units)
 sizes_small design units e k d l = small_size units (length design.columns.values) (get_or (clusters design.second units) k d) (none_large design units e k d l)
-
--- the probabilities of first stage units of one row each
-pub are_given : (units : List unit.Unit) (clustered : List (List ℕ)) (group : List ℕ) → IsFrame units → All (AreRows (length units)) clustered → length group ≤ most_rows → All (λ i. i < length clustered) group
-    → AreGiven (map (prob_of units clustered) group)
-are_given units clustered group frame rows few within = record {
-  few = omega (arith, few, length-map group (prob_of units clustered));
-  at_most_one = All-map (λ (p : Frac). p.num ≤ p.den) (prob_of units clustered) group
-      (λ k d l. (let cluster : ℕ = get_or group k d in
-      let own : AreRows (length units) (get_or clustered cluster []) = rows cluster [] (within k d l) in
-      let here : first_row (get_or clustered cluster []) < length units = own.within 0 0 (omega (arith, own.some)) in
-      (frame.probabilities (first_row (get_or clustered cluster [])) (lowest_terms (whole 1)) (omega (arith, here, length-map units (λ (u : unit.Unit). u.prob)))).at_most_one));
-}

@@ -1,13 +1,15 @@
 -- The first misfit by its kind.
-use Rattle.std.proofs.Common.{◌≡◌, ℕ, List, Option, Some, None, Err, refl, subst}
-use Rattle.std.specs.Prelude.{IsSome, OnSome}
+use Rattle.std.proofs.Common.{◌≡◌, ℕ, List, Option, Some, None, Err, ap, refl, sym, ◌∙◌}
+use Rattle.std.specs.Prelude.{OnSome}
+use Rattle.smp_design.specs.Keys.{or_else}
 use Rattle.smp_design.specs.Bounds.{HasOnlyProbabilities, IsDesign}
 use Rattle.smp_design.specs.declared.design.Design.{Design}
 use Rattle.smp_frame.specs.declared.frame.Unit as unit
-use Rattle.smp_strata.specs.Misfits.{Reports, denominator, misfit_by, misfit_of, no_size, not_whole, probs_misfit, psu_too_large, row_limit, second_too_many, sizes_misfit, too_many, unit_in_two}
+use Rattle.smp_strata.specs.Misfits.{Reports, misfit_by, misfit_of, no_size, probs_misfit, psu_too_large, row_limit, second_too_many, too_many, unit_in_two}
 use Rattle.smp_strata.specs.declared.misfit.Misfit.{Misfit}
 use Rattle.smp_strata.specs.declared.misfit.Misfit.TheVariants.{UnitInTwo, PsuTooLarge, NoSize, TooMany, SecondTooMany, Denominator, NotWhole, RowLimit, NoMemory}
-use Rattle.smp_strata.proofs.Founds.{neither}
+use Rattle.smp_strata.specs.Kept.Built.{request_misfit}
+use Rattle.smp_strata.proofs.Founds.{neither, or_else_assoc}
 
 -- what is answered of one search is answered of another, where the same is found
 pub passed : (A B : Type 0) (e : Misfit) (x y : Option Misfit) → Reports {A = A} (Err e) x → ((m : Misfit) → x ≡ Some m → y ≡ Some m) → Reports {A = B} (Err e) y
@@ -38,75 +40,33 @@ module _ (design : Design) (units : List unit.Unit) where
   unfolding misfit_of
   last_kind a b d x e = rw (a, b, d, e) refl
 
-  -- ---- sizes
-
-  pub sizes_1 : (m : Misfit) → no_size design units ≡ Some m → sizes_misfit design units ≡ Some m
-  sizes_1 m e = rw e refl
-
-  pub sizes_2 : no_size design units ≡ None → (m : Misfit) → too_many design units ≡ Some m → sizes_misfit design units ≡ Some m
-  sizes_2 a m e = rw (a, e) refl
-
-  pub sizes_3 : no_size design units ≡ None → too_many design units ≡ None → (x : Option Misfit) → second_too_many design.second units ≡ x → sizes_misfit design units ≡ x
-  sizes_3 a b x e = rw (a, b, e) refl
-
-  -- ---- given probabilities
-
-  pub probs_1 : (m : Misfit) → denominator design units ≡ Some m → probs_misfit design units ≡ Some m
-  probs_1 m e = rw e refl
-
-  pub probs_2 : denominator design units ≡ None → (x : Option Misfit) → not_whole design units ≡ x → probs_misfit design units ≡ x
-  probs_2 a x e = rw (a, e) refl
-
-  -- ---- no misfit of any kind
-
-  pub record IsSized : Type 0 where
-    pub sized : no_size design units ≡ None
-    pub enough : too_many design units ≡ None
-    pub second_enough : second_too_many design.second units ≡ None
-
-  pub record HasProbs : Type 0 where
-    pub denominators : denominator design units ≡ None
-    pub whole : not_whole design units ≡ None
-
-  abbrev pub ServedBy : Option (List ℕ) → Type 0
-  ServedBy None = IsSized
-  ServedBy (Some column) = HasProbs
-
-  pub record IsServed : Type 0 where
-    pub together : unit_in_two design.second units ≡ None
-    pub small : psu_too_large design units ≡ None
-    pub by_column : ServedBy design.columns.prob
-    pub rows : row_limit design units ≡ None
-
-  by_column : (prob : Option (List ℕ)) → misfit_by prob design units ≡ None → ServedBy prob
-  by_column None e =
-      let a = neither (no_size design units) _ e in
-      let b = neither (too_many design units) _ a.1 in
-      record { sized = a.0; enough = b.0; second_enough = b.1 }
-  by_column (Some column) e = (let a = neither (denominator design units) _ e in record { denominators = a.0; whole = a.1 })
-
-  pub served : misfit_of design units ≡ None → IsServed
+  -- where there is no misfit, there are few enough rows of balancing equations
+  pub rows_fit : misfit_of design units ≡ None → row_limit design units ≡ None
   unfolding misfit_of
-  served e =
+  rows_fit e =
       let a = neither (unit_in_two design.second units) _ e in
       let b = neither (psu_too_large design units) _ a.1 in
-      let d = neither (misfit_by design.columns.prob design units) _ b.1 in
-      record { together = a.0; small = b.0; by_column = by_column design.columns.prob d.0; rows = d.1 }
+      (neither (misfit_by design.columns.prob design units) _ b.1).1
 
-  pub is_sized : IsServed → design.columns.prob ≡ None → IsSized
-  is_sized served e = subst ServedBy e served.by_column
+-- ---- by parts
 
-  pub has_probs : IsServed → IsSome design.columns.prob → HasProbs
-  has_probs served some = by_some design.columns.prob some served.by_column
+pub or_first : {B : Type 0} (a b : Option B) (m : B) → a ≡ Some m → or_else a b ≡ Some m
+or_first a b m e = rw e refl
+
+pub or_then : {B : Type 0} (a b x : Option B) → a ≡ None → b ≡ x → or_else a b ≡ x
+or_then a b x e f = rw (e, f) refl
+
+module _ (design : Design) (units : List unit.Unit) where
+  -- the misfits of the requests, and then those of the second stage, which a design with probabilities hasn't
+  pub by_parts : IsDesign design → misfit_by design.columns.prob design units ≡ or_else (request_misfit design.columns.prob design units) (second_too_many design.second units)
+  by_parts is = by_prob design.columns.prob is.prob
     where
-      by_some : (prob : Option (List ℕ)) → IsSome prob → ServedBy prob → HasProbs
-      by_some (Some column) some h = h
-      by_some None some h = absurd (cc)
+      or_none : {B : Type 0} (a : Option B) → a ≡ or_else a None
+      or_none None = refl
+      or_none (Some x) = refl
 
-  -- enough rows of each psu, where there is a second stage, which a design with probabilities hasn't
-  pub seconds_enough : IsDesign design → IsServed → second_too_many design.second units ≡ None
-  seconds_enough is served = by_prob design.columns.prob is.prob served.by_column
-    where
-      by_prob : (prob : Option (List ℕ)) → OnSome prob (HasOnlyProbabilities design) → ServedBy prob → second_too_many design.second units ≡ None
-      by_prob None only h = h.second_enough
-      by_prob (Some column) only h = rw only.one_stage refl
+      by_prob : (prob : Option (List ℕ)) → OnSome prob (HasOnlyProbabilities design) → misfit_by prob design units ≡ or_else (request_misfit prob design units) (second_too_many design.second units)
+      by_prob None only = sym (or_else_assoc (no_size design units) (too_many design units) (second_too_many design.second units))
+      by_prob (Some column) only =
+          let one : second_too_many design.second units ≡ None = rw only.one_stage refl in
+          or_none (probs_misfit design units) ∙ ap (or_else (probs_misfit design units)) (sym one)

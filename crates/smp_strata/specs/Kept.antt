@@ -3,5 +3,4 @@ pub mod Keys
 pub mod Seen
 pub mod Groups
 pub mod Layouts
-pub mod Sized
 pub mod Built

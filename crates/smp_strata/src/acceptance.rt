@@ -7,7 +7,6 @@ ghost use Rattle.smp_strata.specs.{Asked.{AsksAsFrame}, Bounds.{IsPlan}, Draws.{
 ghost use Rattle.smp_strata.specs.Plans.{parts_of};
 
 use crate::building::planned;
-use crate::checks::checked;
 use crate::layout::{clusters_of, strata_of};
 use crate::{Misfit, Plan};
 use smp_design::Design;
@@ -37,8 +36,6 @@ pub fn accept(alloc: Global, frame: &Frame, design: &Design) -> Result<Plan, Mis
 {
     let units = frame.units();
     let clusters = clusters_of(alloc, units, design.second)?;
-    let strata = strata_of(alloc, units, &clusters.rows)?;
-    let sizes = checked(alloc, units, design, &clusters, &strata)?;
-    let plan = planned(alloc, units, design, &clusters, &strata, &sizes)?;
-    Ok(plan)
+    let strata = strata_of(alloc, units, &clusters)?;
+    planned(alloc, units, design, &clusters, &strata)
 }

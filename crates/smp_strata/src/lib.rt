@@ -7,6 +7,7 @@
 
 mod acceptance;
 mod allocation;
+mod begun;
 mod building;
 mod checks;
 mod groups;
@@ -14,6 +15,7 @@ mod layout;
 mod misfit;
 mod names;
 mod plan;
+mod requests;
 mod second;
 mod sizes;
 mod strata;

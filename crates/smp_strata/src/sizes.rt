@@ -5,13 +5,13 @@ ghost use Rattle.std.specs.Cmp.Lexicographic.{slice_cmp};
 ghost use Rattle.smp_frac.specs.Limits.{most_rows, number_limit};
 ghost use Rattle.smp_frame.specs.Bounds.{IsFrame};
 ghost use Rattle.smp_design.specs.Bounds.{Ascend, IsDesign};
-ghost use Rattle.smp_prob.specs.Requested as Requested;
 ghost use Rattle.smp_strata.specs.{Allocations.{IsAllocation}, Plans.{sizes_by}, Kept.Layouts.{AreRows, prob_of}};
 ghost use Rattle.smp_strata.specs.Rows as Rows;
 ghost use Rattle.smp_strata.specs.Plans as Plans;
 
 use crate::allocation::allocation;
 use crate::groups::Group;
+use crate::layout::Clusters;
 use crate::sums::size_of;
 use smp_design::{Design, Quota};
 use smp_frac::{Frac, NoMemory, Text};
@@ -23,16 +23,17 @@ use std::cmp::Ordering;
 pub(crate) fn cluster_sizes(
     alloc: Global,
     units: &[Unit],
-    clusters: &[Group],
+    clusters: &Clusters,
 ) -> Result<Vec<u32>, NoMemory>
     requires frame { IsFrame units.now }
-    requires rows { All (AreRows (length units.now)) clusters.now }
-    requires small { All (λ rows. Rows.size_of units.now rows < number_limit) clusters.now }
-    ensures { IfOk result (λ sizes. sizes.items ≡ map (Rows.size_of units.now) clusters.now) }
+    requires rows { All (AreRows (length units.now)) clusters.now.rows }
+    requires small { All (λ rows. Rows.size_of units.now rows < number_limit) clusters.now.rows }
+    ensures { IfOk result (λ sizes.
+        sizes.items ≡ map (Rows.size_of units.now) clusters.now.rows) }
 {
     let mut sizes = Vec::with_capacity(alloc, clusters.len())?;
-    for cluster in clusters {
-        sizes.push(size_of(units, cluster.as_slice()) as u32)?;
+    for cluster in 0..clusters.len() {
+        sizes.push(size_of(units, clusters.rows(cluster)) as u32)?;
     }
     Ok(sizes)
 }
@@ -53,17 +54,17 @@ pub(crate) fn sizes_at(alloc: Global, sizes: &[u32], places: &[usize]) -> Result
 pub(crate) fn probs_at(
     alloc: Global,
     units: &[Unit],
-    clusters: &[Group],
+    clusters: &Clusters,
     members: &[usize],
 ) -> Result<Vec<Frac>, NoMemory>
-    requires rows { All (AreRows (length units.now)) clusters.now }
-    requires within { All (λ member. member < length clusters.now) members.now }
+    requires rows { All (AreRows (length units.now)) clusters.now.rows }
+    requires within { All (λ member. member < length clusters.now.rows) members.now }
     ensures { IfOk result (λ probs. probs.items
-        ≡ map (prob_of units.now clusters.now) members.now) }
+        ≡ map (prob_of units.now clusters.now.rows) members.now) }
 {
     let mut probs = Vec::with_capacity(alloc, members.len())?;
     for &member in members {
-        probs.push(units[clusters[member].as_slice()[0]].prob)?;
+        probs.push(units[clusters.rows(member)[0]].prob)?;
     }
     Ok(probs)
 }
@@ -84,19 +85,11 @@ pub(crate) fn second_sizes(
     Ok(list)
 }
 
-/// How many sizes are above 0.
-pub(crate) fn positive_units(sizes: &[u32]) -> u32
-    requires { length sizes.now ≤ most_rows }
-    ensures { result ≡ Requested.positive_units sizes.now }
-{
-    sizes.iter().filter(|&&size| size > 0).count() as u32
-}
-
 fn lengths(alloc: Global, groups: &[Group]) -> Result<Vec<u32>, NoMemory>
     requires { All (λ group. length group ≤ most_rows) groups.now }
     ensures { IfOk result (λ list. list.items ≡ map length groups.now) }
 {
-    let mut list = Vec::new(alloc);
+    let mut list = Vec::with_capacity(alloc, groups.len())?;
     for group in groups {
         list.push(group.as_slice().len() as u32)?;
     }
@@ -125,7 +118,7 @@ fn quotas_of(alloc: Global, quotas: &[Quota], names: &[Text]) -> Result<Vec<u32>
     requires { Ascend quotas.now }
     ensures { IfOk result (λ sizes. sizes.items ≡ map (Plans.quota_of quotas.now) names.now) }
 {
-    let mut sizes = Vec::new(alloc);
+    let mut sizes = Vec::with_capacity(alloc, names.len())?;
     for name in names {
         sizes.push(quota_of(quotas, name))?;
     }

@@ -1,11 +1,11 @@
 -- What is known of the parts of a plan when they are made.
-use Rattle.std.specs.Prelude.{◌≡◌, ℕ, ◌<◌, ◌≤◌, false, IfSome, IsTrue, List, [], length, Option, Some, None, ⊤}
+use Rattle.std.specs.Prelude.{◌≡◌, ℕ, ◌<◌, ◌≤◌, IsTrue, List, [], ◌∷◌, ◌++◌, length, map, Option, Some, None, ⊤}
 use Rattle.std.specs.Prelude.{option_map, slice_index, slice_index_or, EachIndex, All}
 use Rattle.smp_frac.specs.Fractions.{Same, whole}
 use Rattle.smp_frac.specs.declared.fractions.Frac.{Frac}
 use Rattle.smp_prob.specs.Given.{expected_size, given_fraction, given_of}
 use Rattle.smp_prob.specs.declared.requests.Request.{Request}
-use Rattle.smp_prob.specs.Requested.{positive_units, requested_fraction}
+use Rattle.smp_prob.specs.Requested.{requested_fraction, requested_of}
 use Rattle.smp_prob.specs.Inclusions.{asked_fraction}
 use Rattle.smp_design.specs.declared.design.Design.{Design}
 use Rattle.smp_design.specs.declared.method.Method.{Method}
@@ -14,13 +14,15 @@ use Rattle.smp_design.specs.Words.{row}
 use Rattle.smp_frame.specs.declared.frame.Unit as unit
 use Rattle.smp_values.specs.Starts.{DrawsWhole}
 use Rattle.smp_strata.specs.Asked.{fraction_by}
-use Rattle.smp_strata.specs.Bounds.{IsFirst, IsOver, IsStratum}
+use Rattle.smp_strata.specs.Bounds.{IsFirst, IsOver, IsStratum, DrawsWholeOver}
 use Rattle.smp_strata.specs.Draws.{AreAsked, DrawsInStratum, IsFor, SecondDraws}
 use Rattle.smp_strata.specs.Plans.{first_of, request_by, second_request, second_sizes, stratum_of}
-use Rattle.smp_strata.specs.Clusters.{clusters_in}
-use Rattle.smp_strata.specs.Rows.{is_large}
+use Rattle.smp_design.specs.Keys.{or_else}
+use Rattle.smp_strata.specs.Clusters.{clusters, clusters_in, strata_numbers, stratum_name, stratum_names}
+use Rattle.smp_strata.specs.Misfits.{no_size, probs_misfit, psu_short, too_many}
 use Rattle.smp_strata.specs.Seats.{IsSeat}
-use Rattle.smp_strata.specs.Kept.Layouts.{AreRows}
+use Rattle.smp_strata.specs.Kept.Groups.{places_below}
+use Rattle.smp_strata.specs.declared.misfit.Misfit.{Misfit}
 use Rattle.smp_strata.specs.declared.strata.FirstUnit as first
 use Rattle.smp_strata.specs.declared.strata.Seat as seat
 use Rattle.smp_strata.specs.declared.strata.Stratum as stratum
@@ -42,6 +44,13 @@ FirstAsks design units number request = (u : ℕ) → u < length (clusters_in de
     → Same (asked_fraction request u)
     (fraction_by design.columns.prob design units number
     (slice_index_or (clusters_in design units number) u []))
+
+-- the request for n of the units with these sizes
+pub record IsSizedRequest (sizes : List ℕ) (n : ℕ) (request : Request) : Type 0 where
+  pub value : request ≡ requested_of sizes n
+  pub over : DrawsWholeOver (length sizes) request
+  pub asks : Asks sizes n request
+  pub draws : IsFor request (length sizes) n
 
 -- the request of given probabilities
 pub record IsGivenRequest (probs : List Frac) (request : Request) : Type 0 where
@@ -66,30 +75,62 @@ pub record IsFirstRequest (design : Design) (units : List unit.Unit) (number : �
 abbrev pub second_method : Design → Option Method
 second_method design = option_map (λ second. second.method) design.second
 
--- a first stage unit of some rows
-pub record IsBuiltFirst (design : Design) (units : List unit.Unit) (rows : List ℕ)
-    (f : first.FirstUnit) : Type 0 where
-  pub value : f ≡ first_of design units rows
-  pub first : IsFirst (second_method design) f
-  pub asks : SecondAsks design.second (second_sizes units rows) f.second
-  pub draws : SecondDraws design.second (length f.rows) f.second
+-- the requests over the first stage units of all strata
+abbrev pub AreFirstRequests : Design → List unit.Unit → Type 0
+AreFirstRequests design units = (number : ℕ) → number < length (stratum_names units)
+    → IsFirstRequest design units number (request_by design.columns.prob design units number)
 
--- the stratum of a number
-pub record IsBuilt (design : Design) (units : List unit.Unit) (number : ℕ)
-    (s : stratum.Stratum) : Type 0 where
-  pub value : s ≡ stratum_of design units number
-  pub stratum : IsStratum (second_method design) s
-  pub request : IsFirstRequest design units number s.request
-  pub draws : DrawsInStratum design units number s
-  pub firsts : All (λ rows.
-      SecondAsks design.second (second_sizes units rows) (second_request design.second units rows))
-      (clusters_in design units number)
+-- what is known of the first stage unit of some rows
+pub record IsBuiltFirst (design : Design) (units : List unit.Unit) (rows : List ℕ) : Type 0 where
+  pub first : IsFirst (second_method design) (first_of design units rows)
+  pub asks : SecondAsks design.second (second_sizes units rows)
+      (second_request design.second units rows)
+  pub draws : SecondDraws design.second (length rows) (second_request design.second units rows)
 
--- rows that can be a first stage unit: their sums are within the limit, and enough of their second sizes are positive
-pub record CanBuild (design : Design) (units : List unit.Unit) (rows : List ℕ) : Type 0 where
-  pub are_rows : AreRows (length units) rows
-  pub small : is_large units (length design.columns.values) rows ≡ false
-  pub enough : IfSome design.second (λ s. s.n ≤ positive_units (second_sizes units rows))
+-- what is known of the stratum of a number
+pub record IsBuilt (design : Design) (units : List unit.Unit) (number : ℕ) : Type 0 where
+  pub stratum : IsStratum (second_method design) (stratum_of design units number)
+  pub request : IsFirstRequest design units number (request_by design.columns.prob design units number)
+  pub draws : DrawsInStratum design units number (stratum_of design units number)
+  pub firsts : All (IsBuiltFirst design units) (clusters_in design units number)
+
+-- all strata of a frame
+pub record AreBuilt (design : Design) (units : List unit.Unit) (strata : List stratum.Stratum) : Type 0 where
+  pub are : strata ≡ map (stratum_of design units) (strata_numbers units)
+  pub each : (number : ℕ) → number < length (stratum_names units) → IsBuilt design units number
+
+-- ---- on the way
+
+-- a stratum before its first stage units are put in
+abbrev pub bare : Design → List unit.Unit → ℕ → stratum.Stratum
+bare design units number = record {
+  name = stratum_name units number;
+  units = [];
+  request = request_by design.columns.prob design units number;
+}
+
+-- a stratum with one more first stage unit
+abbrev pub with_unit : stratum.Stratum → first.FirstUnit → stratum.Stratum
+with_unit s f = record { name = s.name; units = s.units ++ f ∷ []; request = s.request }
+
+-- the stratum of a number with those of the first so many first stage units that belong to it, by the numbers of their strata
+abbrev pub so_far : Design → List unit.Unit → List ℕ → ℕ → ℕ → stratum.Stratum
+so_far design units homes limit number = record {
+  name = stratum_name units number;
+  units = map (λ i. first_of design units (slice_index_or (clusters design.second units) i []))
+      (places_below homes limit number);
+  request = request_by design.columns.prob design units number;
+}
+
+-- a psu with fewer positive second sizes than n, where there is a second stage
+abbrev pub second_short : Option second.Second → List unit.Unit → List ℕ → Option Misfit
+second_short None units rows = None
+second_short (Some second) units rows = psu_short second.n units rows
+
+-- the misfits of the requests over first stage units
+abbrev pub request_misfit : Option (List ℕ) → Design → List unit.Unit → Option Misfit
+request_misfit None design units = or_else (no_size design units) (too_many design units)
+request_misfit (Some column) design units = probs_misfit design units
 
 -- the seat of a row, by the numbers of first stage units and strata
 abbrev pub seat_by : List ℕ → List ℕ → List ℕ → List ℕ → ℕ → seat.Seat

@@ -1,6 +1,5 @@
 -- Rows and their first stage units, and these and their strata, by numbers.
-use Rattle.std.specs.Prelude.{ℕ, ◌<◌, ◌≤◌, ◌≡◌, nat_lt, Bool, true, false, List, [], Option, Some, None, length, map, slice_index}
-use Rattle.std.specs.Prelude.{slice_index_or, All}
+use Rattle.std.specs.Prelude.{ℕ, ◌<◌, ◌≤◌, ◌≡◌, List, [], ◌∷◌, Option, Some, None, length, map, slice_index_or, All}
 use Rattle.std.specs.List.{position_or_len, range_with_len}
 use Rattle.std.specs.Str.{bytes_eq}
 use Rattle.smp_frac.specs.Limits.{most_rows}
@@ -10,31 +9,39 @@ use Rattle.smp_design.specs.declared.design.Design.{Design}
 use Rattle.smp_design.specs.declared.design.Second as second
 use Rattle.smp_frac.specs.declared.fractions.Frac.{Frac}
 use Rattle.smp_frame.specs.declared.frame.Unit as unit
-use Rattle.smp_prob.specs.Given.{common_multiple, largest_multiple}
-use Rattle.smp_strata.specs.Misfits.{short, sum_of, unwhole, when}
-use Rattle.smp_strata.specs.declared.misfit.Misfit.{Misfit}
-use Rattle.smp_strata.specs.declared.misfit.Misfit.TheVariants.{Denominator}
 use Rattle.smp_strata.specs.Clusters.{clusters, psu_names, first_row, stratum_names, stratum_number}
 use Rattle.smp_strata.specs.Rows.{prob_at, rows_of, psu_at}
 use Rattle.smp_strata.specs.Kept.Groups.{places_of, AreAmong}
+use Rattle.smp_strata.specs.declared.groups.Groups.{Groups}
 use Rattle.smp_strata.specs.declared.layout.Strata.{Strata}
 
 -- the number of the psu of a row
 abbrev pub psu_number : List unit.Unit → ℕ → ℕ
 psu_number units row = position_or_len (bytes_eq (psu_at units row)) (psu_names units)
 
--- the number of the first stage unit of each row, and how many there are
+-- the number of the first stage unit of each row
 abbrev pub homes_of : Option second.Second → List unit.Unit → List ℕ
 homes_of None units = rows_of units
 homes_of (Some second) units = map (psu_number units) (rows_of units)
 
-abbrev pub home_count : Option second.Second → List unit.Unit → ℕ
-home_count None units = length units
-home_count (Some second) units = length (psu_names units)
-
 -- the number of the stratum of each cluster
 abbrev pub strata_homes : List unit.Unit → List (List ℕ) → List ℕ
 strata_homes units clusters = map (λ rows. stratum_number units (first_row rows)) clusters
+
+-- The first stage units of a frame as the code holds them: the rows of each, the number of each row's, and the row's place in it. Where
+-- they are no groups, each row is by itself.
+pub record Clustered : Type 0 where
+  pub rows : List (List ℕ)
+  pub homes : List ℕ
+  pub places : List ℕ
+
+abbrev pub rows_by : List ℕ → Option Groups → List (List ℕ)
+rows_by homes None = map (λ row. row ∷ []) homes
+rows_by homes (Some groups) = groups.groups.items
+
+abbrev pub places_by : List ℕ → Option Groups → List ℕ
+places_by homes None = map (λ row. 0) homes
+places_by homes (Some groups) = groups.among.items
 
 -- rows of a frame of so many units, one at least
 pub record AreRows (count : ℕ) (rows : List ℕ) : Type 0 where
@@ -66,27 +73,3 @@ pub record IsLaidOut (asked : Design) (units : List unit.Unit) (clustered : List
   pub strata_homes : strata.homes.items ≡ strata_homes units clustered
   pub groups : AreGroups strata.homes.items (length strata.names.items)
       strata.members.items strata.places.items
-
--- ---- what is looked for at a stratum's number
-
--- the probabilities of its first stage units
-abbrev pub probs_in : List unit.Unit → List (List ℕ) → List (List ℕ) → ℕ → List Frac
-probs_in units clustered members k =
-    map (prob_of units clustered) (slice_index_or members k [])
-
--- too large a common denominator of these; or, where a whole sum is asked for, another sum of them
-abbrev pub prob_misfit : Bool → List ℕ → List Frac → Option Misfit
-prob_misfit false name probs =
-    when (nat_lt largest_multiple (common_multiple probs)) (Denominator name)
-prob_misfit true name probs = unwhole name (sum_of probs)
-
-abbrev pub prob_misfit_at : Bool → List unit.Unit → List (List ℕ) → List (List ℕ) → List (List ℕ) → ℕ → Option Misfit
-prob_misfit_at whole units clustered names members k =
-    prob_misfit whole (slice_index_or names k []) (probs_in units clustered members k)
-
--- fewer positive sizes than its number of units
-abbrev pub short_at : List ℕ → List ℕ → List (List ℕ) → List (List ℕ) → ℕ → Option Misfit
-short_at cluster_sizes samples names members k =
-    short (slice_index_or names k [])
-    (map (slice_index cluster_sizes) (slice_index_or members k []))
-    (slice_index samples k)

@@ -1,8 +1,12 @@
-use Rattle.std.proofs.Common.{arith}
+use Rattle.std.proofs.Common.{◌≤◌, ◌∙◌, ap, arith, get_or}
+use Rattle.std.specs.Prelude.{sum}
 use Rattle.std.proofs.lemmas.List.{length-map}
-use Rattle.smp_prob.specs.Given.{numerator_over}
+use Rattle.std.proofs.lemmas.List.Elements.{All-map}
+use Rattle.smp_prob.specs.Given.{expected_size, numerator_over}
+use Rattle.smp_prob.proofs.Expected.{sum_expected, whole_expected}
 use Rattle.smp_prob.proofs.GivenUnits.{given_is, IsRequest-given_of, IsRising-given_of, AreApart-given_of, AreBelow-given_of, asked_given, size_given, drawn_given, whole_given, nothing_free}
 use Rattle.smp_prob.proofs.Multiples.{common_multiple_positive, IsLeastMultipleOf-common_multiple}
+use Rattle.smp_prob.proofs.Numerators.{numerator_within}
 use Rattle.smp_prob.proofs.probabilities.given.Goals as goal
 
 pub returns-in_default-clause-multiple : goal.returns-in_default-clause-multiple
@@ -11,8 +15,8 @@ returns-in_default-clause-multiple c = IsLeastMultipleOf-common_multiple c.args.
 pub returns-in_err-numerators-clause-multiple : goal.returns-in_err-numerators-clause-multiple
 returns-in_err-numerators-clause-multiple c = IsLeastMultipleOf-common_multiple c.args.probs.now
 
-pub returns-in_err-request_over-clause-multiple : goal.returns-in_err-request_over-clause-multiple
-returns-in_err-request_over-clause-multiple c = IsLeastMultipleOf-common_multiple c.args.probs.now
+pub returns-in_err-request-clause-multiple : goal.returns-in_err-request-clause-multiple
+returns-in_err-request-clause-multiple c = IsLeastMultipleOf-common_multiple c.args.probs.now
 
 pub returns-clause-multiple : goal.returns-clause-multiple
 returns-clause-multiple c = IsLeastMultipleOf-common_multiple c.args.probs.now
@@ -22,11 +26,11 @@ request_over-requires-clause-some c = rw c.in-Some.ensures.1 (common_multiple_po
 
 pub request_over-requires-clause-few : goal.request_over-requires-clause-few
 request_over-requires-clause-few c =
-    rw (c.deref.ensures.value, c.in_ok-numerators.ensures) (omega (arith, c.requires.few, length-map c.args.probs.now (numerator_over c.in-Some.multiple)))
+    rw (c.deref-2.ensures.value, c.in_ok-numerators.ensures) (omega (arith, c.requires.few, length-map c.args.probs.now (numerator_over c.in-Some.multiple)))
 
 pub returns-clause-value : goal.returns-clause-value
 returns-clause-value c =
-    rw (c.in_ok-request_over.ensures, c.deref.ensures.value, c.in_ok-numerators.ensures, c.in-Some.ensures.1) (given_is c.args.probs.now c.requires)
+    rw (c.in_ok-request.ensures, c.deref-2.ensures.value, c.in_ok-numerators.ensures, c.in-Some.ensures.1) (given_is c.args.probs.now c.requires)
 
 pub returns-clause-request : goal.returns-clause-request
 returns-clause-request c = rw (returns-clause-value c) (IsRequest-given_of c.args.probs.now c.requires c.in-Some.ensures.0)
@@ -54,3 +58,20 @@ returns-clause-below c = rw (returns-clause-value c) (AreBelow-given_of c.args.p
 
 pub returns-clause-none_free : goal.returns-clause-none_free
 returns-clause-none_free c = rw (returns-clause-value c) (nothing_free c.args.probs.now c.requires)
+
+pub sum_of-requires-clause-small : goal.sum_of-requires-clause-small
+sum_of-requires-clause-small c =
+    let within = All-map (λ z. z ≤ c.in-Some.multiple) (numerator_over c.in-Some.multiple) c.args.probs.now
+    (λ j d inside. numerator_within c.in-Some.multiple (get_or c.args.probs.now j d) (c.requires.at_most_one j d inside)) in
+    rw (c.deref.ensures.value, c.in_ok-numerators.ensures) (λ i here. omega (arith, within i 0 here, c.in-Some.ensures.0, c.in-Some.ensures.1))
+
+pub over-expected-requires : goal.over-expected-requires
+over-expected-requires c = rw c.in-Some.ensures.1 (common_multiple_positive c.args.probs.now)
+
+pub returns-clause-expected : goal.returns-clause-expected
+returns-clause-expected c =
+    sum_expected c.args.probs.now c.over-expected.result c.in-Some.multiple c.sum_of.result c.in-Some.ensures.1
+    (c.sum_of.ensures ∙ ap sum (c.deref.ensures.value ∙ c.in_ok-numerators.ensures)) c.over-expected.ensures.value
+
+pub returns-clause-whole_expected : goal.returns-clause-whole_expected
+returns-clause-whole_expected c = whole_expected (expected_size c.args.probs.now) c.over-expected.result (returns-clause-expected c)

@@ -7,5 +7,5 @@ abbrev pub invariant-loop-row : goal.invariant-loop-row
 invariant-loop-row l = record {
   length : length l.seats.items ≡ l.row;
   each : (row : ℕ) (d : Seat) → row < l.row
-      → get_or l.seats.items row d ≡ seat_by l.strata.homes.items l.strata.places.items l.clusters.homes.items l.clusters.places.items row;
+      → get_or l.seats.items row d ≡ seat_by l.strata.homes.items l.strata.places.items l.clusters.homes l.clusters.places row;
 }

@@ -7,5 +7,5 @@ use Rattle.smp_strata.proofs.checks.none_too_large.Given as goal
 
 abbrev pub invariant-loop-cluster : goal.invariant-loop-cluster
 invariant-loop-cluster l =
-    first_found (λ rows. when (is_large l.units l.columns rows) (PsuTooLarge (psu_at l.units (first_row rows)))) (drop l.cluster-index l.clusters)
-    ≡ first_found (λ rows. when (is_large l.units l.columns rows) (PsuTooLarge (psu_at l.units (first_row rows)))) l.clusters
+    first_found (λ rows. when (is_large l.units l.columns rows) (PsuTooLarge (psu_at l.units (first_row rows)))) (drop l.cluster l.clusters.rows)
+    ≡ first_found (λ rows. when (is_large l.units l.columns rows) (PsuTooLarge (psu_at l.units (first_row rows)))) l.clusters.rows

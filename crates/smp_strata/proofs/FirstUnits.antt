@@ -1,0 +1,50 @@
+-- What is known of the first stage unit of some rows.
+use Rattle.std.proofs.Common.{◌≡◌, ℕ, false, List, length, Option, Some, None, refl}
+use Rattle.std.specs.Prelude.{IfSome, is_some, option_map}
+use Rattle.std.proofs.lemmas.List.{length-map}
+use Rattle.smp_design.specs.declared.design.Design.{Design}
+use Rattle.smp_design.specs.declared.design.Second as second
+use Rattle.smp_frame.specs.declared.frame.Unit as unit
+use Rattle.smp_strata.specs.Bounds.{DrawsWholeOver}
+use Rattle.smp_strata.specs.Draws.{SecondDraws}
+use Rattle.smp_strata.specs.Plans.{second_request, second_sizes}
+use Rattle.smp_strata.specs.Rows.{is_large, second_size_at}
+use Rattle.smp_strata.specs.Kept.Built.{IsBuiltFirst, IsSizedRequest, SecondAsks}
+use Rattle.smp_strata.specs.Kept.Layouts.{AreRows}
+use Rattle.smp_strata.proofs.Columns.{small_values}
+
+module _ (units : List unit.Unit) (rows : List ℕ) where
+  abbrev Made : Option second.Second → Type 0
+  Made second = IfSome second (λ s. IfSome (second_request second units rows) (IsSizedRequest (second_sizes units rows) s.n))
+
+  long : length (second_sizes units rows) ≡ length rows
+  long = length-map rows (second_size_at units)
+
+  over : (second : Option second.Second) → Made second → IfSome (second_request second units rows) (DrawsWholeOver (length rows))
+  over None made = tt
+  over (Some s) made = rw (← long) made.over
+
+  staged : (second : Option second.Second) → is_some (second_request second units rows) ≡ is_some (option_map (λ s. s.method) second)
+  staged None = refl
+  staged (Some s) = refl
+
+  asks : (second : Option second.Second) → Made second → SecondAsks second (second_sizes units rows) (second_request second units rows)
+  asks None made = tt
+  asks (Some s) made = made.asks
+
+  draws : (second : Option second.Second) → Made second → SecondDraws second (length rows) (second_request second units rows)
+  draws None made = tt
+  draws (Some s) made = rw (← long) made.draws
+
+pub built_first : (design : Design) (units : List unit.Unit) (rows : List ℕ) → AreRows (length units) rows → is_large units (length design.columns.values) rows ≡ false
+    → IfSome design.second (λ s. IfSome (second_request design.second units rows) (IsSizedRequest (second_sizes units rows) s.n)) → IsBuiltFirst design units rows
+built_first design units rows are small made = record {
+  first = record {
+    some = are.some;
+    near = small_values units (length design.columns.values) rows small;
+    over = over units rows design.second made;
+    staged = staged units rows design.second;
+  };
+  asks = asks units rows design.second made;
+  draws = draws units rows design.second made;
+}
