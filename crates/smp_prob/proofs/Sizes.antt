@@ -48,3 +48,11 @@ falling_reverse xs sorted i j l =
           rw (get_or-reverse xs j 0 m, get_or-reverse xs i 0 (omega arith)) (IsNonDecreasingBy-from_sort (λ x. x) xs sorted (length xs - 1 - j) (length xs - 1 - i) 0 (omega arith) (omega arith)))
       | inr e ↦ (let past : length xs ≤ j = ltb-false j (length xs) e in rw (get_or_past (reverse xs) j 0 (omega (arith, past, length-reverse xs))) (omega arith))
     ]
+
+-- what bounds each element bounds what is read at any place
+pub all_at_most : (xs : List ℕ) (most : ℕ) → ((i : ℕ) → i < length xs → get_or xs i 0 ≤ most) → (k : ℕ) → get_or xs k 0 ≤ most
+all_at_most xs most each k =
+    elim (cases_Bool (nat_lt k (length xs))) [
+      | inl e ↦ each k (ltb-true k (length xs) e)
+      | inr e ↦ rw (get_or_past xs k 0 (ltb-false k (length xs) e)) (omega arith)
+    ]

@@ -22,8 +22,8 @@ pub(crate) fn pick(alloc: Global, sizes: &[u32], border: u32) -> Result<Picked, 
         picked.free_sizes.items ≡ filter (λ z. nat_lt 0 z && nat_lt z border) sizes.now) }
 {
     let mut certain = Vec::new(alloc);
-    let mut free = Vec::new(alloc);
-    let mut free_sizes = Vec::new(alloc);
+    let mut free = Vec::with_capacity(alloc, sizes.len())?;
+    let mut free_sizes = Vec::with_capacity(alloc, sizes.len())?;
     for (place, &size) in sizes.iter().enumerate() {
         if size >= border {
             certain.push(place)?;

@@ -42,7 +42,7 @@ fn numerators(alloc: Global, multiple: u32, probs: &[Frac]) -> Result<Vec<u32>, 
     requires { All (λ p. p.num ≤ p.den) probs.now }
     ensures { IfOk result (λ list. list.items ≡ map (Given.numerator_over multiple) probs.now) }
 {
-    let mut list = Vec::new(alloc);
+    let mut list = Vec::with_capacity(alloc, probs.len())?;
     for &prob in probs {
         list.push(numerator_over(multiple, prob))?;
     }

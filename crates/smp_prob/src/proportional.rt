@@ -20,6 +20,19 @@ fn count_positive(sizes: &[u32]) -> u32
     sizes.iter().filter(|&&size| size > 0).count() as u32
 }
 
+// The largest size; 0 where there is none.
+fn largest_of(sizes: &[u32]) -> u32
+    requires { EachIndex sizes.now (λ i. slice_index sizes.now i < number_limit) }
+    ensures most { EachIndex sizes.now (λ i. slice_index sizes.now i ≤ result) }
+    ensures small { result < number_limit }
+{
+    let mut largest: u32 = 0;
+    for &size in sizes {
+        largest = largest.max(size);
+    }
+    largest
+}
+
 // The sizes in falling order.
 fn falling(alloc: Global, sizes: &[u32]) -> Result<Vec<u32>, NoMemory>
     ensures order { IfOk result (λ zs. IsFalling zs.items) }
@@ -78,6 +91,11 @@ fn picked_units(alloc: Global, sizes: &[u32], n: u32) -> Result<Picked, NoMemory
         picked.free_sizes.items ≡ free_sizes n sizes.now) }
     ensures feasible { OnOk result (IsFeasible n sizes.now) }
 {
+    let largest = largest_of(sizes);
+    if n as u64 * (largest as u64) < sum_of(sizes) {
+        // No share is as much as one.
+        return pick(alloc, sizes, largest + 1);
+    }
     let order = falling(alloc, sizes)?;
     let cut = least_cut(&order, n);
     let border = border_of(&order, cut);
@@ -117,8 +135,8 @@ fn request_of(alloc: Global, picked: Picked, n: u32) -> Result<Request, NoMemory
 /// together. The shapes are the sizes of the free units, each divided by their greatest common
 /// divisor.
 ///
-/// `TooMany` comes exactly where `n` passes the number of sizes above 0. The time is that of
-/// sorting the sizes.
+/// `TooMany` comes exactly where `n` passes the number of sizes above 0. The time is linear where
+/// no unit is certain, and else that of sorting the sizes.
 pub fn requested(alloc: Global, sizes: &[u32], n: u32) -> Result<Request, ProbFault>
     requires few { length sizes.now ≤ most_rows }
     requires small { EachIndex sizes.now (λ i. slice_index sizes.now i < number_limit) }

@@ -28,7 +28,7 @@ pub(crate) fn shape_of(alloc: Global, sizes: &[u32]) -> Result<Vec<u32>, NoMemor
     ensures { IfOk result (λ list. list.items ≡ Shapes.shape_of sizes.now) }
 {
     let divisor = size_divisor(sizes);
-    let mut shape = Vec::new(alloc);
+    let mut shape = Vec::with_capacity(alloc, sizes.len())?;
     for &size in sizes {
         shape.push((size as u128 / divisor) as u32)?;
     }

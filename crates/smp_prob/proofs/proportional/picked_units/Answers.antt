@@ -1,10 +1,11 @@
-use Rattle.std.proofs.Common.{◌≡◌, get_or, rules, arith}
+use Rattle.std.proofs.Common.{◌≡◌, ◌+◌, get_or, rules, arith}
 use Rattle.std.proofs.lemmas.List.Sorted.{length_permutation}
 use Rattle.smp_prob.specs.Kept.Cuts.{border}
-use Rattle.smp_prob.proofs.Sizes.{small_order}
+use Rattle.smp_prob.proofs.Sizes.{all_at_most, small_order}
 use Rattle.smp_prob.proofs.FallingOrders.{cut_order, long_order}
-use Rattle.smp_prob.proofs.Cuts.{IsCut, is_feasible}
+use Rattle.smp_prob.proofs.Cuts.{IsCut, is_feasible, light_cut}
 use Rattle.smp_prob.proofs.RequestedUnits.{certain_places, free_places, sizes_below}
+use Rattle.smp_prob.proofs.proportional.picked_units.Goals.{After-pick}
 use Rattle.smp_prob.proofs.proportional.picked_units.Goals as goal
 
 pub least_cut-cut-requires-clause-few : goal.least_cut-cut-requires-clause-few
@@ -39,13 +40,31 @@ cut c =
     cut_order c.args.n c.least_cut-cut.result c.args.sizes.now c.in_ok-order.order.items c.in_ok-order.ensures.same c.in_ok-order.ensures.order c.requires.enough least c.border_of-border.result border_is
 
 pub returns-clause-certain : goal.returns-clause-certain
-returns-clause-certain c = rw (← certain_places _ _ _ _ (cut c)) c.pick.ensures.certain
+returns-clause-certain c = rw (← certain_places _ _ _ _ (cut c)) c.pick-2.ensures.certain
 
 pub returns-clause-free : goal.returns-clause-free
-returns-clause-free c = rw (← free_places _ _ _ _ (cut c)) c.pick.ensures.free
+returns-clause-free c = rw (← free_places _ _ _ _ (cut c)) c.pick-2.ensures.free
 
 pub returns-clause-free_sizes : goal.returns-clause-free_sizes
-returns-clause-free_sizes c = rw (← sizes_below _ _ _ _ (cut c)) c.pick.ensures.free_sizes
+returns-clause-free_sizes c = rw (← sizes_below _ _ _ _ (cut c)) c.pick-2.ensures.free_sizes
 
 pub returns-clause-feasible : goal.returns-clause-feasible
 returns-clause-feasible c = let feasible = is_feasible _ _ _ _ (cut c) c.requires.some in search (rules, feasible)
+
+-- where no share is as much as one, none is certain
+light : (c : After-pick) → IsCut c.args.n c.args.sizes.now (c.largest_of-largest.result + 1) c.largest_of-largest.result
+light c =
+    light_cut c.args.n c.largest_of-largest.result c.args.sizes.now (all_at_most c.args.sizes.now c.largest_of-largest.result c.largest_of-largest.ensures.most)
+    (rw c.sum_of.ensures at c.if-n-largest.true)
+
+pub returns-then-n-largest-clause-certain : goal.returns-then-n-largest-clause-certain
+returns-then-n-largest-clause-certain c = rw (← certain_places _ _ _ _ (light c)) c.pick.ensures.certain
+
+pub returns-then-n-largest-clause-free : goal.returns-then-n-largest-clause-free
+returns-then-n-largest-clause-free c = rw (← free_places _ _ _ _ (light c)) c.pick.ensures.free
+
+pub returns-then-n-largest-clause-free_sizes : goal.returns-then-n-largest-clause-free_sizes
+returns-then-n-largest-clause-free_sizes c = rw (← sizes_below _ _ _ _ (light c)) c.pick.ensures.free_sizes
+
+pub returns-then-n-largest-clause-feasible : goal.returns-then-n-largest-clause-feasible
+returns-then-n-largest-clause-feasible c = let feasible = is_feasible _ _ _ _ (light c) c.requires.some in search (rules, feasible)
