@@ -201,9 +201,3 @@ end_held units are values front line den r a is long off =
     (after_fractional n values a.are den a.some a.narrow (line_of line) a.is_line a.divides)
     (λ k l. ap (λ (v : Value). v.touched) (taken_kept (moves (line_of line)) values (end_of 1 (over_common den values) (line_of line)) k (still (line_of line) k (off k l))) ∙ is.fresh k l))
     ∙ held_there (common_of units new)
-
--- what an end gives is a value
-pub moved_some : (count : ℕ) (values : List Value) (line : LineOfPlaces) (den : ℕ) (r : Reach) → IsAlong count values line den r → (k : ℕ) → k < length values → 1 ≤ (moved_value (value values k) den r (entry_of (line_of line) k)).at.den
-moved_some count values line den r a k inside =
-    subst (λ (v : Value). 1 ≤ v.at.den) (moved_is count values line den r a k inside)
-    ((after_values count values a.are den a.some a.narrow (line_of line) a.is_line a.divides).each k).positive

@@ -10,6 +10,7 @@ pub mod Parts
 pub mod Gated
 pub mod Ahead
 pub mod Directed
+pub mod Sharing
 pub mod Ending
 pub mod Stepped
 pub mod Pairing

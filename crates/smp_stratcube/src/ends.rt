@@ -1,17 +1,19 @@
 //! The ends of a line.
 
 ghost use Rattle.std.specs.Prelude.{◌≡◌, ◌≤◌, ◌<◌, ◌*◌, ◌/◌, ℕ, List, length, nat_le, slice_index, take};
+ghost use Prim.Native.Nat.{◌∣◌};
 ghost use Rattle.smp_frac.specs.Limits.{most_denominator, most_entry};
 ghost use Rattle.smp_moves.specs.{Moves.{IsLine, entry_of}, Ends.{reach}, Answers.{IsPadded, line_of}};
 ghost use Rattle.smp_moves.specs.Kept.Ends.{CanMove, HasSmallEntries};
-ghost use Rattle.smp_stratcube.specs.{Units.{IsUnits}, Values.{IsValue, AreValues, over_common, value}, Moves.{line_common}};
-ghost use Rattle.smp_stratcube.specs.{Kept.Fronts.{IsFront}, Kept.Gates.{held}, Kept.Lines.{AreInside}};
-ghost use Rattle.smp_stratcube.specs.Kept.Moves.{AreMoved, IsAlong, end_gathered, moved_value};
+ghost use Rattle.smp_stratcube.specs.{Units.{IsUnits, first}, Values.{IsValue, AreValues, over_common, value}, Moves.{line_common}};
+ghost use Rattle.smp_stratcube.specs.{Kept.Fronts.{IsFront}, Kept.Gates.{IsSome, held, with_unit}, Kept.Lines.{AreInside}};
+ghost use Rattle.smp_stratcube.specs.Kept.Moves.{AreMoved, IsAlong, end_gathered, joined, moved_value};
 
 use crate::fronts::Front;
 use crate::gates::{gathered, with_value};
 use crate::units::Units;
 use crate::values::{Value, value_over, within_gate};
+use smp_frac::{gcd, quotient};
 use smp_moves::{Line, Reach, advanced, nearer, reach_of};
 
 /// The common denominator of a state and of the strata of a line, where it fits.
@@ -69,6 +71,57 @@ pub(crate) fn moved(value: Value, den: u128, reach: Reach, entry: i64) -> Value
     value_over(advanced(value.over(den), reach, entry), den * reach.size)
 }
 
+/// The common denominator at an end of a line, as far as its units were looked at. Those that the line moves stand over one denominator
+/// there.
+#[derive(Clone, Copy)]
+struct Gathered {
+    /// That of the strata of the units, and of the values of those that the line doesn't move.
+    common: Option<u128>,
+    /// What the denominator of the others has in common with all their numerators: over the rest of it they are in lowest terms together.
+    shared: u128,
+}
+
+/// The same with a unit of this value, and of this entry on the line.
+fn with_end(
+    units: &Units,
+    gathered: Gathered,
+    unit: usize,
+    value: Value,
+    den: u128,
+    reach: Reach,
+    entry: i64,
+) -> Gathered
+    requires are { IsUnits units.now }
+    requires unit { unit < length units.now.members }
+    requires value { IsValue value }
+    requires den { (1 ≤ den) × (den ≤ most_denominator) }
+    requires size { 1 ≤ reach.size }
+    requires can { CanMove (value.at.num * (den / value.at.den)) reach entry }
+    requires some { IsSome gathered.common }
+    requires shared { gathered.shared ∣ den * reach.size }
+    ensures is { joined (den * reach.size) result
+        ≡ with_unit (first units.now unit)
+        (moved_value value den reach entry)
+        (joined (den * reach.size) gathered) }
+    ensures some { IsSome result.common }
+    ensures shared { result.shared ∣ den * reach.size }
+{
+    if entry == 0 {
+        return Gathered {
+            common: with_value(units, gathered.common, unit, value),
+            shared: gathered.shared,
+        };
+    }
+    let number = advanced(value.over(den), reach, entry);
+    if number == 0 || den * reach.size <= number {
+        return gathered;
+    }
+    Gathered {
+        common: within_gate(gathered.common, units.first(unit)),
+        shared: gcd(number, gathered.shared),
+    }
+}
+
 /// Whether the common denominator fits at an end of a line.
 pub(crate) fn end_fits(
     units: &Units,
@@ -81,16 +134,20 @@ pub(crate) fn end_fits(
     requires are { IsUnits units.now }
     requires along { IsAlong (length units.now.members) values.now line.now den reach }
     requires inside { AreInside (length values.now) front.now }
-    requires size { 1 ≤ reach.size }
+    requires size { (1 ≤ reach.size) × (reach.size ≤ most_entry) }
     ensures { result ≡ end_gathered units.now values.now front.now (line_of line.now) den reach }
 {
-    let mut common = Some(1);
+    let full = den * reach.size;
+    let mut gathered = Gathered {
+        common: Some(1),
+        shared: full,
+    };
     for place in 0..front.number {
         let unit = front.units[place];
-        let there = moved(values[unit], den, reach, line.entry(unit));
-        common = with_value(units, common, unit, there);
+        let entry = line.entry(unit);
+        gathered = with_end(units, gathered, unit, values[unit], den, reach, entry);
     }
-    common.is_some()
+    within_gate(gathered.common, quotient(full, gathered.shared)).is_some()
 }
 
 /// Goes to the end of a line: each of its units is written, one whose entry is 0 with the value that it has.

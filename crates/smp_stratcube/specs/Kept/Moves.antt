@@ -1,5 +1,5 @@
 -- What the code keeps of a move.
-use Rattle.std.specs.Prelude.{◌≡◌, ℕ, ◌<◌, ◌≤◌, ◌*◌, ◌/◌, nat_eq, true, Bool, Some, if◌then◌else◌, List}
+use Rattle.std.specs.Prelude.{◌≡◌, ℕ, ◌<◌, ◌≤◌, ◌*◌, ◌/◌, nat_eq, true, Bool, Option, Some, if◌then◌else◌, List}
 use Rattle.std.specs.Prelude.{ℤ, length, slice_index}
 use Prim.Native.Nat.{◌∣◌}
 use Rattle.std.specs.Option.{is_some}
@@ -12,6 +12,7 @@ use Rattle.smp_moves.specs.Moves.{turned}
 use Rattle.smp_moves.specs.Ends.{advanced, lowest, reach}
 use Rattle.smp_moves.specs.Answers.{IsPadded, line_of}
 use Rattle.smp_moves.specs.Kept.Ends.{HasSmallEntries}
+use Rattle.smp_stratcube.specs.declared.ends.Gathered.{Gathered}
 use Rattle.smp_stratcube.specs.declared.fronts.Front.{Front}
 use Rattle.smp_stratcube.specs.declared.values.Value.{Value}
 use Rattle.smp_stratcube.specs.declared.steps.Move.{Move}
@@ -23,7 +24,7 @@ use Rattle.smp_stratcube.specs.States.{Flight}
 use Rattle.smp_stratcube.specs.Kept.Computed.{chosen, next}
 use Rattle.smp_stratcube.specs.Moves.{line_common, setting_of}
 use Rattle.smp_stratcube.specs.Kept.Fronts.{front_units}
-use Rattle.smp_stratcube.specs.Kept.Gates.{gathered}
+use Rattle.smp_stratcube.specs.Kept.Gates.{gated, gathered}
 use Rattle.smp_moves.specs.Kept.Computed.{next_along}
 
 -- the value at the end of a line, of a unit whose entry there is e
@@ -50,6 +51,11 @@ pub record IsAlong (count : ℕ) (values : List Value) (line : LineOfPlaces) (de
 pub record AreMoved (old new : List Value) (line : Line) (den : ℕ) (r : Reach) : Type 0 where
   pub count : length new ≡ length old
   pub each : (k : ℕ) → k < length old → value new k ≡ moved_value (value old k) den r (entry_of line k)
+
+-- The common denominator there as the code gathers it: in it is the denominator of the units that the line moves, without what this has in
+-- common with their numerators.
+abbrev pub joined : ℕ → Gathered → Option ℕ
+joined full g = gated g.common (full / g.shared)
 
 -- whether the common denominator of the first units fits there
 abbrev pub end_gathered : Units → List Value → Front → Line → ℕ → Reach → Bool

@@ -70,22 +70,22 @@ along_up c = forth c.args.units.now (flight_of c.args.units.now c.args.values.no
 along_down : (c : After-reach_along-down) → IsAlong (length c.args.units.now.members) c.args.values.now c.turned-back.result c.in-Some.den c.reach_along-down.result
 along_down c = backward c.args.units.now (flight_of c.args.units.now c.args.values.now c.args.rows) c.requires.flying c.args.front.now c.requires.front (omega (arith, c.requires.front.short)) c.args.line c.requires.line c.in-Some.den c.in-Some.ensures c.turned-back.result c.turned-back.ensures.line c.turned-back.ensures.padded c.turned-back.ensures.small c.reach_along-down.result c.reach_along-down.ensures.is
 
-can_fit : (c : In-Some) (line : Line) (r : Reach) → IsAlong (length c.args.units.now.members) c.args.values.now line c.in-Some.den r → record {
+can_fit : (c : In-Some) (line : Line) (r : Reach) → IsAlong (length c.args.units.now.members) c.args.values.now line c.in-Some.den r → r.size ≤ 2 ^ 44 → record {
   are : IsUnits c.args.units.now;
   along : IsAlong (length c.args.units.now.members) c.args.values.now line c.in-Some.den r;
   inside : AreInside (length c.args.values.now) c.args.front.now;
-  size : 1 ≤ r.size;
+  size : (1 ≤ r.size) × (r.size ≤ 2 ^ 44);
 }
-can_fit c line r along = record {
+can_fit c line r along most = record {
   are = c.requires.flying.are;
   along = along;
   inside = record { short = c.requires.front.short; inside = λ j l. front_inside c.args.values.now c.args.front.now c.requires.front (omega (arith, c.requires.front.short)) j l };
-  size = some_size (length c.args.units.now.members) c.args.values.now line c.in-Some.den r along;
+  size = (some_size (length c.args.units.now.members) c.args.values.now line c.in-Some.den r along, most);
 }
 
 pub end_fits-requires : goal.end_fits-requires
 end_fits-requires c =
-    can_fit (goal.at.end_fits-requires c).In-Some c.args.line c.reach_along-up.result (along_up (goal.at.end_fits-requires c).After-reach_along-up)
+    can_fit (goal.at.end_fits-requires c).In-Some c.args.line c.reach_along-up.result (along_up (goal.at.end_fits-requires c).After-reach_along-up) c.reach_along-up.ensures.bounds.1
 
 pub returns-then-not-end_fits : goal.returns-then-not-end_fits
 returns-then-not-end_fits c =
@@ -93,7 +93,7 @@ returns-then-not-end_fits c =
 
 pub end_fits-requires-in-Some : goal.end_fits-requires-in-Some
 end_fits-requires-in-Some c =
-    can_fit (goal.at.end_fits-requires-in-Some c).In-Some c.turned-back.result c.reach_along-down.result (along_down (goal.at.end_fits-requires-in-Some c).After-reach_along-down)
+    can_fit (goal.at.end_fits-requires-in-Some c).In-Some c.turned-back.result c.reach_along-down.result (along_down (goal.at.end_fits-requires-in-Some c).After-reach_along-down) c.reach_along-down.ensures.bounds.1
 
 pub returns-then-not-end_fits-2 : goal.returns-then-not-end_fits-2
 returns-then-not-end_fits-2 c =
