@@ -10,7 +10,7 @@ ghost use Rattle.smp_localcube.specs.Kept.States.{AreTouched, IsKept, IsSearchab
 ghost use Rattle.smp_localcube.specs.Kept.States.{state_of, step_around, touched_in, weights_of};
 
 use crate::orders::{Order, is_among, rising};
-use smp_flight::{FlightState, Line, Next, Shape, fill, fly, landed, look_by};
+use smp_flight::{FlightState, Line, Next, Shape, fill, fly, landed, step_on};
 use smp_kernel::Tables;
 use smp_near::Points;
 use smp_places::Amounts;
@@ -81,7 +81,7 @@ fn step_from<const K: usize>(
 {
     let most = flight.rows() + 1;
     let order = touched.front(head).with_neighbours(points, head, most);
-    look_by(shape, flight, &order.units, order.number, tables)
+    step_on(shape, flight, &order.units, order.number, tables)
 }
 
 /// The next step of a flight, searched for; none where a unit is to be chosen first.

@@ -73,14 +73,15 @@ impl StratCube {
         let all = self.units.rows();
         let slice = values.as_slice();
         let front = front_of(&EMPTY, slice);
-        let next = step(&self.units, slice, all, &front);
+        let mut tables = Tables::new(alloc, all);
+        let next = step(&self.units, slice, all, &front, &mut tables);
         Ok(StratCubeState {
             values,
             rows: all,
             front,
             phase: Phase::Flying,
             left: 0,
-            tables: Tables::new(alloc, all),
+            tables,
             found: Box::new(alloc, next)?,
             of: Snapshot::of(&self.units),
         })

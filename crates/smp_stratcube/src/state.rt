@@ -11,7 +11,7 @@ ghost use Rattle.smp_stratcube.specs.{Kept.Computed.{flight_of}, Kept.States.{Is
 use crate::ends::go;
 use crate::fronts::{Front, front_of};
 use crate::pairs::{advance, bound, kind};
-use crate::steps::{Move, Next, step_kept};
+use crate::steps::{Move, Next, step};
 use crate::units::Units;
 use crate::values::Value;
 use smp_kernel::Tables;
@@ -157,13 +157,7 @@ impl StratCubeState {
                         let values = self.values.as_slice();
                         self.left = landed(values, &self.front, self.left);
                         self.rows -= 1;
-                        let next = step_kept(
-                            units,
-                            values,
-                            self.rows,
-                            &self.front,
-                            &mut self.tables,
-                        );
+                        let next = step(units, values, self.rows, &self.front, &mut self.tables);
                         keep(&mut self.found, next);
                     }
                     Next::Wide => {
@@ -175,13 +169,7 @@ impl StratCubeState {
                         fly(units, &mut self.values, self.rows, &mv, plus);
                         let values = self.values.as_slice();
                         self.front = front_of(&self.front, values);
-                        let next = step_kept(
-                            units,
-                            values,
-                            self.rows,
-                            &self.front,
-                            &mut self.tables,
-                        );
+                        let next = step(units, values, self.rows, &self.front, &mut self.tables);
                         keep(&mut self.found, next);
                     }
                 }

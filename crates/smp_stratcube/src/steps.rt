@@ -10,7 +10,7 @@ use crate::ends::{denominator, end_fits, reach_along};
 use crate::fronts::Front;
 use crate::units::Units;
 use crate::values::Value;
-use smp_kernel::{Searched, Tables, search};
+use smp_kernel::{Searched, Tables};
 use smp_moves::{Line, Reach, lowest};
 
 /// A move along a line: the common denominator of the values of its units, how far the line is followed and how far its opposite, and
@@ -67,24 +67,9 @@ fn step_along(units: &Units, values: &[Value], rows: usize, front: &Front, line:
     }
 }
 
-/// The step of these values with so many rows in force, of which these are the first fractional units.
-pub(crate) fn step(units: &Units, values: &[Value], rows: usize, front: &Front) -> Next
-    requires flying { IsFlying units.now (flight_of units.now values.now rows) }
-    requires front { IsFront values.now front.now }
-    ensures { IsStep units.now (flight_of units.now values.now rows) result }
-{
-    let columns = columns_of(units, front);
-    step_found(
-        units,
-        values,
-        rows,
-        front,
-        search(&columns[..front.number], rows),
-    )
-}
-
-/// The same step, searched for by the tables of the search before.
-pub(crate) fn step_kept(
+/// The step of these values with so many rows in force, of which these are the first fractional units, searched for by the tables of the
+/// search before.
+pub(crate) fn step(
     units: &Units,
     values: &[Value],
     rows: usize,

@@ -11,17 +11,17 @@ use Rattle.smp_flight.proofs.steps.find.Goals as goal
 pub step_on-requires-clause-units : goal.step_on-requires-clause-units
 step_on-requires-clause-units c =
     let s = c.args.state.now.flight.values in
-    let units = c.next_front-front.result.units in
-    let first : take c.min.result units ≡ take (c.args.state.now.flight.rows + 1) (fractional_units s) =
-    ap (λ k. take k units) (c.min.ensures ∙ ap (λ (f : Tracked). min c.next_front-front.result.number (f.flight.rows + 1)) c.state.view_is) ∙ c.next_front-front.ensures.first in
+    let units = c.args.front.now.units in
+    let first : take c.min-number.result units ≡ take (c.args.state.now.flight.rows + 1) (fractional_units s) =
+    ap (λ k. take k units) (c.min-number.ensures ∙ ap (λ (f : Tracked). min c.args.front.now.number (f.flight.rows + 1)) c.state.view_is) ∙ c.requires.front in
     subst (AreSearched c.args.state.now) (sym first) (front_searched c.args.state.now c.requires.first)
 
 pub returns : goal.returns
 returns c =
     let f = c.args.state.now.flight in
-    let units = c.next_front-front.result.units in
-    let first : take c.min.result units ≡ take (c.args.state.now.flight.rows + 1) (fractional_units c.args.state.now.flight.values) =
-    ap (λ k. take k units) (c.min.ensures ∙ ap (λ (f : Tracked). min c.next_front-front.result.number (f.flight.rows + 1)) c.state.view_is) ∙ c.next_front-front.ensures.first in
+    let units = c.args.front.now.units in
+    let first : take c.min-number.result units ≡ take (c.args.state.now.flight.rows + 1) (fractional_units c.args.state.now.flight.values) =
+    ap (λ k. take k units) (c.min-number.ensures ∙ ap (λ (f : Tracked). min c.args.front.now.number (f.flight.rows + 1)) c.state.view_is) ∙ c.requires.front in
     record {
       is =
           c.step_on.ensures.is ∙ ap (λ (order : List ℕ). next_on c.args.shape.now order f) first

@@ -9,8 +9,8 @@ with_neighbours-order-requires g c =
     let here = fractional_within c.args.flight.now.flight.values c.args.head c.requires.head.open_at in
     (lit< tt, (omega (arith, here, c.requires.placed), (c.front.ensures.few (c.rows-most.result + 1) (omega arith) (omega (arith, c.requires.few, c.rows-most.ensures)), omega (arith, c.rows-most.ensures, c.requires.flight.rows_in, c.requires.flight.are.few_rows))))
 
-pub look_by-requires-clause-units : goal.look_by-requires-clause-units
-look_by-requires-clause-units g c =
+pub step_on-requires-clause-units : goal.step_on-requires-clause-units
+step_on-requires-clause-units g c =
     let few : length (touched_in c.args.flight.now) ≤ c.args.flight.now.flight.rows + 1 = omega (arith, ap length c.requires.touched, length-take c.args.touched.now.number c.args.touched.now.units, c.requires.few) in
     searched c.args.flight.now c.requires.order c.args.points.now.coords c.args.head c.requires.head few (order_units c.with_neighbours-order.result)
     (searched_are c.args.flight.now c.args.points.now c.args.head c.requires.living c.requires.touched c.front.ensures.are c.rows-most.ensures c.with_neighbours-order.ensures.are)
@@ -18,5 +18,5 @@ look_by-requires-clause-units g c =
 pub returns-clause-is : goal.returns-clause-is
 returns-clause-is g c =
     let few : length (touched_in c.args.flight.now) ≤ c.args.flight.now.flight.rows + 1 = omega (arith, ap length c.requires.touched, length-take c.args.touched.now.number c.args.touched.now.units, c.requires.few) in
-    c.look_by.ensures.is ∙ next_searched c.args.flight.now c.requires.order c.args.points.now.coords c.args.head c.requires.head few c.args.shape.now (order_units c.with_neighbours-order.result)
+    c.step_on.ensures.is ∙ next_searched c.args.flight.now c.requires.order c.args.points.now.coords c.args.head c.requires.head few c.args.shape.now (order_units c.with_neighbours-order.result)
     (searched_are c.args.flight.now c.args.points.now c.args.head c.requires.living c.requires.touched c.front.ensures.are c.rows-most.ensures c.with_neighbours-order.ensures.are)

@@ -13,14 +13,14 @@ pub columns_of-columns-requires-clause-inside : goal.columns_of-columns-requires
 columns_of-columns-requires-clause-inside c =
     record { short = c.requires.front.short; inside = λ j l. (let b = front_inside c.args.values.now c.args.front.now c.requires.front (omega (arith, c.requires.front.short)) j l in omega (arith, b, c.requires.flying.values.count)) }
 
-pub search-requires-clause-small : goal.search-requires-clause-small
-search-requires-clause-small c =
+pub search-searched-requires-clause-small : goal.search-searched-requires-clause-small
+search-searched-requires-clause-small c =
     omega (arith, c.requires.flying.rows_in, c.requires.flying.are.few_rows)
 
-pub search-requires-clause-within : goal.search-requires-clause-within
-search-requires-clause-within c =
+pub search-searched-requires-clause-within : goal.search-searched-requires-clause-within
+search-searched-requires-clause-within c =
     c.columns_of-columns.ensures.within
 
 pub step_found-requires-clause-is : goal.step_found-requires-clause-is
 step_found-requires-clause-is c =
-    subst (λ (cs : List (List ℤ)). IsSearch c.args.rows (cut c.args.rows cs) (answer c.search.result)) c.columns_of-columns.ensures.are c.search.ensures.is
+    subst (λ (cs : List (List ℤ)). IsSearch c.args.rows (cut c.args.rows cs) (answer c.search-searched.result)) c.columns_of-columns.ensures.are c.search-searched.ensures.is

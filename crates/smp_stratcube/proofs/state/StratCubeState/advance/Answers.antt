@@ -31,13 +31,13 @@ overflow_sub-self c =
     let going : is_settled c.self.inside.values.items ≡ false = (rw (← c.self.view_is, c.in-Flying.is) at c.requires.going) in
     some_row c.args.units.now (flight_of c.self.inside.of.value c.self.inside.values.items c.self.inside.rows) ok (rw c.in-Independent.is at step) going
 
-pub step_kept-next-requires-clause-flying : goal.step_kept-next-requires-clause-flying
-step_kept-next-requires-clause-flying c =
+pub step-next-requires-clause-flying : goal.step-next-requires-clause-flying
+step-next-requires-clause-flying c =
     let ok : IsFlying c.args.units.now (flight_of c.self.inside.of.value c.self.inside.values.items c.self.inside.rows) = rw (← c.self.view_is, c.in-Flying.is) at c.requires.state in
     subst (λ (vs : List Value). IsFlying c.args.units.now (flight_of c.args.units.now vs (c.self.inside.rows - 1))) (sym c.as_slice-values.ensures.value) (own_flight c.args.units.now c.self.inside.of.value c.self.inside.values.items (c.self.inside.rows - 1) (dropped_flight c.args.units.now (flight_of c.self.inside.of.value c.self.inside.values.items c.self.inside.rows) ok))
 
-pub step_kept-next-requires-clause-front : goal.step_kept-next-requires-clause-front
-step_kept-next-requires-clause-front c = subst (λ (vs : List Value). IsFront vs c.self.inside.front) (sym c.as_slice-values.ensures.value) c.self.invariant.first
+pub step-next-requires-clause-front : goal.step-next-requires-clause-front
+step-next-requires-clause-front c = subst (λ (vs : List Value). IsFront vs c.self.inside.front) (sym c.as_slice-values.ensures.value) c.self.invariant.first
 
 pub invariant_of-self : goal.invariant_of-self
 invariant_of-self c =
@@ -45,7 +45,7 @@ invariant_of-self c =
     record {
       few = c.self.invariant.few;
       first = c.self.invariant.first;
-      step = rw (c.in-Flying.is, c.keep.ensures) (step_there c.args.units.now c.self.inside.of.value c.self.inside.values.items c.as_slice-values.result.now (c.self.inside.rows - 1) c.step_kept-next.result (sym ok.fixed_is) c.as_slice-values.ensures.value c.step_kept-next.ensures);
+      step = rw (c.in-Flying.is, c.keep.ensures) (step_there c.args.units.now c.self.inside.of.value c.self.inside.values.items c.as_slice-values.result.now (c.self.inside.rows - 1) c.step-next.result (sym ok.fixed_is) c.as_slice-values.ensures.value c.step-next.ensures);
     }
 
 pub landed-self-inside-requires-in-Wide-clause-few : goal.landed-self-inside-requires-in-Wide-clause-few
@@ -79,8 +79,8 @@ front_of-self-inside-requires c =
     let m = rw c.in-Move.is at step in
     subst (λ (vs : List Value). IsAhead vs c.self.inside.front) (sym (c.as_slice-values-in-Move.ensures.value ∙ c.fly.ensures.is)) (move_ahead c.args.units.now (flight_of c.self.inside.of.value c.self.inside.values.items c.self.inside.rows) ok c.self.inside.front c.self.invariant.first (omega (arith, c.self.invariant.first.short)) (next_along (setting_of c.args.units.now) c.self.inside.values.items (line_of c.in-Move.mv.line)) m.next (nat_lt c.args.draw c.in-Move.mv.plus_weight))
 
-pub step_kept-next-requires-in-Move-clause-flying : goal.step_kept-next-requires-in-Move-clause-flying
-step_kept-next-requires-in-Move-clause-flying c =
+pub step-next-requires-in-Move-clause-flying : goal.step-next-requires-in-Move-clause-flying
+step-next-requires-in-Move-clause-flying c =
     let ok : IsFlying c.args.units.now (flight_of c.self.inside.of.value c.self.inside.values.items c.self.inside.rows) = rw (← c.self.view_is, c.in-Flying.is) at c.requires.state in
     let step = step_by c.args.units.now c.self.inside.of.value c.self.inside.values.items c.self.inside.rows c.deref-next.result.now c.self.inside.found.value ok c.deref-next.ensures (rw c.in-Flying.is at c.self.invariant.step) in
     let m = rw c.in-Move.is at step in
@@ -95,7 +95,7 @@ invariant_of-self-in-Move c =
     record {
       few = omega (arith, ap length c.fly.ensures.is, move_count c.args.units.now (flight_of c.self.inside.of.value c.self.inside.values.items c.self.inside.rows) ok c.self.inside.front c.self.invariant.first (omega (arith, c.self.invariant.first.short)) (next_along (setting_of c.args.units.now) c.self.inside.values.items (line_of c.in-Move.mv.line)) m.next (nat_lt c.args.draw c.in-Move.mv.plus_weight), c.self.invariant.few);
       first = subst (λ (vs : List Value). IsFront vs c.front_of-self-inside.result) c.as_slice-values-in-Move.ensures.value c.front_of-self-inside.ensures;
-      step = rw (c.in-Flying.is, c.keep-in-Move.ensures) (step_there c.args.units.now c.self.inside.of.value c.fly.new.values.items c.as_slice-values-in-Move.result.now c.self.inside.rows c.step_kept-next-in-Move.result (sym ok.fixed_is) c.as_slice-values-in-Move.ensures.value c.step_kept-next-in-Move.ensures);
+      step = rw (c.in-Flying.is, c.keep-in-Move.ensures) (step_there c.args.units.now c.self.inside.of.value c.fly.new.values.items c.as_slice-values-in-Move.result.now c.self.inside.rows c.step-next-in-Move.result (sym ok.fixed_is) c.as_slice-values-in-Move.ensures.value c.step-next-in-Move.ensures);
     }
 
 pub advance-requires-clause-pairing : goal.advance-requires-clause-pairing
