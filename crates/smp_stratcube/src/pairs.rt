@@ -1,10 +1,11 @@
 //! Pivotal steps, stratum by stratum.
 
 ghost use Rattle.std.specs.Prelude.{◌≡◌, ◌<◌, ◌≤◌, Some, false, length};
+ghost use Rattle.smp_frac.specs.Limits.{most_denominator};
 ghost use Rattle.smp_split.specs.Trees.{picked, weight_sum};
 ghost use Rattle.smp_stratcube.specs.{Units.{IsUnits}, Values.{fractional_units, is_settled, stratum_common, value}};
 ghost use Rattle.smp_stratcube.specs.{Pairs.{first_pair, paired_kind, paired_parts}, States.{IsPairing}, Kept.Fronts.{IsFront}};
-ghost use Rattle.smp_stratcube.specs.Kept.Pairs.{AreMet, HasStratum, IsOfFront, settled_value};
+ghost use Rattle.smp_stratcube.specs.Kept.Pairs.{AreMet, HasStratum, IsMeeting, IsOfFront, settled_value};
 
 use crate::fronts::Front;
 use crate::units::Units;
@@ -80,6 +81,32 @@ pub(crate) fn kind(units: &Units, values: &[Value], front: &Front) -> Kind
     }
 }
 
+/// The values of two units that meet, over the common denominator of their stratum.
+#[derive(Clone, Copy)]
+struct TwoValues {
+    first: u128,
+    second: u128,
+    den: u128,
+}
+
+/// How the first two units of a stratum meet.
+fn meeting(units: &Units, values: &[Value], front: &Front, pair: (usize, usize)) -> TwoValues
+    requires pairing { IsPairing units.now values.now }
+    requires front { IsFront values.now front.now }
+    requires pair { first_pair units.now (fractional_units values.now) ≡ Some pair }
+    ensures is { IsMeeting units.now values.now pair result }
+    ensures first { (1 ≤ result.first) × (result.first < result.den) }
+    ensures second { (1 ≤ result.second) × (result.second < result.den) }
+    ensures narrow { result.den ≤ most_denominator }
+{
+    let den = stratum_common(units, values, front, units.stratum(pair.0));
+    TwoValues {
+        first: at(values, pair.0).over(den),
+        second: at(values, pair.1).over(den),
+        den,
+    }
+}
+
 /// The bound of the next step's draw.
 pub(crate) fn bound(units: &Units, values: &[Value], front: &Front) -> u128
     requires pairing { IsPairing units.now values.now }
@@ -88,11 +115,9 @@ pub(crate) fn bound(units: &Units, values: &[Value], front: &Front) -> u128
     ensures { result ≡ weight_sum (paired_parts units.now values.now) }
 {
     match first_pair(units, values, front) {
-        Some((first, second)) => {
-            let den = stratum_common(units, values, front, units.stratum(first));
-            let a = at(values, first).over(den);
-            let b = at(values, second).over(den);
-            pair_bound(a, b, den)
+        Some(pair) => {
+            let two = meeting(units, values, front, pair);
+            pair_bound(two.first, two.second, two.den)
         }
         None => at(values, front.units[0]).at.den,
     }
@@ -112,11 +137,9 @@ fn met(
     requires within { draw < weight_sum (paired_parts units.now values.now) }
     ensures { AreMet units.now values.now pair draw result }
 {
-    let den = stratum_common(units, values, front, units.stratum(pair.0));
-    let a = at(values, pair.0).over(den);
-    let b = at(values, pair.1).over(den);
-    let (taken, left) = pair_apply(a, b, den, draw);
-    (value_over(taken, den), value_over(left, den))
+    let two = meeting(units, values, front, pair);
+    let (taken, left) = pair_apply(two.first, two.second, two.den, draw);
+    (value_over(taken, two.den), value_over(left, two.den))
 }
 
 /// The value of a unit that is settled by itself.

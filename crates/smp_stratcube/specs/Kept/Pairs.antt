@@ -4,6 +4,7 @@ use Rattle.std.specs.List.{filter}
 use Rattle.smp_values.specs.Pairs.{pair_at}
 use Rattle.smp_moves.specs.Ends.{lowest}
 use Rattle.smp_stratcube.specs.declared.fronts.Front.{Front}
+use Rattle.smp_stratcube.specs.declared.pairs.TwoValues.{TwoValues}
 use Rattle.smp_stratcube.specs.declared.values.Value.{Value}
 use Rattle.smp_stratcube.specs.Units.{Units, stratum}
 use Rattle.smp_stratcube.specs.Values.{over_common, stratum_common, value}
@@ -27,6 +28,12 @@ pub record HasStratum (units : Units) (front : Front) (h : ℕ) : Type 0 where
 -- the value a / b that a step leads to
 abbrev pub as_value : ℕ → ℕ → Value
 as_value a b = record { at = lowest a b; touched = true }
+
+-- two units before they meet: their numerators over the common denominator of their stratum
+pub record IsMeeting (units : Units) (values : List Value) (pair : ℕ × ℕ) (two : TwoValues) : Type 0 where
+  pub den : two.den ≡ stratum_common units values (stratum units pair.0)
+  pub first : two.first ≡ slice_index (over_common (stratum_common units values (stratum units pair.0)) values).numer pair.0
+  pub second : two.second ≡ slice_index (over_common (stratum_common units values (stratum units pair.0)) values).numer pair.1
 
 -- the numerators of two units after they met, over the common denominator of their stratum
 abbrev pub met_at : Units → List Value → ℕ × ℕ → ℕ → ℕ × ℕ
