@@ -7,7 +7,7 @@ ghost use Rattle.smp_moves.specs.{Moves.{IsLine, entry_of}, Ends.{reach}, Answer
 ghost use Rattle.smp_moves.specs.Kept.Ends.{CanMove, HasSmallEntries};
 ghost use Rattle.smp_stratcube.specs.{Units.{IsUnits, first}, Values.{IsValue, AreValues, over_common, value}, Moves.{line_common}};
 ghost use Rattle.smp_stratcube.specs.{Kept.Fronts.{IsFront}, Kept.Gates.{IsSome, held, with_unit}, Kept.Lines.{AreInside}};
-ghost use Rattle.smp_stratcube.specs.Kept.Moves.{AreMoved, IsAlong, end_gathered, joined, moved_value};
+ghost use Rattle.smp_stratcube.specs.{Kept.Moves.{AreMoved, IsAlong, end_gathered, joined, moved_value}, Kept.Pairs.{as_value}};
 
 use crate::fronts::Front;
 use crate::gates::{gathered, with_value};
@@ -81,6 +81,27 @@ struct Gathered {
     shared: u128,
 }
 
+/// The same with a unit that the line moves, by its numerator there.
+fn with_moved(units: &Units, gathered: Gathered, unit: usize, number: u128, full: u128) -> Gathered
+    requires are { IsUnits units.now }
+    requires unit { unit < length units.now.members }
+    requires full { 1 ≤ full }
+    requires some { IsSome gathered.common }
+    requires shared { gathered.shared ∣ full }
+    ensures is { joined full result
+        ≡ with_unit (first units.now unit) (as_value number full) (joined full gathered) }
+    ensures some { IsSome result.common }
+    ensures shared { result.shared ∣ full }
+{
+    if number == 0 || full <= number {
+        return gathered;
+    }
+    Gathered {
+        common: within_gate(gathered.common, units.first(unit)),
+        shared: gcd(number, gathered.shared),
+    }
+}
+
 /// The same with a unit of this value, and of this entry on the line.
 fn with_end(
     units: &Units,
@@ -113,13 +134,7 @@ fn with_end(
         };
     }
     let number = advanced(value.over(den), reach, entry);
-    if number == 0 || den * reach.size <= number {
-        return gathered;
-    }
-    Gathered {
-        common: within_gate(gathered.common, units.first(unit)),
-        shared: gcd(number, gathered.shared),
-    }
+    with_moved(units, gathered, unit, number, den * reach.size)
 }
 
 /// Whether the common denominator fits at an end of a line.
