@@ -17,9 +17,6 @@ use Rattle.smp_stratcube.proofs.Ahead.{units_here, units_none}
 abbrev stratum_at : List Member → ℕ → ℕ
 stratum_at members k = (get_or members k nobody).stratum
 
-abbrev den_at : List Member → ℕ → ℕ
-den_at members k = (get_or members k nobody).share.den
-
 -- what a read past the end would give
 abbrev pub unread : Member
 unread = record { column = []; stratum = 0; share = record { num = 0; den = 0 } }

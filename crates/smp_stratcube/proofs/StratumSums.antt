@@ -128,10 +128,6 @@ module _ (units : Units) (h : ℕ) where
   pub total_is : (s : Balancing) → h < length units.firsts → weighed_total (weighed_of units) s h ≡ stratum_sum units h (values_in s)
   total_is s l = rw (lt-ltb h (length units.firsts) l) refl
 
-  -- 1 where the unit is of the stratum and selected
-  abbrev chosen_here : List Value → ℕ → ℕ
-  chosen_here values k = cond (nat_eq (stratum units k) h && is_one values k) 1 0
-
   -- a unit that isn't fractional
   settled_term : (values : List Value) (n k : ℕ) → AreValues n values → (stratum units k ≡ h → is_fractional values k ≡ false) →
       Same (times (whole (cond (nat_eq (stratum units k) h) 1 0)) (value_at values k)) (whole (cond (nat_eq (stratum units k) h && is_one values k) 1 0))

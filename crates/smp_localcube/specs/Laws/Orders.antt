@@ -88,11 +88,6 @@ pub front_head : (touched : List ℕ) (head : ℕ) → IsHead touched head → i
 front_head [] head is = in_one head
 front_head (u ∷ touched) head is = or_left (nat_eq u head) (is_in touched head) (eq-eqb u head is)
 
-pub front_touched : (touched : List ℕ) (head : ℕ) → IsHead touched head → is_in touched head ≡ false → touched ≡ []
-front_touched [] head is out = refl
-front_touched (u ∷ touched) head is out =
-    absurd (true≢false (sym (or_left (nat_eq u head) (is_in touched head) (eq-eqb u head is)) ∙ out))
-
 front_distinct : (touched : List ℕ) (head : ℕ) → AllPairs (λ k m. k ≢ m) touched
     → AllPairs (λ k m. k ≢ m) (front_of touched head)
 front_distinct [] head d i j e l m = absurd (omega (arith, l, m))

@@ -9,7 +9,7 @@ use Rattle.smp_frac.specs.Fractions.{Same, whole, over, plus, times}
 use Rattle.smp_frac.proofs.Arithmetic.{same_refl, same_sym, same_trans, one-times, plus_same, times_same}
 use Rattle.smp_frac.proofs.Over.{over_plus}
 use Rattle.smp_prob.specs.Shares.{Shares}
-use Rattle.smp_split.specs.Trees.{Part, EachPart, LawfulParts, weight_sum, weighted}
+use Rattle.smp_split.specs.Trees.{EachPart, LawfulParts, weight_sum, weighted}
 use Rattle.smp_split.specs.Parts.{moved}
 use Rattle.smp_split.specs.Laws.Parts.{weighted-same}
 use Rattle.smp_values.specs.Pairs.{pair_weights, pair_first, pair_second}
@@ -27,7 +27,7 @@ use Rattle.smp_stratcube.specs.Units.{Units, stratum}
 use Rattle.smp_stratcube.specs.Values.{fractional_count, is_fractional, over_common, stratum_common}
 use Rattle.smp_stratcube.specs.Values.{taken_over, value, value_at}
 use Rattle.smp_stratcube.specs.Pairs.{is_either, meeting}
-use Rattle.smp_stratcube.specs.States.{Balancing, IsBalancing, IsPairing}
+use Rattle.smp_stratcube.specs.States.{IsBalancing, IsPairing}
 use Rattle.smp_stratcube.specs.Kept.Trees.{strat_tree}
 use Rattle.smp_stratcube.specs.Laws.Taken.{length_over, length_taken, over_fractional, over_value, over_values}
 use Rattle.smp_stratcube.specs.Laws.Taken.{taken_fractional, taken_kept, taken_value}
@@ -175,9 +175,6 @@ module _ (units : Units) (values : List Value) (ok : IsPairing units values) (le
         plus_over x y d =
             let one : 1 * x + y ≡ x + y = omega arith in
             same_trans (plus_same (same_sym (one-times (over x d))) (same_refl (over y d))) (rw (← one) (over_plus 1 x y d))
-
-  abbrev outer_parts : List (Part Balancing)
-  outer_parts = moved (λ v. pairing v left) (meeting units values i j)
 
   -- the mean of a unit's value
   even_at : (k : ℕ) → k < length units.members

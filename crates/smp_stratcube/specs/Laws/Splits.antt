@@ -154,7 +154,8 @@ module _ (units : Units) (f : Flight) (ok : IsFlying units f) where
   split_by left going (move m) is = move_split units f ok left m is
   split_by left going independent is =
       let some = some_row is going in
-      lone_split (cube_by each_step units) (next units) (IsBalancing units) (flying f left) (flying (dropped f) (landed (fractional_count f.values) left)) refl
+      lone_split (cube_by each_step units) (next units) (IsBalancing units) (flying f left)
+      (flying (dropped f) (landed (fractional_count f.values) left)) refl
       (omega (arith, some)) dropped_flight
   split_by left going wide is = lone_split (cube_by each_step units) (next units) (IsBalancing units) (flying f left)
       (pairing f.values (landed (fractional_count f.values) left)) refl (omega arith) wide_pairing

@@ -1,4 +1,4 @@
-use Rattle.std.proofs.Common.{◌≡◌, ◌≤◌, ◌<◌, ℕ, get_or, sym, ap, ap₂, ◌∙◌, subst}
+use Rattle.std.proofs.Common.{◌≡◌, ◌<◌, ℕ, get_or, sym, ap, ap₂, ◌∙◌, subst}
 use Rattle.smp_prob.specs.Shares.{Shares}
 use Rattle.smp_values.specs.Pairs.{pair_at, pair_bound}
 use Rattle.smp_stratcube.specs.Units.{stratum}

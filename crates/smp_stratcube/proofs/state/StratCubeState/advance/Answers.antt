@@ -1,4 +1,4 @@
-use Rattle.std.proofs.Common.{arith, ◌≡◌, ◌+◌, ◌-◌, ◌≤◌, ◌<◌, nat_lt, false, List, length, sym, ap, ◌∙◌, subst}
+use Rattle.std.proofs.Common.{arith, ◌≡◌, ◌-◌, ◌≤◌, ◌<◌, nat_lt, false, List, length, sym, ap, ◌∙◌, subst}
 use Rattle.smp_split.specs.Trees.{weight_sum}
 use Rattle.smp_moves.specs.Answers.{line_of}
 use Rattle.smp_moves.specs.Cubes.{flying, landed, pairing}
