@@ -1,4 +1,4 @@
-use Rattle.std.proofs.Common.{rules, ◌≡◌, refl, max, ◌<◌, ℕ, get_or, length, set, length-set, get_or-set_same, get_or-set_other, arith, ap, sym, ◌∙◌, subst, inl, inr}
+use Rattle.std.proofs.Common.{rules, ◌≡◌, max, ◌<◌, ℕ, get_or, length, set, length-set, get_or-set_same, get_or-set_other, arith, ap, sym, ◌∙◌, subst, inl, inr}
 use Rattle.std.proofs.lemmas.Bool.{cases_eq}
 use Rattle.smp_kernel.specs.Minors.{minor_limit}
 use Rattle.smp_flight.specs.Kept.Narrow.{IsRowBound}
@@ -7,12 +7,6 @@ use Rattle.smp_frac.specs.Limits.{most_denominator}
 use Rattle.smp_flight.proofs.RowBounds.{narrow_by, none_below, multiple_within, limit_within, entries_within, denominators_within}
 use Rattle.smp_flight.proofs.bounds.is_narrow.Goals as goal
 use Rattle.smp_flight.proofs.bounds.is_narrow.Goals.{In-Some-limit_of}
-
-pub loop-row-init : goal.loop-row-init
-loop-row-init c = record { size = refl; so_far = λ r l. absurd (omega (arith, l)) }
-
-pub bounds-bounds-row : goal.bounds-bounds-row
-bounds-bounds-row c = omega (arith, c.loop-row-test.true, c.rows-rows.ensures.is, c.rows-rows.ensures.are.few_rows)
 
 pub loop-row-preserved : goal.loop-row-preserved
 loop-row-preserved c =
@@ -27,9 +21,6 @@ loop-row-preserved c =
             subst (IsRowBound c.args.shape.now r) (sym (get_or-set_other c.loop-row.bounds c.loop-row.row r c.in-Some.bound 0 ne)) (c.loop-row.invariant.so_far r (omega (arith, l, ne)))
       ];
     }
-
-pub limit_of-requires : goal.limit_of-requires
-limit_of-requires c = omega (arith, c.rows-rows.ensures.is, c.rows-rows.ensures.are.few_rows)
 
 pub returns-in-None : goal.returns-in-None
 returns-in-None c = (

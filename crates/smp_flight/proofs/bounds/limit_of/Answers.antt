@@ -1,4 +1,4 @@
-use Rattle.std.proofs.Common.{◌≡◌, ◌+◌, ◌*◌, ◌^◌, ◌<◌, ◌≤◌, ℕ, suc, max, get_or, arith, ap, ap₂, sym, ◌∙◌, mul-le-mul}
+use Rattle.std.proofs.Common.{◌≡◌, ◌+◌, ◌*◌, ◌^◌, ◌<◌, ◌≤◌, suc, max, get_or, arith, ap, ap₂, sym, ◌∙◌, mul-le-mul}
 use Rattle.smp_kernel.specs.Minors.{minor_limit}
 use Rattle.smp_flight.proofs.RowBounds.{next_limit, past_limit}
 use Rattle.smp_flight.proofs.bounds.limit_of.Goals as goal

@@ -1,9 +1,8 @@
-use Rattle.std.proofs.Common.{SFits, to_z-of_z, rules, w32, ◌≡◌, ◌<◌, ◌≤◌, ℕ, length, arith, ap, sym, ◌∙◌, subst, inl, inr}
+use Rattle.std.proofs.Common.{SFits, to_z-of_z, rules, w32, ◌≡◌, ◌<◌, ℕ, length, arith, ap, sym, ◌∙◌, subst, inl, inr}
 use Rattle.std.proofs.lemmas.Bool.{cases_eq}
 use Rattle.std.proofs.lemmas.Nat.Gcd.{dvd_refl, dvd_trans}
 use Prim.Native.Nat.{◌∣◌}
 use Rattle.smp_prob.specs.Shares.{Shares}
-use Rattle.smp_flight.specs.Kept.Narrow.{IsLeastBelow}
 use Rattle.smp_flight.specs.States.{size}
 use Rattle.smp_flight.proofs.bounds.multiple_of.Goals as goal
 
@@ -18,22 +17,6 @@ loop-unit-init c =
         divides = λ other common. (let Q : ℕ → Type 0 = λ x. x ∣ other in subst Q (sym same) common.of_denominator);
       };
     }
-
-pub size-requires : goal.size-requires
-size-requires c =
-    let same : length c.requested-2.result.now.numer ≡ length c.args.shape.now.requested.numer = ap (λ (s : Shares). length s.numer) c.requested-2.ensures in
-    omega (arith, c.loop-unit-test.true, c.len-unit-end.ensures, same, c.rows.ensures.are.requested.count)
-
-pub lcm_within-requires-clause-first : goal.lcm_within-requires-clause-first
-lcm_within-requires-clause-first c = c.loop-unit.invariant.so_far.common.some
-
-pub lcm_within-requires-clause-second : goal.lcm_within-requires-clause-second
-lcm_within-requires-clause-second c =
-    let same : length c.requested-2.result.now.numer ≡ length c.args.shape.now.requested.numer = ap (λ (s : Shares). length s.numer) c.requested-2.ensures in
-    let here : c.loop-unit.unit < length c.args.shape.now.sizes = omega (arith, c.loop-unit-test.true, c.len-unit-end.ensures, same, c.rows.ensures.are.requested.count) in
-    let some : 1 ≤ size c.args.shape.now c.loop-unit.unit = c.rows.ensures.are.some_size c.loop-unit.unit here in
-    let fits : SFits w32 c.size.result = search rules in
-    rw (to_z-of_z fits, c.size.ensures) some
 
 pub loop-unit-preserved : goal.loop-unit-preserved
 loop-unit-preserved c =
@@ -72,11 +55,3 @@ returns-in_err-multiple-clause-none c =
       first = s.divides m (record { some = common.some; of_denominator = common.of_denominator; of_sizes = λ k l. common.of_sizes k (omega (arith, l, here)) });
       second = rw (to_z-of_z fits, c.size.ensures) (common.of_sizes c.loop-unit.unit here);
     }))
-
-pub returns-clause-some : goal.returns-clause-some
-returns-clause-some c =
-    let same : length c.requested-2.result.now.numer ≡ length c.args.shape.now.requested.numer = ap (λ (s : Shares). length s.numer) c.requested-2.ensures in
-    let all : c.loop-unit.unit ≡ length c.args.shape.now.sizes = omega (arith, c.loop-unit-test.false, c.len-unit-end.ensures, same, c.rows.ensures.are.requested.count) in
-    let s = c.loop-unit.invariant.so_far in
-    let P : ℕ → Type 0 = λ n. IsLeastBelow c.args.shape.now n c.loop-unit.multiple in
-    subst P all s

@@ -1,4 +1,4 @@
-use Rattle.std.proofs.Common.{SFits, to_z-of_z, rules, ◌≡◌, ◌<◌, ◌≤◌, w32, ℤ, pos, length, get_or, get_or-take, arith, ap, sym, ◌∙◌, inl, inr}
+use Rattle.std.proofs.Common.{SFits, to_z-of_z, rules, ◌≡◌, ◌≤◌, w32, ℤ, pos, length, get_or, get_or-take, arith, ap, sym, ◌∙◌, inl, inr}
 use Rattle.std.specs.Int.RustNames.{unsigned_abs}
 use Rattle.std.proofs.lemmas.Bool.{cases_eq}
 use Rattle.std.proofs.lemmas.Int.{ints}
@@ -6,20 +6,6 @@ use Rattle.smp_kernel.specs.Vectors.{entry}
 use Rattle.smp_prob.specs.Shares.{Shares}
 use Rattle.smp_flight.specs.States.{column, row_count}
 use Rattle.smp_flight.proofs.bounds.row_bound.Goals as goal
-
-pub loop-unit-init : goal.loop-unit-init
-loop-unit-init c = record { so_far = record { some = omega arith; each = λ k l. absurd (omega (arith, l)); signs = λ k l. absurd (omega (arith, l)); least = λ other some small. some } }
-
-pub column-requires : goal.column-requires
-column-requires c =
-    let same : length c.requested.result.now.numer ≡ length c.args.shape.now.requested.numer = ap (λ (s : Shares). length s.numer) c.requested.ensures in
-    omega (arith, c.loop-unit-test.true, c.len-unit-end.ensures, same, c.rows.ensures.are.requested.count)
-
-pub bounds-column-row : goal.bounds-column-row
-bounds-column-row c = omega (arith, c.requires, c.rows.ensures.are.few_rows)
-
-pub offset_bounds-column-row : goal.offset_bounds-column-row
-offset_bounds-column-row c = (let b : c.args.row < 16 = omega (arith, c.requires, c.rows.ensures.are.few_rows) in omega (arith, b))
 
 pub loop-unit-preserved : goal.loop-unit-preserved
 loop-unit-preserved c =
@@ -48,18 +34,6 @@ loop-unit-preserved c =
             let before = s.least other one (λ k l. each k (omega (arith, l))) in
             omega (arith, c.max-most.ensures, size, last_here, before));
       };
-    }
-
-pub returns-clause-some : goal.returns-clause-some
-returns-clause-some c =
-    let same : length c.requested.result.now.numer ≡ length c.args.shape.now.requested.numer = ap (λ (s : Shares). length s.numer) c.requested.ensures in
-    let all : c.loop-unit.unit ≡ length c.args.shape.now.sizes = omega (arith, c.loop-unit-test.false, c.len-unit-end.ensures, same, c.rows.ensures.are.requested.count) in
-    let s = c.loop-unit.invariant.so_far in
-    record {
-      some = s.some;
-      each = λ k l. s.each k (omega (arith, l, all));
-      signs = λ k l. s.signs k (omega (arith, l, all));
-      least = λ other one each. s.least other one (λ k l. each k (omega (arith, l, all)));
     }
 
 pub returns-then-number-lt0-clause-none : goal.returns-then-number-lt0-clause-none
