@@ -1,16 +1,19 @@
 -- A procedure takes the values that a frame has for it.
-use Rattle.std.proofs.Common.{◌≡◌, ℕ, zero, suc, ◌+◌, ◌-◌, ◌^◌, ◌<◌, ◌≤◌, ℤ, List, [], ◌∷◌, length, map, take, get_or, All, arith, refl, sym, ap₂, subst, ◌∙◌, suc-le-suc, length-take}
+use Rattle.std.proofs.Common.{◌≡◌, ℕ, zero, suc, ◌+◌, ◌-◌, ◌^◌, ◌<◌, ◌≤◌, false, ℤ, List, [], ◌∷◌, length, map, take, get_or, All, arith, refl, sym, ap₂, subst, ◌∙◌, suc-le-suc, length-take}
 use Rattle.std.specs.Int.RustNames.{unsigned_abs}
 use Rattle.std.proofs.lemmas.List.{take_all}
 use Rattle.std.proofs.lemmas.List.Elements.{All-get_or, All-map, All-take}
 use Rattle.smp_kernel.specs.Vectors.{Within}
 use Rattle.smp_design.specs.declared.method.Method.{Method}
+use Rattle.smp_design.specs.declared.method.Method.TheVariants as the
 use Rattle.smp_design.specs.declared.method.Method.TheVariants.{Cube, LocalCube, LocalPivotal}
-use Rattle.smp_design.specs.Words.{row, balances, is_balance}
+use Rattle.smp_design.specs.Words.{row, balances, is_balance, is_nothing}
 use Rattle.smp_design.proofs.Rows.{balance_columns}
 use Rattle.smp_flight.specs.Requests.{AreValues}
 use Rattle.smp_design.specs.declared.procedure.Procedure.{Procedure}
 use Rattle.smp_design.specs.Procedures.{AreNeeded, IsProcedure, without_values}
+use Rattle.smp_prob.specs.declared.requests.Request.{Request}
+use Rattle.smp_methods.specs.Designs.{design_by, design_of}
 use Rattle.smp_methods.specs.Procedures.{NeededIf, TakesValues, balancing_values}
 use Rattle.smp_methods.proofs.Wholes.{needed_if}
 
@@ -59,6 +62,34 @@ pub takes_none : (m : Method) (units : List ℕ) → IsProcedure (without_values
 takes_none m units is =
     procedure_takes (without_values m) (map (λ _. []) units) (All-map (λ (v : List ℤ). length v ≡ 0) (λ _. []) units (λ k d l. refl))
     (All-map (Within (2 ^ 31 - 1)) (λ _. []) units (λ k d l i e m. absurd (omega (arith, m)))) is
+
+-- ---- which procedures have columns
+
+-- those whose method needs some
+some_columns : (m : Method) (balance near : ℕ) → is_nothing (row m).needs ≡ false → AreNeeded (row m).needs balance near → 1 ≤ balance + near
+unfolding row
+some_columns LocalPivotal balance near some needed = omega (arith, needed.1.0)
+some_columns Cube balance near some needed = omega (arith, needed.0.0)
+some_columns LocalCube balance near some needed = omega (arith, needed.0.0)
+some_columns the.StratifiedCube balance near some needed = omega (arith, needed.0.0)
+some_columns other balance near some needed = absurd (cc)
+
+-- then each unit has its values
+pub paired_values : (way : Procedure) (values : List (List ℤ)) (free : List ℕ) → TakesValues way values → (1 ≤ way.balance + way.near → length values ≡ length free) → is_nothing (row way.method).needs ≡ false → length values ≡ length free
+paired_values way values free takes paired some = paired (some_columns way.method way.balance way.near some takes.columns)
+
+-- a design of one without is the same by whatever values
+module _ (way : Procedure) (request : Request) (values others : List (List ℤ)) where
+  same_by : (m : Method) → (is_nothing (row m).needs ≡ false → ⊥) → design_by m way request values ≡ design_by m way request others
+  unfolding row
+  same_by LocalPivotal nothing = absurd (nothing refl)
+  same_by Cube nothing = absurd (nothing refl)
+  same_by LocalCube nothing = absurd (nothing refl)
+  same_by the.StratifiedCube nothing = absurd (nothing refl)
+  same_by other nothing = refl
+
+  pub same_design : AreNeeded (row way.method).needs way.balance way.near → way.balance + way.near ≡ 0 → design_of way request values ≡ design_of way request others
+  same_design needed none = same_by way.method (λ some. omega (arith, none, some_columns way.method way.balance way.near some needed))
 
 -- ---- where no column is a coordinate
 

@@ -7,8 +7,13 @@ use Rattle.smp_prob.specs.declared.orders.Order.{Order}
 use Rattle.smp_prob.specs.declared.requests.Request.{Request}
 use Rattle.smp_prob.specs.Requests.{IsRequest}
 use Rattle.smp_prob.specs.Shares.{Shares, draws_of, numerators, shares_of}
-use Rattle.smp_values.specs.InOrder.{places_tree}
-use Rattle.smp_values.specs.Values.{IsValues, value_at}
+use Rattle.smp_frac.specs.Limits.{most_denominator}
+use Rattle.smp_split.specs.Counts.{LeavesSelectAround}
+use Rattle.smp_split.specs.Methods.{Starts}
+use Rattle.smp_split.specs.Orders.{ordered_tree}
+use Rattle.smp_values.specs.InOrder.{LawfulRule, StepRule, placed_method, places_tree}
+use Rattle.smp_values.specs.Starts.{IsRequested, ordered_values}
+use Rattle.smp_values.specs.Values.{IsValues, exchanged_values, value_at}
 use Rattle.smp_values.proofs.InOrder.{placed_around, placed_starts}
 use Rattle.smp_values.proofs.Requests.{few_shares, requested_in_order, requested_values, shares_in_range, wider}
 use Rattle.smp_design.specs.declared.method.Method.{Method}
@@ -74,21 +79,31 @@ module _ (order : Order) (balance near : ℕ) (request : Request) (values : List
   own_value : (k : ℕ) → Same (value_at shares k) (value_at shares k)
   own_value k = same_refl (value_at shares k)
 
+  -- by steps at places: where it starts, of which the rest is told by the method alone
+  module _ (rule : StepRule) (law : LawfulRule rule) where
+    placed_ok : IsValues units rule.most shares
+    placed_ok = wider units most_denominator rule.most shares law.wide (shares_in_range request is)
+
+    placed : Starts (placed_method rule law.lawful (ordered_values order shares)) (ordered_values order shares)
+    placed = placed_starts rule law order shares (few_shares request is) placed_ok
+
+    around : LeavesSelectAround (placed_method rule law.lawful (ordered_values order shares)).tree (ordered_values order shares)
+    around = placed_around rule law order shares (few_shares request is) placed_ok
+
+    asked : IsRequested (ordered_tree (places_tree rule units) exchanged_values) request (ordered_values order shares)
+    asked = requested_in_order request is (places_tree rule units) order refl own_value
+
   by_pivotal : First method.Pivotal
   by_pivotal whole takes =
-      let ok : IsValues units pivotal_rule.most shares = wider units (2 ^ 80) pivotal_rule.most shares (omega arith) (shares_in_range request is) in
-      let starts = placed_starts pivotal_rule pivotal_law order shares (few_shares request is) ok in
+      let starts = placed pivotal_rule pivotal_law in
       is_started (way method.Pivotal) request values (so method.Pivotal) (first_state (so method.Pivotal)) whole refl
-      (requested_in_order request is (places_tree pivotal_rule units) order refl own_value) refl
-      starts.means.member (λ _. starts.count) tt (λ _ _. placed_around pivotal_rule pivotal_law order shares (few_shares request is) ok)
+      (asked pivotal_rule pivotal_law) refl starts.means.member (λ _. starts.count) tt (λ _ _. around pivotal_rule pivotal_law)
 
   by_systematic : First method.Systematic
   by_systematic whole takes =
-      let ok : IsValues units systematic_rule.most shares = wider units (2 ^ 80) systematic_rule.most shares (omega arith) (shares_in_range request is) in
-      let starts = placed_starts systematic_rule systematic_law order shares (few_shares request is) ok in
+      let starts = placed systematic_rule systematic_law in
       is_started (way method.Systematic) request values (so method.Systematic) (first_state (so method.Systematic)) whole refl
-      (requested_in_order request is (places_tree systematic_rule units) order refl own_value) refl
-      starts.means.member (λ _. starts.count) tt (λ _ _. placed_around systematic_rule systematic_law order shares (few_shares request is) ok)
+      (asked systematic_rule systematic_law) refl starts.means.member (λ _. starts.count) tt (λ _ _. around systematic_rule systematic_law)
 
   by_support : First method.MinimumSupport
   unfolding row

@@ -1,6 +1,6 @@
 //! The design of a request by any of the methods, and its states.
 
-ghost use Rattle.std.specs.Prelude.{◌≡◌, ◌<◌, false, length, IfOk};
+ghost use Rattle.std.specs.Prelude.{◌≡◌, ◌<◌, ◌≤◌, ◌+◌, false, length, IfOk};
 ghost use Rattle.smp_prob.specs.Requests.{IsRequest};
 ghost use Rattle.smp_split.specs.Trees.{weight_sum};
 ghost use Rattle.smp_stratcube.specs.States as stratified;
@@ -87,7 +87,8 @@ impl AnyDesign {
     ) -> Result<AnyDesign, NoMemory>
         requires request { IsRequest request.now }
         requires whole { NeedsWhole procedure request.now }
-        requires paired { length values.now ≡ length request.now.free }
+        requires paired { 1 ≤ procedure.balance + procedure.near
+            → length values.now ≡ length request.now.free }
         requires values { TakesValues procedure values.now }
         ensures design { IfOk result (λ design.
             design ≡ design_of procedure request.now values.now) }

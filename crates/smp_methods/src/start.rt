@@ -1,6 +1,6 @@
 //! Where a selection starts.
 
-ghost use Rattle.std.specs.Prelude.{◌≡◌, [], length, map, IfOk};
+ghost use Rattle.std.specs.Prelude.{◌≡◌, ◌≤◌, ◌+◌, [], length, map, IfOk};
 ghost use Rattle.smp_prob.specs.Requests.{IsRequest};
 ghost use Rattle.smp_stratcube.specs.Layers.{AreLayers};
 ghost use Rattle.smp_methods.specs.{Procedures.{NeedsWhole, TakesValues}, Starts.{AreStarted, IsStarted}};
@@ -23,9 +23,10 @@ pub struct Started {
 }
 
 impl Started {
-    /// Starts to draw the free units of a request by a procedure. There is a list of values for each
-    /// of them, in their order: local pivotal selection takes them as coordinates, the cube balances on
-    /// them, and the local cube takes the last as coordinates and balances on the others.
+    /// Starts to draw the free units of a request by a procedure. Where it has columns there is a list of
+    /// values for each of them, in their order: local pivotal selection takes them as coordinates, the cube
+    /// balances on them, and the local cube takes the last as coordinates and balances on the others. Where
+    /// it has none, no list of values is looked at, and none is needed.
     #[tactic(auto, using(crate::proofs::Starts::is_started))]
     pub fn new(
         alloc: Global,
@@ -35,7 +36,8 @@ impl Started {
     ) -> Result<Started, NoMemory>
         requires request { IsRequest request.now }
         requires whole { NeedsWhole procedure request.now }
-        requires paired { length values.now ≡ length request.now.free }
+        requires paired { 1 ≤ procedure.balance + procedure.near
+            → length values.now ≡ length request.now.free }
         requires values { TakesValues procedure values.now }
         ensures { IfOk result (IsStarted procedure request.now values.now) }
     {

@@ -1,20 +1,23 @@
 -- A plan's method takes the values that its units have.
 use Rattle.std.proofs.Common.{◌≡◌, ℕ, ◌+◌, ◌-◌, ◌^◌, ◌<◌, ℤ, List, [], length, get_or, Option, Some, None, All, arith, refl, sym, ap, subst, ◌∙◌}
 use Rattle.std.specs.List.{slice_get}
-use Rattle.std.proofs.lemmas.List.{get_or-map}
-use Rattle.std.proofs.lemmas.List.Elements.{All-get_or, All-map, All-weaker}
+use Rattle.std.proofs.lemmas.List.{get_or-map, length-map}
+use Rattle.std.proofs.lemmas.List.Elements.{All-get_or, All-map, All-nil, All-weaker}
 use Rattle.std.proofs.lemmas.Option.{slice_get_read, slice_get_within, get_or_from_slice_get}
 use Rattle.smp_split.specs.Laws.Reads.{some_within}
 use Rattle.smp_frame.specs.Bounds.{AreNear}
 use Rattle.smp_kernel.specs.Vectors.{Within}
 use Rattle.smp_values.specs.Starts.{DrawsWhole}
 use Rattle.smp_methods.specs.Procedures.{TakesValues}
-use Rattle.smp_methods.proofs.Columns.{procedure_takes}
+use Rattle.smp_design.specs.declared.procedure.Procedure.{Procedure}
+use Rattle.smp_design.specs.Procedures.{IsProcedure}
+use Rattle.smp_prob.specs.declared.requests.Request.{Request}
+use Rattle.smp_methods.proofs.Columns.{procedure_takes, same_design}
 use Rattle.smp_strata.specs.Bounds.{IsFirst, IsOver, IsStratum}
 use Rattle.smp_strata.specs.Plans.{Parts}
 use Rattle.smp_strata.specs.declared.strata.FirstUnit.{FirstUnit}
 use Rattle.smp_strata.specs.declared.strata.Stratum.{Stratum}
-use Rattle.smp_twostage.specs.Kept.Stages.{IsPlanned}
+use Rattle.smp_twostage.specs.Kept.Stages.{AreTaken, IsPlanned}
 use Rattle.smp_twostage.specs.Plans.{CanBeDrawn}
 use Rattle.smp_twostage.specs.Strata.{free_values, values_of}
 use Rattle.smp_twostage.specs.Selections.{valued}
@@ -57,6 +60,18 @@ module _ (plan : Parts) (s : Stratum) (planned : IsPlanned plan s) where
 
   pub takes_free : TakesValues plan.procedure (free_values (valued s))
   takes_free = procedure_takes plan.procedure (free_values (valued s)) free_counted free_near planned.procedure
+
+  -- they are what its procedure takes of them
+  pub all_taken : AreTaken plan.procedure s.request (free_values (valued s)) (free_values (valued s))
+  all_taken = record { takes = takes_free; paired = λ _. length-map s.request.free (values_of (valued s)); same = refl }
+
+-- a procedure without columns takes none
+pub none_taken : (way : Procedure) (request : Request) (units : List (List ℤ)) → IsProcedure way → way.balance + way.near ≡ 0 → AreTaken way request units []
+none_taken way request units is none = record {
+  takes = procedure_takes way [] (All-nil (λ (v : List ℤ). length v ≡ way.balance + way.near)) (All-nil (Within (2 ^ 31 - 1))) is;
+  paired = λ some. absurd (omega (arith, some, none));
+  same = same_design way request [] units is.columns none;
+}
 
 -- ---- the strata of a plan that can be drawn
 

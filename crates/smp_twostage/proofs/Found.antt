@@ -22,6 +22,18 @@ module _ (c : Coverage) (firsts : List ℕ) (are : firsts ≡ first_numbers c) (
   pub parted : IsPartitionedBy (λ first. leb first at) firsts
   parted = IsPartitionedBy-leb (λ x. x) firsts at rising
 
+  -- the section of a number, where the first stage of the next one is behind this stage and its own is not
+  pub section_at : (h : ℕ) → h < section_count c → number h ≤ at → at < number (suc h) → h ≡ section number (section_count c) at
+  section_at h l from to =
+      first_unique (λ k. nat_lt at (number (suc k))) 0 (section_count c) h (section number (section_count c) at)
+      (record {
+        above = omega arith;
+        within = omega (arith, l);
+        passed = λ k _ less. le-ltb at (number (suc k)) (omega (arith, from, before_rises (covered_stages c) number (section_count c) (strata_are_sections c) (suc k) h (omega (arith, less)) (omega (arith, l))));
+        here = λ _. lt-ltb at (number (suc h)) to;
+      })
+      (first_is (λ k. nat_lt at (number (suc k))) (section_count c) 0)
+
   module _ (point : ℕ) (bound : point ≤ length firsts) (is : IsPartitionPoint (λ first. leb first at ≡ true) (λ first. leb first at ≡ false) firsts point) where
     before_point : (h : ℕ) → h < point → number h ≤ at
     before_point h l =

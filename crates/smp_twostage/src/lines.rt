@@ -36,27 +36,12 @@ pub fn balance_lines(
     requires done { (covered_tree whole.now).done state.now ≡ true }
     ensures { IfOk result (λ text. string_bytes text ≡ balance_lines whole.now state.now.states) }
 {
-    if whole.plan().procedure().method.balances() {
-        all_lines(alloc, whole, state)
-    } else {
-        Ok(String::new(alloc))
-    }
-}
-
-// The lines of the sections that are told.
-fn all_lines(
-    alloc: Global,
-    whole: &Whole,
-    state: &StagesState<AnyState>,
-) -> Result<String, NoMemory>
-    requires state { BelongsToCovered whole.now state.now }
-    requires done { (covered_tree whole.now).done state.now ≡ true }
-    requires balance { balances whole.now.plan.procedure.method ≡ true }
-    ensures { IfOk result (λ text. string_bytes text
-        ≡ flat_map (section_lines whole.now state.now.states) (told_sections whole.now)) }
-{
+    let plan = whole.plan();
     let mut text = String::new(alloc);
-    for section in 0..section_count(whole.plan()) {
+    if !plan.procedure().method.balances() {
+        return Ok(text);
+    }
+    for section in 0..section_count(plan) {
         if whole.covers(section) {
             push_lines(alloc, &mut text, whole, state, section)?;
         }

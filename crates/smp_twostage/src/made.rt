@@ -7,7 +7,8 @@ ghost use Rattle.smp_design.specs.Words.{draws_together};
 ghost use Rattle.smp_methods.specs.{Designs.{design_of, design_of_strata, first_state}, Procedures.{NeedsWhole, TakesValues}};
 ghost use Rattle.smp_methods.specs.Starts.{AreStarted};
 ghost use Rattle.smp_strata.specs.Bounds.{IsFirst};
-ghost use Rattle.smp_twostage.specs.{Kept.Stages.{EachFirst, EachStarts, IsPlanned, StageStarts}, Plans.{CanBeDrawn, TakesRows}};
+ghost use Rattle.smp_twostage.specs.Kept.Stages.{AreTaken, EachFirst, EachStarts, IsPlanned, StageStarts};
+ghost use Rattle.smp_twostage.specs.Plans.{CanBeDrawn, TakesRows};
 ghost use Rattle.smp_twostage.specs.Strata as Strata;
 ghost use Rattle.smp_twostage.specs.Selections as Selections;
 ghost use Rattle.smp_twostage.specs.Selections.{first_number, first_stage, layers_of, parts_by, stage_of_strata, valued};
@@ -17,7 +18,7 @@ use crate::StageDesign;
 use smp_design::{Method, Procedure};
 use smp_frac::NoMemory;
 use smp_frame::Numbers;
-use smp_methods::{AnyState, Started, no_values};
+use smp_methods::{AnyState, Started};
 use smp_prob::{Places, Request, Shapes};
 use smp_split::{Place, Stage};
 use smp_strata::{FirstUnit, Plan, Stratum};
@@ -58,6 +59,20 @@ fn free_values(alloc: Global, stratum: &Stratum) -> Result<Vec<Numbers>, NoMemor
     for unit in free {
         values.push(values_at(alloc, stratum.units.as_slice(), *unit)?)?;
     }
+    Ok(values)
+}
+
+// The values of the free units of a stratum that its design takes. Where no column is read, no list of them is made.
+fn taken_values(alloc: Global, plan: &Plan, stratum: &Stratum) -> Result<Vec<Numbers>, NoMemory>
+    requires { IsPlanned plan.now stratum.now }
+    ensures { IfOk result (λ values. AreTaken plan.now.procedure stratum.now.request
+        (Strata.free_values (valued stratum.now)) values.items) }
+{
+    let procedure = plan.procedure();
+    if procedure.balance == 0 && procedure.near == 0 {
+        return Ok(Vec::new(alloc));
+    }
+    let values = free_values(alloc, stratum)?;
     Ok(values)
 }
 
@@ -146,7 +161,8 @@ fn start_stage<'a>(
     requires request { IsRequest request.now }
     requires whole { NeedsWhole procedure request.now }
     requires rising { IsRising request.now }
-    requires paired { length values.now ≡ length request.now.free }
+    requires paired { 1 ≤ procedure.balance + procedure.near
+        → length values.now ≡ length request.now.free }
     requires values { TakesValues procedure values.now }
     ensures design { IfOk result (λ s. s.design ≡ record {
       units = units;
@@ -190,7 +206,7 @@ impl<'a> Made<'a> {
         ensures each { OnOk result (EachStarts self.new.stages.items self.new.states.items) }
     {
         let units = stratum.units.as_slice().len();
-        let values = free_values(alloc, stratum)?;
+        let values = taken_values(alloc, plan, stratum)?;
         let request = &stratum.request;
         let started = start_stage(alloc, plan.procedure(), units, request, values.as_slice())?;
         self.push(started, None)
@@ -216,9 +232,8 @@ impl<'a> Made<'a> {
             return Ok(());
         };
         let rows = first.rows.as_slice().len();
-        let values = no_values(alloc, request)?;
         let procedure = Procedure::without_values(method);
-        let started = start_stage(alloc, procedure, rows, request, values.as_slice())?;
+        let started = start_stage(alloc, procedure, rows, request, &[])?;
         self.push(started, Some(within))
     }
 

@@ -387,6 +387,11 @@ impl<'a> Sections for Whole<'a> {
 
     fn section(&self, state: &StagesState<AnyState>) -> usize {
         let at = state.at();
-        self.firsts.as_slice().partition_point(|first| *first <= at) - 1
+        let firsts = self.firsts.as_slice();
+        // Where each section before is one stage, the stage's own number is the section's, and nothing is searched.
+        if at < firsts.len() - 1 && firsts[at] == at && at < firsts[at + 1] {
+            return at;
+        }
+        firsts.partition_point(|first| *first <= at) - 1
     }
 }

@@ -5,7 +5,7 @@ use Rattle.smp_twostage.specs.Kept.Stages.{section_lines}
 use Rattle.smp_twostage.specs.Lines.{told_sections}
 use Rattle.smp_twostage.specs.Selections.{all_of, covers, section_count}
 use Rattle.smp_twostage.proofs.Numbers.{lines_from}
-use Rattle.smp_twostage.proofs.lines.all_lines.Given as goal
+use Rattle.smp_twostage.proofs.lines.balance_lines.Given as goal
 
 -- the text so far, and the lines of the other sections that are told
 abbrev pub invariant-loop-section : goal.invariant-loop-section
