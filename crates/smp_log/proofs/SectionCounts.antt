@@ -108,9 +108,9 @@ module _ {State : Type 0} (tree : Tree State) (belongs : State → Type 0) (lawf
       at_most true = omega arith
       at_most false = omega arith
 
-  -- no place on the tape passes the length of the log
-  pub place_within : (path : List Entry) (leaf : State) → IsFullPath tree from path leaf → (k : ℕ) → tape_place (steps_before k (placed tree sections from path)) ≤ length (sections_text head sections.count (placed tree sections from path))
-  place_within path leaf full k =
+  -- no line of a log is shorter than its line feed
+  long_log : (path : List Entry) (leaf : State) → IsFullPath tree from path leaf → length path + 2 * sections.count + 4 ≤ length (sections_text head sections.count (placed tree sections from path))
+  long_log path leaf full =
       let steps : List (ℕ × Entry) = placed tree sections from path in
       let ls : List (List ℕ) = sectioned_head_lines h ++ open_lines 0 sections.count 0 0 steps in
       let text : sections_text head sections.count steps ≡ lines_text ls = log_lines tree belongs lawful sections sectioned from member head h path in
@@ -118,7 +118,18 @@ module _ {State : Type 0} (tree : Tree State) (belongs : State → Type 0) (lawf
       let size : length (sections_text head sections.count steps) ≡ length (lines_text ls) = ap length text in
       let many : length ls ≡ length path + 2 * sections.count + 4 = ap length (sym whole) ∙ sectioned_log_count path leaf full in
       let long = lines_long ls in
+      omega (arith, size, many, long)
+
+  -- so its length bounds the number of sections
+  pub sections_within : (path : List Entry) (leaf : State) → IsFullPath tree from path leaf → sections.count ≤ length (sections_text head sections.count (placed tree sections from path))
+  sections_within path leaf full = (let long = long_log path leaf full in omega (arith, long))
+
+  -- and each place on the tape
+  pub place_within : (path : List Entry) (leaf : State) → IsFullPath tree from path leaf → (k : ℕ) → tape_place (steps_before k (placed tree sections from path)) ≤ length (sections_text head sections.count (placed tree sections from path))
+  place_within path leaf full k =
+      let steps : List (ℕ × Entry) = placed tree sections from path in
+      let long = long_log path leaf full in
       let first = few_taken (steps_before k steps) in
       let second = few_before k steps in
       let all : length steps ≡ length path = placed_length path from in
-      omega (arith, size, many, long, first, second, all)
+      omega (arith, long, first, second, all)

@@ -59,6 +59,4 @@ pub fn sections_are_replayed_alone<S: Sections, P: Splitting>(
         head.now log.now (P.method part.now).tree start.now }
 {
     head.as_slice();
-    run.sections();
-    log.len();
 }
