@@ -39,3 +39,4 @@ pub mod SectionCounts
 pub mod PartSections
 pub mod LoneExact
 pub mod StepsMade
+pub mod StepsAlong

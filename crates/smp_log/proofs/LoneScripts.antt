@@ -151,11 +151,11 @@ module _ {State : Type 0} (tree : Tree State) (belongs : State → Type 0) (lawf
   described = record {
     complete = complete;
     sound = sound;
+    closes = λ a b h. closed_is a b h;
+    over = λ s. refl;
+    last = λ s line. refl;
     Good = Fine;
     starts = tt;
     keeps = fine_next;
     ends = fine_ends;
-    closes = λ a b h. closed_is a b h;
-    over = λ s. refl;
-    last = λ s line. refl;
   }

@@ -1,10 +1,10 @@
 -- The three ways in which a replay answers.
-use Rattle.std.proofs.Common.{◌≡◌, ℕ, ◌+◌, ◌-◌, ◌≤◌, Bool, true, List, Option, Result, Ok, Err, OnOk, length, sym, ap, subst, arith}
+use Rattle.std.proofs.Common.{◌≡◌, ℕ, ◌+◌, ◌-◌, ◌≤◌, Bool, true, List, Option, Result, Ok, Err, OnOk, length, refl, sym, subst, arith}
 use Rattle.smp_split.specs.Trees.{Tree}
 use Rattle.smp_split.specs.Paths.{Entry}
 use Rattle.smp_split.specs.Runs.{and_then}
-use Rattle.smp_log.specs.Answers.{AnswersAs}
-use Rattle.smp_log.specs.Fronts.{StopsAt}
+use Rattle.smp_log.specs.Answers.{AnswersAs, as_told}
+use Rattle.smp_log.specs.Fronts.{Names, StopsAt}
 use Rattle.smp_log.specs.Lines.{whole_lines}
 use Rattle.smp_log.specs.Reading.{Script}
 use Rattle.smp_log.specs.Replayed.{Form, Replays, ReplaysUntold, path_form}
@@ -80,23 +80,21 @@ module _ {State : Type 0} (tree : Tree State) (member : State → Type 0) (form 
   }
 
   -- where no step is told the answers are the same
-  pub taken_untold : (x y : Unit {0}) → Replays tree member form from to old new refuses (Ok x) → ReplaysUntold tree member form to (Ok y)
-  taken_untold x y r = record {
-    genuine = r.genuine;
-    differs = λ line is. absurd (let e : ◌≡◌ {A = Untold} (Ok y) (Err (untold.Differs line)) = is in cc);
-    done = r.done;
-    belongs = r.belongs;
-    reading = sym r.reading;
-  }
-
-  pub refused_untold : (here : ℕ) (fault : ReplayFault) → fault ≡ Differs here → Replays tree member form from to old new refuses (Err fault) → ReplaysUntold tree member form to (Err (untold.Differs here))
-  refused_untold here fault is r = record {
+  pub replays_untold : (told : Answer) (result : Untold) → told ≡ as_told result → Replays tree member form from to old new refuses told → ReplaysUntold tree member form to result
+  replays_untold told (Ok y) is r = (let s = subst (Replays tree member form from to old new refuses) is r in record {
+    genuine = s.genuine;
+    differs = λ line e. absurd (let no : ◌≡◌ {A = Untold} (Ok y) (Err (untold.Differs line)) = e in cc);
+    done = s.done;
+    belongs = s.belongs;
+    reading = sym s.reading;
+  })
+  replays_untold told (Err (untold.Differs here)) is r = (let s = subst (Replays tree member form from to old new refuses) is r in record {
     genuine = tt;
-    differs = λ line e. (let same : here ≡ line = untold_line here line e in subst form.differs same (r.differs here (ap Err is)));
+    differs = λ line e. (let same : here ≡ line = untold_line here line e in subst form.differs same (s.differs here refl));
     done = tt;
-    belongs = r.belongs;
-    reading = sym (subst (λ f. AnswersAs {Read = Unit {0}} (Err f) to form.reading) is r.reading);
-  }
+    belongs = s.belongs;
+    reading = sym s.reading;
+  })
 
   -- what is said of one form of log is said of another that tells the same
   pub as_form : (result : Answer) (genuine : State → Type 0) (differs : ℕ → Type 0) (reading : Result State ℕ) → (form.genuine to → genuine to) → ((line : ℕ) → form.differs line → differs line) → form.reading ≡ reading
@@ -127,16 +125,11 @@ module _ {State : Type 0} {tree : Tree State} {member : State → Type 0} {from 
       → (here : ℕ) → count + 1 ≡ here → differs here → Replays tree member (path_form tree from log genuine differs reading) from to old now refuses (Err (Differs here))
   refused_behind {count} r behind along here next d = refused_at count here next d (told_part tree from old r behind to now along) along
 
-  -- memory ran out behind them
-  pub out_behind : {Place : Type 0} {script : Script Place} {start place : Place} {rest : List ℕ} {count : ℕ} (r : Reached script start place log rest count) → 3 ≤ count → IsToldAlong tree (path_in_first_lines tree from count log) from to old now
-      → {new : Option (List Entry)} → new ≡ now → refuses ≡ true → Replays tree member (path_form tree from log genuine differs reading) from to old new refuses (Err NoMemory)
-  out_behind {count} r behind along same may =
-      rw same (ran_out tree member (path_form tree from log genuine differs reading) from to old now refuses may (told_part tree from old r behind to now along) in_all)
-
 -- the head isn't there
 pub refused_head : {State : Type 0} {tree : Tree State} {member : State → Type 0} {from : State} (log : List ℕ) {genuine : State → Type 0} {differs : ℕ → Type 0} {reading : Result State ℕ} (reads : (line : ℕ) → differs line → reading ≡ Err line)
-    → member from → {old : Option (List Entry)} {refuses : Bool} {front head : List ℕ} {line : ℕ} → front ≡ head → length (whole_lines head) ≡ 3 → StopsAt front log line → (StopsAt head log line → differs line)
-    → Replays tree member (path_form tree from log genuine differs reading) from from old old refuses (Err (Differs line))
-refused_head {tree} {from} log reads in_all {old} {line} same three stops differ =
+    → member from → {old : Option (List Entry)} {refuses : Bool} {front head : List ℕ} → front ≡ head → length (whole_lines head) ≡ 3 → ((line : ℕ) → StopsAt head log line → differs line) → (fault : ReplayFault) → Names (StopsAt front log) fault
+    → Replays tree member (path_form tree from log genuine differs reading) from from old old refuses (Err fault)
+refused_head {tree} {from} log reads in_all {old} same three differ (Differs line) stops =
     let at = subst (λ f. StopsAt f log line) same stops in
-    refused_at log reads in_all (length at.same) line (sym at.counted) (differ at) (none_begins tree from old (path_told tree from log)) (few_told tree from old log (length at.same) (stops_early at three))
+    refused_at log reads in_all (length at.same) line (sym at.counted) (differ line at) (none_begins tree from old (path_told tree from log)) (few_told tree from old log (length at.same) (stops_early at three))
+refused_head log reads in_all same three differ NoMemory stops = absurd stops

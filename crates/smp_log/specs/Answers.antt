@@ -22,6 +22,11 @@ abbrev pub answer_at : {State : Type 0} → Result (Unit {0}) LogFault → State
 answer_at (Ok done) state = Ok state
 answer_at (Err (Differs line)) state = Err line
 
+-- the answer of a replay that tells its steps, where it is this one and memory didn't run out
+abbrev pub as_told : Result (Unit {0}) LogFault → Result (Unit {0}) ReplayFault
+as_told (Ok done) = Ok done
+as_told (Err (Differs line)) = Err (faults.Differs line)
+
 -- the same where the steps are told or a log is written, unless memory ran out
 abbrev pub AnswersAs : {State Read : Type 0} → Result Read ReplayFault → State → Result State ℕ
     → Type 0

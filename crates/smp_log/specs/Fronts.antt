@@ -3,6 +3,8 @@ use Rattle.std.specs.Prelude.{◌≡◌, ◌⊎◌, ℕ, ◌+◌, false, Some, N
 use Rattle.std.specs.Str.{bytes_eq}
 use Rattle.smp_frac.specs.Cuts.{cut_at}
 use Rattle.smp_log.specs.Lines.{AreLines, lines_text, whole_lines}
+use Rattle.smp_log.specs.declared.fault.ReplayFault.{ReplayFault}
+use Rattle.smp_log.specs.declared.fault.ReplayFault.TheVariants.{Differs, NoMemory}
 
 -- a text that ends with its last whole line
 abbrev pub IsCompleteLines : List ℕ → Type 0
@@ -25,3 +27,8 @@ pub record StopsAt (front text : List ℕ) (number : ℕ) : Type 0 where
   pub are : AreLines same
   pub other : HasOtherLine wanted rest
   pub counted : number ≡ length same + 1
+
+-- a fault that names a line, of whose number this is true
+abbrev pub Names : (ℕ → Type 0) → ReplayFault → Type 0
+Names P (Differs line) = P line
+Names P NoMemory = ⊥

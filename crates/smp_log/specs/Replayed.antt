@@ -9,10 +9,10 @@ use Rattle.smp_log.specs.declared.fault.LogFault.TheVariants as log
 use Rattle.smp_log.specs.declared.fault.ReplayFault.{ReplayFault}
 use Rattle.smp_log.specs.declared.fault.ReplayFault.TheVariants.{Differs, NoMemory}
 use Rattle.smp_log.specs.Answers.{AnswersAs, answer_at, log_reading}
-use Rattle.smp_log.specs.Genuine.{DiffersAt, IsGenuine, IsToldGenuine}
+use Rattle.smp_log.specs.Genuine.{DiffersAt, IsGenuine, IsToldGenuine, IsToldLogOf}
 use Rattle.smp_log.specs.LoneSections.{HasToldSection, SectionDiffers, section_in_first_lines}
 use Rattle.smp_log.specs.LoneSections.{section_reading, section_told}
-use Rattle.smp_log.specs.SectionLogs.{IsAnyGenuine, IsSectionedGenuine, IsToldAny, IsToldSectioned}
+use Rattle.smp_log.specs.SectionLogs.{IsAnyGenuine, IsAnyText, IsSectionedGenuine, IsSectionedText}
 use Rattle.smp_log.specs.SectionReading.{any_reading, sectioned_reading}
 use Rattle.smp_log.specs.Told.{IsToldAlong, IsToldPart, path_in_first_lines, path_told}
 
@@ -46,7 +46,7 @@ old_form tree from head log =
 abbrev pub sectioned_form : {State : Type 0} → Tree State → Sectioning State → State → List ℕ
     → List ℕ → Form State
 sectioned_form tree sections from head log =
-    path_form tree from log (IsToldSectioned tree sections from head log)
+    path_form tree from log (IsToldLogOf (IsSectionedText tree sections from head) tree from log)
     (DiffersAt (IsSectionedGenuine tree sections from head) log)
     (sectioned_reading tree sections from head log)
 
@@ -54,7 +54,7 @@ sectioned_form tree sections from head log =
 abbrev pub any_form : {State : Type 0} → Tree State → Sectioning State → State → List ℕ → List ℕ
     → Form State
 any_form tree sections from head log =
-    path_form tree from log (IsToldAny tree sections from head log)
+    path_form tree from log (IsToldLogOf (IsAnyText tree sections from head) tree from log)
     (DiffersAt (IsAnyGenuine tree sections from head) log) (any_reading tree sections from head log)
 
 -- one section of a log of version 2

@@ -11,7 +11,7 @@ use Rattle.smp_split.specs.Runs.{Outcome, run}
 use Rattle.smp_split.specs.Sectioning.{Sectioning}
 use Rattle.smp_tape.specs.Sources.{Source}
 use Rattle.smp_log.specs.Logs.{steps_text, end_text, log_text}
-use Rattle.smp_log.specs.Genuine.{IsFullPath, IsLogOf, IsToldLogOf}
+use Rattle.smp_log.specs.Genuine.{IsFullPath, IsLogOf}
 use Rattle.smp_log.specs.Told.{path_told}
 
 -- each step of a path, with the section of the state at which it is asked
@@ -119,17 +119,6 @@ abbrev pub IsAnyGenuine : {State : Type 0} → Tree State → Sectioning State �
     → List ℕ → State → Type 0
 IsAnyGenuine tree sections from head log leaf =
     IsLogOf (IsAnyText tree sections from head) tree from log leaf
-
--- so, and the path is the one that the log tells
-abbrev pub IsToldSectioned : {State : Type 0} → Tree State → Sectioning State → State → List ℕ
-    → List ℕ → State → Type 0
-IsToldSectioned tree sections from head log leaf =
-    IsToldLogOf (IsSectionedText tree sections from head) tree from log leaf
-
-abbrev pub IsToldAny : {State : Type 0} → Tree State → Sectioning State → State → List ℕ
-    → List ℕ → State → Type 0
-IsToldAny tree sections from head log leaf =
-    IsToldLogOf (IsAnyText tree sections from head) tree from log leaf
 
 -- A log that is genuine in either version is that of one path alone, which it tells and which leads to one leaf.
 pub record IsOnePathed {State : Type 0} (tree : Tree State) (sections : Sectioning State)

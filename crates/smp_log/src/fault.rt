@@ -1,4 +1,5 @@
-ghost use Rattle.std.specs.Prelude.{◌≡◌};
+ghost use Rattle.std.specs.Prelude.{◌≡◌, Err};
+ghost use Rattle.smp_log.specs.Answers.{as_told};
 ghost use Rattle.smp_log.specs.declared.fault.ReplayFault.TheVariants as fault;
 
 use smp_frac::NoMemory;
@@ -25,5 +26,17 @@ impl From<NoMemory> for ReplayFault {
 
     fn from(_: NoMemory) -> ReplayFault {
         ReplayFault::NoMemory
+    }
+}
+
+// The answer of a replay whose trace refuses no line, so that no memory is wanted.
+pub(crate) fn untold(answer: Result<(), ReplayFault>) -> Result<(), LogFault>
+    requires { answer ≡ Err fault.NoMemory → ⊥ }
+    ensures { answer ≡ as_told result }
+{
+    match answer {
+        Ok(()) => Ok(()),
+        Err(ReplayFault::Differs { line }) => Err(LogFault::Differs { line }),
+        Err(ReplayFault::NoMemory) => unreachable!(),
     }
 }

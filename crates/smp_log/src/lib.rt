@@ -13,6 +13,7 @@ mod laws;
 mod lines;
 mod lone_section;
 mod migrating;
+mod parts;
 mod replaying;
 mod section_laws;
 mod section_lines;

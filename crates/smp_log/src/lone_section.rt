@@ -1,13 +1,16 @@
 ghost use Rattle.std.specs.Prelude.{◌≡◌, ◌+◌, ◌<◌, ◌^◌, length, option_map, OnOk, IfErr, IfOk};
 ghost use Rattle.smp_split.specs.Runs.{KeepsOn};
-ghost use Rattle.smp_log.specs.{Lines.{whole_lines}, LoneSections.{IsOpened, NoneOpens, opening_words}};
+ghost use Rattle.smp_log.specs.{Fronts.{Names}, Lines.{whole_lines}};
+ghost use Rattle.smp_log.specs.LoneSections.{IsOpened, NoneOpens, opening_words};
 ghost use Rattle.smp_log.specs.LoneSections as LoneSections;
 ghost use Rattle.smp_log.specs.Replayed.{Replays, ReplaysUntold, section_form};
 ghost use Rattle.smp_log.specs.Reading as Reading;
 
+use crate::fault::untold;
 use crate::lines::{after_numbers, behind, written};
+use crate::parts::AllSteps;
 use crate::replaying::after_front;
-use crate::steps::replay_step;
+use crate::steps::replay_steps;
 use crate::{Head, LogFault, ReplayFault};
 use smp_frac::cut_before;
 use smp_split::{NoTrace, Sections, Trace};
@@ -33,11 +36,7 @@ pub fn replay_section<S: Sections>(
         (section_form (S.method run.now).tree state.old head.now number log.now)
         state.new result }
 {
-    match replay_section_into(run, state, head, number, log, &mut NoTrace) {
-        Ok(()) => Ok(()),
-        Err(ReplayFault::Differs { line }) => Err(LogFault::Differs { line }),
-        Err(ReplayFault::NoMemory) => unreachable!(),
-    }
+    untold(replay_section_into(run, state, head, number, log, &mut NoTrace))
 }
 
 /// Replays one section as [`replay_section`] does, and tells each of its steps to a trace, in their order.
@@ -59,49 +58,38 @@ pub fn replay_section_into<S: Sections, T: Trace<S>>(
         state.old state.new (T.lines trace.old) (T.lines trace.new) T.may_refuse result }
     ensures kept { OnOk result (KeepsOn (T.keeps run.now) state.old state.new trace.old trace.new) }
 {
-    let sections = match after_front(log, &head.sectioned()) {
-        Ok(rest) => rest,
-        Err(line) => return Err(ReplayFault::Differs { line }),
-    };
-    let (section, at) = match opening(sections, number, 4) {
-        Ok(found) => found,
-        Err(line) => return Err(ReplayFault::Differs { line }),
-    };
-    let Some(mut rest) = after_opening(section, number) else {
+    let sections = after_front(log, &head.sectioned())?;
+    let (section, at) = opening(sections, number, 4)?;
+    let Some(rest) = after_opening(section, number) else {
         return Err(ReplayFault::Differs { line: at });
     };
-    let mut own = 0;
-    while !run.done(state) {
-        let Some((after, _)) = replay_step(run, state, rest, trace)? else {
-            return Err(ReplayFault::Differs { line: at + own + 1 });
-        };
-        rest = after;
-        own += 1;
-    }
-    if after_numbers(rest, b"done ", number as u64, own).is_none() {
-        return Err(ReplayFault::Differs { line: at + own + 1 });
+    let all = replay_steps(run, state, &AllSteps, rest, at, trace)?;
+    if after_numbers(all.rest, b"done ", number as u64, all.steps).is_none() {
+        return Err(ReplayFault::Differs {
+            line: at + all.steps + 1,
+        });
     }
     Ok(())
 }
 
-// What stands from the opening line on, and its number, where the text begins with the line of this number. Otherwise the
-// number of the line behind the last whole one.
-fn opening(text: &[u8], number: usize, at: u64) -> Result<(&[u8], u64), u64>
+// What stands from the opening line on, and its number, where the text begins with the line of this number. Otherwise
+// `Differs` names the line behind the last whole one.
+fn opening(text: &[u8], number: usize, at: u64) -> Result<(&[u8], u64), ReplayFault>
     requires { at + length text.now < 2 ^ 64 }
     ensures found { IfOk result (λ p. IsOpened number text.now at p.0.now p.1) }
-    ensures none { IfErr result (λ line. NoneOpens number (whole_lines text.now)
-        × (line ≡ at + length (whole_lines text.now))) }
+    ensures none { IfErr result (Names (λ line. NoneOpens number (whole_lines text.now)
+        × (line ≡ at + length (whole_lines text.now)))) }
 {
     let mut rest = text;
-    let mut there = at;
-    while let Some((line, after)) = cut_before(rest, b'\n') {
-        if behind_opening(line, number).is_some() {
-            return Ok((rest, there));
+    let mut line = at;
+    while let Some((first, after)) = cut_before(rest, b'\n') {
+        if behind_opening(first, number).is_some() {
+            return Ok((rest, line));
         }
         rest = after;
-        there += 1;
+        line += 1;
     }
-    Err(there)
+    Err(ReplayFault::Differs { line })
 }
 
 // What stands behind the first words of the opening line of a section.

@@ -1,9 +1,11 @@
 ghost use Rattle.std.specs.Prelude.{◌≡◌, ◌++◌, IfErr, IfOk, OnOk};
 ghost use Rattle.smp_split.specs.Runs.{KeepsOn};
-ghost use Rattle.smp_log.specs.{Fronts.{IsCompleteLines, StopsAt}, Replayed.{Replays, ReplaysUntold, old_form}};
+ghost use Rattle.smp_log.specs.{Fronts.{IsCompleteLines, Names, StopsAt}, Replayed.{Replays, ReplaysUntold, old_form}};
 
+use crate::fault::untold;
 use crate::lines::after_end;
-use crate::steps::replay_step;
+use crate::parts::AllSteps;
+use crate::steps::replay_steps;
 use crate::{Head, LogFault, ReplayFault};
 use smp_frac::cut_before;
 use smp_split::{NoTrace, Splitting, Trace};
@@ -26,11 +28,7 @@ pub fn old_replay<S: Splitting>(
         (old_form (S.method run.now).tree state.old head.now log.now)
         state.new result }
 {
-    match old_replay_into(run, state, head, log, &mut NoTrace) {
-        Ok(()) => Ok(()),
-        Err(ReplayFault::Differs { line }) => Err(LogFault::Differs { line }),
-        Err(ReplayFault::NoMemory) => unreachable!(),
-    }
+    untold(old_replay_into(run, state, head, log, &mut NoTrace))
 }
 
 /// Replays a log as [`old_replay`] does, and tells each of its steps to a trace, in their order.
@@ -50,46 +48,40 @@ pub fn old_replay_into<S: Splitting, T: Trace<S>>(
         state.old state.new (T.lines trace.old) (T.lines trace.new) T.may_refuse result }
     ensures kept { OnOk result (KeepsOn (T.keeps run.now) state.old state.new trace.old trace.new) }
 {
-    let mut rest = match after_front(log, head.as_slice()) {
-        Ok(rest) => rest,
-        Err(line) => return Err(ReplayFault::Differs { line }),
-    };
-    let mut steps = 0;
-    while !run.done(state) {
-        let Some((after, _)) = replay_step(run, state, rest, trace)? else {
-            return Err(ReplayFault::Differs { line: steps + 4 });
-        };
-        steps += 1;
-        rest = after;
-    }
-    let Some(after) = after_end(rest, steps) else {
-        return Err(ReplayFault::Differs { line: steps + 4 });
+    let rest = after_front(log, head.as_slice())?;
+    let all = replay_steps(run, state, &AllSteps, rest, 3, trace)?;
+    let Some(after) = after_end(all.rest, all.steps) else {
+        return Err(ReplayFault::Differs {
+            line: all.steps + 4,
+        });
     };
     if !after.is_empty() {
-        return Err(ReplayFault::Differs { line: steps + 5 });
+        return Err(ReplayFault::Differs {
+            line: all.steps + 5,
+        });
     }
     Ok(())
 }
 
-// What stands behind the lines of a front, or the number of the first line that isn't the front's.
-pub(crate) fn after_front<'a>(text: &'a [u8], front: &[u8]) -> Result<&'a [u8], u64>
+// What stands behind the lines of a front. `Differs` names the first line that isn't the front's.
+pub(crate) fn after_front<'a>(text: &'a [u8], front: &[u8]) -> Result<&'a [u8], ReplayFault>
     requires { IsCompleteLines front.now }
     ensures front { IfOk result (λ rest. text.now ≡ front.now ++ rest.now) }
-    ensures stops { IfErr result (StopsAt front.now text.now) }
+    ensures stops { IfErr result (Names (StopsAt front.now text.now)) }
 {
     let mut rest = text;
     let mut wanted = front;
-    let mut number = 1;
+    let mut line = 1;
     while let Some((wanted_line, wanted_after)) = cut_before(wanted, b'\n') {
-        let Some((line, after)) = cut_before(rest, b'\n') else {
-            return Err(number);
+        let Some((next, after)) = cut_before(rest, b'\n') else {
+            return Err(ReplayFault::Differs { line });
         };
-        if line != wanted_line {
-            return Err(number);
+        if next != wanted_line {
+            return Err(ReplayFault::Differs { line });
         }
         rest = after;
         wanted = wanted_after;
-        number += 1;
+        line += 1;
     }
     Ok(rest)
 }

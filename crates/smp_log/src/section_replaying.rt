@@ -1,10 +1,11 @@
 ghost use Rattle.std.specs.Prelude.{OnOk};
 ghost use Rattle.smp_split.specs.Runs.{KeepsOn};
-ghost use Rattle.smp_log.specs.Replayed.{Replays, sectioned_form};
+ghost use Rattle.smp_log.specs.{Heads.{IsHead}, Replayed.{Replays, sectioned_form}};
 
 use crate::lines::{after_end, after_numbers};
+use crate::parts::SectionSteps;
 use crate::replaying::after_front;
-use crate::steps::replay_step;
+use crate::steps::replay_steps;
 use crate::{Head, ReplayFault};
 use smp_split::{Sections, Trace};
 
@@ -20,12 +21,10 @@ pub(crate) fn replay_sections_into<S: Sections, T: Trace<S>>(
     ensures replays { Replays (S.method run.now).tree (S.method run.now).belongs
         (sectioned_form (S.method run.now).tree (S.sectioning run.now) state.old head.now log.now)
         state.old state.new (T.lines trace.old) (T.lines trace.new) T.may_refuse result }
+    ensures head { IsHead head.now }
     ensures kept { OnOk result (KeepsOn (T.keeps run.now) state.old state.new trace.old trace.new) }
 {
-    let mut rest = match after_front(log, &head.sectioned()) {
-        Ok(rest) => rest,
-        Err(line) => return Err(ReplayFault::Differs { line }),
-    };
+    let mut rest = after_front(log, &head.sectioned())?;
     let mut lines = 3;
     let mut steps = 0;
     let mut taken = 0;
@@ -34,20 +33,12 @@ pub(crate) fn replay_sections_into<S: Sections, T: Trace<S>>(
         let Some(after) = after_numbers(rest, b"stratum ", number, taken) else {
             return Err(ReplayFault::Differs { line: lines + 1 });
         };
-        rest = after;
         lines += 1;
-        let mut own = 0;
-        while run.section(state) == section {
-            let Some((after, bound)) = replay_step(run, state, rest, trace)? else {
-                return Err(ReplayFault::Differs { line: lines + 1 });
-            };
-            rest = after;
-            lines += 1;
-            steps += 1;
-            own += 1;
-            taken += (bound > 1) as u64;
-        }
-        let Some(after) = after_numbers(rest, b"done ", number, own) else {
+        let own = replay_steps(run, state, &SectionSteps { section }, after, lines, trace)?;
+        lines += own.steps;
+        steps += own.steps;
+        taken += own.taken;
+        let Some(after) = after_numbers(own.rest, b"done ", number, own.steps) else {
             return Err(ReplayFault::Differs { line: lines + 1 });
         };
         rest = after;

@@ -3,6 +3,7 @@ ghost use Rattle.smp_split.specs.Runs.{KeepsOn};
 ghost use Rattle.smp_log.specs.Replayed.{Replays, ReplaysUntold, any_form};
 ghost use Rattle.smp_log.specs.SectionReading as SectionReading;
 
+use crate::fault::untold;
 use crate::lines::behind;
 use crate::section_replaying::replay_sections_into;
 use crate::{Head, LogFault, ReplayFault, old_replay_into};
@@ -25,11 +26,7 @@ pub fn replay<S: Sections>(
         (any_form (S.method run.now).tree (S.sectioning run.now) state.old head.now log.now)
         state.new result }
 {
-    match replay_into(run, state, head, log, &mut NoTrace) {
-        Ok(()) => Ok(()),
-        Err(ReplayFault::Differs { line }) => Err(LogFault::Differs { line }),
-        Err(ReplayFault::NoMemory) => unreachable!(),
-    }
+    untold(replay_into(run, state, head, log, &mut NoTrace))
 }
 
 /// Replays a log as [`replay`] does, and tells each of its steps to a trace, in their order.
@@ -49,8 +46,6 @@ pub fn replay_into<S: Sections, T: Trace<S>>(
         state.old state.new (T.lines trace.old) (T.lines trace.new) T.may_refuse result }
     ensures kept { OnOk result (KeepsOn (T.keeps run.now) state.old state.new trace.old trace.new) }
 {
-    // The head tells its lines.
-    let _lines = head.as_slice();
     if is_sectioned(log) {
         replay_sections_into(run, state, head, log, trace)
     } else {

@@ -1,33 +1,91 @@
-use Rattle.std.proofs.Common.{◌≡◌, ◌+◌, ◌++◌, ◌∷◌, [], ◌<◌, ◌≤◌, Bool, true, false, cond, ltb, length, Ok, Err, rules, refl, sym, ap, ◌∙◌, subst, arith}
-use mir.Val.{bool_byte}
+use Rattle.std.proofs.Common.{◌≡◌, ◌≢◌, ℕ, ◌+◌, ◌++◌, ◌∷◌, [], ◌<◌, ◌≤◌, ◌==◌, List, Option, Some, length, Ok, rules, refl, sym, ap, ◌∙◌, subst, arith}
+use Rattle.std.proofs.lemmas.Bool.{eqb-true, eqb-false}
+use Rattle.std.proofs.lemmas.Result.{err_from_is_err_and}
+use Rattle.smp_split.specs.Paths.{Entry, entry_at}
+use Rattle.smp_split.specs.Runs.{and_then}
+use Rattle.smp_split.specs.Sectioning.{Sectioning, IsSectioned}
+use Rattle.smp_split.specs.Trees.{Tree, Lawful, picked}
 use Rattle.smp_log.specs.Fronts.{IsCompleteLines}
-use Rattle.smp_log.specs.Reading.{end_line}
-use Rattle.smp_log.specs.declared.fault.ReplayFault.TheVariants.{NoMemory}
-use Rattle.smp_log.proofs.StepsMade.{left_by, made_by}
-use Rattle.smp_log.proofs.FirstLines.{first_is, first_shorter}
-use Rattle.smp_log.proofs.Replied.{out_behind, refused_at, refused_behind, refused_head, taken}
-use Rattle.smp_log.proofs.SectionReplays.{whole_sectioned_head, sectioned_head_count, first, stops, enter_none, enter_some, end_none, something_behind, replayed, step_none, step_some, leave_none, leave_some, done_behind}
+use Rattle.smp_log.specs.Reading.{end_line, after_line}
+use Rattle.smp_log.specs.Replayed.{sectioned_form}
+use Rattle.smp_log.specs.SectionReading.{stratum_line, taken_at}
+use Rattle.smp_log.specs.Steps.{AreAllMade}
+use Rattle.smp_log.specs.Told.{path_in_first_lines, IsToldAlong}
+use Rattle.smp_log.proofs.FirstLines.{first_is}
+use Rattle.smp_log.proofs.Replied.{refused_at, refused_behind, refused_head, taken}
+use Rattle.smp_log.proofs.SectionReplays.{IsOpening, IsInside, whole_sectioned_head, sectioned_head_count, first, stops, enter_none, enter_some, end_none, something_behind, replayed, step_none, step_some, leave_none, leave_some, done_behind}
 use Rattle.smp_log.proofs.AnsweredSections.{exact_sectioned, sectioned_reads}
+use Rattle.smp_log.proofs.StepsAlong.{ReadsOn, stands_on, stopped}
 use Rattle.smp_log.proofs.Telling.{few_told, none_along, told_step, told_over, told_part, told_all}
 use Rattle.smp_log.proofs.SectionTelling.{told_passed, stratum_is_no_step, done_is_no_step, sectioned_told}
 use Rattle.smp_log.proofs.section_replaying.replay_sections_into.Goals as goal
 
-bool_cond : (b : Bool) → bool_byte b ≡ cond b 1 0
-bool_cond true = refl
-bool_cond false = refl
+-- ---- the steps of a section
+
+module _ {State : Type 0} {tree : Tree State} {belongs : State → Type 0} (lawful : Lawful tree belongs) {sections : Sectioning State} (sectioned : IsSectioned tree belongs sections) {from : State} (member : belongs from) (head log : List ℕ) (old : Option (List Entry)) (h : ℕ) where
+  -- in the section behind so many steps and lines
+  abbrev Stands : (steps lines : ℕ) → ℕ → ℕ → State → List ℕ → Option (List Entry) → Type 0
+  Stands steps lines own taken s rest now = IsInside tree belongs sections from head log h taken (steps + own) own s rest (lines + own) × IsToldAlong tree (path_in_first_lines tree from (lines + own) log) from s old now
+
+  reads_on : (steps lines : ℕ) → ReadsOn tree (λ s. sections.of s == h) (sectioned_form tree sections from head log) from old lines (Stands steps lines)
+  reads_on steps lines = record {
+    one = λ own taken s rest now so has going v after read.
+        (let count : lines + own + 1 ≡ lines + (own + 1) = omega arith in
+        let all : steps + own + 1 ≡ steps + (own + 1) = omega arith in
+        let next : State = picked s (tree.parts s) v in
+        let new : Option (List Entry) = and_then now (entry_at tree s v ∷ []) in
+        let At : ℕ × ℕ → Type 0 = λ n. IsInside tree belongs sections from head log h (taken + taken_at tree s) n.0 (own + 1) next after n.1 in (
+          subst At (λ i. (all i, count i)) (step_some lawful sectioned member head log so.0 v after (eqb-true (sections.of s) h has) read),
+          subst (λ n. IsToldAlong tree (path_in_first_lines tree from n log) from next old new) count (told_step tree from old so.0.reached so.0.behind s now so.1 v after new going read refl),
+        ));
+    begins = λ own taken s rest now so. told_part tree from old so.0.reached so.0.behind s now so.1;
+    along = λ own taken s rest now so. so.1;
+    stuck = λ own taken s rest now so has none.
+        (let differs = step_none lawful sectioned member head log so.0 (eqb-true (sections.of s) h has) none in
+        (differs, sectioned_reads lawful sectioned member so.0.is_head log (lines + own + 1) differs));
+  }
+
+  -- behind the opening line
+  enters_at : {taken steps lines : ℕ} {s : State} {rest : List ℕ} {now : Option (List Entry)} → IsOpening tree belongs sections from head log h taken steps s rest lines → IsToldAlong tree (path_in_first_lines tree from lines log) from s old now → {count : ℕ} → count ≡ sections.count → h < count → (after : List ℕ) → after_line (stratum_line (h + 1) taken) rest ≡ Some after
+      → Stands steps (lines + 1) 0 taken s after now
+  enters_at {taken} {steps} {lines} {s} {rest} {now} at told same below after some =
+      let less = subst (λ n. h < n) same below in
+      let none : steps ≡ steps + 0 = omega arith in
+      let count : lines + 1 ≡ lines + 1 + 0 = omega arith in
+      let At : ℕ × ℕ → Type 0 = λ n. IsInside tree belongs sections from head log h taken n.0 0 s after n.1 in (
+        subst At (λ i. (none i, count i)) (enter_some lawful sectioned member head log at after less some),
+        subst (λ n. IsToldAlong tree (path_in_first_lines tree from n log) from s old now) count (told_passed tree from old at.reached at.behind s now told (stratum_line (h + 1) taken) after some (stratum_is_no_step (h + 1) taken)),
+      )
+
+  -- behind all its steps
+  record AtEnd (to : State) (rest : List ℕ) (taken steps own lines : ℕ) (new : Option (List Entry)) : Type 0 where
+    at : IsInside tree belongs sections from head log h taken steps own to rest lines
+    told : IsToldAlong tree (path_in_first_lines tree from lines log) from to old new
+    away : sections.of to ≢ h
+
+  at_end : {taken steps lines : ℕ} {s : State} {rest : List ℕ} {now : Option (List Entry)} → IsOpening tree belongs sections from head log h taken steps s rest lines → IsToldAlong tree (path_in_first_lines tree from lines log) from s old now → {count : ℕ} → count ≡ sections.count → h < count
+      → (after : List ℕ) → after_line (stratum_line (h + 1) taken) rest ≡ Some after → {left : List ℕ} {to : State} {own more : ℕ} {new : Option (List Entry)} → AreAllMade tree (λ s. sections.of s == h) s to after left own more now new → AtEnd to left (taken + more) (steps + own) own (lines + 1 + own) new
+  at_end {taken} {steps} {lines} at told same below after some {to = to} all =
+      let so = stands_on lawful (reads_on steps (lines + 1)) taken (enters_at at told same below after some) at.member all.made in
+      record { at = so.0; told = so.1; away = eqb-false (sections.of to) h all.over }
+
+-- ---- the head
 
 pub after_front-requires : goal.after_front-requires
 after_front-requires g c = subst IsCompleteLines (sym c.sectioned.ensures.bytes) (whole_sectioned_head c.args.head.now c.sectioned.ensures.lines)
 
-pub returns-in-Err-clause-replays : goal.returns-in-Err-clause-replays
-returns-in-Err-clause-replays g c =
+pub returns-in_err-rest-clause-replays : goal.returns-in_err-rest-clause-replays
+returns-in_err-rest-clause-replays g c =
+    let lawful = (g.S.Splitting.method c.args.run.now).lawful in
+    let sectioned = g.met.S.Sections.sectioned c.args.run.now in
     let h = c.sectioned.ensures.lines in
-    refused_head c.args.log.now (sectioned_reads (g.S.Splitting.method c.args.run.now).lawful (g.met.S.Sections.sectioned c.args.run.now) c.requires h c.args.log.now) c.requires c.sectioned.ensures.bytes (sectioned_head_count c.args.head.now h) c.in-Err.ensures.stops (λ at. stops (g.S.Splitting.method c.args.run.now).lawful (g.met.S.Sections.sectioned c.args.run.now) c.requires c.args.head.now c.args.log.now c.in-Err.line h at)
+    let is = err_from_is_err_and c.from_residual.result c.from_residual.ensures.1 in
+    rw (is.1, is.2) (refused_head c.args.log.now (sectioned_reads lawful sectioned c.requires h c.args.log.now) c.requires c.sectioned.ensures.bytes (sectioned_head_count c.args.head.now h) (λ line at. stops lawful sectioned c.requires c.args.head.now c.args.log.now line h at) c.in_err-rest.field-0.0 c.in_err-rest.ensures.stops)
 
 pub loop-section-init : goal.loop-section-init
 loop-section-init g c =
-    let front = c.in-Ok.ensures.front ∙ ap (λ h. h ++ c.in-Ok.rest.now) c.sectioned.ensures.bytes in
-    (first (g.S.Splitting.method c.args.run.now).lawful (g.met.S.Sections.sectioned c.args.run.now) c.requires _ _ c.in-Ok.rest.now c.sectioned.ensures.lines front, few_told _ _ _ c.args.log.now 3 (omega arith), λ from so. so)
+    let front = c.in_ok-rest.ensures.front ∙ ap (λ h. h ++ c.in_ok-rest.rest.now) c.sectioned.ensures.bytes in
+    (first (g.S.Splitting.method c.args.run.now).lawful (g.met.S.Sections.sectioned c.args.run.now) c.requires _ _ c.in_ok-rest.rest.now c.sectioned.ensures.lines front, few_told _ _ _ c.args.log.now 3 (omega arith), λ from so. so)
 
 -- ---- before a section, and behind all of them
 
@@ -36,15 +94,6 @@ returns-in_default-clause-replays g c =
     let at = c.loop-section.invariant.0 in
     let less = subst (λ n. c.loop-section.section < n) c.sections-section-end.ensures c.loop-section-test.true in
     refused_behind c.args.log.now (sectioned_reads (g.S.Splitting.method c.args.run.now).lawful (g.met.S.Sections.sectioned c.args.run.now) c.requires at.is_head c.args.log.now) at.member at.reached at.behind c.loop-section.invariant.1 (c.loop-section.lines + 1) refl (enter_none (g.S.Splitting.method c.args.run.now).lawful (g.met.S.Sections.sectioned c.args.run.now) c.requires _ _ at less (sym c.in_default.ensures))
-
-pub loop-state-init : goal.loop-state-init
-loop-state-init g c =
-    let at = c.loop-section.invariant.0 in
-    let less = subst (λ n. c.loop-section.section < n) c.sections-section-end.ensures c.loop-section-test.true in (
-      enter_some (g.S.Splitting.method c.args.run.now).lawful (g.met.S.Sections.sectioned c.args.run.now) c.requires _ _ at c.in-Some.after.now less (sym c.in-Some.ensures),
-      told_passed _ _ _ at.reached at.behind _ _ c.loop-section.invariant.1 _ c.in-Some.after.now (sym c.in-Some.ensures) (stratum_is_no_step (c.loop-section.section + 1) c.loop-section.taken),
-      c.loop-section.invariant.2,
-    )
 
 pub returns-in_default-after_end-clause-replays : goal.returns-in_default-after_end-clause-replays
 returns-in_default-after_end-clause-replays g c =
@@ -74,51 +123,41 @@ returns-clause-replays g c =
 
 -- ---- in a section
 
-pub returns-in_default-2-clause-replays : goal.returns-in_default-2-clause-replays
-returns-in_default-2-clause-replays g c =
-    let method = g.S.Splitting.method c.args.run.now in
-    let lines = g.T.Trace.lines in
-    let at = c.loop-state.invariant.0 in
-    let left = left_by method.tree c.loop-state.state c.replay_step.new.state c.loop-state.rest.now _ (lines c.loop-state.trace) (lines c.replay_step.new.trace) c.in_ok-after.field-0 c.in_default-2.not-Some c.in_ok-after.ensures.step in
-    rw (left.same, left.untold) (refused_behind c.args.log.now (sectioned_reads method.lawful (g.met.S.Sections.sectioned c.args.run.now) c.requires at.is_head c.args.log.now) at.member at.reached at.behind c.loop-state.invariant.1 (c.loop-state.lines + 1) refl (step_none method.lawful (g.met.S.Sections.sectioned c.args.run.now) c.requires _ _ at (sym c.section.ensures ∙ c.loop-state-test.true) left.read))
+pub replay_steps-requires-clause-part : goal.replay_steps-requires-clause-part
+replay_steps-requires-clause-part g c = subst (λ n. c.loop-section.section < n) c.sections-section-end.ensures c.loop-section-test.true
 
-pub returns-in_err-after-clause-replays : goal.returns-in_err-after-clause-replays
-returns-in_err-after-clause-replays g c =
-    let at = c.loop-state.invariant.0 in
-    let same : c.from_residual.result ≡ Err NoMemory = search rules in
-    rw (same, c.in_err-after.ensures.stays) (out_behind c.args.log.now (sectioned_reads (g.S.Splitting.method c.args.run.now).lawful (g.met.S.Sections.sectioned c.args.run.now) c.requires at.is_head c.args.log.now) at.member at.reached at.behind c.loop-state.invariant.1 c.in_err-after.ensures.untold c.in_err-after.ensures.may_refuse)
+pub replay_steps-requires-clause-room : goal.replay_steps-requires-clause-room
+replay_steps-requires-clause-room g c =
+    let stands = enters_at (g.S.Splitting.method c.args.run.now).lawful (g.met.S.Sections.sectioned c.args.run.now) c.requires c.args.head.now c.args.log.now (g.T.Trace.lines c.args.trace.now) c.loop-section.section c.loop-section.invariant.0 c.loop-section.invariant.1 c.sections-section-end.ensures c.loop-section-test.true c.in-Some.after.now (sym c.in-Some.ensures) in
+    let room = stands.0.room in
+    omega (arith, room)
 
-pub loop-state-smaller : goal.loop-state-smaller
-loop-state-smaller g c =
-    let method = g.S.Splitting.method c.args.run.now in
-    let lines = g.T.Trace.lines in
-    let made = made_by method.tree c.loop-state.state c.replay_step.new.state c.loop-state.rest.now _ (lines c.loop-state.trace) (lines c.replay_step.new.trace) c.in_ok-after.field-0 _ c.in-Some-2.is c.in_ok-after.ensures.step in
-    first_shorter _ _ made.value _ _ made.read
-
-pub loop-state-preserved : goal.loop-state-preserved
-loop-state-preserved g c =
-    let method = g.S.Splitting.method c.args.run.now in
-    let lines = g.T.Trace.lines in
-    let at = c.loop-state.invariant.0 in
-    let going : method.tree.done c.loop-state.state ≡ false = search rules in
-    let made = made_by method.tree c.loop-state.state c.replay_step.new.state c.loop-state.rest.now _ (lines c.loop-state.trace) (lines c.replay_step.new.trace) c.in_ok-after.field-0 _ c.in-Some-2.is c.in_ok-after.ensures.step in
-    rw (bool_cond (ltb 1 c.in-Some-2.bound), made.bound_is) (
-      rw made.made (step_some method.lawful (g.met.S.Sections.sectioned c.args.run.now) c.requires _ _ at made.value c.in-Some-2.after.now (sym c.section.ensures ∙ c.loop-state-test.true) made.read),
-      rw made.made (told_step _ _ _ at.reached at.behind _ _ c.loop-state.invariant.1 made.value c.in-Some-2.after.now _ going made.read made.told),
-      λ from so. c.in_ok-after.ensures.kept from (c.loop-state.invariant.2 from so),
-    )
+pub returns-in_err-own-clause-replays : goal.returns-in_err-own-clause-replays
+returns-in_err-own-clause-replays g c =
+    let lawful = (g.S.Splitting.method c.args.run.now).lawful in
+    let sectioned = g.met.S.Sections.sectioned c.args.run.now in
+    let h = c.loop-section.section in
+    let stands = enters_at lawful sectioned c.requires c.args.head.now c.args.log.now (g.T.Trace.lines c.args.trace.now) h c.loop-section.invariant.0 c.loop-section.invariant.1 c.sections-section-end.ensures c.loop-section-test.true c.in-Some.after.now (sym c.in-Some.ensures) in
+    let is = err_from_is_err_and c.from_residual-in_err-own.result c.from_residual-in_err-own.ensures.1 in
+    rw (is.1, is.2) (stopped lawful (reads_on lawful sectioned c.requires c.args.head.now c.args.log.now (g.T.Trace.lines c.args.trace.now) h c.loop-section.steps (c.loop-section.lines + 1)) c.loop-section.taken stands stands.0.member _ c.in_err-own.field-0.0 c.in_err-own.ensures.stopped)
 
 pub returns-in_default-after_numbers-clause-replays : goal.returns-in_default-after_numbers-clause-replays
 returns-in_default-after_numbers-clause-replays g c =
-    let at = c.loop-state.invariant.0 in
-    refused_behind c.args.log.now (sectioned_reads (g.S.Splitting.method c.args.run.now).lawful (g.met.S.Sections.sectioned c.args.run.now) c.requires at.is_head c.args.log.now) at.member at.reached at.behind c.loop-state.invariant.1 (c.loop-state.lines + 1) refl (leave_none (g.S.Splitting.method c.args.run.now).lawful (g.met.S.Sections.sectioned c.args.run.now) c.requires _ _ at (λ e. c.loop-state-test.false (c.section.ensures ∙ e)) (sym c.in_default-after_numbers.ensures))
+    let lawful = (g.S.Splitting.method c.args.run.now).lawful in
+    let sectioned = g.met.S.Sections.sectioned c.args.run.now in
+    let h = c.loop-section.section in
+    let end = at_end lawful sectioned c.requires c.args.head.now c.args.log.now (g.T.Trace.lines c.args.trace.now) h c.loop-section.invariant.0 c.loop-section.invariant.1 c.sections-section-end.ensures c.loop-section-test.true c.in-Some.after.now (sym c.in-Some.ensures) c.in_ok-own.ensures.made in
+    refused_behind c.args.log.now (sectioned_reads lawful sectioned c.requires end.at.is_head c.args.log.now) end.at.member end.at.reached end.at.behind end.told (c.loop-section.lines + 1 + c.in_ok-own.own.steps + 1) refl (leave_none lawful sectioned c.requires _ _ end.at end.away (sym c.in_default-after_numbers.ensures))
 
 pub loop-section-preserved : goal.loop-section-preserved
 loop-section-preserved g c =
-    let at = c.loop-state.invariant.0 in (
-      leave_some (g.S.Splitting.method c.args.run.now).lawful (g.met.S.Sections.sectioned c.args.run.now) c.requires _ _ at c.in-Some-after_numbers.after.now (λ e. c.loop-state-test.false (c.section.ensures ∙ e)) (sym c.in-Some-after_numbers.ensures),
-      told_passed _ _ _ at.reached at.behind _ _ c.loop-state.invariant.1 _ c.in-Some-after_numbers.after.now (sym c.in-Some-after_numbers.ensures) (done_is_no_step (c.loop-section.section + 1) c.loop-state.own),
-      c.loop-state.invariant.2,
+    let lawful = (g.S.Splitting.method c.args.run.now).lawful in
+    let sectioned = g.met.S.Sections.sectioned c.args.run.now in
+    let h = c.loop-section.section in
+    let end = at_end lawful sectioned c.requires c.args.head.now c.args.log.now (g.T.Trace.lines c.args.trace.now) h c.loop-section.invariant.0 c.loop-section.invariant.1 c.sections-section-end.ensures c.loop-section-test.true c.in-Some.after.now (sym c.in-Some.ensures) c.in_ok-own.ensures.made in (
+      leave_some lawful sectioned c.requires _ _ end.at c.in-Some-after_numbers.after.now end.away (sym c.in-Some-after_numbers.ensures),
+      told_passed _ _ _ end.at.reached end.at.behind _ _ end.told _ c.in-Some-after_numbers.after.now (sym c.in-Some-after_numbers.ensures) (done_is_no_step (h + 1) c.in_ok-own.own.steps),
+      λ first so. c.in_ok-own.ensures.kept first (c.loop-section.invariant.2 first so),
     )
 
 pub returns-clause-kept : goal.returns-clause-kept

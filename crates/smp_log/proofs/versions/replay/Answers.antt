@@ -1,8 +1,9 @@
-use Rattle.smp_log.proofs.Replied.{refused_untold, taken_untold}
+use Rattle.std.proofs.Common.{◌≡◌, true, false}
+use Rattle.smp_log.proofs.Replied.{replays_untold}
 use Rattle.smp_log.proofs.versions.replay.Goals as goal
 
-pub returns-in-Ok : goal.returns-in-Ok
-returns-in-Ok g c = taken_untold _ _ _ _ _ _ _ _ _ _ c.in-Ok.ensures.replays
+pub untold-requires : goal.untold-requires
+untold-requires g c wanted = (let no : false ≡ true = c.replay_into.ensures.replays.may_refuse wanted in cc)
 
-pub returns-in-Err-Differs : goal.returns-in-Err-Differs
-returns-in-Err-Differs g c = refused_untold _ _ _ _ _ _ _ _ c.in-Err-Differs.line _ c.in-Err-Differs.field-0-is c.in-Err-Differs.ensures.replays
+pub returns : goal.returns
+returns g c = replays_untold _ _ _ _ _ _ _ _ c.replay_into.result c.untold.result c.untold.ensures c.replay_into.ensures.replays
