@@ -5,8 +5,7 @@ ghost use Rattle.smp_prob.specs.Requests.{IsRequest};
 ghost use Rattle.smp_flight.specs.{States.{AreFirst, IsFlight}, Requests.{AreValues}};
 
 use smp_flight::*;
-use smp_frac::NoMemory;
-use smp_frame::Numbers;
+use smp_frac::{NoMemory, Numbers};
 use smp_kernel::Steps;
 use smp_prob::Request;
 use std::alloc::Global;

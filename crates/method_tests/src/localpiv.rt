@@ -4,8 +4,7 @@ ghost use Rattle.std.specs.Prelude.{◌≡◌, length};
 ghost use Rattle.smp_prob.specs.Requests.{IsRequest};
 
 use crate::walks;
-use smp_frac::NoMemory;
-use smp_frame::Numbers;
+use smp_frac::{NoMemory, Numbers};
 use smp_localpiv::*;
 use smp_prob::Request;
 use smp_split::{Kind, Splitting};

@@ -6,8 +6,7 @@ ghost use Rattle.smp_prob.specs.Requests.{IsRequest, all_free};
 ghost use Rattle.smp_flight.specs.{Narrow.{IsNarrow}, Requests.{AreValues, Within, units_of}};
 
 use smp_flight::{Shape, is_narrow};
-use smp_frac::{MOST_ROWS, NUMBER_LIMIT, NoMemory};
-use smp_frame::Numbers;
+use smp_frac::{MOST_ROWS, NUMBER_LIMIT, NoMemory, Numbers};
 use smp_prob::Request;
 use std::alloc::Global;
 

@@ -1,7 +1,6 @@
 //! How a case is read.
 
-use smp_frac::NoMemory;
-use smp_frame::Numbers;
+use smp_frac::{NoMemory, Numbers};
 use std::alloc::Global;
 
 /// The units of a case.

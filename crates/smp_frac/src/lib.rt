@@ -15,6 +15,7 @@ mod fractions;
 mod items;
 mod limits;
 mod memory;
+mod numbers;
 mod signed;
 mod text;
 
@@ -27,5 +28,6 @@ pub use fractions::{Frac, FractionText, Wide};
 pub use items::Items;
 pub use limits::{MOST_ROWS, NUMBER_LIMIT, WIDE_LIMIT};
 pub use memory::NoMemory;
+pub use numbers::Numbers;
 pub use signed::Signed;
 pub use text::Text;

@@ -11,8 +11,7 @@ ghost use Rattle.smp_landing.specs.{Cube.{cube_of}, Method.{method_of}};
 
 use crate::state::{CubeState, Phase};
 use smp_flight::{Shape, is_narrow, look, start};
-use smp_frac::NoMemory;
-use smp_frame::Numbers;
+use smp_frac::{NoMemory, Numbers};
 use smp_prob::Request;
 use smp_split::{Kind, Splitting};
 use smp_values::{PivotalSteps, Values};

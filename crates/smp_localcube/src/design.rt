@@ -11,8 +11,7 @@ ghost use Rattle.smp_localcube.specs.{Kept.States.{IsPlaced}, Local.{local_of}, 
 
 use crate::state::{LocalCubeState, Phase};
 use smp_flight::{Shape, is_narrow, start};
-use smp_frac::NoMemory;
-use smp_frame::Numbers;
+use smp_frac::{NoMemory, Numbers};
 use smp_kernel::Tables;
 use smp_near::Points;
 use smp_places::Amounts;

@@ -9,8 +9,7 @@ ghost use Rattle.smp_localpiv.specs.{Coordinates.{points_from}, Local.{IsLocal, 
 use crate::design::LocalPivotal;
 use crate::dimensions::{Dimensions, points};
 use crate::state::LocalState;
-use smp_frac::NoMemory;
-use smp_frame::Numbers;
+use smp_frac::{NoMemory, Numbers};
 use smp_near::ByDimensions;
 use smp_prob::Request;
 use smp_split::{Kind, Splitting};

@@ -3,8 +3,7 @@
 ghost use Rattle.std.specs.Prelude.{◌≡◌, ◌≤◌, IfOk};
 ghost use Rattle.smp_localpiv.specs.Coordinates.{point_of, points_from};
 
-use smp_frac::NoMemory;
-use smp_frame::Numbers;
+use smp_frac::{NoMemory, Numbers};
 use std::alloc::Global;
 
 /// How many coordinates a point has.

@@ -8,8 +8,7 @@ ghost use Rattle.smp_localpiv.specs.Coordinates.{points_from};
 ghost use Rattle.smp_localcube.specs.Method.{method_of, started};
 ghost use Rattle.smp_methods.specs.Procedures.{balancing_values};
 
-use smp_frac::NoMemory;
-use smp_frame::Numbers;
+use smp_frac::{NoMemory, Numbers};
 use smp_localcube::{AnyLocalCube, LocalCube};
 use smp_localpiv::points;
 use smp_prob::Request;

@@ -7,8 +7,7 @@ ghost use Rattle.smp_methods.specs.{Procedures.{NeedsWhole, TakesValues}, Starts
 
 use crate::{AnyDesign, AnyState};
 use smp_design::Procedure;
-use smp_frac::NoMemory;
-use smp_frame::Numbers;
+use smp_frac::{NoMemory, Numbers};
 use smp_prob::Request;
 use smp_stratcube::Layers;
 use std::alloc::Global;

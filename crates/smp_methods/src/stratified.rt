@@ -6,8 +6,7 @@ ghost use Rattle.smp_values.specs.Starts.{IsRequested};
 ghost use Rattle.smp_flight.specs.Requests.{AreValues};
 ghost use Rattle.smp_stratcube.specs.{States.{started}, Layers.{layer_of}, Method.{method_of}, Units.{units_of}};
 
-use smp_frac::NoMemory;
-use smp_frame::Numbers;
+use smp_frac::{NoMemory, Numbers};
 use smp_prob::Request;
 use smp_stratcube::{Layers, StratCube};
 use std::alloc::Global;

@@ -18,8 +18,8 @@ use crate::sizes::second_sizes;
 use crate::sums::values_of;
 use crate::{FirstUnit, Misfit, Plan, Seat, SecondRequest, Stratum};
 use smp_design::{Design, Method, Second};
-use smp_frac::NoMemory;
-use smp_frame::{Numbers, Unit};
+use smp_frac::{NoMemory, Numbers};
+use smp_frame::Unit;
 use smp_prob::{ProbFault, Request, requested};
 use std::alloc::Global;
 

@@ -1,8 +1,7 @@
 //! The strata of a plan, and their first stage units.
 
 use crate::{Group, SecondRequest};
-use smp_frac::{Items, Text};
-use smp_frame::Numbers;
+use smp_frac::{Items, Numbers, Text};
 use smp_prob::Request;
 
 /// A first stage unit: a row of the frame, or all rows of a psu.

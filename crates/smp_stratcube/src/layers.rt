@@ -4,8 +4,7 @@ ghost use Rattle.std.specs.Prelude.{◌≡◌, ◌∷◌, ◌++◌, ◌≤◌, �
 ghost use Rattle.smp_prob.specs.Requests.{IsRequest};
 ghost use Rattle.smp_stratcube.specs.{Layers.{AreNumbers, layer_of}, Kept.Layers.{IsFilledUp}};
 
-use smp_frac::NoMemory;
-use smp_frame::Numbers;
+use smp_frac::{NoMemory, Numbers};
 use smp_prob::Request;
 use std::alloc::Global;
 use std::marker::Model;

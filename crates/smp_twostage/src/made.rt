@@ -16,8 +16,7 @@ ghost use Rattle.smp_twostage.specs.Selections.{stage_by, stages_in, stages_of, 
 
 use crate::StageDesign;
 use smp_design::{Method, Procedure};
-use smp_frac::NoMemory;
-use smp_frame::Numbers;
+use smp_frac::{NoMemory, Numbers};
 use smp_methods::{AnyState, Started};
 use smp_prob::{Places, Request, Shapes};
 use smp_split::{Place, Stage};
