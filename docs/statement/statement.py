@@ -17,7 +17,8 @@ METHODS = [
     ("brewer", "Brewer's method", "Brewer", ["smp_brewer"]),
     ("elimination", "the elimination procedure", "Elimination", ["smp_elim"]),
     ("local_pivotal", "local pivotal selection", "LocalPivotal", ["smp_localpiv.specs.Local", "smp_localpiv.specs.Method"]),
-    ("cube", "the cube method", "Cube", ["smp_landing"]),
+    ("cube", "the cube method", "Cube",
+     ["smp_flight.specs.Cube", "smp_flight.specs.CubeMethod", "smp_flight.specs.Laws.CubeSplits", "smp_flight.specs.Kept.CubeStates"]),
     ("local_cube", "the local cube", "LocalCube", ["smp_localcube"]),
     ("stratified_cube", "the stratified cube", "StratifiedCube", ["smp_stratcube"]),
 ]

@@ -24,12 +24,12 @@ use Rattle.smp_moves.proofs.Entries.{entry_at_none, entry_at_place, order_within
 use Rattle.smp_flight.specs.Kept.Windows.{is_in}
 use Rattle.smp_flight.specs.Narrow.{AreBounded}
 use Rattle.smp_flight.specs.States.{Units, IsUnits, column, columns_of, size}
-use Rattle.smp_flight.proofs.Firsts.{contains_in, in_range}
+use Rattle.smp_flight.specs.Laws.Firsts.{contains_in, in_range}
 use Rattle.smp_flight.proofs.Gained.{AddsUp, all_units, dot_mix, fair, fair_is, gained, map_same, part, part_is, unit_inside, units_apart}
-use Rattle.smp_flight.proofs.MoveTotals.{number_in}
+use Rattle.smp_flight.specs.Laws.MoveTotals.{number_in}
 use Rattle.smp_flight.proofs.Narrow.{order_from}
-use Rattle.smp_flight.proofs.Reordered.{same_dot, sum_at}
-use Rattle.smp_flight.proofs.Windowed.{in_or}
+use Rattle.smp_flight.specs.Laws.Reordered.{same_dot, sum_at}
+use Rattle.smp_flight.specs.Laws.Windowed.{in_or}
 
 -- the value of a unit isn't the requested one
 abbrev pub IsTouched : Units → Shares → ℕ → Type 0

@@ -26,11 +26,11 @@ use Rattle.smp_moves.specs.Steps.{Finds}
 use Rattle.smp_flight.specs.Moves.{setting_of}
 use Rattle.smp_flight.specs.States.{Units, Flight, IsFlight, IsUnits, column, columns_of, size}
 use Rattle.smp_flight.specs.Laws.Nexts.{flight_over}
-use Rattle.smp_flight.proofs.Firsts.{fractional_in, in_range}
+use Rattle.smp_flight.specs.Laws.Firsts.{fractional_in, in_range}
 use Rattle.smp_flight.proofs.Gained.{all_units, dot_scaled, map_same, part, part_is, unit_inside, units_apart}
-use Rattle.smp_flight.proofs.MoveTotals.{number_in, numbers_are}
-use Rattle.smp_flight.proofs.Reordered.{same_dot, sum_at}
-use Rattle.smp_flight.proofs.Windowed.{in_or}
+use Rattle.smp_flight.specs.Laws.MoveTotals.{number_in, numbers_are}
+use Rattle.smp_flight.specs.Laws.Reordered.{same_dot, sum_at}
+use Rattle.smp_flight.specs.Laws.Windowed.{in_or}
 
 -- ---- what is kept of some columns
 pub in_filter : (p : ℕ → Bool) (us : List ℕ) (k : ℕ) → is_in us k ≡ true → p k ≡ true → is_in (filter p us) k ≡ true

@@ -14,7 +14,7 @@ use Rattle.smp_prob.specs.Shares.{Shares}
 use Rattle.smp_moves.specs.declared.lines.Ratio.{Ratio}
 use Rattle.smp_moves.specs.Moves.{IsMoved, Line, entry_of}
 use Rattle.smp_flight.specs.States.{Units, IsUnits, size}
-use Rattle.smp_flight.proofs.MoveTotals.{number_in}
+use Rattle.smp_flight.specs.Laws.MoveTotals.{number_in}
 
 -- ---- products of lists
 

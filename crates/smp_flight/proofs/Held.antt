@@ -32,14 +32,14 @@ use Rattle.smp_flight.specs.Moves.{setting_of, share}
 use Rattle.smp_flight.specs.Narrow.{IsNarrow, IsWideByDenominator}
 use Rattle.smp_flight.specs.States.{Units, Flight, IsFlight, IsUnits, columns_of, row_count, size}
 use Rattle.smp_flight.proofs.Denominators.{HasFree, IsTouched, small_denominator}
-use Rattle.smp_flight.proofs.Firsts.{fractional_in}
+use Rattle.smp_flight.specs.Laws.Firsts.{fractional_in}
 use Rattle.smp_flight.proofs.Free.{all_free, factor_some, front_free, in_filter, line_count, parts_add_up, place, its_relation}
 use Rattle.smp_flight.proofs.Gained.{AddsUp, still_adds}
-use Rattle.smp_flight.proofs.OneMove.{one_end}
+use Rattle.smp_flight.specs.Laws.OneMove.{one_end}
 use Rattle.smp_moves.proofs.Fixed.{one_greatest}
 use Rattle.smp_moves.specs.declared.lines.Ratio.{Ratio}
-use Rattle.smp_flight.proofs.Reordered.{independent_as}
-use Rattle.smp_flight.proofs.Windowed.{in_at, in_or}
+use Rattle.smp_flight.specs.Laws.Reordered.{independent_as}
+use Rattle.smp_flight.specs.Laws.Windowed.{in_at, in_or}
 
 -- ---- the line of a circuit, or its opposite
 pub record IsAlong (units : Units) (order : List ℕ) (w : List ℤ) (line : Line) : Type 0 where

@@ -10,7 +10,7 @@ use Rattle.smp_flight.specs.Answers.{Allows, IsFirstMove, IsMoveOf, answer_of, I
 use Rattle.smp_flight.specs.Kept.States.{IsFound}
 use Rattle.smp_flight.specs.declared.steps.Next.{Next as Answer}
 use Rattle.smp_flight.specs.declared.steps.Next.TheVariants as answers
-use Rattle.smp_flight.proofs.Nexts.{next_is, next_on_front}
+use Rattle.smp_flight.specs.Laws.NextProperties.{next_is, next_on_front}
 use Rattle.smp_flight.proofs.Searched.{allowed, allowed_first, front_searched}
 
 pub kept_of : (units : Units) (s : Tracked) (result : Answer) → Allows (IsMoveOf units s) units s result → IsKeptIn units.requested.den s.flight.values result

@@ -23,14 +23,14 @@ use Rattle.smp_flight.specs.Selections.{Balancing, GoesOn, IsBalancing, IsSelect
 use Rattle.smp_flight.specs.States as flights
 use Rattle.smp_flight.specs.States.{Units, Flight, IsFlight, IsUnits, columns_of, row_count}
 use Rattle.smp_flight.specs.Steps.{end_at_is, next_on, stepping}
-use Rattle.smp_flight.proofs.ByOrder.{some_row}
+use Rattle.smp_flight.specs.Laws.ByOrder.{some_row}
 use Rattle.smp_flight.proofs.Free.{line_count}
 use Rattle.smp_flight.proofs.Gained.{start_adds}
 use Rattle.smp_flight.proofs.Held.{IsHeld, against_it, along_it, next_held, not_by_denominator}
 use Rattle.smp_flight.proofs.Narrow.{by_denominator}
-use Rattle.smp_flight.proofs.Nexts.{independent_columns, known, next_is}
+use Rattle.smp_flight.specs.Laws.NextProperties.{independent_columns, known, next_is}
 use Rattle.smp_flight.proofs.Seen.{each_unmoved}
-use Rattle.smp_flight.proofs.WholeOrders.{independent_in_frame_order}
+use Rattle.smp_flight.specs.Laws.WholeOrders.{independent_in_frame_order}
 
 each_both : {State : Type 0} (P Q R : Part State → Type 0) → ((p : Part State) → P p → Q p → R p) → (ps : List (Part State)) → EachPart P ps → EachPart Q ps → EachPart R ps
 each_both P Q R h [] a b = tt

@@ -24,12 +24,12 @@ use Rattle.smp_flight.specs.Moves.{setting_of}
 use Rattle.smp_flight.specs.Totals.{expanded, addend, row_total}
 use Rattle.smp_flight.specs.Selections.{Balancing, GoesOn, IsBalancing, IsSelection, IsWholeOrder, Selection, chooses, flies, kind_by, parts_by, starting, shares_cube}
 use Rattle.smp_flight.specs.Landings.{IsBalanced, weighed_of}
-use Rattle.smp_flight.proofs.ByOrder.{both_totals, few_fractional, values_ok}
-use Rattle.smp_flight.proofs.Nexts.{independent_columns, next_is}
+use Rattle.smp_flight.specs.Laws.ByOrder.{both_totals, few_fractional, values_ok}
+use Rattle.smp_flight.specs.Laws.NextProperties.{independent_columns, next_is}
 use Rattle.smp_flight.proofs.NeverWide.{KeepsFront, never_wide}
 use Rattle.smp_flight.proofs.Seen.{Flies, each_seen, each_so, each_unmoved, total_is}
 use Rattle.smp_flight.proofs.Settled.{IsSettledAt, step_settled}
-use Rattle.smp_flight.proofs.WholeOrders.{independent_in_frame_order}
+use Rattle.smp_flight.specs.Laws.WholeOrders.{independent_in_frame_order}
 
 -- ---- pivotal steps are neither of the flight nor of the landing
 

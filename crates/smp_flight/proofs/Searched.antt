@@ -19,10 +19,10 @@ use Rattle.smp_flight.specs.declared.steps.Next.{Next as Answer}
 use Rattle.smp_flight.specs.declared.steps.Next.TheVariants as answers
 use Rattle.smp_moves.proofs.Entries.{frame_order, order_front}
 use Rattle.smp_moves.proofs.FirstPlaces.{front_small}
-use Rattle.smp_flight.proofs.Firsts.{from_each}
+use Rattle.smp_flight.specs.Laws.Firsts.{from_each}
 use Rattle.smp_flight.proofs.Fitting.{moves_within}
-use Rattle.smp_flight.proofs.Reordered.{independent_in_frame}
-use Rattle.smp_flight.proofs.Nexts.{independent_columns, known, next_on_front}
+use Rattle.smp_flight.specs.Laws.Reordered.{independent_in_frame}
+use Rattle.smp_flight.specs.Laws.NextProperties.{independent_columns, known, next_on_front}
 use Rattle.smp_flight.specs.Laws.Nexts.{direction_sized, line_ok, some_sized}
 use Rattle.smp_moves.proofs.Computed.{circuit_within}
 

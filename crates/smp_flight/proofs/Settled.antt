@@ -15,7 +15,7 @@ use Rattle.smp_moves.specs.Moves.{Move, fraction_of, independent, IsOrder, Next,
 use Rattle.smp_flight.specs.Steps.{next_on, chosen}
 use Rattle.smp_moves.proofs.Entries.{frame_order, off_line, order_going, place_or}
 use Rattle.smp_flight.specs.Selections.{Balancing, IsBalancing, IsWholeOrder, parts_by, shares_cube}
-use Rattle.smp_flight.proofs.ByOrder.{ends_at}
+use Rattle.smp_flight.specs.Laws.ByOrder.{ends_at}
 
 -- the unit k has the value v for good
 pub record IsSettledAt (k : ℕ) (v : Fraction) (s : Shares) : Type 0 where

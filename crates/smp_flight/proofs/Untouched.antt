@@ -17,7 +17,7 @@ use Rattle.smp_moves.proofs.Entries.{off_line, place_or}
 use Rattle.smp_moves.proofs.LineEnds.{divides_first, divides_each, divides_common}
 use Rattle.smp_moves.proofs.Places.{advanced_at, length_advanced}
 use Rattle.smp_flight.proofs.Advancing.{advanced_none}
-use Rattle.smp_flight.proofs.Windowed.{in_or, get_or-numerators_over, length-numerators_over, over_out}
+use Rattle.smp_flight.specs.Laws.Windowed.{in_or, get_or-numerators_over, length-numerators_over, over_out}
 
 -- ---- what the numbers at the end of a line have in common
 

@@ -19,7 +19,7 @@ use Rattle.smp_moves.specs.Moves.{Next, move, independent, wide}
 use Rattle.smp_flight.specs.Steps.{next_on}
 use Rattle.smp_flight.specs.Totals.{row_total}
 use Rattle.smp_flight.specs.Selections.{Balancing, IsBalancing, IsSelection, IsWholeOrder, Selection, parts_by, shares_cube}
-use Rattle.smp_flight.proofs.ByOrder.{both_totals, few_fractional, values_ok}
+use Rattle.smp_flight.specs.Laws.ByOrder.{both_totals, few_fractional, values_ok}
 use Rattle.smp_flight.proofs.Seen.{each_seen, total_is}
 
 -- the values add up to n: their total in the first row

@@ -16,10 +16,10 @@ use Rattle.smp_flight.specs.declared.steps.Next.{Next as Answer}
 use Rattle.smp_flight.specs.Steps.{next_on}
 use Rattle.smp_moves.proofs.Filtered.{filter_twice}
 use Rattle.smp_moves.proofs.Entries.{order_front}
-use Rattle.smp_flight.proofs.Firsts.{fractional_in, from_each}
-use Rattle.smp_flight.proofs.Nexts.{next_on_front}
-use Rattle.smp_flight.proofs.WholeOrders.{in_order_going, whole_length}
-use Rattle.smp_flight.proofs.Windowed.{in_append_left}
+use Rattle.smp_flight.specs.Laws.Firsts.{fractional_in, from_each}
+use Rattle.smp_flight.specs.Laws.NextProperties.{next_on_front}
+use Rattle.smp_flight.specs.Laws.WholeOrders.{in_order_going, whole_length}
+use Rattle.smp_flight.specs.Laws.Windowed.{in_append_left}
 use Rattle.smp_localcube.specs.Local.{IsCarried, IsChosen, front_of, is_one_of, order_around, untouched}
 use Rattle.smp_localcube.specs.Kept.States.{IsSearched, touched_in}
 use Rattle.smp_localcube.specs.Laws.Orders.{filter_again, whole as whole_order}

@@ -20,10 +20,10 @@ use Rattle.smp_flight.specs.Kept.Windows.{is_in}
 use Rattle.smp_flight.specs.Selections.{Balancing, IsBalancing, shares_cube}
 use Rattle.smp_flight.specs.States.{Flight, IsFlight, Units}
 use Rattle.smp_flight.specs.Steps.{chosen, next_on}
-use Rattle.smp_flight.proofs.ByOrder.{knows}
-use Rattle.smp_flight.proofs.Firsts.{fractional_in}
+use Rattle.smp_flight.specs.Laws.ByOrder.{knows}
+use Rattle.smp_flight.specs.Laws.Firsts.{fractional_in}
 use Rattle.smp_flight.proofs.NeverWide.{IsNextFront, KeepsFront}
-use Rattle.smp_flight.proofs.Windowed.{in_at}
+use Rattle.smp_flight.specs.Laws.Windowed.{in_at}
 use Rattle.smp_localcube.specs.Local.{AreCarried, IsCarried, IsLocal, Local, after, choosing, head_of, is_one_of, local_of, next_around, order_around, order_from, order_with, kind_around, kind_from, parts_around, parts_from, untouched}
 use Rattle.smp_flight.proofs.Free.{out_filter, in_filter}
 use Rattle.smp_localcube.specs.Laws.Splits.{order_whole}

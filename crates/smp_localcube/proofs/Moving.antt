@@ -12,12 +12,12 @@ use Rattle.smp_values.specs.Values.{fractional_units, is_fractional}
 use Rattle.smp_flight.specs.States.{Flight, IsFlight, Tracked, Units}
 use Rattle.smp_moves.specs.Moves.{Next, chosen_line, move}
 use Rattle.smp_flight.specs.Steps.{chosen, end_at_is, next_on}
-use Rattle.smp_flight.proofs.Firsts.{contains_in, fractional_in, in_contains}
-use Rattle.smp_flight.proofs.WholeOrders.{in_order_going}
+use Rattle.smp_flight.specs.Laws.Firsts.{contains_in, fractional_in, in_contains}
+use Rattle.smp_flight.specs.Laws.WholeOrders.{in_order_going}
 use Rattle.smp_moves.proofs.Entries.{frame_order}
 use Rattle.smp_flight.specs.Answers.{IsNextWindow}
 use Rattle.smp_moves.specs.Moves.{IsOrder, Line, Move, entry_of}
-use Rattle.smp_flight.proofs.ByOrder.{ends_at}
+use Rattle.smp_flight.specs.Laws.ByOrder.{ends_at}
 use Rattle.smp_moves.proofs.Evens.{entry_of_turned}
 use Rattle.smp_moves.proofs.Moved.{same_still}
 use Rattle.smp_flight.specs.Laws.Nexts.{flight_over}

@@ -1,9 +1,8 @@
 ghost use Rattle.std.specs.Prelude.{◌≡◌, ◌+◌, ◌<◌, ◌^◌, length, option_map, OnOk, IfErr, IfOk};
 ghost use Rattle.smp_split.specs.Runs.{KeepsOn};
 ghost use Rattle.smp_log.specs.{Fronts.{Names}, Lines.{whole_lines}};
-ghost use Rattle.smp_log.specs.LoneSections.{IsOpened, NoneOpens, opening_words};
+ghost use Rattle.smp_log.specs.{LoneSections.{IsOpened, NoneOpens, opening_words}, Replayed.{Replays, ReplaysUntold, section_form}};
 ghost use Rattle.smp_log.specs.LoneSections as LoneSections;
-ghost use Rattle.smp_log.specs.Replayed.{Replays, ReplaysUntold, section_form};
 ghost use Rattle.smp_log.specs.Reading as Reading;
 
 use crate::fault::untold;

@@ -22,8 +22,8 @@ use Rattle.smp_design.specs.Words.{row}
 use Rattle.smp_flight.specs.Requests.{AreValues, units_of}
 use Rattle.smp_flight.specs.Selections.{IsBalancing, starting}
 use Rattle.smp_flight.proofs.Making.{units_are}
-use Rattle.smp_flight.proofs.Nexts.{started_flight}
-use Rattle.smp_landing.proofs.Starts.{cube_starts, starts_requested as cube_requested}
+use Rattle.smp_flight.specs.Laws.NextProperties.{started_flight}
+use Rattle.smp_flight.proofs.CubeStarts.{cube_starts, starts_requested as cube_requested}
 use Rattle.smp_localcube.proofs.Starts.{local_starts as local_cube_starts, starts_requested as local_cube_requested}
 use Rattle.smp_localpiv.specs.Coordinates.{points_from}
 use Rattle.smp_localpiv.proofs.Starts.{local_around, local_starts, starts_open, starts_requested as local_requested}

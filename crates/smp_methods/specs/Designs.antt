@@ -22,7 +22,7 @@ use Rattle.smp_elim.specs.Elimination.{elimination_tree}
 use Rattle.smp_moves.specs.Cubes.{left_in}
 use Rattle.smp_flight.specs.Requests.{units_of}
 use Rattle.smp_flight.specs.Selections.{starting}
-use Rattle.smp_landing.specs.Cube.{cube_tree}
+use Rattle.smp_flight.specs.Cube.{cube_tree}
 use Rattle.smp_localpiv.specs.Coordinates.{points_from}
 use Rattle.smp_localcube.specs.Local as near_cube
 use Rattle.smp_localcube.specs.Method as local_cube

@@ -10,7 +10,7 @@ use Rattle.smp_minsup.specs.Method as support
 use Rattle.smp_brewer.specs.Method as brewer
 use Rattle.smp_localpiv.specs.Method as local
 use Rattle.smp_elim.specs.Method as elimination
-use Rattle.smp_landing.specs.Method as cube
+use Rattle.smp_flight.specs.CubeMethod as cube
 use Rattle.smp_localcube.specs.Method as local_cube
 use Rattle.smp_stratcube.specs.Method as stratified_cube
 use Rattle.smp_methods.specs.declared.any.AnyDesign.{AnyDesign}

@@ -28,7 +28,7 @@ pub enum AnyDesign {
     MinimumSupport(smp_minsup::MinimumSupport),
     Brewer(smp_brewer::Brewer),
     LocalPivotal(smp_localpiv::AnyLocalPivotal),
-    Cube(smp_landing::Cube),
+    Cube(smp_flight::Cube),
     Elimination(smp_elim::Elimination),
     LocalCube(smp_localcube::AnyLocalCube),
     StratifiedCube(smp_stratcube::StratCube),
@@ -42,7 +42,7 @@ pub enum AnyState {
     MinimumSupport(Boxed<smp_minsup::SupportState>),
     Brewer(Boxed<smp_brewer::BrewerState>),
     LocalPivotal(Boxed<smp_localpiv::AnyLocalState>),
-    Cube(Boxed<smp_landing::CubeState>),
+    Cube(Boxed<smp_flight::CubeState>),
     Elimination(Boxed<smp_elim::EliminationState>),
     LocalCube(Boxed<smp_localcube::AnyLocalCubeState>),
     StratifiedCube(Boxed<smp_stratcube::StratCubeState>),
@@ -114,7 +114,7 @@ impl AnyDesign {
             Method::LocalPivotal => AnyDesign::LocalPivotal(
                 smp_localpiv::AnyLocalPivotal::on_columns(alloc, request, near, values)?,
             ),
-            Method::Cube => AnyDesign::Cube(smp_landing::Cube::new(alloc, request, values)?),
+            Method::Cube => AnyDesign::Cube(smp_flight::Cube::new(alloc, request, values)?),
             Method::Elimination => {
                 AnyDesign::Elimination(smp_elim::Elimination::new(alloc, request)?)
             }

@@ -17,7 +17,7 @@ use Rattle.smp_split.specs.Laws.Rows.{free_within}
 use Rattle.smp_flight.specs.States.{column}
 use Rattle.smp_flight.specs.Requests.{columns_with}
 use Rattle.smp_flight.specs.Totals.{expanded, addend}
-use Rattle.smp_landing.proofs.Starts.{starts_requested}
+use Rattle.smp_flight.proofs.CubeStarts.{starts_requested}
 use Rattle.smp_twostage.specs.Strata.{StratumUnits, AreStratumUnits, values_of, value_in, free_values, free_units}
 use Rattle.smp_twostage.specs.Totals.{can_be_selected, counted, is_undecided, known_value}
 use Rattle.smp_split.proofs.RowSums.{free_is, at_free}

@@ -22,21 +22,21 @@ use Rattle.smp_moves.specs.Cubes.{flying}
 use Rattle.smp_moves.specs.Moves.{IsOrder}
 use Rattle.smp_split.specs.Paths.{Entry, Leads}
 use Rattle.smp_split.specs.Laws.Steps.{leads_belong}
-use Rattle.smp_landing.specs.Cube.{cube_tree}
-use Rattle.smp_landing.specs.Laws.Splits.{cube_lawful}
+use Rattle.smp_flight.specs.Cube.{cube_tree}
+use Rattle.smp_flight.specs.Laws.CubeSplits.{cube_lawful}
 use Rattle.smp_flight.specs.Requests.{AreValues}
 use Rattle.smp_flight.specs.Totals as free
 use Rattle.smp_flight.specs.Totals.{expanded, addend, row_total, target}
 use Rattle.smp_flight.proofs.Making.{rows_are, units_are}
-use Rattle.smp_flight.proofs.Nexts.{started_flight}
+use Rattle.smp_flight.specs.Laws.NextProperties.{started_flight}
 use Rattle.smp_flight.specs.Selections.{Balancing, IsBalancing, IsSelection, Selection, starting}
 use Rattle.smp_moves.specs.Owed.{balance_of as weighed_balance, weighed_bound, weighed_estimate, weighed_total}
 use Rattle.smp_flight.specs.Landings.{weighed_of}
 use Rattle.smp_flight.specs.Landings as landings
 use Rattle.smp_flight.proofs.Seen.{total_is as seen_total}
-use Rattle.smp_landing.specs.Cube.{cube_of}
-use Rattle.smp_landing.specs.Laws.Splits.{is_cube}
-use Rattle.smp_landing.proofs.Starts.{cube_balances}
+use Rattle.smp_flight.specs.Cube.{cube_of}
+use Rattle.smp_flight.specs.Laws.CubeSplits.{is_cube}
+use Rattle.smp_flight.proofs.CubeStarts.{cube_balances}
 use Rattle.smp_localcube.specs.Local.{IsLocal, local_of}
 use Rattle.smp_localcube.specs.Method.{LocalUnits, started}
 use Rattle.smp_localcube.specs.Laws.Splits.{is_local_cube}

@@ -17,7 +17,7 @@ use Rattle.smp_moves.specs.Cubes.{values_in}
 use Rattle.smp_flight.specs.Selections.{Balancing, starting}
 use Rattle.smp_localpiv.specs.Coordinates.{points_from}
 use Rattle.smp_values.specs.Values.{is_one}
-use Rattle.smp_landing.specs.Cube.{cube_of, cube_tree}
+use Rattle.smp_flight.specs.Cube.{cube_of, cube_tree}
 use Rattle.smp_localcube.specs.Local.{Local, local_of, local_tree}
 use Rattle.smp_localcube.specs.Method.{LocalUnits, started}
 use Rattle.smp_design.specs.declared.method.Method.{Method}

@@ -5,7 +5,7 @@ use Rattle.smp_split.specs.Paths.{Entry, Leads}
 use Rattle.smp_split.specs.Trees.{Tree}
 use Rattle.smp_flight.specs.Selections.{Balancing, starting}
 use Rattle.smp_localpiv.specs.Coordinates.{points_from}
-use Rattle.smp_landing.specs.Cube.{cube_tree}
+use Rattle.smp_flight.specs.Cube.{cube_tree}
 use Rattle.smp_localcube.specs.Local.{local_tree}
 use Rattle.smp_localcube.specs.Method.{LocalUnits, started}
 use Rattle.smp_stratcube.specs.Cube.{strat_tree}

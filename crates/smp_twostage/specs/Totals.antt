@@ -16,7 +16,7 @@ use Rattle.smp_moves.specs.Cubes.{Balancing, Cube, HasIndependentColumns, left_i
 use Rattle.smp_flight.specs.Selections.{IsBalancing, Selection, shares_cube, starting}
 use Rattle.smp_moves.specs.Steps.{IsStuck}
 use Rattle.smp_flight.specs.Narrow.{IsNarrow}
-use Rattle.smp_landing.specs.Cube.{cube_of}
+use Rattle.smp_flight.specs.Cube.{cube_of}
 use Rattle.smp_localcube.specs.Local.{IsLocal, local_of}
 use Rattle.smp_localcube.specs.Method.{started}
 use Rattle.smp_stratcube.specs.Cube.{cube_by, strat_tree}

@@ -15,7 +15,7 @@ use Rattle.smp_moves.specs.Kept.Computed as computed
 use Rattle.smp_moves.specs.Kept.Ends.{IsOver}
 use Rattle.smp_moves.specs.Kept.Searches.{search}
 use Rattle.smp_moves.proofs.Computed as steps
-use Rattle.smp_moves.proofs.Computed.{Owes, at_ends, front_some, is_direction, stepping_by}
+use Rattle.smp_moves.proofs.Computed.{Owes, at_ends, is_direction, stepping_by}
 use Rattle.smp_moves.proofs.Entries.{order_within, order_front, turned_line}
 use Rattle.smp_moves.proofs.LineEnds.{moved}
 use Rattle.smp_moves.proofs.Products.{HaveSome}

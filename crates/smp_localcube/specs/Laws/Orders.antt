@@ -16,10 +16,10 @@ use Rattle.smp_values.proofs.Units.{fractional_within}
 use Rattle.smp_flight.specs.Kept.Windows.{is_in}
 use Rattle.smp_flight.specs.Selections.{IsWholeOrder}
 use Rattle.smp_moves.proofs.Entries.{frame_order}
-use Rattle.smp_flight.proofs.Firsts.{contains_in, in_contains}
+use Rattle.smp_flight.specs.Laws.Firsts.{contains_in, in_contains}
 use Rattle.smp_flight.proofs.Free.{in_filter, out_filter}
-use Rattle.smp_flight.proofs.WholeOrders.{in_order_going}
-use Rattle.smp_flight.proofs.Windowed.{in_append_left, in_append_right, in_at, in_one}
+use Rattle.smp_flight.specs.Laws.WholeOrders.{in_order_going}
+use Rattle.smp_flight.specs.Laws.Windowed.{in_append_left, in_append_right, in_at, in_one}
 use Rattle.smp_localcube.specs.Local.{front_of, is_one_of, is_untouched, order_around, untouched}
 
 -- ---- lists

@@ -26,8 +26,8 @@ use Rattle.smp_flight.specs.Kept.Windows.{is_in}
 use Rattle.smp_flight.specs.States.{Flight, Units}
 use Rattle.smp_moves.specs.Moves.{Next, move, independent, wide}
 use Rattle.smp_flight.specs.Steps.{next_on}
-use Rattle.smp_flight.proofs.ByOrder.{end_lawful, move_split, some_row}
-use Rattle.smp_flight.proofs.WholeOrders.{frame_whole}
+use Rattle.smp_flight.specs.Laws.ByOrder.{end_lawful, move_split, some_row}
+use Rattle.smp_flight.specs.Laws.WholeOrders.{frame_whole}
 use Rattle.smp_localcube.specs.Local.{AreCarried, IsCarried, IsLocal, Local, after, choice, choosing, head_of, is_one_of}
 use Rattle.smp_localcube.specs.Local.{kind_around, local_of, local_tree, order_around, order_with, next_around, parts_around, parts_from}
 use Rattle.smp_localcube.specs.Local.{rank_of, settling, touched_after}

@@ -4,7 +4,7 @@ use Rattle.smp_flight.specs.States.{Tracked, Units}
 use Rattle.smp_flight.specs.Steps.{next, next_on}
 use Rattle.smp_flight.specs.Answers.{AreSearched, IsKeptIn}
 use Rattle.smp_flight.proofs.Known.{kept_of}
-use Rattle.smp_flight.proofs.Nexts.{next_on_front}
+use Rattle.smp_flight.specs.Laws.NextProperties.{next_on_front}
 use Rattle.smp_flight.proofs.Searched.{front_searched}
 use Rattle.smp_flight.proofs.steps.find.Goals as goal
 

@@ -3,8 +3,8 @@ use Rattle.smp_values.specs.Values.{fractional_at, fractional_count, is_settled}
 use Rattle.smp_moves.specs.Cubes.{flying}
 use Rattle.smp_flight.specs.Answers.{move_of}
 use Rattle.smp_moves.specs.Moves.{independent, move}
-use Rattle.smp_flight.proofs.ByOrder.{some_row}
-use Rattle.smp_flight.proofs.Nexts.{known}
+use Rattle.smp_flight.specs.Laws.ByOrder.{some_row}
+use Rattle.smp_flight.specs.Laws.NextProperties.{known}
 use Rattle.smp_localcube.specs.Laws.Splits.{order_whole}
 use Rattle.smp_localcube.proofs.Around.{carried_now, searched_by}
 use Rattle.smp_localcube.proofs.Moving.{flown_ready, flown_touched, head_found, may_touch}

@@ -1,0 +1,111 @@
+-- The first fractional units: a window among them stays there.
+use Rattle.std.proofs.Common.{◌≡◌, ℕ, zero, suc, ◌+◌, ◌<◌, ◌≤◌, Bool, true, nat_eq, List, [], ◌∷◌, take, length}
+use Rattle.std.proofs.Common.{get_or, arith, sym, ap, ◌∙◌, subst, inl, inr}
+use Rattle.std.specs.List.{All, Contains, filter, range_with_len}
+use Rattle.std.proofs.lemmas.Bool.{cases_Bool, cases_eq, eq-eqb, ne_eqb, or_left, or_right, true≢false}
+use Rattle.std.proofs.lemmas.List.{get_or_default, take_all, length-map}
+use Rattle.std.proofs.lemmas.List.FromFn.{get_or-range_with_len, length-range_with_len}
+use Rattle.smp_kernel.specs.RowReduction.{cut, AreIndependent}
+use Rattle.smp_kernel.proofs.Existence.{cut_short, elimination_of}
+use Rattle.smp_kernel.proofs.Gate.{few_columns}
+use Rattle.smp_kernel.proofs.Lists.{contains_at}
+use Rattle.smp_prob.specs.Shares.{Shares}
+use Rattle.smp_values.specs.Values.{fractional_count, fractional_units, is_fractional}
+use Rattle.smp_values.proofs.Units.{fractional_units_length, fractional_within}
+use Rattle.smp_flight.specs.States.{Units, column, columns_of}
+use Rattle.smp_flight.specs.Kept.Windows.{is_in}
+use Rattle.smp_moves.proofs.Filtered.{filter_twice}
+use Rattle.smp_flight.specs.Laws.Windowed.{in_at, in_or}
+
+-- ---- the units of a list
+
+pub contains_in : (xs : List ℕ) (k : ℕ) → Contains xs k → is_in xs k ≡ true
+contains_in xs k c = subst (λ (x : ℕ). is_in xs x ≡ true) (get_or_default xs c.0 0 k c.1 ∙ c.2) (in_at xs c.0 c.1)
+
+pub in_contains : (xs : List ℕ) (k : ℕ) → is_in xs k ≡ true → Contains xs k
+in_contains xs k t = (let at = in_or xs k t in contains_at xs at.place k at.here at.is)
+
+-- each of some units is among others
+pub each_in : (order units : List ℕ) → All (Contains order) units → (k : ℕ) → is_in units k ≡ true → is_in order k ≡ true
+each_in order units h k t = (let at = in_or units k t in contains_in order k (subst (Contains order) at.is (h at.place 0 at.here)))
+
+pub from_each : (order units : List ℕ) → ((k : ℕ) → is_in units k ≡ true → is_in order k ≡ true)
+    → All (Contains order) units
+from_each order units h j d l = in_contains order (get_or units j d)
+    (subst (λ (x : ℕ). is_in order x ≡ true) (get_or_default units j 0 d l)
+    (h (get_or units j 0) (in_at units j l)))
+
+pub in_take : (n : ℕ) (xs : List ℕ) (k : ℕ) → is_in (take n xs) k ≡ true → is_in xs k ≡ true
+in_take zero xs k t = absurd (true≢false (sym t))
+in_take (suc n) [] k t = t
+in_take (suc n) (x ∷ xs) k t =
+    elim (cases_eq x k) [
+      | inl e ↦ or_left (nat_eq x k) (is_in xs k) (eq-eqb x k e)
+      | inr ne ↦ or_right (nat_eq x k) (is_in xs k) (in_take n xs k (rw (ne_eqb x k ne) at t))
+    ]
+
+in_more : (n : ℕ) (xs : List ℕ) (k : ℕ) → is_in (take n xs) k ≡ true → is_in (take (suc n) xs) k ≡ true
+in_more zero xs k t = absurd (true≢false (sym t))
+in_more (suc n) [] k t = t
+in_more (suc n) (x ∷ xs) k t =
+    elim (cases_eq x k) [
+      | inl e ↦ or_left (nat_eq x k) (is_in (take (suc n) xs) k) (eq-eqb x k e)
+      | inr ne ↦ or_right (nat_eq x k) (is_in (take (suc n) xs) k) (in_more n xs k (rw (ne_eqb x k ne) at t))
+    ]
+
+-- one of the first elements that passes a test is one of the first that do
+pub first_passing : (p : ℕ → Bool) (n : ℕ) (xs : List ℕ) (k : ℕ) → is_in (take n xs) k ≡ true → p k ≡ true
+    → is_in (take n (filter p xs)) k ≡ true
+first_passing p zero xs k t h = absurd (true≢false (sym t))
+first_passing p (suc n) [] k t h = t
+first_passing p (suc n) (x ∷ xs) k t h =
+    elim (cases_eq x k) [
+      | inl e ↦ (let px : p x ≡ true = subst (λ (y : ℕ). p y ≡ true) (sym e) h in
+          rw px (or_left (nat_eq x k) (is_in (take n (filter p xs)) k) (eq-eqb x k e)))
+      | inr ne ↦
+          (let rest = first_passing p n xs k (rw (ne_eqb x k ne) at t) h in
+          elim (cases_Bool (p x)) [
+            | inl px ↦ rw px (or_right (nat_eq x k) (is_in (take n (filter p xs)) k) rest)
+            | inr no_px ↦ rw no_px (in_more n (filter p xs) k rest)
+          ])
+    ]
+
+-- ---- the first fractional units
+
+-- those of other values, where no other unit is fractional than before
+pub first_stays : (s t : Shares) (n k : ℕ) → length t.numer ≡ length s.numer
+    → ((k : ℕ) → is_fractional t k ≡ true → is_fractional s k ≡ true) → is_in (take n (fractional_units s)) k ≡ true
+    → is_fractional t k ≡ true → is_in (take n (fractional_units t)) k ≡ true
+first_stays s t n k count fewer h still =
+    let units : filter (is_fractional t) (fractional_units s) ≡ fractional_units t =
+    filter_twice (is_fractional s) (is_fractional t) fewer (range_with_len 0 (length s.numer))
+    ∙ ap (λ m. filter (is_fractional t) (range_with_len 0 m)) (sym count) in
+    subst (λ (us : List ℕ). is_in (take n us) k ≡ true) units (first_passing (is_fractional t) n (fractional_units s) k h still)
+
+pub in_range : (n k : ℕ) → k < n → is_in (range_with_len 0 n) k ≡ true
+in_range n k l =
+    subst (λ (x : ℕ). is_in (range_with_len 0 n) x ≡ true)
+    (get_or-range_with_len 0 n k 0 l ∙ (let e : 0 + k ≡ k = omega arith in e))
+    (in_at (range_with_len 0 n) k (omega (arith, l, length-range_with_len 0 n)))
+
+pub fractional_in : (s : Shares) (k : ℕ) → is_fractional s k ≡ true → is_in (fractional_units s) k ≡ true
+fractional_in s k f =
+    let n = length s.numer in
+    let all : is_in (take n (range_with_len 0 n)) k ≡ true =
+    rw (take_all n (range_with_len 0 n) (omega (arith, length-range_with_len 0 n)))
+    (in_range n k (fractional_within s k f)) in
+    in_take n (fractional_units s) k (first_passing (is_fractional s) n (range_with_len 0 n) k all f)
+
+-- where there are no more of them
+pub all_first : (s : Shares) (n k : ℕ) → fractional_count s ≤ n → is_fractional s k ≡ true
+    → is_in (take n (fractional_units s)) k ≡ true
+all_first s n k few f = rw (take_all n (fractional_units s) (omega (arith, few, fractional_units_length s))) (fractional_in s k f)
+
+-- ---- independent columns are no more than the rows in force
+
+pub independent_few : (units : Units) (s : Shares) (rows : ℕ)
+    → AreIndependent rows (cut rows (columns_of units (fractional_units s))) → fractional_count s ≤ rows
+independent_few units s rows ind =
+    let columns = columns_of units (fractional_units s) in
+    let few = few_columns (elimination_of rows (cut rows columns) (cut_short rows columns) ind).is in
+    omega (arith, few, length-map columns (take rows), length-map (fractional_units s) (column units), fractional_units_length s)
