@@ -1,4 +1,5 @@
-ghost use Rattle.std.specs.Prelude.{◌≡◌, ◌≢◌, ◌*◌, ◌/◌, ◌<◌, ◌≤◌, ◌↔◌, IsNone, IfSome, IfOk, OnOk, OnErr, OkIff, ◌+◌, ◌++◌, codes, length, take};
+ghost use Rattle.std.specs.Prelude.{◌≡◌, ◌≢◌, ◌*◌, ◌/◌, ◌<◌, ◌≤◌, ◌↔◌, IsNone, IfSome, IfOk, OnOk, OnErr, OkIff, ◌+◌, ◌++◌, codes, length};
+ghost use Rattle.std.specs.Prelude.{take};
 ghost use Rattle.std.specs.{Fmt.{decimal}, Int.{IsGcd}};
 ghost use Prim.Native.Nat.{◌∣◌};
 ghost use Rattle.smp_frac.specs.{Divisors.{greatest_common_divisor}, Limits.{wide_limit}};

@@ -1,9 +1,11 @@
-ghost use Rattle.std.specs.Prelude.{◌≡◌, ◌↔◌, ◌+◌, ◌≤◌, ◌<◌, ◌^◌, ℕ, Bool, Err, SomeIff, IfOk, IsOkUnless, All, EachIndex, length, map, sum, slice_index, count_by};
+ghost use Rattle.std.specs.Prelude.{◌≡◌, ◌↔◌, ◌+◌, ◌≤◌, ◌<◌, ◌^◌, ℕ, Bool, Err, SomeIff, IfOk, IsOkUnless, All, EachIndex, length, map};
+ghost use Rattle.std.specs.Prelude.{sum, slice_index, count_by};
 ghost use Rattle.std.specs.List.{range_with_len};
 ghost use Rattle.smp_frac.specs.{Fractions.{Same, whole}, Limits.{most_rows}, Exact.{fraction}};
 ghost use Rattle.smp_prob.specs.{declared.faults.GivenFault.{GivenFault}, Kept.Numerators.{over_of}, Requests.{IsRequest}};
 ghost use Rattle.smp_prob.specs.Given as Given;
-ghost use Rattle.smp_prob.specs.Given.{AreGiven, IsLeastMultipleOf, IsWholeNumber, draws, given_fraction, given_of, largest_multiple, out_of};
+ghost use Rattle.smp_prob.specs.Given.{AreGiven, IsLeastMultipleOf, IsWholeNumber, draws, given_fraction, given_of, largest_multiple};
+ghost use Rattle.smp_prob.specs.Given.{out_of};
 ghost use Rattle.smp_prob.specs.{Shapes.{shape_of}, Inclusions.{AreApart, AreBelow, IsRising, count_taken, asked_fraction}};
 
 use crate::picked::pick;

@@ -1,8 +1,10 @@
-ghost use Rattle.std.specs.Prelude.{◌≡◌, ◌+◌, ◌-◌, ◌*◌, ◌^◌, ◌<◌, ◌≤◌, ℕ, Bool, List, Err, length, filter, not, nat_lt, ◌&&◌, slice_index, sum, count_by, EachIndex, OnOk, IfOk};
+ghost use Rattle.std.specs.Prelude.{◌≡◌, ◌+◌, ◌-◌, ◌*◌, ◌^◌, ◌<◌, ◌≤◌, ℕ, Bool, List, Err, length, filter, not, nat_lt, ◌&&◌, slice_index};
+ghost use Rattle.std.specs.Prelude.{sum, count_by, EachIndex, OnOk, IfOk};
 ghost use Rattle.std.specs.{List.{range_with_len}, List.Sorted.{IsPermutation}, Result.{IsOkUnless}};
 ghost use Rattle.smp_prob.specs.{declared.faults.ProbFault.{ProbFault}, Kept.Cuts.{IsFeasible, border}, Requests.{IsRequest}};
 ghost use Rattle.smp_prob.specs.Kept.Cuts as Cuts;
-ghost use Rattle.smp_prob.specs.Requested.{is_certain, is_free, positive_units, places, free_sizes, requested_of, requested_fraction, IsFalling, IsLeastCut, FirstAreCertain};
+ghost use Rattle.smp_prob.specs.Requested.{is_certain, is_free, positive_units, places, free_sizes, requested_of, requested_fraction};
+ghost use Rattle.smp_prob.specs.Requested.{IsFalling, IsLeastCut, FirstAreCertain};
 ghost use Rattle.smp_prob.specs.Inclusions.{AreApart, AreBelow, IsRising, count_taken, asked_fraction};
 ghost use Rattle.smp_frac.specs.{Fractions.{Same}, Limits.{most_rows, number_limit}};
 

@@ -1,6 +1,7 @@
 //! Proportional allocation: how many first stage units each stratum gets.
 
-ghost use Rattle.std.specs.Prelude.{◌≡◌, ℕ, ◌+◌, ◌-◌, ◌*◌, ◌^◌, ◌<◌, ◌≤◌, List, length, map, nat_eq, nat_le, nat_lt, slice_index, sum, sum_by, count_by, EachIndex, IfOk, OnOk, if◌then◌else◌};
+ghost use Rattle.std.specs.Prelude.{◌≡◌, ℕ, ◌+◌, ◌-◌, ◌*◌, ◌^◌, ◌<◌, ◌≤◌, List, length, map, nat_eq, nat_le, nat_lt, slice_index, sum};
+ghost use Rattle.std.specs.Prelude.{sum_by, count_by, EachIndex, IfOk, OnOk, if◌then◌else◌};
 ghost use Rattle.std.specs.{List.{range_with_len}, List.Sorted.{IsPermutation}};
 ghost use Rattle.smp_frac.specs.Limits.{most_rows};
 ghost use Rattle.smp_prob.specs.Requested.{IsFalling};

@@ -1,6 +1,7 @@
 //! The plan of a frame and a design, part by part, or the first misfit.
 
-ghost use Rattle.std.specs.Prelude.{◌≡◌, ◌<◌, ◌≤◌, ℕ, None, false, All, IfOk, IfSome, OnOk, length, map, option_map, slice_index, slice_index_or};
+ghost use Rattle.std.specs.Prelude.{◌≡◌, ◌<◌, ◌≤◌, ℕ, None, false, All, IfOk, IfSome, OnOk, length, map, option_map, slice_index};
+ghost use Rattle.std.specs.Prelude.{slice_index_or};
 ghost use Rattle.smp_frame.specs.Bounds.{HaveValues, IsFrame};
 ghost use Rattle.smp_strata.specs.{Asked.{AsksAsFrame}, Bounds.{IsPlan}, Clusters.{clusters as clusters_of, strata_numbers}};
 ghost use Rattle.smp_strata.specs.{Draws.{DrawsAsAsked, IsAllocated}, Rows.{is_large}, declared.strata.Seat.{Seat}};

@@ -19,7 +19,7 @@ use Rattle.smp_twostage.specs.DrawnLines.{AreTold}
 use Rattle.smp_twostage.specs.Strata.{values_of}
 use Rattle.smp_twostage.specs.Totals.{can_be_selected}
 use Rattle.smp_twostage.proofs.ToldLines.{asked_is, asked_positive}
-use Rattle.smp_design.specs.Words.{balances, draws_together}
+use Rattle.smp_design.specs.Words.{balances}
 use Rattle.smp_methods.specs.declared.any.AnyState.{AnyState}
 use Rattle.smp_split.specs.Laws.Reads.{some_within}
 use Rattle.smp_strata.specs.Bounds.{IsFirst}
@@ -33,7 +33,7 @@ use Rattle.smp_twostage.specs.Lines.{seat_values, told, told_seats}
 use Rattle.smp_twostage.specs.Plans.{CanBeDrawn}
 use Rattle.smp_twostage.specs.Selections.{Coverage, balancing, covers, is_together, place_of, units_at}
 use Rattle.smp_twostage.specs.Starts.{covered_first}
-use Rattle.smp_twostage.specs.Laws.Places.{StandsIn, place_is_seat}
+use Rattle.smp_twostage.specs.Laws.Places.{place_is_seat}
 use Rattle.smp_twostage.specs.Laws.Staged.{first_is, place_stands}
 use Rattle.smp_twostage.proofs.Columns.{is_planned, near_within, stratum_at}
 use Rattle.smp_twostage.proofs.Told.{balance_few, covered_open}

@@ -15,7 +15,7 @@ use Rattle.smp_split.specs.Laws.Parts.{weighted-same}
 use Rattle.smp_values.specs.Pairs.{pair_weights, pair_first, pair_second}
 use Rattle.smp_values.specs.Steps.{pair_parts, steps_tree}
 use Rattle.smp_values.specs.Values as shares
-use Rattle.smp_values.specs.Values.{IsValues, with_one, with_pair, fractional}
+use Rattle.smp_values.specs.Values.{IsValues, with_pair, fractional}
 use Rattle.smp_values.proofs.Changes.{two_at_i, two_at_j}
 use Rattle.smp_values.proofs.Fractional.{fractional_is}
 use Rattle.smp_values.proofs.LawfulSteps.{pair_lawful}
