@@ -6,7 +6,7 @@ use Rattle.smp_prob.specs.declared.orders.Order.{Order}
 use Rattle.smp_prob.specs.declared.orders.Order.TheVariants.{Frame, Random}
 use Rattle.smp_design.specs.declared.method.Method.{Method}
 use Rattle.smp_design.specs.declared.method.Method.TheVariants.{Pivotal}
-use Rattle.smp_design.specs.Words.{row, methods, meaning, method_of, order_word, order_of}
+use Rattle.smp_design.specs.Words.{row, methods, meaning, method_named, order_word, order_of}
 
 -- what a word means has that word
 its_word : {A : Type 0} (word_of : A → List ℕ) (things : List A) (word : List ℕ) (x : A) → meaning word_of things word ≡ Some x → word ≡ word_of x
@@ -22,7 +22,7 @@ read_back : {A : Type 0} (word_of : A → List ℕ) (things : List A) → ((x : 
 read_back word_of things each word x = (its_word word_of things word x, λ is. ap (meaning word_of things) is ∙ each x)
 
 -- each method's word means it: the clauses are checked method by method
-each_method : (m : Method) → method_of (row m).word ≡ Some m
+each_method : (m : Method) → method_named (row m).word ≡ Some m
 unfolding row
 each_method Pivotal = refl
 each_method other = refl
@@ -31,7 +31,7 @@ each_order : (order : Order) → order_of (order_word order) ≡ Some order
 each_order Frame = refl
 each_order other = refl
 
-pub method_read_back : (word : List ℕ) (m : Method) → (method_of word ≡ Some m) ↔ (word ≡ (row m).word)
+pub method_read_back : (word : List ℕ) (m : Method) → (method_named word ≡ Some m) ↔ (word ≡ (row m).word)
 method_read_back = read_back (λ m. (row m).word) methods each_method
 
 pub order_read_back : (word : List ℕ) (order : Order) → (order_of word ≡ Some order) ↔ (word ≡ order_word order)

@@ -6,7 +6,7 @@ use Rattle.toml.specs.Data.{Data, Items, no_items, item, Members, no_members, me
 use Rattle.smp_prob.specs.declared.orders.Order.{Order}
 use Rattle.smp_design.specs.declared.method.Method.{Method}
 use Rattle.smp_design.specs.declared.design.Quota as quota
-use Rattle.smp_design.specs.Words.{in_second, method_of, order_of, row}
+use Rattle.smp_design.specs.Words.{in_second, method_named, order_of, row}
 
 -- the versions of a design go from 1 to this one
 abbrev pub last_version : ℕ
@@ -32,7 +32,7 @@ number value = integer_to most_rows value
 -- the word of a method that designs of this version have
 abbrev pub method : ℕ → Data → Option Method
 method version value =
-    option_and_then (λ m. if nat_le (row m).since version then Some m else None) (option_and_then method_of (as_str value))
+    option_and_then (λ m. if nat_le (row m).since version then Some m else None) (option_and_then method_named (as_str value))
 
 -- the word of a method that a second stage may have
 abbrev pub second_method : ℕ → Data → Option Method

@@ -55,8 +55,8 @@ abbrev pub meaning : {A : Type 0} → (A → List ℕ) → List A → List ℕ �
 meaning word_of things word = find (λ thing. bytes_eq word (word_of thing)) things
 
 -- the method that a word means
-abbrev pub method_of : List ℕ → Option Method
-method_of word = meaning (λ m. (row m).word) methods word
+abbrev pub method_named : List ℕ → Option Method
+method_named word = meaning (λ m. (row m).word) methods word
 
 -- no columns
 abbrev pub is_nothing : Needs → Bool

@@ -2,7 +2,7 @@
 
 ghost use Rattle.std.specs.Prelude.{◌≡◌, ◌↔◌, ◌&&◌, not, ℕ, List, Some, None, nat_le, if◌then◌else◌};
 ghost use Rattle.smp_design.specs.Words;
-ghost use Rattle.smp_design.specs.Words.{row, method_of, order_word};
+ghost use Rattle.smp_design.specs.Words.{row, method_named, order_word};
 
 use smp_prob::Order;
 
@@ -164,7 +164,7 @@ impl Row {
 impl Method {
     // The method that a word means.
     pub(crate) fn from_word(word: &str) -> Option<Method>
-        ensures { result ≡ method_of word.now }
+        ensures { result ≡ method_named word.now }
     {
         METHODS
             .iter()
@@ -216,7 +216,7 @@ impl Method {
     #[tactic(auto, unfolding(crate::specs::Words::row), using(crate::proofs::ReadBack::method_read_back))]
     pub(crate) fn row(self) -> Row
         ensures read_back { (word : List ℕ) →
-            (method_of word ≡ Some self) ↔ (word ≡ result.word.now) }
+            (method_named word ≡ Some self) ↔ (word ≡ result.word.now) }
         ensures word { result.word.now ≡ (row self).word }
         ensures needs { result.needs ≡ (row self).needs }
         ensures takes_order { result.takes_order ≡ (row self).takes_order }
