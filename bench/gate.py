@@ -5,10 +5,12 @@
     bench/gate.py rt must-fail smp_near       what a part of it takes
 
 It looks at the processes below the command five times a second, so a process's last moment isn't counted. Where a kit keeps what passed, `rt ci --anew`
-counts all; what is kept takes no time and isn't listed. The table is for CONTRIBUTING.md. It is no test.
+counts all; what is kept takes no time and isn't listed. Where it is told to end (control-C, or SIGTERM), the command is ended too, and the table has what was
+counted until then. The table is for CONTRIBUTING.md. It is no test.
 """
 import collections
 import os
+import signal
 import subprocess
 import sys
 import time
@@ -59,6 +61,8 @@ def main():
         sys.exit(__doc__)
     begin, taken, kinds = time.monotonic(), {}, {}
     command = subprocess.Popen(sys.argv[1:], cwd=TOP, stdout=sys.stderr)
+    for end in signal.SIGINT, signal.SIGTERM:
+        signal.signal(end, lambda *_: command.terminate())
     while command.poll() is None:
         found = processes()
         for pid, (_, start, seconds, words) in found.items():
