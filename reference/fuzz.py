@@ -16,6 +16,9 @@ changed.
 Python's tomllib reads TOML 1.0 but for the year 0 and the second 60, and the program reads TOML 1.1. Only this is counted apart: the reference
 alone refuses the design with 3.1, the design has a `\\e`, a `\\x`, a new line or a last comma in an inline table, a time without seconds or of
 second 60, or a date of year 0, and with these written as tomllib reads them both give the same.
+
+How deep arrays and inline tables nest the reference doesn't count, so no value here passes the 80 of the program: arrays are 79 deep, and may stand in
+an inline table.
 """
 import argparse
 import collections
@@ -52,7 +55,7 @@ ODD_VALUES = ("true", "false", "0", "1", "-1", "+1", "2", "1.0", "1e2", "1e400",
               "9223372036854775808", "-9223372036854775808", "-9223372036854775809", "0b1", "0o1", "0x1", "1_0", "01", "1__0", "_1", "1.", ".1",
               '""', '"cube"', '"pivotal"', '"random"', '"frame"', "'id'", '"""id"""', "'''\nid'''", '"a\nb"', "'a\nb'", '"\\u0069d"',
               '"\\U00000069d"', '"\\uD800"', '"\\t"', '"\\q"', "[]", "{}", "[[]]", "[1]", '["x"]', '["x", 1]', '["x", "x"]', '["x",]',
-              '["x", # y\n"y"]', "1.7976931348623159e308", "[" * 80 + "]" * 80, "{a = 1}", "{a = 1} # b", "{a = 1, a = 2}", "{a.b = 1, a.c = 2}",
+              '["x", # y\n"y"]', "1.7976931348623159e308", "[" * 79 + "]" * 79, "{a = 1}", "{a = 1} # b", "{a = 1, a = 2}", "{a.b = 1, a.c = 2}",
               "07:32:00", "24:00:00", "07:32:61", "1979-05-27", "0001-01-01", "1979-02-30", "1979-13-01", "1900-02-29", "2000-02-29",
               "1979-05-27T07:32:00Z", "1979-05-27 07:32:00+25:00", "1979-05-27T07:32:00.123456789123-07:00",
               # Forms that tomllib doesn't read.
