@@ -3,7 +3,7 @@
 ghost use Rattle.std.specs.Prelude.{◌≡◌, ◌↔◌, ℕ, ◌*◌, ◌<◌, ◌≤◌, IfNone, IfSome, length, max, slice_index, true};
 ghost use Rattle.smp_frac.specs.Limits.{most_denominator};
 ghost use Rattle.smp_kernel.specs.Minors.{minor_limit};
-ghost use Rattle.smp_flight.specs.{Kept.Narrow.{HasNegative, IsCommon, IsLeast, IsRowBound}, Narrow.{IsNarrow}, States.{row_count}};
+ghost use Rattle.smp_flight.specs.{Kept.Narrow.{HasNegative, IsCommon, IsLeast, IsRowBound}, Narrow.{IsNarrow}, States.{IsUnits, row_count}};
 
 use crate::shapes::Shape;
 use crate::steps::GATE;
@@ -41,11 +41,11 @@ pub fn is_narrow(shape: &Shape) -> bool
 
 /// The greatest number of a row, or 1, and `None` where one is below 0.
 fn row_bound(shape: &Shape, row: usize) -> Option<u128>
-    requires { row < row_count shape.now }
+    requires are { IsUnits shape.now }
+    requires row { row < row_count shape.now }
     ensures some { IfSome result (IsRowBound shape.now row) }
     ensures none { IfNone result (HasNegative shape.now row) }
 {
-    shape.rows();
     let mut most: u32 = 1;
     for unit in 0..shape.requested().len() {
         let number = shape.column(unit)[row];
@@ -75,10 +75,10 @@ fn limit_of(bounds: &[u128; 16], rows: usize) -> Option<u128>
 
 /// The least common multiple of the requested denominator and of the sizes, or `None` where it passes the gate of denominators.
 fn multiple_of(shape: &Shape) -> Option<u128>
+    requires { IsUnits shape.now }
     ensures some { IfSome result (IsLeast shape.now) }
     ensures none { IfNone result ((m : ℕ) → IsCommon shape.now m → most_denominator < m) }
 {
-    shape.rows();
     let mut multiple = shape.requested().denominator();
     for unit in 0..shape.requested().len() {
         multiple = lcm_within(multiple, shape.size(unit) as u128, GATE)?;

@@ -81,7 +81,7 @@ impl<const K: usize> LocalCube<K> {
         ensures starts { IfOk result (Starts (method_of self.now)) }
         ensures balanced { IfOk result (IsBalanced (local_of self.now.units)) }
     {
-        self.shape.rows();
+        let rows = self.shape.rows();
         Ok(LocalCubeState {
             flight: start(alloc, &self.shape)?,
             phase: Phase::Flying,
@@ -92,7 +92,7 @@ impl<const K: usize> LocalCube<K> {
             weights: Amounts::ones(alloc, self.units)?,
             chosen: None,
             found: Box::new(alloc, None)?,
-            tables: Tables::new(alloc, self.shape.rows()),
+            tables: Tables::new(alloc, rows),
         })
     }
 

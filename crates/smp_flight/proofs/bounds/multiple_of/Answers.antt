@@ -10,7 +10,7 @@ pub loop-unit-init : goal.loop-unit-init
 loop-unit-init c =
     let same : c.denominator-multiple.result ≡ c.args.shape.now.requested.den = c.denominator-multiple.ensures ∙ ap (λ (s : Shares). s.den) c.requested.ensures in
     let P : ℕ → Type 0 = λ x. c.args.shape.now.requested.den ∣ x in
-    let some = c.rows.ensures.are.requested.positive in
+    let some = c.requires.requested.positive in
     record {
       so_far = record {
         common = record { some = omega (arith, some, same); of_denominator = subst P (sym same) (dvd_refl c.args.shape.now.requested.den); of_sizes = λ k l. absurd (omega (arith, l)) };
@@ -46,7 +46,7 @@ loop-unit-preserved c =
 pub returns-in_err-multiple-clause-none : goal.returns-in_err-multiple-clause-none
 returns-in_err-multiple-clause-none c =
     let same : length c.requested-2.result.now.numer ≡ length c.args.shape.now.requested.numer = ap (λ (s : Shares). length s.numer) c.requested-2.ensures in
-    let here : c.loop-unit.unit < length c.args.shape.now.sizes = omega (arith, c.loop-unit-test.true, c.len-unit-end.ensures, same, c.rows.ensures.are.requested.count) in
+    let here : c.loop-unit.unit < length c.args.shape.now.sizes = omega (arith, c.loop-unit-test.true, c.len-unit-end.ensures, same, c.requires.requested.count) in
     let fits : SFits w32 c.size.result = search rules in
     let s = c.loop-unit.invariant.so_far in
     rw c.from_residual.ensures (λ m common.

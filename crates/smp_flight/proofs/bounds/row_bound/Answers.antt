@@ -14,7 +14,7 @@ loop-unit-preserved c =
     let sign = rw (to_z-of_z fits) at c.if-number-lt0.false in
     let size : c.unsigned_abs.result ≡ unsigned_abs (get_or c.column.result c.args.row (pos 0)) = rw (to_z-of_z fits) at c.unsigned_abs.ensures.value in
     let here : entry (column c.args.shape.now c.loop-unit.unit) c.args.row ≡ get_or c.column.result c.args.row (pos 0) =
-    ap (λ xs. entry xs c.args.row) (sym c.column.ensures.is) ∙ get_or-take (row_count c.args.shape.now) c.column.result c.args.row (pos 0) c.requires in
+    ap (λ xs. entry xs c.args.row) (sym c.column.ensures.is) ∙ get_or-take (row_count c.args.shape.now) c.column.result c.args.row (pos 0) c.requires.row in
     let s = c.loop-unit.invariant.so_far in
     let small = s.some in
     record {
@@ -42,9 +42,9 @@ returns-then-number-lt0-clause-none c =
     let fits : SFits w32 (get_or c.column.result c.args.row (pos 0)) = search rules in
     let sign = rw (to_z-of_z fits) at c.if-number-lt0.true in
     let here : entry (column c.args.shape.now c.loop-unit.unit) c.args.row ≡ get_or c.column.result c.args.row (pos 0) =
-    ap (λ xs. entry xs c.args.row) (sym c.column.ensures.is) ∙ get_or-take (row_count c.args.shape.now) c.column.result c.args.row (pos 0) c.requires in
+    ap (λ xs. entry xs c.args.row) (sym c.column.ensures.is) ∙ get_or-take (row_count c.args.shape.now) c.column.result c.args.row (pos 0) c.requires.row in
     record {
       unit = c.loop-unit.unit;
-      among = omega (arith, c.loop-unit-test.true, c.len-unit-end.ensures, same, c.rows.ensures.are.requested.count);
+      among = omega (arith, c.loop-unit-test.true, c.len-unit-end.ensures, same, c.requires.are.requested.count);
       below = omega (arith, ints, here, sign);
     }
