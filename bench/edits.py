@@ -4,6 +4,7 @@
     bench/edits.py                     the edits of edits/, of all crates
     bench/edits.py smp_near smp_log    those of these crates
     bench/edits.py --gate smp_near     with those of crates/smp_near/must-fail/
+    bench/edits.py --run               those of edits/CRATE/gate alone, over the libraries that `rt ci` has just left: a part of `.ci/run`
     bench/edits.py --look              only whether each can be applied: each `old:` text stands once in its file
     bench/edits.py --one smp_near      one check at a time, where as many as processors and memory allow run side by side
 
@@ -195,8 +196,12 @@ def build_script():
     return made
 
 
-def edits_of(crate, with_gate):
-    folders = [os.path.join(TOP, "edits", crate.name), *([os.path.join(crate.folder, "must-fail")] if with_gate else [])]
+def edits_of(crate, flags):
+    """Those of edits/, with those of the gate among them; with the word for it those of must-fail/ too."""
+    kept = os.path.join(TOP, "edits", crate.name)
+    folders = [os.path.join(kept, "gate"), *([] if "--run" in flags else [kept])]
+    if {"--gate", "--look"}.intersection(flags):
+        folders.append(os.path.join(crate.folder, "must-fail"))
     return [Edit(path, crate) for folder in folders for path in sorted(glob.glob(os.path.join(glob.escape(folder), "*.edit")))]
 
 
@@ -208,15 +213,33 @@ def try_crate(kit, crate, edits):
         return results + Trier(kit, crate, room).try_all(good, texts)
 
 
+def take_libraries(crates):
+    """Has the crates' libraries taken as `rt ci` leaves them. They have no stamp, so it has to have run over these very files."""
+    for it in crates:
+        it.rlib = os.path.join(it.folder, "out", "rlib", f"{it.name}.rlib")
+    lost = [it.name for it in crates if not os.path.isdir(it.rlib)]
+    if lost:
+        sys.exit(f"edits.py: rt ci has left no library of {' '.join(lost)}")
+
+
+def keep_libraries(kit, build, crates, processors):
+    """Has those proved that `./build` doesn't keep."""
+    held = kit.lock(crates)
+    if not all(it.is_built() for it in crates):
+        build.prove(crates, processors, build.free_memory())
+    for it in held:
+        os.close(it)
+
+
 def main():
     flags, names = [it for it in sys.argv[1:] if it.startswith("-")], [it for it in sys.argv[1:] if not it.startswith("-")]
-    if not {"--gate", "--look", "--one"}.issuperset(flags):
+    if not {"--gate", "--look", "--one", "--run"}.issuperset(flags):
         sys.exit(__doc__)
     build = build_script()
     kit = build.module_of_kit()
     os.chdir(TOP)
     crates = kit.crates_below(TOP)
-    of = {it: edits_of(it, "--gate" in flags or "--look" in flags) for it in crates if not names or it.name in names}
+    of = {it: edits_of(it, flags) for it in crates if not names or it.name in names}
     folders = {it for it in os.listdir("edits") if os.path.isdir(os.path.join("edits", it))}
     lost = sorted((folders | set(names)) - {it.name for it in crates})
     if lost:
@@ -230,11 +253,10 @@ def main():
     kit.guarded()
     # A program is no library that can be kept. The gate proves it.
     needed = [it for it in crates if not it.is_program and any(it is crate or it in crate.below() for crate in chosen)]
-    held = kit.lock(needed)
-    if not all(it.is_built() for it in needed):
-        build.prove(needed, 1 if "--one" in flags else kit.cores(), build.free_memory())
-    for it in held:
-        os.close(it)
+    if "--run" in flags:
+        take_libraries(needed)
+    else:
+        keep_libraries(kit, build, needed, 1 if "--one" in flags else kit.cores())
     at_once = 1 if "--one" in flags else max(1, min(kit.cores(), build.free_memory() // MEMORY))
     with concurrent.futures.ThreadPoolExecutor(at_once) as pool:
         results = [it for found in pool.map(lambda crate: try_crate(kit, crate, of[crate]), chosen) for it in found]

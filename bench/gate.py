@@ -2,7 +2,7 @@
 """Runs a command that proves crates, and prints the processor minutes that each crate took: its proof, its tests and its edits.
 
     bench/gate.py .ci/run > table.md          the gate: all crates from nothing
-    bench/gate.py rt must-fail smp_near       what a part of it takes
+    bench/gate.py rt must-fail smp_tape       what a part of it takes
 
 It looks at the processes below the command five times a second, so a process's last moment isn't counted. Where a kit keeps what passed, `rt ci --anew`
 counts all; what is kept takes no time and isn't listed. Where it is told to end (control-C, or SIGTERM), the command is ended too, and the table has what was
