@@ -1,5 +1,5 @@
 -- The search of the cube goes in the order of the frame, so after a move it begins with what is left of the units that it began with and went through.
-use Rattle.std.proofs.Common.{◌≡◌, ◌≢◌, ℕ, ◌≤◌, Bool, true, false, ◌⊎◌, List, ◌++◌, pos, take, drop, length, arith, sym, ap, ◌∙◌, subst, inl, inr}
+use Rattle.std.proofs.Common.{◌≡◌, ◌≢◌, ℕ, ◌≤◌, Bool, true, false, ◌⊎◌, List, ◌++◌, take, drop, length, arith, sym, ap, ◌∙◌, subst, inl, inr}
 use Rattle.std.specs.List.{filter, range_with_len}
 use Rattle.std.proofs.lemmas.Bool.{cases_lt}
 use Rattle.std.proofs.lemmas.List.{take-append-drop}
@@ -10,8 +10,8 @@ use Rattle.smp_split.specs.Trees.{EachPart}
 use Rattle.smp_split.specs.declared.kind.Kind.TheVariants as kind
 use Rattle.smp_values.specs.Values.{fractional_units, is_fractional}
 use Rattle.smp_moves.specs.Cubes.{flying, pairing, flight_parts, values_in}
-use Rattle.smp_moves.specs.Moves.{Move, Next, entry_of, independent, move}
-use Rattle.smp_moves.proofs.Entries.{frame_order as in_frame, off_line, order_front, place_or}
+use Rattle.smp_moves.specs.Moves.{Move, Next, independent, move}
+use Rattle.smp_moves.proofs.Entries.{frame_order as in_frame, order_front}
 use Rattle.smp_moves.proofs.Filtered.{filter_twice}
 use Rattle.smp_flight.specs.Kept.Windows.{is_in}
 use Rattle.smp_flight.specs.Laws.Nexts.{IsKnown}
@@ -20,9 +20,8 @@ use Rattle.smp_flight.specs.States.{Flight, IsFlight, Units}
 use Rattle.smp_flight.specs.Steps.{chosen, next, next_on}
 use Rattle.smp_flight.specs.Laws.ByOrder.{ends_at, knows}
 use Rattle.smp_flight.proofs.Free.{in_filter, out_filter}
-use Rattle.smp_flight.proofs.Held.{in_front, within_front}
+use Rattle.smp_flight.specs.Laws.Firsts.{changed_in, in_front, within_front}
 use Rattle.smp_flight.proofs.NeverWide.{IsNextFront, KeepsFront}
-use Rattle.smp_flight.specs.Laws.Windowed.{in_at}
 use Rattle.smp_flight.specs.Cube.{cube_kind, cube_of}
 use Rattle.smp_moves.proofs.Flights.{flies_not}
 use Rattle.smp_flight.proofs.Owed.{no_choice}
@@ -56,13 +55,6 @@ module _ (units : Units) (f : Flight) (left : ℕ) (ok : IsFlight units f) (held
         ap (λ n. filter (is_fractional t) (range_with_len 0 n)) (ends_at units f left us ok (in_frame f.values) m is plus).moved.same_length
         ∙ sym (filter_twice (is_fractional f.values) (is_fractional t) fewer (range_with_len 0 (length f.values.numer)))
 
-    moved_units : (k : ℕ) → entry_of m.direction k ≢ pos 0 → is_in m.direction.units k ≡ true
-    moved_units k ne =
-        elim (place_or m.direction.units k) [
-          | inl i ↦ subst (λ (x : ℕ). is_in m.direction.units x ≡ true) i.2 (in_at m.direction.units i.0 i.1)
-          | inr out ↦ absurd (ne (off_line f.values m.direction it.line k out))
-        ]
-
     -- what is left of so many of the first
     with_first : (n : ℕ) → ((k : ℕ) → is_in (take n us) k ≡ true → (is_in held k ≡ true) ⊎ (is_in m.direction.units k ≡ true)) →
         ((k : ℕ) → (is_in held k ≡ true) ⊎ (is_in m.direction.units k ≡ true) → is_in (take n us) k ≡ true) → IsNextFront (cube_of units) IsFront held m (flying (chosen units f m plus) left)
@@ -74,7 +66,7 @@ module _ (units : Units) (f : Flight) (left : ℕ) (ok : IsFlight units f) (held
         distinct = AllPairs-filter (λ k l. k ≢ l) (is_fractional t) (take n us) (order_front f.values us (in_frame f.values) n).distinct;
       };
       alone = λ k h. alone k (out_filter (is_fractional t) (take n us) k h).0;
-      all = λ k e h. in_filter (is_fractional t) (take n us) k (has k (elim h [ inl x ↦ inl x | inr ne ↦ inr (moved_units k ne) ])) e;
+      all = λ k e h. in_filter (is_fractional t) (take n us) k (has k (elim h [ inl x ↦ inl x | inr ne ↦ inr (changed_in m.direction k ne) ])) e;
     }
 
     next_front : IsNextFront (cube_of units) IsFront held m (flying (chosen units f m plus) left)

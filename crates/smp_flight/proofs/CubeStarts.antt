@@ -27,7 +27,7 @@ pub starts_requested : (request : Request) (xs : List (List ℤ)) → IsRequest 
 starts_requested request xs is =
     requested_values request is (cube_tree (units_of request xs)) (starting (units_of request xs)) (is.paired ∙ sym (length-numerators request is)) (λ k _. same_refl (value_at (shares_of request) k))
 
-module _ (units : Units) (is_flight : IsFlight units (flights.started units)) where
+module _ (units : Units) (is_flight : IsFlight units (flights.tracked_start units).flight) where
   pub cube_starts : Starts (method_of units) (starting units)
   cube_starts =
       starts (method_of units) (starting units) is_flight

@@ -12,17 +12,17 @@ use Rattle.smp_frac.proofs.Integers.{diff, diffs, diff-neg, diff-same, pos-diff}
 use Rattle.smp_frac.specs.Laws.Coprime.{part_positive}
 use Rattle.smp_kernel.specs.Vectors.{entry, combination, dot, unit}
 use Rattle.smp_kernel.specs.RowReduction.{cut, AreIndependent, InForce, IsRelationOn}
-use Rattle.smp_kernel.specs.Minors.{HasDenominator, minor_limit}
+use Rattle.smp_kernel.specs.Minors.{HasDenominator, IsFrom, minor_limit}
 use Rattle.smp_kernel.proofs.CircuitSizes.{denominator_of}
 use Rattle.smp_kernel.proofs.Columns.{combination_push}
 use Rattle.smp_kernel.proofs.Dot.{unit_dot}
 use Rattle.smp_prob.specs.Shares.{Shares}
 use Rattle.smp_values.specs.Values.{is_fractional}
 use Rattle.smp_values.proofs.Fractional.{not_fractional}
-use Rattle.smp_moves.specs.Moves.{IsOrder, MakesWhole, entry_at}
+use Rattle.smp_moves.specs.Kept.Ends.{MakesWhole}
+use Rattle.smp_moves.specs.Moves.{IsOrder, entry_at}
 use Rattle.smp_moves.proofs.Entries.{entry_at_none, entry_at_place, order_within}
 use Rattle.smp_flight.specs.Kept.Windows.{is_in}
-use Rattle.smp_flight.specs.Narrow.{AreBounded}
 use Rattle.smp_flight.specs.States.{Units, IsUnits, column, columns_of, size}
 use Rattle.smp_flight.specs.Laws.Firsts.{contains_in, in_range}
 use Rattle.smp_flight.proofs.Gained.{AddsUp, all_units, dot_mix, fair, fair_is, gained, map_same, part, part_is, unit_inside, units_apart}
@@ -154,9 +154,9 @@ module _ (units : Units) (are : IsUnits units) (multiple : ℕ) (of_denominator 
     relation =
         (omega (arith, length-append weights (neg_ℤ (pos t.den) ∷ []), length-append (cut q (columns_of units us)) (vector ∷ []), weights_long, length-map (columns_of units us) (take q), length-map us (column units)), row_zero)
 
-    module _ (bound : ℕ → ℕ) (bounded : AreBounded units bound) where
+    module _ (bound : ℕ → ℕ) (some_bound : (row : ℕ) → 1 ≤ bound row) (from : (k : ℕ) → k < length units.sizes → IsFrom bound (column units k)) where
       denominator_is : HasDenominator bound q (cut q (columns_of units us))
-      denominator_is = denominator_of bound bounded.some q (columns_of units us) (order_from units bound bounded q us us_inside) has.free
+      denominator_is = denominator_of bound some_bound q (columns_of units us) (order_from units bound from q us us_inside) has.free
 
       -- of a unit of the list: its numerator times the number that clears all
       cleared : (k : ℕ) → is_in us k ≡ true → t.den ∣ denominator_is.denominator * share k

@@ -46,7 +46,8 @@ module _ (units : Units) (are : IsUnits units) (e : AreEqualAndSmall units) wher
   pub narrow : IsNarrow units
   narrow = record {
     bound = equal_bound;
-    bounded = record { some = equal_some; from = at_row };
+    some_bound = equal_some;
+    from = at_row;
     entries = omega (arith, few);
     multiple = units.requested.den;
     some = are.requested.positive;

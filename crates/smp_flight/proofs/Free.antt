@@ -1,7 +1,7 @@
 -- Where a move ends, the columns of the units that are still fractional are independent, of those that its search went through, or after a dropped row of all.
-use Rattle.std.proofs.Common.{◌≡◌, ◌≢◌, ℕ, suc, ◌+◌, ◌*◌, ◌<◌, Bool, true, false, nat_eq, List, [], ◌∷◌, ◌++◌, ℤ, pos, ◌*ℤ◌, map, take, length, length-take, get_or, arith, refl, sym, ap, ◌∙◌, subst, inl, inr}
+use Rattle.std.proofs.Common.{◌≡◌, ◌≢◌, ℕ, suc, ◌+◌, ◌*◌, ◌<◌, Bool, true, false, ◌&&◌, List, [], ◌∷◌, ◌++◌, ℤ, pos, ◌*ℤ◌, map, take, length, length-take, get_or, arith, refl, sym, ap, ◌∙◌, subst, inl, inr}
 use Rattle.std.specs.List.{filter}
-use Rattle.std.proofs.lemmas.Bool.{cases_Bool, cases_eq, eq-eqb, ne_eqb, or_left, or_right, true≢false}
+use Rattle.std.proofs.lemmas.Bool.{and_from, and_parts, and_right, cases_Bool, cases_eq, eq-eqb, ne_eqb, true≢false}
 use Rattle.std.proofs.lemmas.List.{get_or-map, length-map, length-take-le, take-map, take_more}
 use Prim.Native.Nat.{◌∣◌}
 use lib.IntN.{*ℤ_comm, *ℤ-zero}
@@ -18,7 +18,7 @@ use Rattle.smp_values.specs.Values.{fractional_units, is_fractional}
 use Rattle.smp_moves.specs.Ends.{end_of}
 use Rattle.smp_moves.specs.Kept.Ends.{IsOver}
 use Rattle.smp_moves.specs.Moves.{IsLine, IsOrder, Line, entry_at, entry_of}
-use Rattle.smp_moves.proofs.Entries.{entry_at_none, entry_at_place, frame_order, off_line, on_line, order_going, order_within, place_or}
+use Rattle.smp_moves.proofs.Entries.{entry_at_none, entry_at_place, frame_order, off_line, on_line, order_within, place_or}
 use Rattle.smp_moves.proofs.LineEnds.{reached, settled_unit}
 use Rattle.smp_moves.proofs.Moved.{same_still}
 use Rattle.smp_flight.specs.Kept.Windows.{is_in}
@@ -31,31 +31,25 @@ use Rattle.smp_flight.proofs.Gained.{all_units, dot_scaled, map_same, part, part
 use Rattle.smp_flight.specs.Laws.MoveTotals.{number_in, numbers_are}
 use Rattle.smp_flight.specs.Laws.Reordered.{same_dot, sum_at}
 use Rattle.smp_flight.specs.Laws.Windowed.{in_or}
+use Rattle.smp_flight.specs.Laws.WholeOrders.{in_order_going}
 
 -- ---- what is kept of some columns
-pub in_filter : (p : ℕ → Bool) (us : List ℕ) (k : ℕ) → is_in us k ≡ true → p k ≡ true → is_in (filter p us) k ≡ true
-in_filter p [] k h t = h
-in_filter p (u ∷ us) k h t =
+pub filter_in : (p : ℕ → Bool) (us : List ℕ) (k : ℕ) → is_in (filter p us) k ≡ (is_in us k && p k)
+filter_in p [] k = refl
+filter_in p (u ∷ us) k =
     elim (cases_eq u k) [
-      | inl e ↦ (let here : p u ≡ true = subst (λ (x : ℕ). p x ≡ true) (sym e) t in rw here (or_left (nat_eq u k) (is_in (filter p us) k) (eq-eqb u k e)))
-      | inr ne ↦
-          (let rest = in_filter p us k (rw (ne_eqb u k ne) at h) t in
-          elim (cases_Bool (p u)) [ inl e ↦ rw e (or_right (nat_eq u k) (is_in (filter p us) k) rest) | inr e ↦ rw e rest ])
+      | inl e ↦ elim (cases_Bool (p k)) [
+        | inl t ↦ rw (e, t, eq-eqb k k refl) refl
+        | inr n ↦ rw (e, n, eq-eqb k k refl) (filter_in p us k ∙ and_right (is_in us k) (p k) n)
+      ]
+      | inr ne ↦ elim (cases_Bool (p u)) [ inl t ↦ rw (t, ne_eqb u k ne) (filter_in p us k) | inr n ↦ rw (n, ne_eqb u k ne) (filter_in p us k) ]
     ]
 
+pub in_filter : (p : ℕ → Bool) (us : List ℕ) (k : ℕ) → is_in us k ≡ true → p k ≡ true → is_in (filter p us) k ≡ true
+in_filter p us k h t = filter_in p us k ∙ and_from (is_in us k) (p k) h t
+
 pub out_filter : (p : ℕ → Bool) (us : List ℕ) (k : ℕ) → is_in (filter p us) k ≡ true → (is_in us k ≡ true) × (p k ≡ true)
-out_filter p [] k h = absurd (true≢false (sym h))
-out_filter p (u ∷ us) k h =
-    elim (cases_eq u k) [
-      | inl e ↦ elim (cases_Bool (p u)) [
-        | inl t ↦ (or_left (nat_eq u k) (is_in us k) (eq-eqb u k e), subst (λ (x : ℕ). p x ≡ true) e t)
-        | inr n ↦ (let rest = out_filter p us k (rw n at h) in (or_right (nat_eq u k) (is_in us k) rest.0, rest.1))
-      ]
-      | inr ne ↦ elim (cases_Bool (p u)) [
-        | inl t ↦ (let rest = out_filter p us k (let more : is_in (u ∷ filter p us) k ≡ true = rw t at h in rw (ne_eqb u k ne) at more) in (or_right (nat_eq u k) (is_in us k) rest.0, rest.1))
-        | inr n ↦ (let rest = out_filter p us k (rw n at h) in (or_right (nat_eq u k) (is_in us k) rest.0, rest.1))
-      ]
-    ]
+out_filter p us k h = and_parts (is_in us k) (p k) (sym (filter_in p us k) ∙ h)
 
 keep_is : (units : Units) (q : ℕ) (p : ℕ → Bool) (us : List ℕ) → keep (map p us) (cut q (columns_of units us)) ≡ cut q (columns_of units (filter p us))
 keep_is units q p [] = refl
@@ -177,7 +171,7 @@ module _ (units : Units) (f : Flight) (is_flight : IsFlight units f) (order : Li
   us_inside j l = omega (arith, order_within f.values us (frame_order f.values) j l, is_flight.values.count)
 
   us_have : (k : ℕ) → is_in line.units k ≡ true → is_in us k ≡ true
-  us_have k h = (let at = in_or line.units k h in fractional_in f.values k (subst (λ (x : ℕ). is_fractional f.values x ≡ true) at.is (order_going f.values line.units line_ok.order at.place at.here)))
+  us_have k h = fractional_in f.values k (in_order_going f.values line.units line_ok.order k h)
 
   abbrev factors : List ℤ
   factors = map (entry_at line.units w) us

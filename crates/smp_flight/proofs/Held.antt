@@ -1,7 +1,7 @@
 -- The units that moves have changed: their columns stay independent, so where the numbers are small the denominator at an end of a move is too.
-use Rattle.std.proofs.Common.{◌≡◌, ◌≢◌, ℕ, zero, suc, ◌*◌, ◌<◌, ◌≤◌, true, nat_eq, ◌⊎◌, List, [], ◌∷◌, ◌++◌, ℤ, pos, neg_ℤ, ◌*ℤ◌, take, length, get_or, arith, sym, ap, ◌∙◌, subst, inl, inr, mul-le-mul, le_of_suc-le-suc}
+use Rattle.std.proofs.Common.{◌≡◌, ◌≢◌, ℕ, suc, ◌*◌, ◌<◌, ◌≤◌, true, ◌⊎◌, List, ◌++◌, ℤ, pos, neg_ℤ, ◌*ℤ◌, take, length, get_or, arith, sym, ap, ◌∙◌, subst, inl, inr, mul-le-mul}
 use Rattle.std.specs.List.{AllPairs, filter}
-use Rattle.std.proofs.lemmas.Bool.{cases_eq, cases_lt, eq-eqb, ne_eqb, or_left, or_right, true≢false}
+use Rattle.std.proofs.lemmas.Bool.{cases_lt}
 use Rattle.std.proofs.lemmas.Int.{ints}
 use Rattle.std.proofs.lemmas.List.Elements.{filter_passes}
 use Rattle.std.proofs.lemmas.List.Kept.{AllPairs-filter}
@@ -19,7 +19,7 @@ use Rattle.smp_values.specs.Values.{fractional_units, is_fractional}
 use Rattle.smp_moves.specs.Ends.{end_of, extent}
 use Rattle.smp_moves.specs.Kept.Ends.{IsOver}
 use Rattle.smp_moves.specs.Moves.{IsGreatest, IsLine, IsMoved, IsOrder, Line, entry_of, turned}
-use Rattle.smp_moves.proofs.Entries.{entry_turned, frame_order, off_line, order_going, order_within, place_or, turned_line}
+use Rattle.smp_moves.proofs.Entries.{entry_turned, frame_order, order_within, turned_line}
 use Rattle.smp_moves.proofs.LineEnds.{greatest, moved}
 use Rattle.smp_moves.proofs.Moved.{end_within, keeps_fractional, keeps_still}
 use Rattle.smp_flight.specs.Kept.Windows.{is_in}
@@ -28,18 +28,18 @@ use Rattle.smp_flight.specs.Kept.Steps.{sized}
 use Rattle.smp_kernel.specs.Reduced.{IsReduced}
 use Rattle.smp_flight.specs.Laws.Nexts.{direction_line, flight_over}
 use Rattle.smp_moves.specs.Steps.{Finds, IsDirection}
-use Rattle.smp_flight.specs.Moves.{setting_of, share}
+use Rattle.smp_flight.specs.Moves.{setting_of}
 use Rattle.smp_flight.specs.Narrow.{IsNarrow, IsWideByDenominator}
 use Rattle.smp_flight.specs.States.{Units, Flight, IsFlight, IsUnits, columns_of, row_count, size}
 use Rattle.smp_flight.proofs.Denominators.{HasFree, IsTouched, small_denominator}
-use Rattle.smp_flight.specs.Laws.Firsts.{fractional_in}
+use Rattle.smp_flight.specs.Laws.Firsts.{changed_in, fractional_in, in_front, within_front}
 use Rattle.smp_flight.proofs.Free.{all_free, factor_some, front_free, in_filter, line_count, parts_add_up, place, its_relation}
 use Rattle.smp_flight.proofs.Gained.{AddsUp, still_adds}
 use Rattle.smp_flight.specs.Laws.OneMove.{one_end}
 use Rattle.smp_moves.proofs.Fixed.{one_greatest}
 use Rattle.smp_moves.specs.declared.lines.Ratio.{Ratio}
 use Rattle.smp_flight.specs.Laws.Reordered.{independent_as}
-use Rattle.smp_flight.specs.Laws.Windowed.{in_at, in_or}
+use Rattle.smp_flight.specs.Laws.WholeOrders.{in_order_going}
 
 -- ---- the line of a circuit, or its opposite
 pub record IsAlong (units : Units) (order : List ℕ) (w : List ℤ) (line : Line) : Type 0 where
@@ -56,7 +56,7 @@ both_turned g e =
 turned_some : (g : ℤ) → g ≢ pos 0 → neg_ℤ g ≢ pos 0
 turned_some g some e = some (omega (arith, ints))
 
-module _ (units : Units) (order : List ℕ) (w : List ℤ) (line : Line) (d : IsDirection (share units) order w line) (count : length line.units ≡ length w) where
+module _ (units : Units) (order : List ℕ) (w : List ℤ) (line : Line) (d : IsDirection (setting_of units).share order w line) (count : length line.units ≡ length w) where
   own : IsReduced (sized units line.units w) line.entries
   own = sized_entries units order w line d
 
@@ -76,25 +76,6 @@ module _ (units : Units) (order : List ℕ) (w : List ℤ) (line : Line) (d : Is
     product = λ j l. ap (λ x. neg_ℤ own.divisor *ℤ x) (entry_turned line.entries j) ∙ both_turned own.divisor (entry line.entries j)
         ∙ own.product j ∙ entry-sized units line.units w j l (omega (arith, l, count));
   }
-
--- ---- the front of a list
-pub in_front : (n : ℕ) (xs ys : List ℕ) (k : ℕ) → length xs ≤ n → is_in xs k ≡ true → is_in (take n (xs ++ ys)) k ≡ true
-in_front n [] ys k l h = absurd (true≢false (sym h))
-in_front zero (x ∷ xs) ys k l h = absurd (omega arith)
-in_front (suc n) (x ∷ xs) ys k l h =
-    elim (cases_eq x k) [
-      | inl e ↦ or_left (nat_eq x k) (is_in (take n (xs ++ ys)) k) (eq-eqb x k e)
-      | inr ne ↦ or_right (nat_eq x k) (is_in (take n (xs ++ ys)) k) (in_front n xs ys k (le_of_suc-le-suc l) (rw (ne_eqb x k ne) at h))
-    ]
-
-pub within_front : (n : ℕ) (xs ys : List ℕ) (k : ℕ) → n ≤ length xs → is_in (take n (xs ++ ys)) k ≡ true → is_in xs k ≡ true
-within_front zero xs ys k l h = absurd (true≢false (sym h))
-within_front (suc n) [] ys k l h = absurd (omega arith)
-within_front (suc n) (x ∷ xs) ys k l h =
-    elim (cases_eq x k) [
-      | inl e ↦ or_left (nat_eq x k) (is_in xs k) (eq-eqb x k e)
-      | inr ne ↦ or_right (nat_eq x k) (is_in xs k) (within_front n xs ys k (le_of_suc-le-suc l) (rw (ne_eqb x k ne) at h))
-    ]
 
 -- a value that stays what it was is touched only where it was so before
 still_untouched : (a c b d r q : ℕ) → 1 ≤ d → b * d ≡ a * c → a * r ≡ q * d → b * r ≡ q * c
@@ -143,13 +124,6 @@ module _ (units : Units) (are : IsUnits units) (n : IsNarrow units) where
               (place units f is_flight order ordered w finds line a.prefix line_ok a.factor a.some a.product)))
         ]
 
-    on_units : (k : ℕ) → entry_of line k ≢ pos 0 → is_in line.units k ≡ true
-    on_units k ne =
-        elim (place_or line.units k) [
-          | inl i ↦ subst (λ (x : ℕ). is_in line.units x ≡ true) i.2 (in_at line.units i.0 i.1)
-          | inr out ↦ absurd (ne (off_line f.values line line_ok k out))
-        ]
-
     -- a touched unit was touched before, or the move changes it
     touched_on : (k : ℕ) → is_fractional t k ≡ true → IsTouched units t k → (is_in held k ≡ true) ⊎ (entry_of line k ≢ pos 0)
     touched_on k e tch =
@@ -191,7 +165,7 @@ module _ (units : Units) (are : IsUnits units) (n : IsNarrow units) where
     has_free = record {
       list = free_after.list;
       order = free_after.listed;
-      touched = λ k e tch. free_after.has k e (elim (touched_on k e tch) [ inl x ↦ inl x | inr ne ↦ inr (on_units k ne) ]);
+      touched = λ k e tch. free_after.has k e (elim (touched_on k e tch) [ inl x ↦ inl x | inr ne ↦ inr (changed_in line k ne) ]);
       free = free_after.free;
     }
 
@@ -212,10 +186,10 @@ module _ (units : Units) (are : IsUnits units) (n : IsNarrow units) where
     small_end =
         let s : t.den ≤ n.multiple * minor_limit n.bound f.rows =
         small_denominator units are n.multiple n.of_denominator n.of_sizes f.rows t count_there there.positive (end_within units.requested.den f.values over_it line line_ok) has_free adds_there
-        n.bound n.bounded there.times there.multiple there.least n.some in
+        n.bound n.some_bound n.from there.times there.multiple there.least n.some in
         let same : n.multiple ≤ n.multiple = omega arith in
         let more : n.multiple * minor_limit n.bound f.rows ≤ n.multiple * minor_limit n.bound (row_count units) =
-        mul-le-mul same (limit_upto n.bound n.bounded.some f.rows (row_count units) is_flight.rows_in) in
+        mul-le-mul same (limit_upto n.bound n.some_bound f.rows (row_count units) is_flight.rows_in) in
         omega (arith, s, more, n.denominators)
 
     -- and such units are held there
@@ -227,7 +201,7 @@ module _ (units : Units) (are : IsUnits units) (n : IsNarrow units) where
       adds = adds_there;
       free = inl (independent_as units f.rows (length units.sizes) next free_after.list
           (λ j l. omega (arith, order_within t next ok j l, count_there)) (λ j l. omega (arith, order_within t free_after.list free_after.listed j l, count_there)) ok.distinct free_after.listed.distinct
-          (λ k e. free_after.has k (let at = in_or next k e in subst (λ (x : ℕ). is_fractional t x ≡ true) at.is (order_going t next ok at.place at.here)) (alone k e)) free_after.free);
+          (λ k e. free_after.has k (in_order_going t next ok k e) (alone k e)) free_after.free);
     }
 
   -- ---- no step is wide

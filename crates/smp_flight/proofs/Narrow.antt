@@ -16,10 +16,10 @@ use Rattle.smp_moves.specs.Moves.{Line, IsOrder}
 use Rattle.smp_moves.proofs.Entries.{order_within}
 use Rattle.smp_flight.specs.States.{Units, Flight, IsFlight, IsUnits, column, columns_of, row_count, size}
 use Rattle.smp_moves.specs.Steps.{Finds, IsDirection, IsWide}
-use Rattle.smp_flight.specs.Moves.{setting_of, share}
+use Rattle.smp_flight.specs.Moves.{setting_of}
 use Rattle.smp_flight.specs.Laws.Entries.{entry-sized, sized_entries}
 use Rattle.smp_flight.specs.Laws.Nexts.{narrow_line}
-use Rattle.smp_flight.specs.Narrow.{AreBounded, IsNarrow, IsWideByDenominator}
+use Rattle.smp_flight.specs.Narrow.{IsNarrow, IsWideByDenominator}
 
 -- ---- the direction
 reduced_at : (g x : ℤ) (s : ℕ) (y : ℤ) (z b : ℕ) → pos 0 <ℤ g → g *ℤ x ≡ pos s *ℤ y → s ≤ z → unsigned_abs y ≤ b → unsigned_abs x ≤ z * b
@@ -31,7 +31,7 @@ reduced_at g x s y z b p e h k =
     let n : 1 * unsigned_abs x ≤ unsigned_abs g * unsigned_abs x = mul-le-mul one same in
     omega (arith, f, m, n)
 
-pub direction_within : (units : Units) (order : List ℕ) (w : List ℤ) (line : Line) → IsDirection (share units) order w line → (z b : ℕ) → ((k : ℕ) → size units k ≤ z) → Within b w → Within (z * b) line.entries
+pub direction_within : (units : Units) (order : List ℕ) (w : List ℤ) (line : Line) → IsDirection (setting_of units).share order w line → (z b : ℕ) → ((k : ℕ) → size units k ≤ z) → Within b w → Within (z * b) line.entries
 direction_within units order w line d z b sizes within =
     let own = sized_entries units order w line d in
     Within-from_entries (z * b) line.entries (λ j l.
@@ -41,7 +41,7 @@ direction_within units order w line d z b sizes within =
     (own.product j ∙ entry-sized units line.units w j lu lw) (sizes (get_or line.units j 0)) (entry_within b w within j))
 
 -- ---- the columns
-module _ (units : Units) (bound : ℕ → ℕ) (b : AreBounded units bound) where
+module _ (units : Units) (bound : ℕ → ℕ) (from : (k : ℕ) → k < length units.sizes → IsFrom bound (column units k)) where
   cut_from : (q : ℕ) (c : List ℤ) → IsFrom bound c → IsFrom bound (take q c)
   cut_from q c f r =
       elim (cases_lt r q) [
@@ -51,7 +51,7 @@ module _ (units : Units) (bound : ℕ → ℕ) (b : AreBounded units bound) wher
 
   pub order_from : (q : ℕ) (order : List ℕ) → ((j : ℕ) → j < length order → get_or order j 0 < length units.sizes) → AreFrom bound (cut q (columns_of units order))
   order_from q [] h = tt
-  order_from q (k ∷ order) h = (cut_from q (column units k) (b.from k (h zero (zero-lt-suc (length order)))), order_from q order (λ j l. h (suc j) (suc-le-suc l)))
+  order_from q (k ∷ order) h = (cut_from q (column units k) (from k (h zero (zero-lt-suc (length order)))), order_from q order (λ j l. h (suc j) (suc-le-suc l)))
 
   from_size : (z a n : ℕ) → pos a ≡ pos z → a ≤ n → z ≤ n
   from_size z a n e l = omega (arith, ints)
@@ -59,7 +59,7 @@ module _ (units : Units) (bound : ℕ → ℕ) (b : AreBounded units bound) wher
   size_bound : IsUnits units → (k : ℕ) → size units k ≤ bound 0
   size_bound are k =
       elim (cases_lt k (length units.sizes)) [
-        | inl l ↦ let f = b.from k l 0 in from_size (size units k) f.0 (bound 0) (sym f.1 ∙ are.first k l) f.2
+        | inl l ↦ let f = from k l 0 in from_size (size units k) f.0 (bound 0) (sym f.1 ∙ are.first k l) f.2
         | inr m ↦ let P : ℕ → Type 0 = λ x. x ≤ bound 0 in subst P (sym (get_or_past units.sizes k 0 m)) (omega arith)
       ]
 
@@ -72,24 +72,24 @@ times_more a p h = let same : p ≤ p = omega arith in let t : 1 * p ≤ a * p =
 
 module _ (units : Units) (n : IsNarrow units) (s : Flight) (order : List ℕ) (is_flight : IsFlight units s) (ok : IsOrder s.values order) where
   columns_from : AreFrom n.bound (cut s.rows (columns_of units order))
-  columns_from = order_from units n.bound n.bounded s.rows order (λ j l. omega (arith, order_within s.values order ok j l, is_flight.values.count))
+  columns_from = order_from units n.bound n.from s.rows order (λ j l. omega (arith, order_within s.values order ok j l, is_flight.values.count))
 
   rows_limit : minor_limit n.bound s.rows ≤ minor_limit n.bound (row_count units)
-  rows_limit = limit_upto n.bound n.bounded.some s.rows (row_count units) is_flight.rows_in
+  rows_limit = limit_upto n.bound n.some_bound s.rows (row_count units) is_flight.rows_in
 
   all_fit : minor_limit n.bound (row_count units) ≤ most_entry
   all_fit =
-      let t : minor_limit n.bound (row_count units) ≤ n.bound 0 * minor_limit n.bound (row_count units) = times_more (n.bound 0) (minor_limit n.bound (row_count units)) (n.bounded.some 0) in
+      let t : minor_limit n.bound (row_count units) ≤ n.bound 0 * minor_limit n.bound (row_count units) = times_more (n.bound 0) (minor_limit n.bound (row_count units)) (n.some_bound 0) in
       at_most (minor_limit n.bound (row_count units)) (n.bound 0 * minor_limit n.bound (row_count units)) most_entry t n.entries
 
   fit : minor_limit n.bound s.rows ≤ most_entry
   fit = at_most (minor_limit n.bound s.rows) (minor_limit n.bound (row_count units)) most_entry rows_limit all_fit
 
-  entries_fit : (w : List ℤ) → Finds (setting_of units) s order (found w) → (line : Line) → IsDirection (share units) order w line → Within most_entry line.entries
+  entries_fit : (w : List ℤ) → Finds (setting_of units) s order (found w) → (line : Line) → IsDirection (setting_of units).share order w line → Within most_entry line.entries
   entries_fit w f line d =
-      let c : Within (minor_limit n.bound s.rows) w = found_within n.bound n.bounded.some s.rows (columns_of units order) columns_from fit w f in
+      let c : Within (minor_limit n.bound s.rows) w = found_within n.bound n.some_bound s.rows (columns_of units order) columns_from fit w f in
       let r : Within (n.bound 0 * minor_limit n.bound s.rows) line.entries =
-      direction_within units order w line d (n.bound 0) (minor_limit n.bound s.rows) (size_bound units n.bound n.bounded is_flight.are) c in
+      direction_within units order w line d (n.bound 0) (minor_limit n.bound s.rows) (size_bound units n.bound n.from is_flight.are) c in
       let same : n.bound 0 ≤ n.bound 0 = omega arith in
       let t : n.bound 0 * minor_limit n.bound s.rows ≤ n.bound 0 * minor_limit n.bound (row_count units) = mul-le-mul same rows_limit in
       Within-from_entries most_entry line.entries (λ i l.
@@ -98,7 +98,7 @@ module _ (units : Units) (n : IsNarrow units) (s : Flight) (order : List ℕ) (i
       (at_most (n.bound 0 * minor_limit n.bound s.rows) (n.bound 0 * minor_limit n.bound (row_count units)) most_entry t n.entries))
 
   pub by_denominator : IsWide (setting_of units) s order → IsWideByDenominator units s order
-  by_denominator (IsWide.search_wide f) = absurd (not_too_wide n.bound n.bounded.some s.rows (columns_of units order) columns_from fit f)
+  by_denominator (IsWide.search_wide f) = absurd (not_too_wide n.bound n.some_bound s.rows (columns_of units order) columns_from fit f)
   by_denominator (IsWide.direction_wide w line f d never) = absurd (never (narrow_line units s is_flight w line (entries_fit w f line d)))
   by_denominator (IsWide.move_wide w m p q f is out) = record {
     circuit = w;

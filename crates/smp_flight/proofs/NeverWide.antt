@@ -9,7 +9,8 @@ use Rattle.smp_split.specs.Trees.{Part, EachPart}
 use Rattle.smp_split.specs.declared.kind.Kind.TheVariants as kind
 use Rattle.smp_split.specs.Laws.Steps.{leads_belong, leads_keep}
 use Rattle.smp_values.specs.Values.{fractional_units, is_fractional, is_settled}
-use Rattle.smp_moves.specs.Cubes.{flying, pairing, values_in, dropped, flight_kind, flight_parts}
+use Rattle.smp_moves.specs.Cubes.{flying, pairing, values_in, flight_kind, flight_parts}
+use Rattle.smp_moves.specs.Kept.Computed.{dropped}
 use Rattle.smp_moves.specs.Ends.{end_of}
 use Rattle.smp_moves.specs.Moves.{IsOrder, Move, Next, chosen_line, entry_of, independent, move, turned, wide}
 use Rattle.smp_moves.proofs.Entries.{turned_line}
@@ -182,11 +183,8 @@ module _ {State : Type 0} (c : Selection State) (belongs : State → Type 0) (is
     not_over (flies w k parts) x = kind_there w (c.seen s) refl (sym k ∙ x)
 
   module _ (from : State) (member : belongs from) (is_start : c.seen from ≡ starting c.units) (first : front from []) where
-    start_flight : IsFlight c.units (flights.started c.units)
-    start_flight = subst (IsBalancing c.units) is_start (is.member from member)
-
     -- nothing is touched at the start
-    start_held : IsHeld c.units are n (flights.started c.units) []
+    start_held : IsHeld c.units are n (flights.tracked_start c.units).flight []
     start_held = record {
       order = record { going = λ j d l. absurd (omega (arith, l)); distinct = λ i j d l m. absurd (omega (arith, l)) };
       touched = λ k _ t. absurd (t refl);

@@ -187,7 +187,7 @@ weight_cancels x n d pn pd =
     by_diff (λ x. Same (times (times (integer x) (over (max 1 d) n)) (over n d)) (integer x))
     (λ a b. record { cross = rw (en, ed) (simp diffs (diff-same _ _ _ _ (omega arith))) }) x
 
-start_term : (units : Units) → IsFlight units (flights.started units) → (row k : ℕ) → k < length units.sizes → Same (times (expanded units row k) (value_at units.requested k)) (addend units row k)
+start_term : (units : Units) → IsFlight units (flights.tracked_start units).flight → (row k : ℕ) → k < length units.sizes → Same (times (expanded units row k) (value_at units.requested k)) (addend units row k)
 start_term units is_flight zero k l = one-times (value_at units.requested k)
 start_term units is_flight (suc row) k l =
     let some : 1 ≤ size units k * is_flight.are.factor = mul-pos (is_flight.are.some_size k l) is_flight.are.some_factor in
@@ -195,7 +195,7 @@ start_term units is_flight (suc row) k l =
     (subst (λ (n : ℕ). 1 ≤ n) (sym (is_flight.are.proportional k l)) some) is_flight.values.positive
 
 module _ {State : Type 0} (c : Selection State) (belongs : State → Type 0) (is : IsSelection c belongs) (from : State) (member : belongs from) (is_start : c.seen from ≡ starting c.units) where
-  is_flight : IsFlight c.units (flights.started c.units)
+  is_flight : IsFlight c.units (flights.tracked_start c.units).flight
   is_flight = subst (IsBalancing c.units) is_start (is.member from member)
 
   start_total : (row : ℕ) → Same (weighed_total (weighed_of c) from row) ((weighed_of c).known row)

@@ -53,7 +53,8 @@ module _ (units : Units) (are : IsUnits units) (bounds : List ℕ) (of_rows : (r
       let same : max 1 (get_or bounds 0 0) ≡ get_or bounds 0 0 = omega (arith, one) in
       record {
         bound = bound;
-        bounded = record { some = λ r. omega arith; from = within };
+        some_bound = λ r. omega arith;
+        from = within;
         entries = rw (same, ← is) entries;
         multiple = multiple;
         some = common.some;
@@ -77,10 +78,10 @@ times_more a p h = let same : p ≤ p = omega arith in let t : 1 * p ≤ a * p =
 module _ (units : Units) (are : IsUnits units) (n : IsNarrow units) where
   -- no number is below 0
   pub none_below : (r : ℕ) → HasNegative units r → ⊥
-  none_below r h = (let f = n.bounded.from h.unit h.among r in let below = h.below in omega (arith, ints, f.1, below))
+  none_below r h = (let f = n.from h.unit h.among r in let below = h.below in omega (arith, ints, f.1, below))
 
   limit_some : 1 ≤ minor_limit n.bound (row_count units)
-  limit_some = (let up : minor_limit n.bound 0 ≤ minor_limit n.bound (row_count units) = limit_upto n.bound n.bounded.some 0 (row_count units) (omega arith) in omega (arith, up))
+  limit_some = (let up : minor_limit n.bound 0 ≤ minor_limit n.bound (row_count units) = limit_upto n.bound n.some_bound 0 (row_count units) (omega arith) in omega (arith, up))
 
   limit_fits : minor_limit n.bound (row_count units) ≤ most_denominator
   limit_fits = (let t = times_more n.multiple (minor_limit n.bound (row_count units)) n.some in let d = n.denominators in omega (arith, t, d))
@@ -100,11 +101,11 @@ module _ (units : Units) (are : IsUnits units) (n : IsNarrow units) where
   multiple_within h = (let past = h n.multiple is_common in let fits = common_fits in omega (arith, past, fits))
 
   small_row : (r : ℕ) → r < row_count units → (b : ℕ) → IsRowBound units r b → b ≤ n.bound r
-  small_row r l b is = is.least (n.bound r) (n.bounded.some r) (λ k m. let f = n.bounded.from k m r in small_number (entry (column units k) r) f.0 (n.bound r) f.1 f.2)
+  small_row r l b is = is.least (n.bound r) (n.some_bound r) (λ k m. let f = n.from k m r in small_number (entry (column units k) r) f.0 (n.bound r) f.1 f.2)
 
   module _ (bounds : List ℕ) (of_rows : (r : ℕ) → r < row_count units → IsRowBound units r (get_or bounds r 0)) where
     small : (r : ℕ) → r < row_count units → bound units are bounds of_rows r ≤ n.bound r
-    small r l = (let b = small_row r l (get_or bounds r 0) (of_rows r l) in let some = n.bounded.some r in omega (arith, b, some))
+    small r l = (let b = small_row r l (get_or bounds r 0) (of_rows r l) in let some = n.some_bound r in omega (arith, b, some))
 
     least_limit : minor_limit (bound units are bounds of_rows) (row_count units) ≤ minor_limit n.bound (row_count units)
     least_limit = limit_most (bound units are bounds of_rows) n.bound (row_count units) small

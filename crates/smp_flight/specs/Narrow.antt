@@ -11,17 +11,14 @@ use Rattle.smp_flight.specs.States.{Units, Flight, IsFlight, IsUnits, column, ro
 use Rattle.smp_moves.specs.Steps.{Finds, IsMove, IsWide}
 use Rattle.smp_flight.specs.Moves.{setting_of}
 
--- the bound of each row is at least 1, and the numbers of each unit lie from 0 to it
-pub record AreBounded (units : Units) (bound : ℕ → ℕ) : Type 0 where
-  pub some : (row : ℕ) → 1 ≤ bound row
-  pub from : (k : ℕ) → k < length units.sizes → IsFrom bound (column units k)
-
--- so a minor of all rows, times the bound of the sizes, is within the gate of entries, and times a common multiple of the requested
--- denominator and of the sizes within that of denominators. Where some bounds and some multiple are, so are the greatest number of each
--- row, or 1, and the least common multiple: no others are less.
+-- The bound of each row is at least 1, and the numbers of each unit lie from 0 to it. So a minor of all rows, times the bound of the
+-- sizes, is within the gate of entries, and times a common multiple of the requested denominator and of the sizes within that of
+-- denominators. Where some bounds and some multiple are, so are the greatest number of each row, or 1, and the least common multiple: no
+-- others are less.
 pub record IsNarrow (units : Units) : Type 0 where
   pub bound : ℕ → ℕ
-  pub bounded : AreBounded units bound
+  pub some_bound : (row : ℕ) → 1 ≤ bound row
+  pub from : (k : ℕ) → k < length units.sizes → IsFrom bound (column units k)
   pub entries : bound 0 * minor_limit bound (row_count units) ≤ most_entry
   pub multiple : ℕ
   pub some : 1 ≤ multiple

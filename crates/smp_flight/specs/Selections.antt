@@ -13,8 +13,7 @@ use Rattle.smp_values.specs.Steps.{pivotal_kind, pivotal_parts}
 use Rattle.smp_moves.specs.Moves.{IsOrder}
 use Rattle.smp_moves.specs.Cubes as cubes
 use Rattle.smp_moves.specs.Cubes.{Cube, flying, pairing, values_in}
-use Rattle.smp_flight.specs.States.{Units, IsFlight}
-use Rattle.smp_flight.specs.States as flights
+use Rattle.smp_flight.specs.States.{Units, IsFlight, row_count}
 use Rattle.smp_flight.specs.Moves.{setting_of}
 use Rattle.smp_flight.specs.Steps.{next_on, stepping}
 
@@ -29,7 +28,7 @@ IsBalancing units (pairing s left) = IsValues (length units.sizes) most_denomina
 
 -- the state before the first step: the requested probabilities with all rows in force, and no landing yet
 abbrev pub starting : Units → Balancing
-starting units = flying (flights.started units) 0
+starting units = flying (record { values = units.requested; rows = row_count units; fixed = units }) 0
 
 -- ---- the steps
 

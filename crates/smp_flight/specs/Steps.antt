@@ -3,17 +3,17 @@
 use Rattle.std.specs.Prelude.{◌≡◌, ℕ, Bool, List}
 use Rattle.smp_prob.specs.Shares.{Shares}
 use Rattle.smp_values.specs.Values.{fractional_units}
-use Rattle.smp_moves.specs.Moves.{Line, Move, Next}
+use Rattle.smp_moves.specs.Moves.{IsOrder, Line, Move, Next}
 use Rattle.smp_moves.specs.Cubes.{chosen_by}
 use Rattle.smp_moves.specs.Ends.{end_of}
-use Rattle.smp_flight.specs.States.{Units, Flight}
+use Rattle.smp_flight.specs.States.{Units, Flight, IsFlight}
 use Rattle.smp_moves.specs.Steps.{Stepping}
-use Rattle.smp_flight.specs.Moves.{IsAllowed, setting_of}
+use Rattle.smp_flight.specs.Moves.{setting_of}
 use Rattle.smp_moves.specs.Kept.Computed.{next_by}
 use Rattle.smp_flight.specs.Laws.Nexts.{each_step}
 
--- the steps, of which there is only one kind
-pub stepping : Stepping setting_of IsAllowed
+-- the steps of a state of the flight and any fractional units, of which there is only one kind
+pub stepping : Stepping setting_of (λ units s order. IsFlight units s × IsOrder s.values order)
 stepping = each_step
 
 -- the step of a state whose search goes through the columns of these units

@@ -8,9 +8,10 @@ ghost use Rattle.smp_moves.specs.Cubes.{left_in};
 ghost use Rattle.smp_flight.specs.{Requests.{AreValues, units_of}, States.{Units}, Selections.{starting}, Landings.{IsBalanced}};
 ghost use Rattle.smp_flight.specs.{Narrow.{IsNarrow}, Cube.{cube_of}, CubeMethod.{method_of}};
 
-use crate::cube_state::{CubeState, Phase};
+use crate::cube_state::CubeState;
 use crate::{Shape, is_narrow, look, start};
 use smp_frac::{NoMemory, Numbers};
+use smp_moves::Phase;
 use smp_prob::Request;
 use smp_split::{Kind, Splitting};
 use smp_values::{PivotalSteps, Values};

@@ -3,24 +3,16 @@
 ghost use Rattle.std.specs.Prelude.{◌≡◌, ◌<◌, false, length};
 ghost use Rattle.smp_split.specs.Trees.{picked, weight_sum};
 ghost use Rattle.smp_values.specs.Values.{is_one, is_settled};
-ghost use Rattle.smp_moves.specs.Cubes.{values_in};
+ghost use Rattle.smp_moves.specs.{Cubes.{values_in}, Kept.Phases.{balancing_of}};
 ghost use Rattle.smp_flight.specs.{Selections.{Balancing, IsBalancing}, Cube.{cube_kind, cube_parts}};
-ghost use Rattle.smp_flight.specs.Kept.CubeStates.{IsKept, balancing_of};
+ghost use Rattle.smp_flight.specs.Kept.CubeStates.{IsKept};
 
 use crate::{FlightState, Next, Shape, fill, fly, landed, look, step};
+use smp_moves::Phase;
 use smp_split::Kind;
 use smp_values::{PivotalSteps, Values};
 use std::marker::{Brand, Model};
 use std::sync::ledger::Blank;
-
-/// Where a selection stands.
-#[derive(Clone, Copy)]
-pub(crate) enum Phase {
-    /// The flight goes on, before the landing or in it.
-    Flying,
-    /// Pivotal steps finish the selection.
-    Pairing,
-}
 
 /// A state of a selection by the cube.
 ///

@@ -1,8 +1,8 @@
 -- The search around a head.
 use Rattle.std.proofs.Common.{◌≡◌, ℕ, ◌+◌, ◌-◌, ◌<◌, ◌≤◌, true, ℤ, List, [], ◌∷◌, ◌++◌, Option, length, take, length-take, arith, sym, ap, ◌∙◌, subst}
+use Rattle.std.specs.Prelude.{IfSome}
 use Rattle.std.specs.List.{filter, range_with_len}
 use Rattle.std.proofs.lemmas.Bool.{true≢false}
-use Rattle.std.proofs.Math.Seq.{take-append-add}
 use Rattle.smp_near.specs.Nearest.{LivingPoints, neighbours}
 use Rattle.smp_prob.specs.Shares.{Shares}
 use Rattle.smp_values.specs.Values.{fractional_units, is_fractional}
@@ -16,11 +16,10 @@ use Rattle.smp_flight.specs.declared.steps.Next.{Next as Answer}
 use Rattle.smp_flight.specs.Steps.{next_on}
 use Rattle.smp_moves.proofs.Filtered.{filter_twice}
 use Rattle.smp_moves.proofs.Entries.{order_front}
-use Rattle.smp_flight.specs.Laws.Firsts.{fractional_in, from_each}
+use Rattle.smp_flight.specs.Laws.Firsts.{fractional_in, from_each, in_front}
 use Rattle.smp_flight.specs.Laws.NextProperties.{next_on_front}
 use Rattle.smp_flight.specs.Laws.WholeOrders.{in_order_going, whole_length}
-use Rattle.smp_flight.specs.Laws.Windowed.{in_append_left}
-use Rattle.smp_localcube.specs.Local.{IsCarried, IsChosen, front_of, is_one_of, order_around, untouched}
+use Rattle.smp_localcube.specs.Local.{IsCarried, front_of, is_one_of, order_around, untouched}
 use Rattle.smp_localcube.specs.Kept.States.{IsSearched, touched_in}
 use Rattle.smp_localcube.specs.Laws.Orders.{filter_again, whole as whole_order}
 use Rattle.smp_flight.proofs.Free.{in_filter}
@@ -41,7 +40,7 @@ module _ (f : Tracked) (ok : IsOrder f.flight.values f.window) where
 pub touched_again : (f : Tracked) → touched_in f ≡ filter (is_one_of (touched_in f)) (fractional_units f.flight.values)
 touched_again f = filter_again (is_one_of f.window) (fractional_units f.flight.values)
 
-pub carried_now : (f : Tracked) (chosen : Option ℕ) → IsChosen f.flight.values chosen → IsCarried f.flight.values (touched_in f) chosen
+pub carried_now : (f : Tracked) (chosen : Option ℕ) → IfSome chosen (λ unit. is_fractional f.flight.values unit ≡ true) → IsCarried f.flight.values (touched_in f) chosen
 carried_now f chosen is = record { touched_are = touched_again f; chosen_is = is }
 
 module _ (f : Tracked) (window_ok : IsOrder f.flight.values f.window) (coords : List (List ℤ)) (head : ℕ) (has : HasHead f.flight.values (touched_in f) head) (few : length (touched_in f) ≤ f.flight.rows + 1) where
@@ -54,10 +53,7 @@ module _ (f : Tracked) (window_ok : IsOrder f.flight.values f.window) (coords : 
   -- each touched unit is among the first
   touched_first : (touched others : List ℕ) (most k : ℕ) → length touched ≤ most → is_in touched k ≡ true → is_in (take most (front_of touched head ++ others)) k ≡ true
   touched_first [] others most k h t = absurd (true≢false (sym t))
-  touched_first (u ∷ touched) others most k h t =
-      let total : length (u ∷ touched) + (most - length (u ∷ touched)) ≡ most = omega (arith, h) in
-      subst (λ (xs : List ℕ). is_in xs k ≡ true) (sym (take-append-add (u ∷ touched) others (most - length (u ∷ touched))) ∙ ap (λ m. take m (u ∷ touched ++ others)) total)
-      (in_append_left (u ∷ touched) (take (most - length (u ∷ touched)) others) k t)
+  touched_first (u ∷ touched) others most k h t = in_front most (u ∷ touched) others k h t
 
   pub searched : (order : List ℕ) → order ≡ take (f.flight.rows + 1) around → AreSearched f order
   searched order is =

@@ -10,7 +10,8 @@ use Rattle.smp_values.specs.Values.{fractional_at, is_fractional}
 use Rattle.smp_values.proofs.Units.{count_before, count_before_more, fractional_at-before}
 use Rattle.smp_localcube.specs.Kept.States.{weights_of}
 use Rattle.smp_localcube.specs.Laws.Orders.{untouched_at}
-use Rattle.smp_localcube.specs.Local.{is_untouched, untouched}
+use Rattle.smp_localcube.specs.Local.{untouched}
+use Rattle.smp_localcube.specs.Kept.Orders.{is_untouched}
 
 module _ (coords : List (List ℤ)) (s : Shares) where
   abbrev weights : List ℕ

@@ -1,5 +1,6 @@
 -- The search of the local cube begins with the touched units.
 use Rattle.std.proofs.Common.{◌≡◌, ◌≢◌, ℕ, Bool, true, false, not, nat_eq, ◌||◌, ◌⊎◌, ℤ, List, [], ◌∷◌, ◌++◌, pos, Option, Some, None, refl, sym, ap, ◌∙◌, subst, inl, inr}
+use Rattle.std.specs.Prelude.{option_map, unwrap_or}
 use Rattle.std.specs.Int.RustNames.{unsigned_abs}
 use Rattle.std.specs.List.{filter}
 use Rattle.std.proofs.lemmas.Bool.{cases_Bool, ne_eqb, or_left, or_right, true≢false}
@@ -8,37 +9,39 @@ use Rattle.std.proofs.lemmas.List.Kept.{AllPairs-filter}
 use Rattle.smp_near.specs.Nearest.{neighbours}
 use Rattle.smp_kernel.proofs.Ring.{abs_zero}
 use Rattle.smp_prob.specs.Shares.{Shares}
-use Rattle.smp_split.specs.Parts.{moved}
 use Rattle.smp_split.specs.Trees.{Part, EachPart}
+use Rattle.smp_split.specs.declared.kind.Kind.{Kind}
 use Rattle.smp_split.specs.declared.kind.Kind.TheVariants as kind
 use Rattle.smp_split.specs.Laws.Parts.{each_equal}
 use Rattle.smp_values.specs.Values.{fractional_at, fractional_count, fractional_units, is_fractional}
-use Rattle.smp_moves.specs.Cubes.{flying, pairing, flight_parts, values_in}
-use Rattle.smp_moves.specs.Moves.{IsLine, Move, Next, entry_of, independent, move}
-use Rattle.smp_moves.proofs.Entries.{frame_order, off_line, place_or}
+use Rattle.smp_moves.specs.Cubes.{flying, pairing, flight_kind, values_in}
+use Rattle.smp_moves.specs.Moves.{IsLine, Move, Next, entry_of, independent, move, wide}
+use Rattle.smp_moves.proofs.Entries.{frame_order}
 use Rattle.smp_flight.specs.Kept.Windows.{is_in}
-use Rattle.smp_flight.specs.Selections.{Balancing, IsBalancing, shares_cube}
+use Rattle.smp_flight.specs.Selections.{Balancing, IsBalancing}
 use Rattle.smp_flight.specs.States.{Flight, IsFlight, Units}
 use Rattle.smp_flight.specs.Steps.{chosen, next_on}
 use Rattle.smp_flight.specs.Laws.ByOrder.{knows}
-use Rattle.smp_flight.specs.Laws.Firsts.{fractional_in}
+use Rattle.smp_flight.specs.Laws.Firsts.{changed_in, fractional_in}
 use Rattle.smp_flight.proofs.NeverWide.{IsNextFront, KeepsFront}
-use Rattle.smp_flight.specs.Laws.Windowed.{in_at}
-use Rattle.smp_localcube.specs.Local.{AreCarried, IsCarried, IsLocal, Local, after, choosing, head_of, is_one_of, local_of, next_around, order_around, order_from, order_with, kind_around, kind_from, parts_around, parts_from, untouched}
+use Rattle.smp_localcube.specs.Local.{AreCarried, IsCarried, IsLocal, Local, after, head_of, is_one_of, local_of, next_from, order_around, order_from, kind_from, parts_from, parts_in_flight, untouched}
 use Rattle.smp_flight.proofs.Free.{out_filter, in_filter}
-use Rattle.smp_localcube.specs.Laws.Splits.{order_whole}
+use Rattle.smp_localcube.specs.Laws.Splits.{next_around, order_whole}
 use Rattle.smp_moves.proofs.Flights.{flies_not}
 use Rattle.smp_flight.proofs.Owed.{no_choice}
+
+abbrev kind_of : Option Next → Kind
+kind_of next = unwrap_or (option_map flight_kind next) kind.Choose
 
 abbrev pub IsFront : Local → List ℕ → Type 0
 IsFront s held = held ≡ s.touched
 
 -- ---- where a search begins
 
-begins_with : (coords : List (List ℤ)) (at : Balancing) (touched : List ℕ) (chosen : Option ℕ) (values : Shares) →
-    (rest : List ℕ) × (order_with (record { coords = coords; at = at; touched = touched; chosen = chosen }) values (head_of touched chosen) ≡ touched ++ rest)
-begins_with coords at [] chosen values = (order_with (record { coords = coords; at = at; touched = []; chosen = chosen }) values chosen, refl)
-begins_with coords at (u ∷ touched) chosen values = (neighbours (untouched coords values (u ∷ touched)) u, refl)
+begins_with : (coords : List (List ℤ)) (touched : List ℕ) (chosen : Option ℕ) (values : Shares) →
+    (rest : List ℕ) × (unwrap_or (option_map (order_around coords values touched) (head_of touched chosen)) (fractional_units values) ≡ touched ++ rest)
+begins_with coords [] chosen values = (unwrap_or (option_map (order_around coords values []) chosen) (fractional_units values), refl)
+begins_with coords (u ∷ touched) chosen values = (neighbours (untouched coords values (u ∷ touched)) u, refl)
 
 module _ (units : Units) (s : Local) where
   abbrev Stays : List (Part Local) → Type 0
@@ -46,26 +49,21 @@ module _ (units : Units) (s : Local) where
 
   -- ---- a choice touches nothing
   module _ (f : Flight) (left : ℕ) where
-    choice_stays : (head : Option ℕ) → kind_around units s f head ≡ kind.Choose → Stays (parts_around units s f left head)
-    choice_stays None k = each_equal (λ place. choosing s (fractional_at f.values place)) (λ p. s.touched ≡ p.state.touched) (fractional_count f.values) (λ place _. refl)
-    choice_stays (Some head) k = absurd (flies_not (next_around units s f head) k)
+    choice_stays : (next : Option Next) → kind_of next ≡ kind.Choose → Stays (parts_in_flight units s f left next)
+    choice_stays None k = each_equal (λ place. record s { chosen = Some (fractional_at f.values place) }) (λ p. s.touched ≡ p.state.touched) (fractional_count f.values) (λ place _. refl)
+    choice_stays (Some next) k = absurd (flies_not next k)
 
     -- ---- nor does a dropped row
-    drop_stays : (head : Option ℕ) → kind_around units s f head ≡ kind.Drop → next_on units (order_with s f.values head) f ≡ independent → Stays (parts_around units s f left head)
-    drop_stays None k is = absurd (let z : kind.Choose ≡ kind.Drop = k in cc)
-    drop_stays (Some head) k is = subst (λ (a : Next). Stays (moved (after s a) (flight_parts (shares_cube units) f left a))) (sym is) (refl, tt)
+    drop_stays : (next : Option Next) → kind_of next ≡ kind.Drop → Stays (parts_in_flight units s f left next)
+    drop_stays None k = absurd (let z : kind.Choose ≡ kind.Drop = k in cc)
+    drop_stays (Some (move m)) k = absurd (let z : kind.Flight ≡ kind.Drop = k in cc)
+    drop_stays (Some independent) k = (refl, tt)
+    drop_stays (Some wide) k = absurd (let z : kind.Wide ≡ kind.Drop = k in cc)
 
     -- ---- a move touches what it changes
     module _ (m : Move) (line : IsLine f.values m.direction) where
       abbrev is_carried : ℕ → Bool
       is_carried k = is_one_of s.touched k || not (nat_eq (unsigned_abs (entry_of m.direction k)) 0)
-
-      changed_units : (k : ℕ) → entry_of m.direction k ≢ pos 0 → is_in m.direction.units k ≡ true
-      changed_units k ne =
-          elim (place_or m.direction.units k) [
-            | inl i ↦ subst (λ (x : ℕ). is_in m.direction.units x ≡ true) i.2 (in_at m.direction.units i.0 i.1)
-            | inr out ↦ absurd (ne (off_line f.values m.direction line k out))
-          ]
 
       changed : (k : ℕ) → not (nat_eq (unsigned_abs (entry_of m.direction k)) 0) ≡ true → entry_of m.direction k ≢ pos 0
       changed k h z = true≢false (sym h ∙ ap (λ e. not (nat_eq (unsigned_abs e) 0)) z)
@@ -74,7 +72,7 @@ module _ (units : Units) (s : Local) where
       carried_or k h =
           elim (cases_Bool (is_one_of s.touched k)) [
             | inl t ↦ inl t
-            | inr n ↦ inr (changed_units k (changed k (rw n at h)))
+            | inr n ↦ inr (changed_in m.direction k (changed k (rw n at h)))
           ]
 
       carried_by : (k : ℕ) → (is_in s.touched k ≡ true) ⊎ (entry_of m.direction k ≢ pos 0) → is_carried k ≡ true
@@ -97,29 +95,29 @@ module _ (units : Units) (s : Local) where
             all = λ k e h. in_filter is_carried (fractional_units (values_in t)) k (fractional_in (values_in t) k e) (carried_by k h);
           }
 
-    move_touches : IsFlight units f → IsCarried f.values s.touched s.chosen → (m : Move) → (head : Option ℕ) → head_of s.touched s.chosen ≡ head → kind_around units s f head ≡ kind.Flight →
-        next_on units (order_with s f.values head) f ≡ move m → EachPart (λ p. IsNextFront (local_of units) IsFront s.touched m p.state) (parts_around units s f left head)
+    move_touches : IsFlight units f → IsCarried f.values s.touched s.chosen → (m : Move) → (head : Option ℕ) → head_of s.touched s.chosen ≡ head →
+        kind_of (option_map (next_around units s.coords f s.touched) head) ≡ kind.Flight → next_on units (unwrap_or (option_map (order_around s.coords f.values s.touched) head) (fractional_units f.values)) f ≡ move m →
+        EachPart (λ p. IsNextFront (local_of units) IsFront s.touched m p.state) (parts_in_flight units s f left (option_map (next_around units s.coords f s.touched) head))
     move_touches ok carried m None e k is = absurd (let z : kind.Choose ≡ kind.Flight = k in cc)
     move_touches ok carried m (Some head) e k is =
         let line : IsLine f.values m.direction = (knows units f left (order_around s.coords f.values s.touched head) ok (order_whole s f head carried e).is_order m is).line in
-        subst (λ (a : Next). EachPart (λ p. IsNextFront (local_of units) IsFront s.touched m p.state) (moved (after s a) (flight_parts (shares_cube units) f left a))) (sym is)
+        subst (λ (a : Next). EachPart (λ p. IsNextFront (local_of units) IsFront s.touched m p.state) (parts_in_flight units s f left (Some a))) (sym is)
         (next_front m line (flying (chosen units f m true) left), (next_front m line (flying (chosen units f m false) left), tt))
 
   choice_at : (at : Balancing) → kind_from units s at ≡ kind.Choose → Stays (parts_from units s at)
-  choice_at (flying f left) k = choice_stays f left (head_of s.touched s.chosen) k
+  choice_at (flying f left) k = choice_stays f left (next_from units s f) k
   choice_at (pairing t left) k = absurd (no_choice (fractional_units t) k)
 
 -- so its searches begin with what moves have changed
 pub keeps_front : (units : Units) → KeepsFront (local_of units) IsFront (IsLocal units)
 keeps_front units = record {
   begins = λ s held ok front f left e.
-      (let b = begins_with s.coords s.at s.touched s.chosen f.values in (b.0, ap (order_from s) e ∙ b.1 ∙ ap (λ us. us ++ b.0) (sym front)));
+      (let b = begins_with s.coords s.touched s.chosen f.values in (b.0, ap (order_from s) e ∙ b.1 ∙ ap (λ us. us ++ b.0) (sym front)));
   chosen = λ s held ok front k. subst (λ (us : List ℕ). EachPart (λ p. us ≡ p.state.touched) (parts_from units s s.at)) (sym front) (choice_at units s s.at k);
   dropped = λ s held ok front f left e is k.
       subst (λ (us : List ℕ). EachPart (λ p. us ≡ p.state.touched) (parts_from units s s.at)) (sym front)
       (subst (λ (b : Balancing). EachPart (λ p. s.touched ≡ p.state.touched) (parts_from units s b)) (sym e)
-      (drop_stays units s f left (head_of s.touched s.chosen) (subst (λ (b : Balancing). kind_from units s b ≡ kind.Drop) e k)
-      (subst (λ (b : Balancing). next_on units (order_from s b) f ≡ independent) e is)));
+      (drop_stays units s f left (next_from units s f) (subst (λ (b : Balancing). kind_from units s b ≡ kind.Drop) e k)));
   moved = λ s held ok front f left e m is k.
       subst (λ (us : List ℕ). EachPart (λ p. IsNextFront (local_of units) IsFront us m p.state) (parts_from units s s.at)) (sym front)
       (subst (λ (b : Balancing). EachPart (λ p. IsNextFront (local_of units) IsFront s.touched m p.state) (parts_from units s b)) (sym e)

@@ -1,30 +1,31 @@
 -- What the code may rest on before a move.
-use Rattle.std.proofs.Common.{◌≡◌, ℕ, Bool, true, false, not, nat_eq, ◌&&◌, ◌||◌, ℤ, pos, neg_ℤ, List, Option, Some, None, length, arith, refl, sym, ap, ◌∙◌, subst, inl, inr}
+use Rattle.std.proofs.Common.{◌≡◌, ℕ, Bool, true, false, not, nat_eq, ◌||◌, ℤ, pos, neg_ℤ, List, Option, Some, None, length, arith, refl, sym, ap, ◌∙◌, subst, inl, inr}
 use Rattle.std.specs.Int.RustNames.{unsigned_abs}
 use Rattle.std.specs.List.{filter}
 use Rattle.std.specs.Prelude.{option_map}
-use Rattle.std.proofs.lemmas.Bool.{and_from, both_ways, cases_Bool, eqb-true, ne_eqb, or_left, or_right}
+use Rattle.std.proofs.Math.Bool.{and-false, and-true, or-false}
+use Rattle.std.proofs.lemmas.Bool.{and_from, both_ways, cases_Bool, eqb-true, ne_eqb, not-false, or_left, or_right}
 use Rattle.std.proofs.lemmas.List.{ext_get_or}
 use Rattle.std.proofs.lemmas.List.FromFn.{length-map-range_with_len}
 use Rattle.smp_near.specs.Nearest.{LivingPoints, is_living}
 use Rattle.smp_prob.specs.Shares.{Shares}
 use Rattle.smp_values.specs.Values.{fractional_units, is_fractional}
 use Rattle.smp_flight.specs.States.{Flight, IsFlight, Tracked, Units}
-use Rattle.smp_moves.specs.Moves.{Next, chosen_line, move}
+use Rattle.smp_moves.specs.Moves.{Next, chosen_line, move, IsOrder, Line, Move, entry_of}
 use Rattle.smp_flight.specs.Steps.{chosen, end_at_is, next_on}
 use Rattle.smp_flight.specs.Laws.Firsts.{contains_in, fractional_in, in_contains}
 use Rattle.smp_flight.specs.Laws.WholeOrders.{in_order_going}
 use Rattle.smp_moves.proofs.Entries.{frame_order}
 use Rattle.smp_flight.specs.Answers.{IsNextWindow}
-use Rattle.smp_moves.specs.Moves.{IsOrder, Line, Move, entry_of}
 use Rattle.smp_flight.specs.Laws.ByOrder.{ends_at}
 use Rattle.smp_moves.proofs.Evens.{entry_of_turned}
-use Rattle.smp_moves.proofs.Moved.{same_still}
+use Rattle.smp_moves.proofs.Moved.{same_still, same_tests}
 use Rattle.smp_flight.specs.Laws.Nexts.{flight_over}
 use Rattle.smp_localcube.proofs.Touch.{zero_size}
 use Rattle.smp_localcube.specs.Kept.States.{AreTouched, IsReady, MayTouch, is_changed, touched_in, weights_of}
-use Rattle.smp_localcube.specs.Local.{is_one_of, is_untouched, untouched}
-use Rattle.smp_localcube.specs.Laws.Orders.{filter_same, same_truth, untouched_at}
+use Rattle.smp_localcube.specs.Local.{is_one_of, untouched}
+use Rattle.smp_localcube.specs.Kept.Orders.{is_untouched}
+use Rattle.smp_localcube.specs.Laws.Orders.{filter_same, untouched_at}
 use Rattle.smp_flight.proofs.Free.{out_filter, in_filter}
 use Rattle.smp_localcube.proofs.Around.{same_points}
 
@@ -94,7 +95,7 @@ module _ (before after : Tracked) (line : Line) (next : IsNextWindow before line
       filter_same (is_one_of after.window) (λ k. is_one_of (touched_in before) k || is_changed line k) (fractional_units after.flight.values)
       (λ k h.
       let e = in_order_going after.flight.values (fractional_units after.flight.values) (frame_order after.flight.values) k h in
-      same_truth (is_one_of after.window k) (is_one_of (touched_in before) k || is_changed line k) (touched_from k e) (touched_to k e))
+      same_tests (is_one_of after.window k) (is_one_of (touched_in before) k || is_changed line k) (touched_from k e) (touched_to k e))
 
   -- ---- the living points after it
 
@@ -104,11 +105,7 @@ module _ (before after : Tracked) (line : Line) (next : IsNextWindow before line
 
     from_touched : (k : ℕ) → is_fractional after.flight.values k ≡ true → is_changed line k ≡ false → is_one_of (touched_in after) k ≡ true → is_one_of (touched_in before) k ≡ true
     from_touched k e unchanged h =
-        or_false (is_one_of (touched_in before) k) (subst (λ (c : Bool). (is_one_of (touched_in before) k || c) ≡ true) unchanged (touched_from k e (out_filter (is_one_of after.window) (fractional_units after.flight.values) k h).1))
-      where
-        or_false : (b : Bool) → (b || false) ≡ true → b ≡ true
-        or_false true e = refl
-        or_false false e = e
+        sym (or-false (is_one_of (touched_in before) k)) ∙ subst (λ (c : Bool). (is_one_of (touched_in before) k || c) ≡ true) unchanged (touched_from k e (out_filter (is_one_of after.window) (fractional_units after.flight.values) k h).1)
 
     changed_one : (k : ℕ) → is_changed line k ≡ true → is_untouched after.flight.values (touched_in after) k ≡ false
     changed_one k changed =
@@ -119,35 +116,23 @@ module _ (before after : Tracked) (line : Line) (next : IsNextWindow before line
 
     same_one : (k : ℕ) → is_changed line k ≡ false → is_untouched after.flight.values (touched_in after) k ≡ is_untouched before.flight.values (touched_in before) k
     same_one k unchanged =
-        let zero : entry_of line k ≡ pos 0 = zero_size (entry_of line k) (eqb-true (unsigned_abs (entry_of line k)) 0 (not_false (nat_eq (unsigned_abs (entry_of line k)) 0) unchanged)) in
+        let zero : entry_of line k ≡ pos 0 = zero_size (entry_of line k) (eqb-true (unsigned_abs (entry_of line k)) 0 (not-false (nat_eq (unsigned_abs (entry_of line k)) 0) unchanged)) in
         elim (cases_Bool (is_fractional after.flight.values k)) [
           | inr e ↦ rw (e, sym (still k zero) ∙ e) refl
           | inl e ↦
               (let both : is_one_of (touched_in after) k ≡ is_one_of (touched_in before) k =
-              same_truth (is_one_of (touched_in after) k) (is_one_of (touched_in before) k) (from_touched k e unchanged)
+              same_tests (is_one_of (touched_in after) k) (is_one_of (touched_in before) k) (from_touched k e unchanged)
               (λ h. in_touched k e (or_left (is_one_of (touched_in before) k) (is_changed line k) h)) in
               rw (e, sym (still k zero) ∙ e, both) refl)
         ]
-      where
-        not_false : (b : Bool) → not b ≡ false → b ≡ true
-        not_false true e = refl
-        not_false false e = sym e
 
     living_after : (k : ℕ) → is_living now k ≡ is_untouched after.flight.values (touched_in after) k
     living_after k =
         t.living k
         ∙ elim (cases_Bool (is_changed line k)) [
-          | inl e ↦ rw e (and_false (is_living points k)) ∙ sym (changed_one k e)
-          | inr e ↦ rw e (and_true (is_living points k)) ∙ living_is before room points weights ready k ∙ sym (same_one k e)
+          | inl e ↦ rw e (and-false (is_living points k)) ∙ sym (changed_one k e)
+          | inr e ↦ rw e (and-true (is_living points k)) ∙ living_is before room points weights ready k ∙ sym (same_one k e)
         ]
-      where
-        and_false : (b : Bool) → (b && not true) ≡ false
-        and_false true = refl
-        and_false false = refl
-
-        and_true : (b : Bool) → (b && not false) ≡ b
-        and_true true = refl
-        and_true false = refl
 
     pub ready_after : length after.flight.values.numer ≡ length before.flight.values.numer → (new : List ℕ) → new ≡ weights_of now.living → IsReady after room now new
     ready_after same new weighed = record {

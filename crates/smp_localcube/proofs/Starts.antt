@@ -22,7 +22,8 @@ use Rattle.smp_flight.specs.Landings.{IsBalanced}
 use Rattle.smp_flight.proofs.Owed.{selection_balanced}
 use Rattle.smp_flight.proofs.WholeSums.{leaves_count}
 use Rattle.smp_localcube.proofs.Fronts.{IsFront, keeps_front}
-use Rattle.smp_localcube.specs.Local.{IsLocal, is_untouched, local_of, local_tree, untouched}
+use Rattle.smp_localcube.specs.Local.{IsLocal, local_of, local_tree, untouched}
+use Rattle.smp_localcube.specs.Kept.Orders.{is_untouched}
 use Rattle.smp_localcube.specs.Kept.States.{IsPlaced, IsReady, IsSearched, touched_in, weights_of}
 use Rattle.smp_localcube.specs.Method.{LocalUnits, method_of, started}
 use Rattle.smp_localcube.specs.Laws.Orders.{filter_none}
@@ -32,7 +33,7 @@ pub starts_requested : (request : Request) (xs coords : List (List ℤ)) → IsR
 starts_requested request xs coords is =
     requested_values request is (local_tree (units_of request xs)) (started (record { units = units_of request xs; coords = coords })) (is.paired ∙ sym (length-numerators request is)) (λ k _. same_refl (value_at (shares_of request) k))
 
-module _ (design : LocalUnits) (is_flight : IsFlight design.units (flights.started design.units)) where
+module _ (design : LocalUnits) (is_flight : IsFlight design.units (flights.tracked_start design.units).flight) where
   pub started_local : IsLocal design.units (started design)
   started_local = record { state = is_flight; carried = record { touched_are = filter_none (fractional_units design.units.requested); chosen_is = tt } }
 
@@ -56,7 +57,7 @@ none_touched units = sym (filter_none (fractional_units units.requested))
 pub first_searched : (units : Units) (coords : List (List ℤ)) → IsSearched units (flights.tracked_start units) coords None None
 first_searched units coords = record { is = rw (none_touched units) refl; allows = tt }
 
-module _ (dimensions : ℕ) (units : Units) (coords : List (List ℤ)) (count : ℕ) (placed : IsPlaced dimensions units coords count) (is_flight : IsFlight units (flights.started units)) where
+module _ (dimensions : ℕ) (units : Units) (coords : List (List ℤ)) (count : ℕ) (placed : IsPlaced dimensions units coords count) (is_flight : IsFlight units (flights.tracked_start units).flight) where
   same_count : length units.requested.numer ≡ length units.sizes
   same_count = is_flight.values.count
 

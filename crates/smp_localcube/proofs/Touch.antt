@@ -4,6 +4,7 @@ use Rattle.std.specs.Prelude.{option_map}
 use Rattle.std.specs.List.{range_with_len, sum, sum_by}
 use Rattle.std.proofs.lemmas.List.Sums.{sum-map, sum_by-cons}
 use Rattle.std.specs.Int.RustNames.{unsigned_abs}
+use Rattle.std.proofs.Math.Bool.{and-false}
 use Rattle.std.proofs.lemmas.Bool.{and_from, cases_Bool, cases_eq, eq-eqb, ne_eqb}
 use Rattle.std.proofs.lemmas.List.{get_or-set_other, get_or-set_same, get_or_default, map-set}
 use Rattle.std.proofs.lemmas.Int.{ints}
@@ -16,14 +17,14 @@ use Rattle.smp_split.specs.Laws.Parts.{weight_sum-equal}
 use Rattle.smp_values.specs.Values.{fractional, fractional_at, fractional_count, is_fractional}
 use Rattle.smp_moves.specs.Cubes.{flying}
 use Rattle.smp_flight.specs.States.{Tracked, Units}
-use Rattle.smp_moves.specs.Moves.{Next}
+use Rattle.smp_moves.specs.Moves.{Next, IsLine, entry_at, entry_of}
 use Rattle.smp_moves.proofs.Entries.{entry_at_none, order_going}
-use Rattle.smp_moves.specs.Moves.{IsLine, entry_at, entry_of}
 use Rattle.smp_moves.specs.Answers.{line_of}
 use Rattle.smp_moves.specs.declared.lines.Line.{Line as LineOfPlaces}
 use Rattle.smp_values.proofs.Units.{fractional_within}
-use Rattle.smp_localcube.specs.Kept.States.{AreTouched, IsReady, MayTouch, is_changed, line_to, touched_in, weights_of}
-use Rattle.smp_localcube.specs.Local.{Local, choice, choosing, head_of, is_one_of, is_untouched, parts_around, untouched}
+use Rattle.smp_localcube.specs.Kept.States.{AreTouched, IsReady, MayTouch, is_changed, line_to, step_around, touched_in, weights_of}
+use Rattle.smp_localcube.specs.Kept.Orders.{is_untouched}
+use Rattle.smp_localcube.specs.Local.{Local, head_of, is_one_of, parts_from, parts_in_flight, untouched}
 
 -- one place more of a line whose units are different
 pub entry_at_more : (us : List ℕ) (es : List ℤ) (n k : ℕ) → n < length us → n < length es → ((j : ℕ) → j < n → get_or us j 0 ≢ get_or us n 0) →
@@ -90,19 +91,15 @@ module _ (units : Units) (f : Tracked) (left : ℕ) (room : Shares) (points : Li
       ap (λ (ws : List ℕ). sum ws) (ready.weighed ∙ ap (λ alive. weights_of alive) (ready.living ∙ ap (λ (t : List ℕ). (untouched points.coords f.flight.values t).living) (none_touched (touched_in f) chosen none)))
       ∙ untouched_total points.coords f.flight.values
 
-  pub choice_parts : parts_around units state f.flight left (head_of (touched_in f) chosen) ≡ choice state f.flight.values
-  choice_parts = ap (parts_around units state f.flight left) none
+  pub choice_parts : parts_from units state state.at ≡ parts_in_flight units state f.flight left None
+  choice_parts = ap (λ h. parts_in_flight units state f.flight left (option_map (step_around units points.coords f) h)) none
 
-  pub choice_bound : sum weights ≡ weight_sum (parts_around units state f.flight left (head_of (touched_in f) chosen))
+  pub choice_bound : sum weights ≡ weight_sum (parts_from units state state.at)
   choice_bound =
       choice_total ∙ sym (ap (λ (ps : List (Part Local)). weight_sum ps) choice_parts
-      ∙ weight_sum-equal (λ place. choosing state (fractional_at f.flight.values place)) (fractional_count f.flight.values))
+      ∙ weight_sum-equal (λ place. record state { chosen = Some (fractional_at f.flight.values place) }) (fractional_count f.flight.values))
 
 -- ---- one place of a line
-
-and_false : (b : Bool) → (b && false) ≡ false
-and_false true = refl
-and_false false = refl
 
 pub zero_size : (e : ℤ) → unsigned_abs e ≡ 0 → e ≡ pos 0
 zero_size e h = omega (arith, ints, h)
@@ -158,7 +155,7 @@ module _ (s : Shares) (line : LineOfPlaces) (ok : IsLine s (line_of line)) (long
         coords = t.coords;
         count = length-set now.living unit false ∙ t.count;
         living = both (removed now unit)
-            (get_or-set_same now.living unit false false living_within ∙ sym (ap (λ (c : Bool). is_living before unit && not c) changed ∙ and_false (is_living before unit)))
+            (get_or-set_same now.living unit false false living_within ∙ sym (ap (λ (c : Bool). is_living before unit && not c) changed ∙ and-false (is_living before unit)))
             (λ k ne. get_or-set_other now.living unit k false false (λ e. ne (sym e)));
       }
 

@@ -1,6 +1,7 @@
 //! The local cube in any number of dimensions, from one to four.
 
 ghost use Rattle.std.specs.Prelude.{◌≡◌, IfOk};
+ghost use Rattle.smp_near.specs.Dimensions.{in_any};
 ghost use Rattle.smp_split.specs.Methods.{Starts};
 ghost use Rattle.smp_moves.specs.Cubes.{left_in};
 ghost use Rattle.smp_flight.specs.Landings.{IsBalanced};
@@ -65,40 +66,13 @@ macro_rules! in_each {
 }
 
 impl AnyLocalCube {
-    /// A design over points with one coordinate.
-    pub fn one(design: LocalCube<1>) -> AnyLocalCube
-        ensures { result ≡ design }
+    /// The design over points with one to four coordinates.
+    pub fn of(
+        design: ByDimensions<LocalCube<1>, LocalCube<2>, LocalCube<3>, LocalCube<4>>,
+    ) -> AnyLocalCube
+        ensures { result ≡ in_any design }
     {
-        AnyLocalCube {
-            design: ByDimensions::One(design),
-        }
-    }
-
-    /// A design over points with two coordinates.
-    pub fn two(design: LocalCube<2>) -> AnyLocalCube
-        ensures { result ≡ design }
-    {
-        AnyLocalCube {
-            design: ByDimensions::Two(design),
-        }
-    }
-
-    /// A design over points with three coordinates.
-    pub fn three(design: LocalCube<3>) -> AnyLocalCube
-        ensures { result ≡ design }
-    {
-        AnyLocalCube {
-            design: ByDimensions::Three(design),
-        }
-    }
-
-    /// A design over points with four coordinates.
-    pub fn four(design: LocalCube<4>) -> AnyLocalCube
-        ensures { result ≡ design }
-    {
-        AnyLocalCube {
-            design: ByDimensions::Four(design),
-        }
+        AnyLocalCube { design }
     }
 
     /// The state before the first step. Over all draws, each unit is selected with the probability that is its value, and where the

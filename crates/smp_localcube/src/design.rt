@@ -9,10 +9,11 @@ ghost use Rattle.smp_moves.specs.Cubes.{left_in};
 ghost use Rattle.smp_flight.specs.{Landings.{IsBalanced}, Narrow.{IsNarrow}, Requests.{AreValues, units_of}};
 ghost use Rattle.smp_localcube.specs.{Kept.States.{IsPlaced}, Local.{local_of}, Method.{LocalUnits, method_of, started}};
 
-use crate::state::{LocalCubeState, Phase};
+use crate::state::LocalCubeState;
 use smp_flight::{Shape, is_narrow, start};
 use smp_frac::{NoMemory, Numbers};
 use smp_kernel::Tables;
+use smp_moves::Phase;
 use smp_near::Points;
 use smp_places::Amounts;
 use smp_prob::Request;

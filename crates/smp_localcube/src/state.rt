@@ -12,21 +12,13 @@ ghost use Rattle.smp_localcube.specs.Kept.States.{state_of, step_around, touched
 use crate::orders::{Order, is_among, rising};
 use smp_flight::{FlightState, Line, Next, Shape, fill, fly, landed, step_on};
 use smp_kernel::Tables;
+use smp_moves::Phase;
 use smp_near::Points;
 use smp_places::Amounts;
 use smp_split::Kind;
 use smp_values::{PivotalSteps, Values};
 use std::marker::{Brand, Model};
 use std::sync::ledger::Blank;
-
-/// Where a selection stands.
-#[derive(Clone, Copy)]
-pub(crate) enum Phase {
-    /// The flight goes on, before the landing or in it.
-    Flying,
-    /// Pivotal steps finish the selection.
-    Pairing,
-}
 
 /// A state of a selection by the local cube.
 ///

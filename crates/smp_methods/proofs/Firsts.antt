@@ -27,7 +27,8 @@ use Rattle.smp_flight.proofs.CubeStarts.{cube_starts, starts_requested as cube_r
 use Rattle.smp_localcube.proofs.Starts.{local_starts as local_cube_starts, starts_requested as local_cube_requested}
 use Rattle.smp_localpiv.specs.Coordinates.{points_from}
 use Rattle.smp_localpiv.proofs.Starts.{local_around, local_starts, starts_open, starts_requested as local_requested}
-use Rattle.smp_stratcube.specs.Layers.{IsLayer, Layer, layer_of, no_layer}
+use Rattle.smp_stratcube.specs.Layers.{IsLayer, Layer, no_layer}
+use Rattle.smp_stratcube.specs.Kept.Layers.{layer_of}
 use Rattle.smp_stratcube.specs.Units as strata
 use Rattle.smp_stratcube.proofs.BySteps.{counts_so, is_balanced}
 use Rattle.smp_stratcube.proofs.Layered.{units_are as layers_units}

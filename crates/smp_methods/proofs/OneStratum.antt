@@ -22,9 +22,10 @@ use Rattle.smp_flight.specs.Requests.{AreValues}
 use Rattle.smp_stratcube.specs.declared.values.Value.{Value}
 use Rattle.smp_stratcube.specs.Balances.{addend, target}
 use Rattle.smp_stratcube.specs.Counts.{HasCounts, selected_in}
-use Rattle.smp_stratcube.specs.States.{Balancing, requested_values as requested_values_of, started}
+use Rattle.smp_stratcube.specs.States.{Balancing, started}
 use Rattle.smp_stratcube.specs.Cube.{strat_tree}
-use Rattle.smp_stratcube.specs.Layers.{AreLayers, AreNumbers, Layer, layer_of, no_layer, variables, width}
+use Rattle.smp_stratcube.specs.Layers.{AreLayers, AreNumbers, Layer, no_layer, variables}
+use Rattle.smp_stratcube.specs.Kept.Layers.{width, layer_of}
 use Rattle.smp_stratcube.specs.Requests.{AreRequested}
 use Rattle.smp_stratcube.specs.Units.{IsUnits, Units, member_of, members_from, nobody, share, stratum, units_of}
 use Rattle.smp_stratcube.specs.declared.units.Member.{Member}
@@ -43,15 +44,15 @@ module _ (layer : Layer) where
   abbrev units : Units
   units = units_of (layer ∷ [])
 
-  length_units : length units.members ≡ length layer.shape
+  length_units : length units.members ≡ length layer.request.shape
   length_units =
-      let own : List Member = map (member_of 1 0 layer) (range_with_len 0 (length layer.shape)) in
-      length-append own [] ∙ omega (arith, length-map-range_with_len (member_of 1 0 layer) 0 (length layer.shape))
+      let own : List Member = map (member_of 1 0 layer) (range_with_len 0 (length layer.request.shape)) in
+      length-append own [] ∙ omega (arith, length-map-range_with_len (member_of 1 0 layer) 0 (length layer.request.shape))
 
   -- all units are of the first stratum
   in_first : (k : ℕ) → stratum units k ≡ 0
   in_first k =
-      elim (cases_lt k (length layer.shape)) [
+      elim (cases_lt k (length layer.request.shape)) [
         | inl l ↦
             (let e : k ≡ 0 + k = omega arith in
             ap (λ i. (get_or (members_from 1 0 (layer ∷ [])) i nobody).stratum) e
@@ -67,7 +68,7 @@ module _ (layer : Layer) where
   module _ (are : IsUnits units) where
     all_valued : Same (target units 0) (value_sum (strat_tree units) (λ _. whole 1) (started units))
     all_valued =
-        sum_same (length units.members) (addend units 0) (λ k. times (whole 1) (value_at (requested_values_of units) k))
+        sum_same (length units.members) (addend units 0) (λ k. times (whole 1) (value_at (values_in (started units)) k))
         (λ k l. subst (λ (v : Value). Same (addend units 0 k) (times (whole 1) (fraction_of v.at))) (sym (first_at units are k))
         (subst (λ h. Same (times (whole (cond (nat_eq h 0) 1 0)) (fraction_of (share units k))) (times (whole 1) (fraction_of (share units k)))) (sym (in_first k))
         (same_refl (times (whole 1) (fraction_of (share units k))))))
@@ -93,7 +94,7 @@ are_layers request values is paired are = record {
     by_values true none some = (let empty : length values ≡ 0 = eqb-true (length values) 0 none in absurd (omega (arith, empty, some, paired, is.paired)))
     by_values false more some = rw more refl
 
-    first_same : (h : ℕ) → h < 1 → 1 ≤ length (slice_index_or (layer_of request values ∷ []) h no_layer).shape → width (slice_index_or (layer_of request values ∷ []) h no_layer) ≡ variables (layer_of request values ∷ [])
+    first_same : (h : ℕ) → h < 1 → 1 ≤ length (slice_index_or (layer_of request values ∷ []) h no_layer).request.shape → width (slice_index_or (layer_of request values ∷ []) h no_layer) ≡ variables (layer_of request values ∷ [])
     first_same zero l some = by_values (nat_eq (length values) 0) refl some
     first_same (suc h) l some = absurd (omega (arith, l))
 
@@ -110,5 +111,5 @@ one_requested request values is asked =
     (length_units layer ∙ is.paired ∙ sym (length-numerators request is))
     (λ k l. (let e : 0 + k ≡ k = omega arith in
     let within : k < length request.free = omega (arith, l, length-numerators request is) in
-    same_trans (subst (λ i. Same (value_at (requested_values_of (units_of (layer ∷ []))) i) (over (get_or request.shape k 0 * request.r) request.total)) e
+    same_trans (subst (λ i. Same (value_at (values_in (started (units_of (layer ∷ [])))) i) (over (get_or request.shape k 0 * request.r) request.total)) e
     (asked 0 k (omega arith) (omega (arith, within, is.paired)))) (same_sym (numerator_is_free_fraction request is k within))))

@@ -16,7 +16,8 @@ use Rattle.smp_values.specs.Starts.{IsRequested, DrawsWhole}
 use Rattle.smp_values.proofs.Requests.{adds_to_draws}
 use Rattle.smp_design.specs.declared.method.Method as named
 use Rattle.smp_stratcube.specs.States.{started}
-use Rattle.smp_stratcube.specs.Layers.{Layer, layer_of}
+use Rattle.smp_stratcube.specs.Layers.{Layer}
+use Rattle.smp_stratcube.specs.Kept.Layers.{layer_of}
 use Rattle.smp_stratcube.specs.Cube.{strat_tree}
 use Rattle.smp_stratcube.specs.Requests.{AreRequested}
 use Rattle.smp_stratcube.specs.Units.{units_of}

@@ -27,7 +27,7 @@ use Rattle.smp_localpiv.specs.Coordinates.{points_from}
 use Rattle.smp_localcube.specs.Local as near_cube
 use Rattle.smp_localcube.specs.Method as local_cube
 use Rattle.smp_stratcube.specs.States as stratified
-use Rattle.smp_stratcube.specs.Layers.{Layer, layer_of}
+use Rattle.smp_stratcube.specs.Layers.{Layer}
 use Rattle.smp_stratcube.specs.Cube.{strat_tree}
 use Rattle.smp_stratcube.specs.Units as strata
 use Rattle.smp_methods.specs.Procedures.{balancing_values}
@@ -62,7 +62,7 @@ design_by method.LocalCube way request values = designs.LocalCube (record {
   coords = points_from way.near way.balance values;
 })
 design_by method.StratifiedCube way request values =
-    design_of_strata (layer_of request (balancing_values way.balance values) ∷ [])
+    design_of_strata (record { request = request; values = balancing_values way.balance values } ∷ [])
 
 -- the same, by a procedure
 abbrev pub design_of : Procedure → Request → List (List ℤ) → AnyDesign

@@ -11,6 +11,7 @@ ghost use Rattle.smp_methods.specs.Procedures.{balancing_values};
 use smp_frac::{NoMemory, Numbers};
 use smp_localcube::{AnyLocalCube, LocalCube};
 use smp_localpiv::points;
+use smp_near::ByDimensions;
 use smp_prob::Request;
 use std::alloc::Global;
 
@@ -36,12 +37,13 @@ pub(crate) fn local_cube(
 {
     let balancing = fronts(alloc, balance, values)?;
     let xs = balancing.as_slice();
-    Ok(match near {
-        1 => AnyLocalCube::one(located::<1>(alloc, request, xs, balance, values)?),
-        2 => AnyLocalCube::two(located::<2>(alloc, request, xs, balance, values)?),
-        3 => AnyLocalCube::three(located::<3>(alloc, request, xs, balance, values)?),
-        _ => AnyLocalCube::four(located::<4>(alloc, request, xs, balance, values)?),
-    })
+    let design = match near {
+        1 => ByDimensions::One(located::<1>(alloc, request, xs, balance, values)?),
+        2 => ByDimensions::Two(located::<2>(alloc, request, xs, balance, values)?),
+        3 => ByDimensions::Three(located::<3>(alloc, request, xs, balance, values)?),
+        _ => ByDimensions::Four(located::<4>(alloc, request, xs, balance, values)?),
+    };
+    Ok(AnyLocalCube::of(design))
 }
 
 // The design over points with `K` coordinates, which are values from a place on.

@@ -4,7 +4,7 @@ ghost use Rattle.std.specs.Prelude.{◌≡◌, ◌∷◌, [], IfOk, length};
 ghost use Rattle.smp_prob.specs.Requests.{IsRequest};
 ghost use Rattle.smp_values.specs.Starts.{IsRequested};
 ghost use Rattle.smp_flight.specs.Requests.{AreValues};
-ghost use Rattle.smp_stratcube.specs.{States.{started}, Layers.{layer_of}, Method.{method_of}, Units.{units_of}};
+ghost use Rattle.smp_stratcube.specs.{States.{started}, Method.{method_of}, Units.{units_of}};
 
 use smp_frac::{NoMemory, Numbers};
 use smp_prob::Request;
@@ -21,7 +21,7 @@ pub(crate) fn stratified_cube(
     requires paired { length values.now ≡ length request.now.free }
     requires values { AreValues values.now }
     ensures design { IfOk result (λ design.
-        design ≡ units_of (layer_of request.now values.now ∷ [])) }
+        design ≡ units_of (record { request = request.now; values = values.now } ∷ [])) }
     ensures requested { IfOk result (λ design.
         IsRequested (method_of design).tree request.now (started design)) }
 {

@@ -233,6 +233,6 @@ stepping_by setting IsAllowed end_at owes = record {
   next_on = λ units order f. next_by (setting units) (end_at units) order f;
   end_at = end_at;
   is_next = λ units f order allowed. next_is (setting units) (end_at units) f order (owes units f order allowed);
-  is_moved = λ units f order allowed m e plus.
-      known_end (setting units) (end_at units) f order (owes units f order allowed) m (known (setting units) (end_at units) f order m e) plus;
+  is_moved = λ units f order allowed m e.
+      (let moved = known_end (setting units) (end_at units) f order (owes units f order allowed) m (known (setting units) (end_at units) f order m e) in (moved true, moved false));
 }

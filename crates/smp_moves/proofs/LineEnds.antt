@@ -22,9 +22,9 @@ use Rattle.smp_values.proofs.Fractional.{fractional_den}
 use Rattle.smp_moves.specs.declared.lines.Ratio.{Ratio}
 use Rattle.smp_moves.specs.declared.reaches.Reach.{Reach}
 use Rattle.smp_prob.specs.Shares.{Shares}
-use Rattle.smp_moves.specs.Moves.{Line, IsLine, entry_of, fraction_of, StaysWithin, IsGreatest, MakesWhole, IsMoved}
+use Rattle.smp_moves.specs.Moves.{Line, IsLine, entry_of, fraction_of, StaysWithin, IsGreatest, IsMoved}
 use Rattle.smp_moves.specs.Ends.{room, reach, lowest, extent, advanced, advanced_numbers, common_factor, end_of}
-use Rattle.smp_moves.specs.Kept.Ends.{IsOver}
+use Rattle.smp_moves.specs.Kept.Ends.{IsOver, MakesWhole}
 use Rattle.smp_moves.proofs.Along.{StaysAt, stays_at, furthest, advanced_is}
 use Rattle.smp_moves.proofs.Reaching.{IsReach, is_reach}
 use Rattle.smp_moves.proofs.Entries.{order_going, order_within, some_entry, room_some, on_line, off_line, place_or}

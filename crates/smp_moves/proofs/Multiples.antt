@@ -1,6 +1,5 @@
 -- The least common multiple of some numbers: each of them divides it, and it divides each number that they all divide.
-use Rattle.std.proofs.Common.{ℕ, zero, suc, ◌<◌, ◌≤◌, List, [], ◌∷◌, ◌++◌, length, get_or, map, arith}
-use Rattle.std.proofs.Common.{le_of_suc-le-suc}
+use Rattle.std.proofs.Common.{ℕ, zero, suc, ◌<◌, ◌≤◌, List, [], ◌∷◌, ◌++◌, length, get_or, map, arith, le_of_suc-le-suc}
 use Rattle.std.specs.Prelude.{fold}
 use Rattle.std.proofs.lemmas.Nat.Gcd.{dvd_refl, dvd_trans}
 use Rattle.std.proofs.Math.Nat.{one-dvd, le_of_dvd}

@@ -1,14 +1,14 @@
 -- The cube (Deville and Tillé 2004), in whatever its values are kept: its states and its draw tree. The flight's moves keep the balancing
 -- totals as long as there is a direction for them. Then the landing begins. Where no direction is left, the last row in force is dropped,
 -- and the flight goes on without it. Where a number would pass its gate, pivotal steps finish the selection.
-use Rattle.std.specs.Prelude.{ℕ, ◌+◌, ◌-◌, Bool, true, false, nat_eq, if◌then◌else◌, List, [], ◌∷◌, map}
+use Rattle.std.specs.Prelude.{ℕ, ◌+◌, ◌-◌, Bool, nat_eq, if◌then◌else◌, List, [], ◌∷◌, map}
 use Rattle.smp_frac.specs.Fractions.{Fraction}
 use Rattle.smp_kernel.specs.RowReduction.{cut, AreIndependent}
 use Rattle.smp_split.specs.Trees.{Part, Tree}
 use Rattle.smp_split.specs.Parts.{moved}
 use Rattle.smp_split.specs.declared.kind.Kind.{Kind}
 use Rattle.smp_split.specs.declared.kind.Kind.TheVariants as kind
-use Rattle.smp_moves.specs.Moves.{Line, Move, Next, Setting, move, independent, wide, chosen_line}
+use Rattle.smp_moves.specs.Moves.{Line, Move, Next, Setting, move, independent, wide, chosen_line, turned}
 
 -- ---- the states
 
@@ -45,10 +45,6 @@ module _ {Values Fixed : Type 0} where
   rank_in fractional (flying f left) = fractional f.values + f.rows + 1
   rank_in fractional (pairing values left) = fractional values
 
-  -- the last row in force is dropped
-  abbrev pub dropped : Flight Values Fixed → Flight Values Fixed
-  dropped f = record f { rows = f.rows - 1 }
-
   -- the state at the end of a move that is chosen, by the values at the end of a line
   abbrev pub chosen_by : (Values → Line → Values) → Flight Values Fixed → Move → Bool → Flight Values Fixed
   chosen_by end_at f m plus = record f { values = end_at f.values (chosen_line m plus) }
@@ -80,13 +76,17 @@ pub record Cube (Values : Type 0) : Type 1 where
   pub pair_parts : Values → List (Part Values)
 
 module _ {Values Fixed : Type 0} (cube : Cube Values) where
-  -- the parts of a state in flight, by its next step
+  -- the parts of a state in flight, by its next step: to the ends of a move, or with the last row in force dropped, or over to pivotal
+  -- steps
   abbrev pub flight_parts : Flight Values Fixed → ℕ → Next → List (Part (Balancing Values Fixed))
   flight_parts f left (move m) =
-      record { weight = m.plus_weight; state = flying (chosen_by cube.end_at f m true) left }
-      ∷ record { weight = m.minus_weight; state = flying (chosen_by cube.end_at f m false) left } ∷ []
+      record { weight = m.plus_weight; state = flying (record f { values = cube.end_at f.values m.direction }) left }
+      ∷ record { weight = m.minus_weight; state = flying (record f { values = cube.end_at f.values (turned m.direction) }) left } ∷ []
   flight_parts f left independent =
-      record { weight = 1; state = flying (dropped f) (landed (cube.fractional_count f.values) left) } ∷ []
+      record {
+        weight = 1;
+        state = flying (record f { rows = f.rows - 1 }) (landed (cube.fractional_count f.values) left);
+      } ∷ []
   flight_parts f left wide =
       record { weight = 1; state = pairing f.values (landed (cube.fractional_count f.values) left) } ∷ []
 

@@ -54,10 +54,6 @@ pub record IsGreatest (s : Shares) (line : Line) (r : Ratio) : Type 0 where
   pub stays : StaysWithin s line (fraction_of r)
   pub greatest : (t : Fraction) → StaysWithin s line t → AtMost t (fraction_of r)
 
--- each value, times d, is whole
-abbrev pub MakesWhole : ℕ → Shares → Type 0
-MakesWhole d t = (k : ℕ) → t.den ∣ slice_index t.numer k * d
-
 -- the values r along the line, over the requested denominator times the least number that makes all of them whole
 pub record IsMoved (requested_den : ℕ) (s : Shares) (line : Line) (r : Ratio) (t : Shares) : Type 0 where
   pub same_length : length t.numer ≡ length s.numer
@@ -65,7 +61,8 @@ pub record IsMoved (requested_den : ℕ) (s : Shares) (line : Line) (r : Ratio) 
   pub positive : 1 ≤ t.den
   pub times : ℕ
   pub multiple : t.den ≡ requested_den * times
-  pub least : (m : ℕ) → 1 ≤ m → MakesWhole (requested_den * m) t → times ≤ m
+  pub least :
+      (m : ℕ) → 1 ≤ m → ((k : ℕ) → t.den ∣ slice_index t.numer k * (requested_den * m)) → times ≤ m
 
 -- ---- the move
 

@@ -1,6 +1,6 @@
 -- One step of a cube's flight (Deville and Tillé 2004) by its properties, in whatever the values are kept: the direction of a circuit,
 -- which the columns take to 0, the move along it, and where a number passes its gate.
-use Rattle.std.specs.Prelude.{◌≡◌, ◌⊎◌, ℕ, ◌*◌, ◌/◌, ◌≤◌, Bool, List, [], ◌∷◌, ℤ, pos, negsuc, neg_ℤ, length, map, take, fold}
+use Rattle.std.specs.Prelude.{◌≡◌, ◌⊎◌, ℕ, ◌*◌, ◌/◌, ◌≤◌, List, [], ◌∷◌, ℤ, pos, negsuc, neg_ℤ, length, map, take, fold}
 use Rattle.std.specs.Int.RustNames.{unsigned_abs}
 use Rattle.std.specs.Int.{IsGcd}
 use Rattle.smp_frac.specs.Fractions.{Same, whole, times}
@@ -11,8 +11,7 @@ use Rattle.smp_kernel.specs.Reduced.{IsReduced}
 use Rattle.smp_kernel.specs.Searches.{Search, found, none, too_wide, IsSearch}
 use Rattle.smp_prob.specs.Given.{least_multiple}
 use Rattle.smp_moves.specs.declared.lines.Ratio.{Ratio}
-use Rattle.smp_moves.specs.Moves.{Line, Move, Setting, IsGreatest, fraction_of, turned}
-use Rattle.smp_moves.specs.Moves.{Next, move, independent, wide, chosen_line, chosen_extent}
+use Rattle.smp_moves.specs.Moves.{Line, Move, Setting, IsGreatest, fraction_of, turned, Next, move, independent, wide}
 use Rattle.smp_moves.specs.Ends.{lowest}
 use Rattle.smp_moves.specs.Cubes.{Balancing, Cube, Flight, flying, pairing, HasIndependentColumns}
 
@@ -123,8 +122,9 @@ pub record Stepping {Units Values Fixed : Type 0} (setting : Units → Setting V
       IsNext (setting units) f order (next_on units order f)
   pub is_moved :
       (units : Units) (f : Flight Values Fixed) (order : List ℕ) → IsAllowed units f order →
-      (m : Move) → next_on units order f ≡ move m → (plus : Bool) →
-      (setting units).IsEnd f.values (chosen_line m plus) (chosen_extent m plus) (end_at units f.values (chosen_line m plus))
+      (m : Move) → next_on units order f ≡ move m →
+      (setting units).IsEnd f.values m.direction m.up (end_at units f.values m.direction)
+      × (setting units).IsEnd f.values (turned m.direction) m.down (end_at units f.values (turned m.direction))
 
 -- ---- where the landing may begin
 

@@ -12,8 +12,7 @@ use Rattle.smp_stratcube.specs.declared.fronts.Front.{Front}
 use Rattle.smp_stratcube.specs.declared.values.Value.{Value}
 use Rattle.smp_stratcube.specs.Values.{fractional_count, fractional_units, is_fractional, value}
 use Rattle.smp_stratcube.specs.Kept.Fronts.{IsAhead, IsFilled, IsFront, IsStanding, front_units, units_on}
-use Rattle.smp_stratcube.specs.Laws.Splits.{order_count}
-use Rattle.smp_stratcube.specs.Laws.Units.{fractional_in, order_going}
+use Rattle.smp_stratcube.specs.Laws.Units.{fractional_in, order_going, order_count}
 
 -- ---- the units from a place on
 

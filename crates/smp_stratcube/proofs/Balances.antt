@@ -1,6 +1,6 @@
 -- The cube over all strata owes what a balanced selection owes, and its start is one.
-use Rattle.std.proofs.Common.{◌≡◌, ◌≢◌, ℕ, ◌<◌, ◌≤◌, ◌^◌, nat_eq, nat_lt, true, false, cond, ℤ, pos, Option, Some, None, List, [], ◌∷◌, filter, map, take, length, get_or, arith, refl, sym, ap, ◌∙◌, subst, inl, inr}
-use Rattle.std.proofs.lemmas.Bool.{cases_Bool, cases_lt, eqb-false, ne_eqb, true≢false}
+use Rattle.std.proofs.Common.{◌≡◌, ◌≢◌, ℕ, ◌<◌, ◌≤◌, ◌^◌, nat_eq, nat_lt, true, false, cond, ℤ, pos, List, [], ◌∷◌, filter, map, take, length, arith, refl, sym, ap, ◌∙◌, subst, inl, inr}
+use Rattle.std.proofs.lemmas.Bool.{cases_Bool, cases_lt, eqb-false, true≢false}
 use Rattle.std.proofs.lemmas.List.{length-map, get_or-map, get_or_past}
 use Rattle.std.specs.Int.{IsGcd}
 use Rattle.std.proofs.lemmas.Nat.Gcd.{dvd_refl, dvd-zero}
@@ -12,6 +12,7 @@ use Rattle.smp_split.specs.Trees.{EachPart}
 use Rattle.smp_split.specs.Parts.{moved}
 use Rattle.smp_split.specs.declared.kind.Kind.TheVariants as kind
 use Rattle.smp_values.specs.Values.{fractional}
+use Rattle.smp_values.specs.Steps.{kind_on}
 use Rattle.smp_moves.specs.Moves.{Line, Move, entry_of, fraction_of, turned, Next, move, independent, wide}
 use Rattle.smp_moves.specs.Balances.{Begins}
 use Rattle.smp_moves.specs.Owed.{HasKept, HasStayed, IsStart, Owes}
@@ -22,11 +23,13 @@ use Rattle.smp_moves.specs.Cubes.{flying, pairing, values_in, flight_kind}
 use Rattle.smp_stratcube.specs.declared.units.Member.{Member}
 use Rattle.smp_stratcube.specs.declared.values.Value.{Value}
 use Rattle.smp_stratcube.specs.Units.{Units, IsUnits, column, member, nobody, share, stratum}
-use Rattle.smp_stratcube.specs.Values.{AreValues, IsValue, common_of, fractional_count, fractional_units, is_fractional, is_settled, nothing, over_common, touched_units, value, value_at}
-use Rattle.smp_stratcube.specs.States.{Balancing, Flight, IsBalancing, IsFlying, requested_value, started}
-use Rattle.smp_stratcube.specs.Moves.{line_common, setting_of}
+use Rattle.smp_stratcube.specs.Values.{AreValues, IsValue, common_of, fractional_count, fractional_units, is_fractional, is_settled, nothing, over_common, taken_over, touched_units, value, value_at}
+use Rattle.smp_stratcube.specs.States.{Balancing, Flight, IsBalancing, IsFlying, started}
+use Rattle.smp_stratcube.specs.Kept.States.{requested_value}
+use Rattle.smp_stratcube.specs.Moves.{setting_of}
 use Rattle.smp_stratcube.specs.Kept.Computed.{moved_values, next, flight_of}
-use Rattle.smp_stratcube.specs.Pairs.{first_pair, kind_by, meeting, parts_by, settling, is_either}
+use Rattle.smp_stratcube.specs.Pairs.{step_units}
+use Rattle.smp_stratcube.specs.Kept.Pairs.{is_one_of, parts_of}
 use Rattle.smp_stratcube.specs.Cube.{cube_by}
 use Rattle.smp_stratcube.specs.Laws.Nexts.{each_step}
 use Rattle.smp_stratcube.specs.Kept.Trees.{IsBalanced, flight_parts, strat_kind, strat_parts, weighed_of}
@@ -34,10 +37,10 @@ use Rattle.smp_stratcube.specs.Balances.{addend, expanded}
 use Rattle.smp_kernel.specs.Searches.{found}
 use Rattle.smp_stratcube.specs.Laws.Directions.{line_ok}
 use Rattle.smp_stratcube.specs.Laws.Moves.{IsEnd, plus_end, minus_end}
-use Rattle.smp_stratcube.specs.Laws.Pairs.{IsMeeting, pair_found}
+use Rattle.smp_stratcube.specs.Laws.Pairs.{IsStep, each_paired, not_among, step_at, step_is}
 use Rattle.smp_stratcube.specs.Laws.Splits.{strat_lawful, values_ok}
 use Rattle.smp_stratcube.specs.Laws.Taken.{taken_kept}
-use Rattle.smp_stratcube.specs.Laws.Units.{front_going, order_apart, order_going}
+use Rattle.smp_stratcube.specs.Laws.Units.{front_going}
 use Rattle.smp_stratcube.proofs.Landed.{drop_at, few_at, lands_at as begins_stuck}
 use Rattle.smp_stratcube.proofs.Totals.{inverse_cancels, plus_total, minus_total}
 use Rattle.smp_moves.specs.Steps.{Finds}
@@ -54,7 +57,7 @@ on_line_open units f ok w finds k ne =
     let line : Line = direction (share units) (fractional_units f.values) w in
     elim (place_or (take (length w) (fractional_units f.values)) k) [
       | inl h ↦ subst (λ (x : ℕ). is_fractional f.values x ≡ true) h.2 (front_going f.values (length w) h.0 h.1)
-      | inr out ↦ absurd (ne (off_line (over_common (line_common units f.values (take (length w) (fractional_units f.values))) f.values) line (line_ok units f ok w finds) k out))
+      | inr out ↦ absurd (ne (off_line (over_common (common_of units f.values (take (length w) (fractional_units f.values))) f.values) line (line_ok units f ok w finds) k out))
     ]
 
 -- ---- a settled unit keeps its value
@@ -83,31 +86,16 @@ module _ (units : Units) (values : List Value) (left k : ℕ) (still : is_fracti
     same = subst (λ (v : Value). Same (fraction_of v.at) (value_at values k)) (sym same) (same_refl (value_at values k));
   }
 
-  other : (i : ℕ) → is_fractional values i ≡ true → i ≢ k
-  other i h e = true≢false (sym h ∙ subst (λ (x : ℕ). is_fractional values x ≡ false) (sym e) still)
-
-  meeting_kept : (i j : ℕ) → IsMeeting units values i j → EachPart (λ p. Kept p.state) (moved (λ v. pairing v left) (meeting units values i j))
-  meeting_kept i j m =
-      let out : is_either i j k ≡ false = rw (ne_eqb i k (other i m.first), ne_eqb j k (other j m.second)) refl in
-      (same_kept _ (taken_kept (is_either i j) values _ k out), (same_kept _ (taken_kept (is_either i j) values _ k out), tt))
-
-  settling_kept : (i : ℕ) → is_fractional values i ≡ true → EachPart (λ p. Kept p.state) (moved (λ v. pairing v left) (settling values i))
-  settling_kept i h =
-      let out : nat_eq i k ≡ false = ne_eqb i k (other i h) in
-      (same_kept _ (taken_kept (nat_eq i) values _ k out), (same_kept _ (taken_kept (nat_eq i) values _ k out), tt))
-
-  alone_kept : (order : List ℕ) → ((j : ℕ) → j < length order → is_fractional values (get_or order j 0) ≡ true) → EachPart (λ p. Kept p.state) (moved (λ v. pairing v left) (parts_by units values order None))
-  alone_kept [] going = tt
-  alone_kept (i ∷ order) going = settling_kept i (going 0 (omega arith))
-
-  pub paired_kept : (p : Option (ℕ × ℕ)) → first_pair units (fractional_units values) ≡ p → EachPart (λ q. Kept q.state) (moved (λ v. pairing v left) (parts_by units values (fractional_units values) p))
-  paired_kept (Some pair) e = meeting_kept pair.0 pair.1 (pair_found units values (fractional_units values) (order_going values) (order_apart values) pair e)
-  paired_kept None e = alone_kept (fractional_units values) (order_going values)
+  pub paired_kept : (ks : List ℕ) → IsStep units values ks → EachPart (λ q. Kept q.state) (moved (λ v. pairing v left) (parts_of units values ks))
+  paired_kept ks step =
+      let out : is_one_of ks k ≡ false = not_among ks k (λ t. true≢false (sym (step_at units values ks step k t).0 ∙ still)) in
+      each_paired units values ks left Kept (λ t. same_kept (taken_over (is_one_of ks) values t) (taken_kept (is_one_of ks) values t k out))
 
 -- no pivotal step is a flight step or begins a landing
-no_flight : (p : Option (ℕ × ℕ)) → kind_by p ≢ kind.Flight
-no_flight (Some pair) e = cc
-no_flight None e = cc
+no_flight : (ks : List ℕ) → kind_on ks ≢ kind.Flight
+no_flight [] e = cc
+no_flight (i ∷ []) e = cc
+no_flight (i ∷ j ∷ ks) e = cc
 
 -- ---- each step, by what it is
 
@@ -151,7 +139,7 @@ module _ (units : Units) (f : Flight) (ok : IsFlying units f) (left : ℕ) where
 module _ (units : Units) where
   settled_at : (s : Balancing) → IsBalancing units s → is_settled (values_in s) ≡ false → (k : ℕ) → is_fractional (values_in s) k ≡ false → EachPart (λ p. HasKept (weighed_of units) s p.state k) (strat_parts units s)
   settled_at (flying f left) ok going k still = kept_by units f ok left (next units f) refl k still
-  settled_at (pairing values left) ok going k still = paired_kept units values left k still (first_pair units (fractional_units values)) refl
+  settled_at (pairing values left) ok going k still = paired_kept units values left k still (step_units units values) (step_is units values going)
 
   stays_at : (s : Balancing) → IsBalancing units s → IsInFlight s → (Begins (strat_kind units s) → ⊥) → EachPart (λ p. HasStayed (weighed_of units) IsInFlight s p.state) (strat_parts units s)
   stays_at (flying f left) ok flies calm = stays_by units f ok left (next units f) refl calm
@@ -164,7 +152,7 @@ module _ (units : Units) where
     within = λ s ok k. (let is = (values_ok units s ok).each k in (is.positive, is.most));
     settled = λ s ok going k still. settled_at s ok going k still;
     some = λ s ok going. (let some : fractional_count (values_in s) ≢ 0 = eqb-false (fractional_count (values_in s)) 0 going in omega (arith, some));
-    flies = λ s ok going e. flies_at (cube_by each_step units) (next units) (λ values. no_flight (first_pair units (fractional_units values))) s e;
+    flies = λ s ok going e. flies_at (cube_by each_step units) (next units) (λ values. no_flight (step_units units values)) s e;
     stays = λ s ok going flies calm. stays_at s ok flies calm;
     lands = λ s ok going flies none begins. lands_at (cube_by each_step units) (next units) s flies none begins;
     later = λ n some s ok going e. later_at (cube_by each_step units) (next units) n some s e;
@@ -205,7 +193,7 @@ module _ (units : Units) where
     none_touched [] = refl
     none_touched (k ∷ ks) = (let f : (value first k).touched ≡ false = ap (λ (v : Value). v.touched) (first_at k) in rw f (none_touched ks))
 
-    first_narrow : common_of units first ≤ 2 ^ 80
+    first_narrow : common_of units first [] ≤ 2 ^ 80
     first_narrow = (let e : touched_units first ≡ [] = none_touched (fractional_units first) in rw e (omega arith))
 
     pub started_flying : IsFlying units (flight_of units (map requested_value units.members) units.rows)

@@ -14,14 +14,12 @@ use Rattle.smp_moves.proofs.LineEnds.{lowest_is}
 use Rattle.smp_moves.proofs.Weights.{within_from, within_to}
 use Rattle.smp_moves.specs.Moves.{Line}
 use Rattle.smp_stratcube.specs.Units.{Units, column, columns_of, share}
-use Rattle.smp_moves.specs.Steps.{product, signed}
+use Rattle.smp_moves.specs.Steps.{product, signed, common_multiple, products, scale_of, scaled}
 use Rattle.smp_stratcube.specs.Kept.Gates.{held}
 use Rattle.smp_stratcube.specs.Kept.Lines.{AreParts, IsPart, direction_fits, no_part, over, part}
 use Rattle.smp_moves.proofs.Multiples.{AllSome}
-use Rattle.smp_moves.specs.Steps.{common_multiple}
 use Rattle.smp_stratcube.proofs.Gated.{gate_all, gate_held}
 use Rattle.smp_stratcube.proofs.Parts.{times-div}
-use Rattle.smp_moves.specs.Steps.{products, scale_of, scaled}
 use Rattle.smp_moves.specs.Kept.Computed.{direction_on}
 use Rattle.smp_moves.proofs.Products.{entry-scaled, length-products, length-scaled}
 

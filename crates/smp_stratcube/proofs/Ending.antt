@@ -28,7 +28,6 @@ use Rattle.smp_stratcube.specs.declared.values.Value.{Value}
 use Rattle.smp_stratcube.specs.Units.{Units, IsUnits, first, stratum}
 use Rattle.smp_stratcube.specs.Values.{AreValues, common_of, denominators, is_fractional, over_common, taken_over, touched_units, value}
 use Rattle.smp_moves.specs.Steps.{common_multiple}
-use Rattle.smp_stratcube.specs.Moves.{line_common}
 use Rattle.smp_stratcube.specs.Kept.Computed.{moves}
 use Rattle.smp_stratcube.specs.Kept.Fronts.{IsFront, front_units, units_on}
 use Rattle.smp_stratcube.specs.Kept.Gates.{gated, gathered, held, with_unit}
@@ -86,7 +85,7 @@ touched_in_front old new front is count fewer fresh =
     not_changed k l = (let f = fresh k l in rw f refl)
 
 pub gathered_all : (units : Units) (are : IsUnits units) (old new : List Value) (front : Front) → AreValues (length units.members) new → IsFront old front → length new ≡ length old → ((k : ℕ) → is_fractional new k ≡ true → is_fractional old k ≡ true) → ((k : ℕ) → front.place ≤ k → (value new k).touched ≡ false) →
-    gathered units (value new) (Some 1) (front_units front) ≡ held (common_of units new)
+    gathered units (value new) (Some 1) (front_units front) ≡ held (common_multiple (denominators units new (touched_units new)))
 gathered_all units are old new front ok is count fewer fresh =
     gathered_is units new (Some 1) (front_units front)
     ∙ ap (λ ks. gate_all (Some 1) (denominators units new ks)) (touched_in_front old new front is count fewer fresh)
@@ -176,7 +175,7 @@ module _ (count : ℕ) (values : List Value) (line : LineOfPlaces) (den : ℕ) (
 -- ---- the common denominator of a state and of the strata of a line
 
 pub line_held : (units : Units) (are : IsUnits units) (values : List Value) (front : Front) → AreValues (length units.members) values → IsFront values front → (ks : List ℕ) →
-    gate_all (gathered units (value values) (Some 1) (front_units front)) (map (first units) ks) ≡ held (line_common units values ks)
+    gate_all (gathered units (value values) (Some 1) (front_units front)) (map (first units) ks) ≡ held (common_of units values ks)
 line_held units are values front ok is ks =
     let dens : List ℕ = denominators units values (touched_units values) in
     ap (λ m. gate_all m (map (first units) ks)) (gathered_all units are values values front ok is refl (λ k h. h) is.fresh)
@@ -187,7 +186,7 @@ line_held units are values front ok is ks =
 -- the common denominator at the end of a line
 pub end_held : (units : Units) (are : IsUnits units) (values : List Value) (front : Front) (line : LineOfPlaces) (den : ℕ) (r : Reach) → IsAlong (length units.members) values line den r → IsFront values front → front.number ≤ length front.units →
     ((k : ℕ) → front.place ≤ k → entry_of (line_of line) k ≡ pos 0) →
-    end_gathered units values front (line_of line) den r ≡ nat_le (common_of units (taken_over (moves (line_of line)) values (end_of 1 (over_common den values) (line_of line)))) (2 ^ 80)
+    end_gathered units values front (line_of line) den r ≡ nat_le (common_of units (taken_over (moves (line_of line)) values (end_of 1 (over_common den values) (line_of line))) []) (2 ^ 80)
 end_held units are values front line den r a is long off =
     let n : ℕ = length units.members in
     let new : List Value = taken_over (moves (line_of line)) values (end_of 1 (over_common den values) (line_of line)) in
@@ -200,4 +199,4 @@ end_held units are values front line den r a is long off =
     (after_values n values a.are den a.some a.narrow (line_of line) a.is_line a.divides) is (length_moved n values line den r a)
     (after_fractional n values a.are den a.some a.narrow (line_of line) a.is_line a.divides)
     (λ k l. ap (λ (v : Value). v.touched) (taken_kept (moves (line_of line)) values (end_of 1 (over_common den values) (line_of line)) k (still (line_of line) k (off k l))) ∙ is.fresh k l))
-    ∙ held_there (common_of units new)
+    ∙ ap (λ ds. is_some (held (common_multiple ds))) (sym (append-nil (denominators units new (touched_units new)))) ∙ held_there (common_of units new [])

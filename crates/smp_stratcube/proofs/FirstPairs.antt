@@ -1,43 +1,15 @@
 -- The first two neighbours of one stratum among the fractional units are the first two units of the first stratum that has two.
-use Rattle.std.proofs.Common.{◌≡◌, ◌≢◌, ℕ, zero, suc, ◌<◌, ◌≤◌, nat_eq, true, false, Option, Some, None, List, [], ◌∷◌, length, get_or, arith, refl, sym, ap, ◌∙◌, subst, inl, inr, ◌⊎◌, le_of_suc-le-suc, suc-le-suc}
-use Rattle.std.proofs.lemmas.Bool.{cases_Bool, cases_eq, cases_lt, eqb-false, eqb-true}
+use Rattle.std.proofs.Common.{◌≡◌, ◌≢◌, ℕ, suc, ◌<◌, ◌≤◌, true, Option, Some, None, List, length, get_or, arith, refl, sym, ap, ◌∙◌, subst, inl, inr, ◌⊎◌}
+use Rattle.std.proofs.lemmas.Bool.{cases_eq, cases_lt}
 use Rattle.smp_stratcube.specs.declared.values.Value.{Value}
 use Rattle.smp_stratcube.specs.Units.{Units, stratum}
 use Rattle.smp_stratcube.specs.Values.{fractional_units, is_fractional}
 use Rattle.smp_stratcube.specs.Pairs.{IsFirstPair, IsPairOf, first_pair}
 use Rattle.smp_stratcube.specs.States.{IsPairing}
+use Rattle.smp_stratcube.specs.Laws.Pairs.{StandsAt, stands_at}
 use Rattle.smp_stratcube.specs.Laws.Units.{fractional_in, order_going, order_place}
 use Rattle.smp_stratcube.proofs.Ahead.{order_rises}
 use Rattle.smp_stratcube.proofs.Pairing.{apart}
-
--- where the pair stands: no neighbours before it are of one stratum
-record StandsAt (units : Units) (xs : List ℕ) (pair : ℕ × ℕ) : Type 0 where
-  pub place : ℕ
-  pub inside : suc place < length xs
-  pub first : get_or xs place 0 ≡ pair.0
-  pub second : get_or xs (suc place) 0 ≡ pair.1
-  pub same : stratum units pair.0 ≡ stratum units pair.1
-  pub before : (j : ℕ) → j < place → stratum units (get_or xs j 0) ≢ stratum units (get_or xs (suc j) 0)
-
-stands_at : (units : Units) (xs : List ℕ) (pair : ℕ × ℕ) → first_pair units xs ≡ Some pair → StandsAt units xs pair
-stands_at units [] pair e = absurd (let h : None ≡ Some pair = e in cc)
-stands_at units (i ∷ []) pair e = absurd (let h : None ≡ Some pair = e in cc)
-stands_at units (i ∷ k ∷ xs) pair e =
-    elim (cases_Bool (nat_eq (stratum units i) (stratum units k))) [
-      | inl t ↦
-          (let found : Some (i, k) ≡ Some pair = rw t at e in
-          let is : (i, k) ≡ pair = cc in
-          subst (StandsAt units (i ∷ k ∷ xs)) is
-          (record { place = 0; inside = omega arith; first = refl; second = refl; same = eqb-true (stratum units i) (stratum units k) t; before = λ j l. absurd (omega (arith, l)) }))
-      | inr f ↦ later i k xs pair f (stands_at units (k ∷ xs) pair (rw f at e))
-    ]
-  where
-    later : (i k : ℕ) (xs : List ℕ) (pair : ℕ × ℕ) → nat_eq (stratum units i) (stratum units k) ≡ false → StandsAt units (k ∷ xs) pair → StandsAt units (i ∷ k ∷ xs) pair
-    later i k xs pair f s = record { place = suc s.place; inside = suc-le-suc s.inside; first = s.first; second = s.second; same = s.same; before = before }
-      where
-        before : (j : ℕ) → j < suc s.place → stratum units (get_or (i ∷ k ∷ xs) j 0) ≢ stratum units (get_or (i ∷ k ∷ xs) (suc j) 0)
-        before zero l = eqb-false (stratum units i) (stratum units k) f
-        before (suc j) l = s.before j (le_of_suc-le-suc l)
 
 module _ (units : Units) (values : List Value) (ok : IsPairing units values) where
   abbrev at : ℕ → ℕ
@@ -59,8 +31,8 @@ module _ (units : Units) (values : List Value) (ok : IsPairing units values) whe
       stratum units (get_or (fractional_units values) i 0) < stratum units (get_or (fractional_units values) j 0)
   risen i j l m ne = (let a = level i (suc i) (omega arith) (omega (arith, l, m)) in let b = level (suc i) j (omega (arith, l)) m in omega (arith, a, b, ne))
 
-  alone : ((j : ℕ) → suc j < length (fractional_units values) → stratum units (get_or (fractional_units values) j 0) ≢ stratum units (get_or (fractional_units values) (suc j) 0)) → IsPairOf units values None
-  alone far j k open_j open_k same =
+  alone_by : ((j : ℕ) → suc j < length (fractional_units values) → stratum units (get_or (fractional_units values) j 0) ≢ stratum units (get_or (fractional_units values) (suc j) 0)) → IsPairOf units values None
+  alone_by far j k open_j open_k same =
       let a = order_place values j open_j in
       let b = order_place values k open_k in
       elim (cases_eq a.0 b.0) [
@@ -70,6 +42,10 @@ module _ (units : Units) (values : List Value) (ok : IsPairing units values) whe
           | inr le ↦ absurd (let up = risen b.0 a.0 (omega (arith, le, ne)) a.1 (far b.0 (omega (arith, le, ne, a.1))) in omega (arith, up, same, ap (stratum units) a.2, ap (stratum units) b.2))
         ]
       ]
+
+  -- where there is no pair, each stratum has one fractional unit at most
+  pub alone : first_pair units (fractional_units values) ≡ None → IsPairOf units values None
+  alone e = alone_by (apart units (fractional_units values) e)
 
   module _ (pair : ℕ × ℕ) (s : StandsAt units (fractional_units values) pair) where
     before_none : (j k : ℕ) → j < k → j < s.place → k < length (fractional_units values) → stratum units (get_or (fractional_units values) j 0) ≡ stratum units (get_or (fractional_units values) k 0) → ⊥
@@ -120,4 +96,4 @@ each_pair units values ok = by_pair (first_pair units (fractional_units values))
   where
     by_pair : (p : Option (ℕ × ℕ)) → first_pair units (fractional_units values) ≡ p → IsPairOf units values p
     by_pair (Some pair) e = is_first units values ok pair (stands_at units (fractional_units values) pair e)
-    by_pair None e = alone units values ok (apart units (fractional_units values) e)
+    by_pair None e = alone units values ok e

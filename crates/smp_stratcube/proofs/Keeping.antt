@@ -1,36 +1,38 @@
 -- A state after a step: what it is, and what is kept of it.
-use Rattle.std.proofs.Common.{◌≡◌, ℕ, ◌+◌, ◌-◌, ◌<◌, ◌≤◌, nat_eq, nat_lt, suc, suc-le-suc, Bool, true, false, Option, Some, None, List, [], ◌∷◌, length, get_or, arith, refl, sym, ap, ◌∙◌, subst, inl, inr, length-take, get_or-take}
-use Rattle.std.proofs.lemmas.Bool.{cases_Bool, lt-ltb, ltb-false, ne_eqb, true≢false}
+use Rattle.std.proofs.Common.{◌≡◌, ℕ, ◌+◌, ◌-◌, ◌<◌, ◌≤◌, nat_lt, suc, Bool, true, false, Option, Some, None, List, [], ◌∷◌, length, get_or, arith, refl, sym, ap, ◌∙◌, subst, inl, inr, length-take, get_or-take}
+use Rattle.std.proofs.lemmas.Bool.{cases_Bool, lt-ltb, ltb-false, true≢false}
 use Rattle.smp_split.specs.Trees.{EachPart, picked, weight_sum}
 use Rattle.smp_split.specs.Laws.Parts.{picked-moved, weight_sum-moved}
 use Rattle.smp_split.specs.Laws.Steps.{picked_is_part}
-use Rattle.smp_prob.specs.Shares.{Shares}
 use Rattle.smp_moves.specs.Owed.{HasKept}
-use Rattle.smp_moves.specs.Cubes.{dropped, flying, landed, pairing, values_in}
+use Rattle.smp_moves.specs.Cubes.{flying, landed, pairing, values_in}
 use Rattle.smp_stratcube.specs.Kept.Trees.{flight_parts, strat_parts, weighed_of}
 use Rattle.smp_stratcube.proofs.Balances.{paired_kept}
-use Rattle.smp_moves.specs.Moves.{Line, Move, Next, independent, move, turned, wide}
+use Rattle.smp_moves.specs.Moves.{Line, Move, Next, chosen_line, independent, move, wide}
 use Rattle.smp_stratcube.specs.declared.fronts.Front.{Front}
 use Rattle.smp_stratcube.specs.declared.state.Phase.{Phase}
 use Rattle.smp_stratcube.specs.declared.state.Phase.TheVariants.{Flying, Pairing}
 use Rattle.smp_stratcube.specs.declared.values.Value.{Value}
-use Rattle.smp_stratcube.specs.Units.{Units, stratum, share}
-use Rattle.smp_stratcube.specs.Values.{fractional_count, fractional_units, is_fractional, is_settled, taken_over, value}
+use Rattle.smp_stratcube.specs.Units.{Units, share}
+use Rattle.smp_stratcube.specs.Values.{fractional_count, fractional_units, is_fractional, is_settled, value}
 use Rattle.smp_stratcube.specs.States.{Balancing, Flight, IsFlying, IsPairing}
 use Rattle.smp_stratcube.specs.Kept.Computed.{chosen, moved_values, moves, next, flight_of}
-use Rattle.smp_stratcube.specs.Pairs.{first_pair, is_either, paired_parts, parts_by}
+use Rattle.smp_stratcube.specs.Pairs.{first_pair, paired_parts, step_units}
+use Rattle.smp_stratcube.specs.Kept.Pairs.{is_one_of, units_by}
 use Rattle.smp_stratcube.specs.Kept.Fronts.{IsAhead, IsFront, front_units}
 use Rattle.smp_stratcube.specs.Kept.States.{balancing_of}
 use Rattle.smp_stratcube.specs.Kept.Moves.{IsStep}
 use Rattle.smp_stratcube.specs.declared.steps.Next.{Next as Answer}
 use Rattle.smp_stratcube.specs.Laws.Ends.{still}
-use Rattle.smp_stratcube.specs.Laws.Moves.{minus_end, plus_end}
+use Rattle.smp_frac.specs.Fractions.{Fraction}
+use Rattle.smp_stratcube.specs.Laws.Moves.{IsEnd, minus_end, plus_end}
+use Rattle.smp_stratcube.specs.Laws.Pairs.{EachOf, each_of, each_taken, not_among, stands_at, step_is}
 use Rattle.smp_stratcube.specs.Laws.Taken.{length_taken, taken_kept}
 use Rattle.smp_stratcube.proofs.Ahead.{front_before, stays_ahead}
 use Rattle.smp_stratcube.proofs.Pairing.{pair_of_front}
 use Rattle.smp_stratcube.proofs.Written.{alone, some_front}
 use Rattle.smp_stratcube.proofs.Stepped.{off_units}
-use Rattle.smp_moves.specs.Kept.Computed.{direction, next_along, IsKnown}
+use Rattle.smp_moves.specs.Kept.Computed.{direction, next_along, IsKnown, dropped}
 use Rattle.smp_moves.proofs.Computed.{known}
 use Rattle.smp_stratcube.specs.Moves.{setting_of}
 
@@ -104,85 +106,69 @@ module _ (units : Units) (f : Flight) (ok : IsFlying units f) (front : Front) (i
   same_behind l same u past =
       taken_kept (moves l) f.values _ u (still l u (off_units units f ok front is long few k.circuit k.finds l.units l.entries same u past))
 
-  plus_ahead : IsAhead (moved_values units f.values line) front
-  plus_ahead =
-      stays_ahead f.values (moved_values units f.values line) front is long (length_taken (moves line) f.values _) (plus_end units f ok 0 m k).fewer (same_behind line refl)
+  -- an end of the move: it goes through the units of the direction
+  record IsOneEnd (l : Line) : Type 0 where
+    pub extent : Fraction
+    pub is_end : IsEnd units f l extent
+    pub same : l.units ≡ line.units
 
-  minus_ahead : IsAhead (moved_values units f.values (turned line)) front
-  minus_ahead =
-      stays_ahead f.values (moved_values units f.values (turned line)) front is long (length_taken (moves (turned line)) f.values _) (minus_end units f ok 0 m k).fewer (same_behind (turned line) refl)
+  ends : (plus : Bool) → IsOneEnd (chosen_line (next_along (setting_of units) f.values line) plus)
+  ends true = record { extent = _; is_end = plus_end units f ok 0 m k; same = refl }
+  ends false = record { extent = _; is_end = minus_end units f ok 0 m k; same = refl }
 
-  along_ahead : (plus : Bool) → IsAhead (chosen units f (next_along (setting_of units) f.values line) plus).values front
-  along_ahead true = plus_ahead
-  along_ahead false = minus_ahead
-
-  pub move_ahead : (plus : Bool) → IsAhead (chosen units f m plus).values front
-  move_ahead plus = subst (λ (x : Move). IsAhead (chosen units f x plus).values front) (sym k.same) (along_ahead plus)
-
-  along_flight : (plus : Bool) → IsFlying units (flight_of f.fixed (chosen units f (next_along (setting_of units) f.values line) plus).values f.rows)
-  along_flight true = (plus_end units f ok 0 m k).flight
-  along_flight false = (minus_end units f ok 0 m k).flight
-
-  pub move_flight : (plus : Bool) → IsFlying units (flight_of f.fixed (chosen units f m plus).values f.rows)
-  move_flight plus = subst (λ (x : Move). IsFlying units (flight_of f.fixed (chosen units f x plus).values f.rows)) (sym k.same) (along_flight plus)
-
-  along_count : (plus : Bool) → length (chosen units f (next_along (setting_of units) f.values line) plus).values ≡ length f.values
-  along_count true = length_taken (moves line) f.values _
-  along_count false = length_taken (moves (turned line)) f.values _
+  one_end : (plus : Bool) → IsOneEnd (chosen_line m plus)
+  one_end plus = subst (λ (x : Move). IsOneEnd (chosen_line x plus)) (sym k.same) (ends plus)
 
   pub move_count : (plus : Bool) → length (chosen units f m plus).values ≡ length f.values
-  move_count plus = subst (λ (x : Move). length (chosen units f x plus).values ≡ length f.values) (sym k.same) (along_count plus)
+  move_count plus = length_taken (moves (chosen_line m plus)) f.values _
+
+  pub move_ahead : (plus : Bool) → IsAhead (chosen units f m plus).values front
+  move_ahead plus =
+      stays_ahead f.values (moved_values units f.values (chosen_line m plus)) front is long (move_count plus) (one_end plus).is_end.fewer (same_behind (chosen_line m plus) (one_end plus).same)
+
+  pub move_flight : (plus : Bool) → IsFlying units (flight_of f.fixed (chosen units f m plus).values f.rows)
+  move_flight plus = (one_end plus).is_end.flight
 
 -- ---- the front after a pivotal step
-
-both_in : (units : Units) (xs : List ℕ) (p : ℕ × ℕ) → first_pair units xs ≡ Some p → (P : ℕ → Type 0) → ((k : ℕ) → k < length xs → P (get_or xs k 0)) → P p.0 × P p.1
-both_in units [] p e P each = absurd (let h : None ≡ Some p = e in cc)
-both_in units (i ∷ []) p e P each = absurd (let h : None ≡ Some p = e in cc)
-both_in units (i ∷ j ∷ xs) p e P each =
-    elim (cases_Bool (nat_eq (stratum units i) (stratum units j))) [
-      | inl t ↦ (let here : Some (i, j) ≡ Some p = rw t at e in let same : (i, j) ≡ p = cc in subst (λ (q : ℕ × ℕ). P q.0 × P q.1) same (each 0 (omega arith), each 1 (omega arith)))
-      | inr f ↦ both_in units (j ∷ xs) p (rw f at e) P (λ k l. each (suc k) (suc-le-suc l))
-    ]
 
 module _ (units : Units) (values : List Value) (ok : IsPairing units values) (front : Front) (is : IsFront values front) (long : front.number ≤ length front.units) (going : is_settled values ≡ false) where
   abbrev IsBehindSame : List Value → Type 0
   IsBehindSame new = (length new ≡ length values) × ((k : ℕ) → front.place ≤ k → value new k ≡ value values k)
 
-  taken_same : (moves_them : ℕ → Bool) (t : Shares) → ((k : ℕ) → front.place ≤ k → moves_them k ≡ false) → IsBehindSame (taken_over moves_them values t)
-  taken_same moves_them t no_one = (length_taken moves_them values t, λ k l. taken_kept moves_them values t k (no_one k l))
+  in_front_before : (j : ℕ) → j < length (front_units front) → get_or (front_units front) j 0 < front.place
+  in_front_before j l =
+      let b : j < front.number = omega (arith, l, length-take front.number front.units) in
+      subst (λ (u : ℕ). u < front.place) (sym (get_or-take front.number front.units j 0 b)) (front_before values front is long j b)
 
-  in_front_before : (k : ℕ) → k < length (front_units front) → get_or (front_units front) k 0 < front.place
-  in_front_before k l =
-      let b : k < front.number = omega (arith, l, length-take front.number front.units) in
-      subst (λ (u : ℕ). u < front.place) (sym (get_or-take front.number front.units k 0 b)) (front_before values front is long k b)
+  -- the units of the step are of the front
+  before : (p : Option (ℕ × ℕ)) → first_pair units (fractional_units values) ≡ p → EachOf (λ k. k < front.place) (units_by p (fractional_units values))
+  before (Some p) e =
+      let at = stands_at units (front_units front) p (pair_of_front units ok.are values ok.values.count front is long ∙ e) in
+      (subst (λ (k : ℕ). k < front.place) at.first (in_front_before at.place (omega (arith, at.inside))), (subst (λ (k : ℕ). k < front.place) at.second (in_front_before (suc at.place) at.inside), tt))
+  before None e =
+      subst (EachOf (λ k. k < front.place)) (sym (alone units values ok front is long going e) ∙ ap (λ p. units_by p (fractional_units values)) e)
+      (front_before values front is long 0 (some_front units values ok front is long going), tt)
 
-  by_pair : (p : Option (ℕ × ℕ)) → first_pair units (fractional_units values) ≡ p → EachPart (λ q. IsBehindSame q.state) (paired_parts units values)
-  by_pair (Some p) e =
-      let both = both_in units (front_units front) p (pair_of_front units ok.are values ok.values.count front is long ∙ e) (λ u. u < front.place) in_front_before in
-      let out : (k : ℕ) → front.place ≤ k → is_either p.0 p.1 k ≡ false =
-      λ k l. rw (ne_eqb p.0 k (λ (h : p.0 ≡ k). absurd (omega (arith, h, l, both.0))), ne_eqb p.1 k (λ (h : p.1 ≡ k). absurd (omega (arith, h, l, both.1)))) refl in
-      subst (EachPart (λ q. IsBehindSame q.state)) (sym (ap (parts_by units values (fractional_units values)) e))
-      (taken_same (is_either p.0 p.1) _ out, (taken_same (is_either p.0 p.1) _ out, tt))
-  by_pair None e =
-      let first = front_before values front is long 0 (some_front units values ok front is long going) in
-      let out : (k : ℕ) → front.place ≤ k → nat_eq (get_or front.units 0 0) k ≡ false =
-      λ k l. ne_eqb (get_or front.units 0 0) k (λ (h : get_or front.units 0 0 ≡ k). absurd (omega (arith, h, l, first))) in
-      subst (EachPart (λ q. IsBehindSame q.state)) (sym (alone units values ok front is long going e))
-      (taken_same (nat_eq (get_or front.units 0 0)) _ out, (taken_same (nat_eq (get_or front.units 0 0)) _ out, tt))
+  kept_behind : EachPart (λ q. IsBehindSame q.state) (paired_parts units values)
+  kept_behind =
+      let ks : List ℕ = step_units units values in
+      let out : (k : ℕ) → front.place ≤ k → is_one_of ks k ≡ false =
+      λ k l. not_among ks k (λ t. (let b = each_of (λ k. k < front.place) ks (before (first_pair units (fractional_units values)) refl) k t in omega (arith, b, l))) in
+      each_taken units values ks IsBehindSame (λ t. (length_taken (is_one_of ks) values t, λ k l. taken_kept (is_one_of ks) values t k (out k l)))
 
   module _ (draw : ℕ) (l : draw < weight_sum (paired_parts units values)) where
     abbrev new : List Value
     new = picked values (paired_parts units values) draw
 
     pub pair_behind : (length (picked values (paired_parts units values) draw) ≡ length values) × ((k : ℕ) → front.place ≤ k → value (picked values (paired_parts units values) draw) k ≡ value values k)
-    pair_behind = picked_is_part (λ q. IsBehindSame q.state) IsBehindSame (λ q h. h) values (paired_parts units values) draw (by_pair (first_pair units (fractional_units values)) refl) l
+    pair_behind = picked_is_part (λ q. IsBehindSame q.state) IsBehindSame (λ q h. h) values (paired_parts units values) draw kept_behind l
 
     fewer : (k : ℕ) → is_fractional (picked values (paired_parts units values) draw) k ≡ true → is_fractional values k ≡ true
     fewer k h =
         elim (cases_Bool (is_fractional values k)) [
           | inl t ↦ t
           | inr settled ↦ absurd (let kept = picked_is_part (λ q. HasKept (weighed_of units) (pairing values 0) q.state k) (λ t. is_fractional (values_in t) k ≡ false) (λ q z. z.still) (pairing values 0) (strat_parts units (pairing values 0)) draw
-              (paired_kept units values 0 k settled (first_pair units (fractional_units values)) refl) (subst (λ m. draw < m) (sym (pair_sum units values 0)) l) in
+              (paired_kept units values 0 k settled (step_units units values) (step_is units values going)) (subst (λ m. draw < m) (sym (pair_sum units values 0)) l) in
               true≢false (sym h ∙ subst (λ (t : Balancing). is_fractional (values_in t) k ≡ false) (picks_pair units values 0 draw) kept))
         ]
 

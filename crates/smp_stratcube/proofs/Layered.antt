@@ -20,7 +20,8 @@ use Rattle.smp_moves.specs.Ends.{lowest}
 use Rattle.smp_moves.specs.Moves.{fraction_of}
 use Rattle.smp_moves.proofs.LineEnds.{lowest_is}
 use Rattle.smp_stratcube.specs.declared.units.Member.{Member}
-use Rattle.smp_stratcube.specs.Layers.{AreLayers, IsLayer, Layer, first_of, no_layer}
+use Rattle.smp_stratcube.specs.Layers.{AreLayers, IsLayer, Layer, no_layer}
+use Rattle.smp_stratcube.specs.Kept.Layers.{first_of}
 use Rattle.smp_stratcube.specs.Units.{IsShare, IsUnits, Units, column, column_of, first, member_of, members_from, nobody, share, stratum, units_of}
 use Rattle.smp_stratcube.specs.Laws.Taken.{lowest_same}
 use Rattle.smp_stratcube.specs.Requests.{offset}
@@ -33,24 +34,24 @@ pub record IsOf (strata h0 : ℕ) (layers : List Layer) (k : ℕ) : Type 0 where
   pub h : ℕ
   pub place : ℕ
   pub in_h : h < length layers
-  pub inside : place < length (get_or layers h no_layer).shape
+  pub inside : place < length (get_or layers h no_layer).request.shape
   pub at : k ≡ offset layers h + place
   pub is : get_or (members_from strata h0 layers) k nobody ≡ member_of strata (h0 + h) (get_or layers h no_layer) place
 
 module _ (strata h0 : ℕ) (layer : Layer) where
   abbrev pub own : List Member
-  own = map (member_of strata h0 layer) (range_with_len 0 (length layer.shape))
+  own = map (member_of strata h0 layer) (range_with_len 0 (length layer.request.shape))
 
-  pub length-own : length (map (member_of strata h0 layer) (range_with_len 0 (length layer.shape))) ≡ length layer.shape
-  length-own = length-map-range_with_len (member_of strata h0 layer) 0 (length layer.shape)
+  pub length-own : length (map (member_of strata h0 layer) (range_with_len 0 (length layer.request.shape))) ≡ length layer.request.shape
+  length-own = length-map-range_with_len (member_of strata h0 layer) 0 (length layer.request.shape)
 
-  pub own_at : (k : ℕ) → k < length layer.shape → get_or (map (member_of strata h0 layer) (range_with_len 0 (length layer.shape))) k nobody ≡ member_of strata h0 layer k
-  own_at k l = get_or-map-range_with_len (member_of strata h0 layer) 0 (length layer.shape) k k nobody l (omega arith)
+  pub own_at : (k : ℕ) → k < length layer.request.shape → get_or (map (member_of strata h0 layer) (range_with_len 0 (length layer.request.shape))) k nobody ≡ member_of strata h0 layer k
+  own_at k l = get_or-map-range_with_len (member_of strata h0 layer) 0 (length layer.request.shape) k k nobody l (omega arith)
 
 pub unit_of : (strata h0 : ℕ) (layers : List Layer) (k : ℕ) → k < length (members_from strata h0 layers) → IsOf strata h0 layers k
 unit_of strata h0 [] k l = absurd (omega (arith, l))
 unit_of strata h0 (layer ∷ layers) k l =
-    elim (cases_lt k (length layer.shape)) [
+    elim (cases_lt k (length layer.request.shape)) [
       | inl b ↦ record {
         h = 0;
         place = k;
@@ -62,7 +63,7 @@ unit_of strata h0 (layer ∷ layers) k l =
             ∙ ap (λ i. member_of strata i layer k) (let e : h0 ≡ h0 + 0 = omega arith in e);
       }
       | inr b ↦
-          (let n : ℕ = length layer.shape in
+          (let n : ℕ = length layer.request.shape in
           let rest : k - n < length (members_from strata (suc h0) layers) = omega (arith, l, b, length-own strata h0 layer, length-append (own strata h0 layer) (members_from strata (suc h0) layers)) in
           let r = unit_of strata (suc h0) layers (k - n) rest in
           record {
@@ -78,7 +79,7 @@ unit_of strata h0 (layer ∷ layers) k l =
     ]
 
 -- and where each unit of a stratum stands
-pub at_offset : (strata h0 : ℕ) (layers : List Layer) (h place : ℕ) → h < length layers → place < length (get_or layers h no_layer).shape →
+pub at_offset : (strata h0 : ℕ) (layers : List Layer) (h place : ℕ) → h < length layers → place < length (get_or layers h no_layer).request.shape →
     get_or (members_from strata h0 layers) (offset layers h + place) nobody ≡ member_of strata (h0 + h) (get_or layers h no_layer) place
 at_offset strata h0 [] h place l m = absurd (omega (arith, l))
 at_offset strata h0 (layer ∷ layers) zero place l m =
@@ -87,7 +88,7 @@ at_offset strata h0 (layer ∷ layers) zero place l m =
     ∙ own_at strata h0 layer place m
     ∙ ap (λ i. member_of strata i layer place) (let e : h0 ≡ h0 + 0 = omega arith in e)
 at_offset strata h0 (layer ∷ layers) (suc h) place l m =
-    let n : ℕ = length layer.shape in
+    let n : ℕ = length layer.request.shape in
     let left : n + offset layers h + place - n ≡ offset layers h + place = omega arith in
     get_or-append_right (own strata h0 layer) (members_from strata (suc h0) layers) n (n + offset layers h + place) nobody (length-own strata h0 layer) (omega arith)
     ∙ ap (λ i. get_or (members_from strata (suc h0) layers) i nobody) left
@@ -95,14 +96,14 @@ at_offset strata h0 (layer ∷ layers) (suc h) place l m =
     ∙ ap (λ i. member_of strata i (get_or layers h no_layer) place) (let e : suc h0 + h ≡ h0 + suc h = omega arith in e)
 
 -- the offsets rise
-offset_rises : (layers : List Layer) (g h place : ℕ) → g < h → h < length layers → place < length (get_or layers g no_layer).shape → offset layers g + place < offset layers h
+offset_rises : (layers : List Layer) (g h place : ℕ) → g < h → h < length layers → place < length (get_or layers g no_layer).request.shape → offset layers g + place < offset layers h
 offset_rises [] g h place l m b = absurd (omega (arith, m))
 offset_rises (layer ∷ layers) zero zero place l m b = absurd (omega (arith, l))
 offset_rises (layer ∷ layers) zero (suc h) place l m b = omega (arith, b)
 offset_rises (layer ∷ layers) (suc g) zero place l m b = absurd (omega (arith, l))
 offset_rises (layer ∷ layers) (suc g) (suc h) place l m b = (let r = offset_rises layers g h place (le_of_suc-le-suc l) (le_of_suc-le-suc m) b in omega (arith, r))
 
-members_few : (strata h0 : ℕ) (layers : List Layer) → ((h : ℕ) → h < length layers → length (get_or layers h no_layer).shape ≤ 200000) → length (members_from strata h0 layers) ≤ length layers * 200000
+members_few : (strata h0 : ℕ) (layers : List Layer) → ((h : ℕ) → h < length layers → length (get_or layers h no_layer).request.shape ≤ 200000) → length (members_from strata h0 layers) ≤ length layers * 200000
 members_few strata h0 [] each = omega arith
 members_few strata h0 (layer ∷ layers) each =
     let here = each 0 (omega arith) in
@@ -157,24 +158,24 @@ module _ (strata h size : ℕ) (xs : List ℤ) (lh : h < strata) (few : strata +
 
 -- ---- its probability
 
-pub share_is : (layer : Layer) → IsLayer layer → (k : ℕ) → k < length layer.shape → IsShare (first_of layer) (lowest (get_or layer.shape k 0 * layer.r) layer.total)
+pub share_is : (layer : Layer) → IsLayer layer → (k : ℕ) → k < length layer.request.shape → IsShare (first_of layer) (lowest (get_or layer.request.shape k 0 * layer.request.r) layer.request.total)
 share_is layer is k l =
-    let z : ℕ = get_or layer.shape k 0 in
-    let a : ℕ = z * layer.r in
-    let total : ℕ = layer.total in
-    let below = is.below_one k l in
-    let some_r = is.drawn (omega (arith, l)) in
-    let some : 1 ≤ a = mul-pos (is.positive k l) some_r in
+    let z : ℕ = get_or layer.request.shape k 0 in
+    let a : ℕ = z * layer.request.r in
+    let total : ℕ = layer.request.total in
+    let below = is.request.below_one k l in
+    let some_r = is.request.drawn (omega (arith, l, is.request.paired)) in
+    let some : 1 ≤ a = mul-pos (is.request.positive k l) some_r in
     let low = lowest_is a total (omega (arith, below)) in
     let p : ℕ = (lowest a total).num in
     let q : ℕ = (lowest a total).den in
-    let gcd = IsGcd-greatest_common_divisor total layer.r in
-    let g : ℕ = greatest_common_divisor total layer.r in
-    let g_some : 1 ≤ g = divisor_positive total layer.r g some_r gcd in
+    let gcd = IsGcd-greatest_common_divisor total layer.request.r in
+    let g : ℕ = greatest_common_divisor total layer.request.r in
+    let g_some : 1 ≤ g = divisor_positive total layer.request.r g some_r gcd in
     let first : ℕ = total / g in
     let whole_total : g * first ≡ total = mul-div_cancel' g gcd.0 in
-    let whole_r : g * (layer.r / g) ≡ layer.r = mul-div_cancel' g gcd.1 in
-    let not_empty : nat_eq (length layer.shape) 0 ≡ false = ne_eqb (length layer.shape) 0 (λ (e : length layer.shape ≡ 0). absurd (omega (arith, e, l))) in
+    let whole_r : g * (layer.request.r / g) ≡ layer.request.r = mul-div_cancel' g gcd.1 in
+    let not_empty : nat_eq (length layer.request.free) 0 ≡ false = ne_eqb (length layer.request.free) 0 (λ (e : length layer.request.free ≡ 0). absurd (omega (arith, e, l, is.request.paired))) in
     record {
       some = elim (eq-zero-or-pos p) [
         | inr s ↦ s
@@ -189,25 +190,25 @@ share_is layer is k l =
       reduced = low.reduced;
       divides = rw not_empty
           (dvd_of_coprime q p first (IsGcd-swap p q 1 low.reduced)
-          (subst (λ m. q ∣ m) (cross a q p g first (layer.r / g) z g_some whole_total whole_r low.same) (dvd-mul_right q (z * (layer.r / g)))));
+          (subst (λ m. q ∣ m) (cross a q p g first (layer.request.r / g) z g_some whole_total whole_r low.same) (dvd-mul_right q (z * (layer.request.r / g)))));
     }
   where
     -- the numerator times the common denominator is a multiple of the denominator
-    cross : (a q p g first part z : ℕ) → 1 ≤ g → g * first ≡ layer.total → g * part ≡ layer.r → z * layer.r * q ≡ p * layer.total → q * (z * part) ≡ p * first
+    cross : (a q p g first part z : ℕ) → 1 ≤ g → g * first ≡ layer.request.total → g * part ≡ layer.request.r → z * layer.request.r * q ≡ p * layer.request.total → q * (z * part) ≡ p * first
     cross a q p g first part z some t r h =
         cancel (q * (z * part)) (p * first) g some
         (let x : z * (g * part) * q ≡ p * (g * first) = rw (t, r) h in omega (arith, x))
 
 pub first_positive : (layer : Layer) → IsLayer layer → (1 ≤ first_of layer) × (first_of layer ≤ 2 ^ 49)
 first_positive layer is =
-    elim (cases_Bool (nat_eq (length layer.shape) 0)) [
+    elim (cases_Bool (nat_eq (length layer.request.free) 0)) [
       | inl t ↦ rw t (omega arith, omega arith)
       | inr f ↦
-          (let some : length layer.shape ≢ 0 = eqb-false (length layer.shape) 0 f in
-          let below = is.below_one 0 (omega (arith, some)) in
-          let gcd = IsGcd-greatest_common_divisor layer.total layer.r in
-          let g : ℕ = greatest_common_divisor layer.total layer.r in
-          rw f (part_positive layer.total g (omega (arith, below)) gcd.0, omega (arith, div-le_self layer.total g, is.narrow)))
+          (let some : length layer.request.free ≢ 0 = eqb-false (length layer.request.free) 0 f in
+          let below = is.request.below_one 0 (omega (arith, some, is.request.paired)) in
+          let gcd = IsGcd-greatest_common_divisor layer.request.total layer.request.r in
+          let g : ℕ = greatest_common_divisor layer.request.total layer.request.r in
+          rw f (part_positive layer.request.total g (omega (arith, below)) gcd.0, omega (arith, div-le_self layer.request.total g, is.request.narrow)))
     ]
 
 -- ---- all of it
@@ -228,10 +229,10 @@ module _ (layers : List Layer) (are : AreLayers layers) (each : (h : ℕ) → h 
   first_at : (h : ℕ) → h < length layers → get_or (map first_of layers) h 1 ≡ first_of (get_or layers h no_layer)
   first_at h l = get_or-map first_of layers h no_layer 1 l
 
-  values_few : (h place : ℕ) → h < length layers → place < length (get_or layers h no_layer).shape → strata + length (get_or (get_or layers h no_layer).values place []) ≤ 16
+  values_few : (h place : ℕ) → h < length layers → place < length (get_or layers h no_layer).request.shape → strata + length (get_or (get_or layers h no_layer).values place []) ≤ 16
   values_few h place l m =
       let is = each h l in
-      let same = is.numbers.same place (omega (arith, m, is.paired)) in
+      let same = is.numbers.same place (omega (arith, m, is.one_each, is.request.paired)) in
       let all = are.same h l (omega (arith, m)) in
       omega (arith, same, all, are.rows)
 
@@ -265,39 +266,39 @@ module _ (layers : List Layer) (are : AreLayers layers) (each : (h : ℕ) → h 
     few : strata + length (get_or layer.values place []) ≤ 16
     few = values_few h place (of k l).in_h (of k l).inside
 
-    own_entry : entry (column units k) (stratum units k) ≡ pos (get_or layer.shape place 0)
-    own_entry = subst (λ (m : Member). entry m.column m.stratum ≡ pos (get_or layer.shape place 0)) (sym (is_unit k l)) (own_row strata h (get_or layer.shape place 0) (get_or layer.values place []) (of k l).in_h few)
+    own_entry : entry (column units k) (stratum units k) ≡ pos (get_or layer.request.shape place 0)
+    own_entry = subst (λ (m : Member). entry m.column m.stratum ≡ pos (get_or layer.request.shape place 0)) (sym (is_unit k l)) (own_row strata h (get_or layer.request.shape place 0) (get_or layer.values place []) (of k l).in_h few)
 
     others : (row : ℕ) → row < strata → row ≢ stratum units k → entry (column units k) row ≡ pos 0
     others row b =
-        subst (λ (m : Member). row ≢ m.stratum → entry m.column row ≡ pos 0) (sym (is_unit k l)) (λ ne. other_row strata h (get_or layer.shape place 0) (get_or layer.values place []) (of k l).in_h few row b ne)
+        subst (λ (m : Member). row ≢ m.stratum → entry m.column row ≡ pos 0) (sym (is_unit k l)) (λ ne. other_row strata h (get_or layer.request.shape place 0) (get_or layer.values place []) (of k l).in_h few row b ne)
 
     small : Within (2 ^ 31 - 1) (column units k)
     small =
         subst (λ (m : Member). Within (2 ^ 31 - 1) m.column) (sym (is_unit k l))
-        (small_column strata h (get_or layer.shape place 0) (get_or layer.values place []) (of k l).in_h few (let z = is_layer.small place (of k l).inside in omega (arith, z)) (is_layer.numbers.within place (omega (arith, (of k l).inside, is_layer.paired))))
+        (small_column strata h (get_or layer.request.shape place 0) (get_or layer.values place []) (of k l).in_h few (let z = is_layer.request.small place (of k l).inside in omega (arith, z)) (is_layer.numbers.within place (omega (arith, (of k l).inside, is_layer.one_each, is_layer.request.paired))))
 
     share_ok : IsShare (first units k) (share units k)
     share_ok =
         subst (λ (m : Member). IsShare (get_or (map first_of layers) m.stratum 1) m.share) (sym (is_unit k l))
-        (subst (λ n. IsShare n (lowest (get_or layer.shape place 0 * layer.r) layer.total)) (sym (first_at h (of k l).in_h)) (share_is layer is_layer place (of k l).inside))
+        (subst (λ n. IsShare n (lowest (get_or layer.request.shape place 0 * layer.request.r) layer.request.total)) (sym (first_at h (of k l).in_h)) (share_is layer is_layer place (of k l).inside))
 
-    size_is : unsigned_abs (entry (column units k) (stratum units k)) ≡ get_or layer.shape place 0
+    size_is : unsigned_abs (entry (column units k) (stratum units k)) ≡ get_or layer.request.shape place 0
     size_is = ap unsigned_abs own_entry
 
-    in_proportion : Same (fraction_of (share units k)) (times (over (get_or layers (stratum units k) no_layer).r (get_or layers (stratum units k) no_layer).total) (whole (unsigned_abs (entry (column units k) (stratum units k)))))
+    in_proportion : Same (fraction_of (share units k)) (times (over (get_or layers (stratum units k) no_layer).request.r (get_or layers (stratum units k) no_layer).request.total) (whole (unsigned_abs (entry (column units k) (stratum units k)))))
     in_proportion =
         rw size_is
-        (subst (λ (m : Member). Same (fraction_of m.share) (times (over (get_or layers m.stratum no_layer).r (get_or layers m.stratum no_layer).total) (whole (get_or layer.shape place 0)))) (sym (is_unit k l))
-        (let below = is_layer.below_one place (of k l).inside in
-        same_trans (lowest_same (get_or layer.shape place 0 * layer.r) layer.total (omega (arith, below))) (as_product (get_or layer.shape place 0) layer.r layer.total (omega (arith, below)))))
+        (subst (λ (m : Member). Same (fraction_of m.share) (times (over (get_or layers m.stratum no_layer).request.r (get_or layers m.stratum no_layer).request.total) (whole (get_or layer.request.shape place 0)))) (sym (is_unit k l))
+        (let below = is_layer.request.below_one place (of k l).inside in
+        same_trans (lowest_same (get_or layer.request.shape place 0 * layer.request.r) layer.request.total (omega (arith, below))) (as_product (get_or layer.request.shape place 0) layer.request.r layer.request.total (omega (arith, below)))))
       where
         as_product : (z r total : ℕ) → 1 ≤ total → Same (over (z * r) total) (times (over r total) (whole z))
         as_product z r total some = (let e : max 1 total ≡ total = omega arith in record { cross = rw e (ap pos (omega arith)) })
 
   pub units_are : IsUnits (units_of layers)
   units_are = record {
-    few = (let m = members_few strata 0 layers (λ h l. (each h l).few) in omega (arith, m, are.few));
+    few = (let m = members_few strata 0 layers (λ h l. (let e = each h l in omega (arith, e.request.few, e.request.paired))) in omega (arith, m, are.few));
     few_rows = are.rows;
     strata = omega (arith, length-map layers first_of);
     firsts = λ h. elim (cases_lt h (length layers)) [
@@ -309,9 +310,9 @@ module _ (layers : List Layer) (are : AreLayers layers) (each : (h : ℕ) → h 
     shares = λ k l. share_ok k l;
     small = λ k l. small k l;
     size = λ k. unsigned_abs (entry (column units k) (stratum units k));
-    some_size = λ k l. (let z = (is_layer k l).positive (of k l).place (of k l).inside in omega (arith, z, size_is k l));
+    some_size = λ k l. (let z = (is_layer k l).request.positive (of k l).place (of k l).inside in omega (arith, z, size_is k l));
     own_row = λ k l. own_entry k l ∙ ap pos (sym (size_is k l));
     other_rows = λ k row l b ne. others k l row (omega (arith, b, length-map layers first_of)) ne;
-    scale = λ h. over (get_or layers h no_layer).r (get_or layers h no_layer).total;
+    scale = λ h. over (get_or layers h no_layer).request.r (get_or layers h no_layer).request.total;
     proportional = λ k l. in_proportion k l;
   }

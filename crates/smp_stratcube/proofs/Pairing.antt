@@ -1,13 +1,12 @@
 -- The first two of a stratum, and the common denominator of a stratum, by the first fractional units.
-use Rattle.std.proofs.Common.{◌≡◌, ◌≢◌, ℕ, zero, suc, ◌+◌, ◌-◌, ◌<◌, ◌≤◌, ◌^◌, nat_eq, false, Option, Some, None, List, [], ◌∷◌, ◌++◌, map, length, get_or, arith, refl, sym, ap, ap₂, ◌∙◌, subst, inl, inr, suc-le-suc, le_of_suc-le-suc, length-take, get_or-take}
+use Rattle.std.proofs.Common.{◌≡◌, ◌≢◌, ℕ, zero, suc, ◌+◌, ◌-◌, ◌<◌, ◌≤◌, ◌^◌, nat_eq, false, Option, Some, None, List, [], ◌∷◌, ◌++◌, map, length, get_or, arith, refl, sym, ap, ap₂, ◌∙◌, inl, inr, suc-le-suc, le_of_suc-le-suc, length-take, get_or-take}
 use Rattle.std.specs.List.{filter, range_with_len}
 use Rattle.std.proofs.lemmas.Bool.{cases_Bool, eq-eqb, ne_eqb, true≢false}
-use Rattle.std.proofs.lemmas.List.{append-nil}
+use Rattle.std.proofs.lemmas.List.{append-nil, map-append}
 use Rattle.std.proofs.lemmas.List.Elements.{filter-append}
-use Rattle.std.proofs.lemmas.Nat.Gcd.{dvd_antisymm, dvd_trans}
 use Rattle.std.proofs.Math.Nat.{le_of_dvd}
-use Prim.Native.Nat.{◌∣◌}
 use Rattle.smp_prob.specs.Given.{least_multiple}
+use Rattle.smp_moves.specs.Steps.{common_multiple}
 use Rattle.smp_moves.specs.declared.lines.Ratio.{Ratio}
 use Rattle.smp_moves.proofs.Places.{length-rest, rest_at, rest_of}
 use Rattle.smp_stratcube.specs.declared.fronts.Front.{Front}
@@ -16,13 +15,14 @@ use Rattle.smp_stratcube.specs.Units.{Units, IsUnits, share, stratum}
 use Rattle.smp_stratcube.specs.Values.{fractional_units, stratum_common, value}
 use Rattle.smp_stratcube.specs.Pairs.{first_pair}
 use Rattle.smp_stratcube.specs.States.{IsPairing}
-use Rattle.smp_stratcube.specs.Kept.Behind.{IsBehind, IsLeastOf, dens_behind}
+use Rattle.smp_stratcube.specs.Kept.Behind.{IsBehind, dens_behind}
 use Rattle.smp_stratcube.specs.Kept.Fronts.{IsFront, front_units, units_on}
-use Rattle.smp_stratcube.specs.Kept.Pairs.{HasStratum, common_in}
-use Rattle.smp_moves.proofs.Multiples.{AllSome, AllDivide, from, from_each, from_least, from_some, from_start, least, multiple_some, some_map}
+use Rattle.smp_stratcube.specs.Kept.Pairs.{HasStratum, common_in, dens_in}
+use Rattle.smp_moves.proofs.Multiples.{AllSome, from, from_some, from_start, multiple_some, some_map}
 use Rattle.smp_moves.proofs.Filtered.{filter_none, rest_in, rest_out}
 use Rattle.smp_stratcube.proofs.Ahead.{front_before, front_inside, in_front, order_rises, unit_on, units_none}
 use Rattle.smp_stratcube.specs.Laws.Units.{filter_from}
+use Rattle.smp_stratcube.proofs.Behinds.{from_multiple}
 use Rattle.smp_stratcube.proofs.Gated.{from_append}
 
 -- ---- the first two neighbours of one stratum
@@ -123,22 +123,6 @@ module _ (units : Units) (are : IsUnits units) (values : List Value) (count : le
 pub most_of : (m : ℕ) (ns : List ℕ) → 1 ≤ m → AllSome ns → m ≤ from m ns
 most_of m ns some all = le_of_dvd (from_some m ns some all) (from_start m ns some all)
 
-pub from_is : (m b : ℕ) (ns : List ℕ) → 1 ≤ m → AllSome ns → IsLeastOf ns b → from m ns ≡ least_multiple m b
-from_is m b ns some all is =
-    let l = least m b some is.some in
-    let total_some = from_some m ns some all in
-    dvd_antisymm
-    (from_least m ns (least_multiple m b) some all l.common.positive l.common.first (divide_on ns is.each l.common.second))
-    (l.least (from m ns) (record { positive = total_some; first = from_start m ns some all; second = is.least (from m ns) total_some (from_each m ns some all) }))
-  where
-    divide_on : (ns : List ℕ) → AllDivide ns b → b ∣ least_multiple m b → AllDivide ns (least_multiple m b)
-    divide_on [] all d = tt
-    divide_on (n ∷ ns) all d = (dvd_trans n all.0 d, divide_on ns all.1 d)
-
-map_append : (f : ℕ → ℕ) (xs ys : List ℕ) → map f (xs ++ ys) ≡ map f xs ++ map f ys
-map_append f [] ys = refl
-map_append f (x ∷ xs) ys = ap (λ zs. f x ∷ zs) (map_append f xs ys)
-
 pub map_same : (f g : ℕ → ℕ) (xs : List ℕ) → ((j : ℕ) → j < length xs → f (get_or xs j 0) ≡ g (get_or xs j 0)) → map f xs ≡ map g xs
 map_same f g [] h = refl
 map_same f g (x ∷ xs) h = ap₂ (λ y ys. y ∷ ys) (h 0 (omega arith)) (map_same f g xs (λ j l. h (suc j) (suc-le-suc l)))
@@ -146,8 +130,8 @@ map_same f g (x ∷ xs) h = ap₂ (λ y ys. y ∷ ys) (h 0 (omega arith)) (map_s
 -- ---- of a stratum
 
 module _ (units : Units) (values : List Value) (ok : IsPairing units values) (front : Front) (is : IsFront values front) (long : front.number ≤ length front.units) (h : ℕ) where
-  abbrev pub dens : List ℕ → List ℕ
-  dens ks = map (λ k. (value values k).at.den) (filter (λ k. nat_eq (stratum units k) h) ks)
+  abbrev dens : List ℕ → List ℕ
+  dens = dens_in units values h
 
   abbrev on : List ℕ
   on = units_on front.place (length values)
@@ -157,12 +141,12 @@ module _ (units : Units) (values : List Value) (ok : IsPairing units values) (fr
 
   -- at a place of the front: its unit is of the stratum, or it isn't
   pub dens_here : (m j : ℕ) → j < front.number → stratum units (get_or front.units j 0) ≡ h →
-      from m (dens (rest_of front.number front.units j)) ≡ from (least_multiple m (value values (get_or front.units j 0)).at.den) (dens (rest_of front.number front.units (j + 1)))
+      from m (dens_in units values h (rest_of front.number front.units j)) ≡ from (least_multiple m (value values (get_or front.units j 0)).at.den) (dens_in units values h (rest_of front.number front.units (j + 1)))
   dens_here m j l e =
       ap (λ ks. from m (map (λ k. (value values k).at.den) ks))
       (rest_in (λ k. nat_eq (stratum units k) h) front.number front.units j l (omega (arith, l, long)) (eq-eqb (stratum units (get_or front.units j 0)) h e))
 
-  pub dens_past : (m j : ℕ) → j < front.number → stratum units (get_or front.units j 0) ≢ h → from m (dens (rest_of front.number front.units j)) ≡ from m (dens (rest_of front.number front.units (j + 1)))
+  pub dens_past : (m j : ℕ) → j < front.number → stratum units (get_or front.units j 0) ≢ h → from m (dens_in units values h (rest_of front.number front.units j)) ≡ from m (dens_in units values h (rest_of front.number front.units (j + 1)))
   dens_past m j l away =
       ap (λ ks. from m (map (λ k. (value values k).at.den) ks))
       (rest_out (λ k. nat_eq (stratum units k) h) front.number front.units j l (omega (arith, l, long)) (ne_eqb (stratum units (get_or front.units j 0)) h away))
@@ -170,10 +154,10 @@ module _ (units : Units) (values : List Value) (ok : IsPairing units values) (fr
   pub front_some : 1 ≤ common_in units values h (front_units front)
   front_some = multiple_some (dens (front_units front)) (dens_some (front_units front))
 
-  pub in_two : stratum_common units values h ≡ from (common_in units values h (front_units front)) (dens (units_on front.place (length values)))
+  pub in_two : stratum_common units values h ≡ from (common_in units values h (front_units front)) (dens_in units values h (units_on front.place (length values)))
   in_two =
       ap (λ ks. from 1 (dens ks)) (sym is.all)
-      ∙ ap (from 1) (ap (map (λ k. (value values k).at.den)) (filter-append (λ k. nat_eq (stratum units k) h) (front_units front) on) ∙ map_append (λ k. (value values k).at.den) (filter (λ k. nat_eq (stratum units k) h) (front_units front)) (filter (λ k. nat_eq (stratum units k) h) on))
+      ∙ ap (from 1) (ap (map (λ k. (value values k).at.den)) (filter-append (λ k. nat_eq (stratum units k) h) (front_units front) on) ∙ map-append (λ k. (value values k).at.den) (filter (λ k. nat_eq (stratum units k) h) (front_units front)) (filter (λ k. nat_eq (stratum units k) h) on))
       ∙ from_append 1 (dens (front_units front)) (dens on)
 
   pub front_narrow : common_in units values h (front_units front) ≤ 2 ^ 80
@@ -190,8 +174,9 @@ module _ (units : Units) (values : List Value) (ok : IsPairing units values) (fr
   pub some_on : front.place < length values → stratum units front.place ≡ h → (b : ℕ) → IsBehind units.members front.place b → stratum_common units values h ≡ least_multiple (common_in units values h (front_units front)) b
   some_on l e b behind =
       in_two
-      ∙ from_is (common_in units values h (front_units front)) b (dens on) front_some (dens_some on)
-      (subst (λ (ns : List ℕ). IsLeastOf ns b) (sym same_dens) (subst (λ (x : ℕ). IsLeastOf (dens_behind units.members x front.place) b) e behind))
+      ∙ from_multiple (common_in units values h (front_units front)) (dens on) front_some (dens_some on)
+      ∙ ap (λ ns. least_multiple (common_in units values h (front_units front)) (common_multiple ns)) same_dens
+      ∙ ap (least_multiple (common_in units values h (front_units front))) (ap (λ x. common_multiple (dens_behind units.members x front.place)) (sym e) ∙ sym behind)
     where
       same_dens : dens (units_on front.place (length values)) ≡ dens_behind units.members h front.place
       same_dens =

@@ -1,5 +1,5 @@
 -- The step that the first fractional units lead to is that of the state.
-use Rattle.std.proofs.Common.{◌≡◌, ℕ, ◌+◌, ◌<◌, ◌≤◌, ◌^◌, ◌*◌, ◌&&◌, ◌++◌, nat_le, Bool, true, false, Some, None, mul-pos, ℤ, pos, List, take, length, get_or, arith, refl, sym, ap, ap₂, ◌∙◌, subst, inl, inr, length-take, get_or-take}
+use Rattle.std.proofs.Common.{◌≡◌, ℕ, ◌+◌, ◌<◌, ◌≤◌, ◌^◌, ◌*◌, ◌&&◌, ◌++◌, nat_le, Bool, true, false, Some, None, mul-pos, ℤ, pos, List, take, length, get_or, arith, refl, sym, ap, ap₂, ◌∙◌, subst, inl, inr, length-take, get_or-take, []}
 use Rattle.std.specs.Int.RustNames.{unsigned_abs}
 use Rattle.std.proofs.lemmas.Bool.{and_from, and_parts, cases_Bool, le-leb, true≢false}
 use Rattle.std.proofs.lemmas.List.{append-nil, length-map, take-append-le, take-map, take-take}
@@ -18,24 +18,24 @@ use Rattle.smp_moves.specs.declared.lines.Line.{Line as LineOfPlaces}
 use Rattle.smp_moves.specs.declared.reaches.Reach.{Reach}
 use Rattle.smp_moves.specs.Answers.{IsPadded, line_of}
 use Rattle.smp_moves.specs.Kept.Ends.{HasSmallEntries}
-use Rattle.smp_moves.proofs.Entries.{entry_at_none, place_or, turned_line}
+use Rattle.smp_moves.proofs.Entries.{entry_at_none, place_or}
 use Rattle.smp_stratcube.specs.declared.fronts.Front.{Front}
 use Rattle.smp_stratcube.specs.declared.values.Value.{Value}
 use Rattle.smp_stratcube.specs.Units.{Units, IsUnits, column, columns_of, share}
 use Rattle.smp_stratcube.specs.Values.{common_of, fractional_units, over_common, taken_over, value}
 use Rattle.smp_stratcube.specs.States.{Flight, IsFlying}
 use Rattle.smp_stratcube.specs.Kept.Computed.{moved_values, moves, next}
-use Rattle.smp_stratcube.specs.Moves.{line_common, setting_of}
+use Rattle.smp_stratcube.specs.Moves.{setting_of}
 use Rattle.smp_stratcube.specs.Kept.Fronts.{IsFront, front_units, units_on}
-use Rattle.smp_stratcube.specs.Kept.Lines.{IsLineOf, direction_fits}
+use Rattle.smp_stratcube.specs.Kept.Lines.{IsLineOf, direction_fits, HasDirection}
 use Rattle.smp_stratcube.specs.Kept.Moves.{IsAlong, IsMoveOf, end_gathered}
 use Rattle.smp_stratcube.specs.Kept.Gates.{held}
-use Rattle.smp_stratcube.specs.Kept.Steps.{HasDirection}
 use Rattle.smp_stratcube.specs.Laws.Directions.{den_divides, den_some, line_ok, prefix_in, some_shares}
 use Rattle.smp_moves.proofs.FirstPlaces.{front_small}
 use Rattle.smp_stratcube.proofs.Directed.{held_none, held_some}
 use Rattle.smp_stratcube.proofs.Ending.{end_held, inside, some_left, some_size}
 use Rattle.smp_stratcube.proofs.Ahead.{front_before, units_none}
+use Rattle.smp_stratcube.proofs.Written.{turn_along}
 use Rattle.smp_moves.specs.Steps.{Finds, scale_of, scaled}
 use Rattle.smp_moves.specs.Kept.Computed.{direction, fits, next_along, next_of}
 use Rattle.smp_moves.proofs.Computed.{prefix_length, some_scaled}
@@ -87,13 +87,13 @@ module _ (units : Units) (f : Flight) (w : List ℤ) (finds : Finds (setting_of 
   line = direction (share units) (fractional_units f.values) w
 
   abbrev narrow : Bool
-  narrow = nat_le (line_common units f.values line.units) (2 ^ 80)
+  narrow = nat_le (common_of units f.values line.units) (2 ^ 80)
 
   abbrev plus : Bool
-  plus = nat_le (common_of units (moved_values units f.values line)) (2 ^ 80)
+  plus = nat_le (common_of units (moved_values units f.values line) []) (2 ^ 80)
 
   abbrev minus : Bool
-  minus = nat_le (common_of units (moved_values units f.values (turned line))) (2 ^ 80)
+  minus = nat_le (common_of units (moved_values units f.values (turned line)) []) (2 ^ 80)
 
   abbrev prefix : List ℕ
   prefix = take (length w) (fractional_units f.values)
@@ -182,9 +182,9 @@ module _ (units : Units) (f : Flight) (ok : IsFlying units f) (line : LineOfPlac
       let there : j < length (take (length h.circuit) (fractional_units f.values)) = subst (λ (ks : List ℕ). j < length ks) us count in
       subst (λ (k : ℕ). k < length units.members) (sym (ap (λ (ks : List ℕ). get_or ks j 0) us) ∙ get_or-take line.number line.units j 0 l) (prefix_in units f ok h.circuit h.finds j there)
 
-  module _ (den : ℕ) (den_is : den ≡ line_common units f.values (line_of line).units) (narrow : den ≤ 2 ^ 80) where
-    den_of : den ≡ line_common units f.values (take (length h.circuit) (fractional_units f.values))
-    den_of = den_is ∙ ap (λ (x : Line). line_common units f.values x.units) line_is
+  module _ (den : ℕ) (den_is : den ≡ common_of units f.values (line_of line).units) (narrow : den ≤ 2 ^ 80) where
+    den_of : den ≡ common_of units f.values (take (length h.circuit) (fractional_units f.values))
+    den_of = den_is ∙ ap (λ (x : Line). common_of units f.values x.units) line_is
 
     pub den_positive : 1 ≤ den
     den_positive = subst (λ m. 1 ≤ m) (sym den_of) (den_some units f ok h.circuit h.finds)
@@ -192,11 +192,11 @@ module _ (units : Units) (f : Flight) (ok : IsFlying units f) (line : LineOfPlac
     goes_through : IsLine (over_common den f.values) (line_of line)
     goes_through =
         subst (λ (m : ℕ). IsLine (over_common m f.values) (line_of line)) (sym den_of)
-        (subst (IsLine (over_common (line_common units f.values (take (length h.circuit) (fractional_units f.values))) f.values)) (sym line_is) (line_ok units f ok h.circuit h.finds))
+        (subst (IsLine (over_common (common_of units f.values (take (length h.circuit) (fractional_units f.values))) f.values)) (sym line_is) (line_ok units f ok h.circuit h.finds))
 
-    divides_at : (us : List ℕ) → us ≡ (line_of line).units → (j : ℕ) → j < length us → (value f.values (get_or us j 0)).at.den ∣ den
-    divides_at us same =
-        subst (λ (ks : List ℕ). (j : ℕ) → j < length ks → (value f.values (get_or ks j 0)).at.den ∣ den) (sym (same ∙ ap (λ (x : Line). x.units) line_is))
+    divides_at : (j : ℕ) → j < length (line_of line).units → (value f.values (get_or (line_of line).units j 0)).at.den ∣ den
+    divides_at =
+        subst (λ (l : Line). (j : ℕ) → j < length l.units → (value f.values (get_or l.units j 0)).at.den ∣ den) (sym line_is)
         (subst (λ (m : ℕ). (j : ℕ) → j < length (take (length h.circuit) (fractional_units f.values)) → (value f.values (get_or (take (length h.circuit) (fractional_units f.values)) j 0)).at.den ∣ m) (sym den_of)
         (den_divides units f ok h.circuit h.finds))
 
@@ -209,20 +209,12 @@ module _ (units : Units) (f : Flight) (ok : IsFlying units f) (line : LineOfPlac
       padded = h.is_line.padded;
       small = h.is_line.small;
       is_reach = e;
-      divides = divides_at (line_of line).units refl;
+      divides = divides_at;
     }
 
     pub back_along : (back : LineOfPlaces) → line_of back ≡ turned (line_of line) → IsPadded back → HasSmallEntries back → (r : Reach) → r ≡ reach (over_common den f.values) (line_of back) → IsAlong (length units.members) f.values back den r
-    back_along back turns padded small r e = record {
-      are = ok.values;
-      some = den_positive;
-      narrow = narrow;
-      is_line = subst (IsLine (over_common den f.values)) (sym turns) (turned_line (over_common den f.values) (line_of line) goes_through);
-      padded = padded;
-      small = small;
-      is_reach = e;
-      divides = divides_at (line_of back).units (ap (λ (x : Line). x.units) turns);
-    }
+    back_along back turns padded small r e =
+        turn_along (length units.members) f.values line back den (reach (over_common den f.values) (line_of line)) r (along (reach (over_common den f.values) (line_of line)) refl) turns padded small (e ∙ ap (reach (over_common den f.values)) turns)
 
     -- a unit behind the front isn't on the line
     pub off_front : (front : Front) → IsFront f.values front → front.number ≤ length front.units → f.rows + 1 ≤ 17 → (l : Line) → l.units ≡ (line_of line).units → (k : ℕ) → front.place ≤ k → entry_of l k ≡ pos 0
@@ -231,14 +223,14 @@ module _ (units : Units) (f : Flight) (ok : IsFlying units f) (line : LineOfPlac
 -- ---- the ends
 
 pub end_there : (units : Units) (are : IsUnits units) (values : List Value) (front : Front) → IsFront values front → front.number ≤ length front.units → (l : LineOfPlaces) (den : ℕ) (r : Reach) → IsAlong (length units.members) values l den r →
-    ((k : ℕ) → front.place ≤ k → entry_of (line_of l) k ≡ pos 0) → (target : Line) → line_of l ≡ target → den ≡ line_common units values target.units →
-    end_gathered units values front (line_of l) den r ≡ nat_le (common_of units (moved_values units values target)) (2 ^ 80)
+    ((k : ℕ) → front.place ≤ k → entry_of (line_of l) k ≡ pos 0) → (target : Line) → line_of l ≡ target → den ≡ common_of units values target.units →
+    end_gathered units values front (line_of l) den r ≡ nat_le (common_of units (moved_values units values target) []) (2 ^ 80)
 end_there units are values front is long l den r a off target same den_is =
     end_held units are values front l den r a is long off
-    ∙ ap₂ (λ (m : ℕ) (x : Line). nat_le (common_of units (taken_over (moves x) values (end_of 1 (over_common m values) x))) (2 ^ 80)) den_is same
+    ∙ ap₂ (λ (m : ℕ) (x : Line). nat_le (common_of units (taken_over (moves x) values (end_of 1 (over_common m values) x)) []) (2 ^ 80)) den_is same
 
-pub weights_is : (units : Units) (values : List Value) (l : Line) (den : ℕ) (up down : Reach) (x : Ratio) → den ≡ line_common units values l.units → up ≡ reach (over_common den values) l → down ≡ reach (over_common den values) (turned l) →
-    x ≡ lowest (down.left * up.size) (up.left * down.size) → x ≡ weights (reach (over_common (line_common units values l.units) values) l) (reach (over_common (line_common units values l.units) values) (turned l))
+pub weights_is : (units : Units) (values : List Value) (l : Line) (den : ℕ) (up down : Reach) (x : Ratio) → den ≡ common_of units values l.units → up ≡ reach (over_common den values) l → down ≡ reach (over_common den values) (turned l) →
+    x ≡ lowest (down.left * up.size) (up.left * down.size) → x ≡ weights (reach (over_common (common_of units values l.units) values) l) (reach (over_common (common_of units values l.units) values) (turned l))
 weights_is units values l den up down x den_is u d e =
     e ∙ ap₂ (λ (a b : Reach). lowest (b.left * a.size) (a.left * b.size)) u d
     ∙ ap (λ (m : ℕ). weights (reach (over_common m values) l) (reach (over_common m values) (turned l))) den_is
@@ -251,27 +243,27 @@ module _ (units : Units) (f : Flight) (ok : IsFlying units f) (front : Front) (i
   pub few_rows : f.rows + 1 ≤ 17
   few_rows = omega (arith, ok.rows_in, ok.are.few_rows)
 
-  pub no_denominator : None ≡ held (line_common units f.values (line_of line).units) → next units f ≡ wide
+  pub no_denominator : None ≡ held (common_of units f.values (line_of line).units) → next units f ≡ wide
   no_denominator e =
-      wide_line units f h.circuit h.finds (ap (λ (x : Line). nat_le (line_common units f.values x.units) (2 ^ 80)) (sym (line_is units f ok line h)) ∙ held_none (line_common units f.values (line_of line).units) e)
+      wide_line units f h.circuit h.finds (ap (λ (x : Line). nat_le (common_of units f.values x.units) (2 ^ 80)) (sym (line_is units f ok line h)) ∙ held_none (common_of units f.values (line_of line).units) e)
 
-  module _ (den : ℕ) (e : Some den ≡ held (line_common units f.values (line_of line).units)) where
-    pub den_is : den ≡ line_common units f.values (line_of line).units
-    den_is = (held_some (line_common units f.values (line_of line).units) den e).0
+  module _ (den : ℕ) (e : Some den ≡ held (common_of units f.values (line_of line).units)) where
+    pub den_is : den ≡ common_of units f.values (line_of line).units
+    den_is = (held_some (common_of units f.values (line_of line).units) den e).0
 
     pub den_narrow : den ≤ 2 ^ 80
-    den_narrow = omega (arith, den_is, (held_some (line_common units f.values (line_of line).units) den e).1)
+    den_narrow = omega (arith, den_is, (held_some (common_of units f.values (line_of line).units) den e).1)
 
-    narrow_there : nat_le (line_common units f.values lane.units) (2 ^ 80) ≡ true
-    narrow_there = le-leb (line_common units f.values lane.units) (2 ^ 80) (omega (arith, den_is, den_narrow, ap (λ (x : Line). line_common units f.values x.units) (line_is units f ok line h)))
+    narrow_there : nat_le (common_of units f.values lane.units) (2 ^ 80) ≡ true
+    narrow_there = le-leb (common_of units f.values lane.units) (2 ^ 80) (omega (arith, den_is, den_narrow, ap (λ (x : Line). common_of units f.values x.units) (line_is units f ok line h)))
 
     pub forth : (r : Reach) → r ≡ reach (over_common den f.values) (line_of line) → IsAlong (length units.members) f.values line den r
     forth r u = along units f ok line h den den_is den_narrow r u
 
-    plus_is : (r : Reach) → r ≡ reach (over_common den f.values) (line_of line) → end_gathered units f.values front (line_of line) den r ≡ nat_le (common_of units (moved_values units f.values lane)) (2 ^ 80)
+    plus_is : (r : Reach) → r ≡ reach (over_common den f.values) (line_of line) → end_gathered units f.values front (line_of line) den r ≡ nat_le (common_of units (moved_values units f.values lane) []) (2 ^ 80)
     plus_is r u =
         end_there units ok.are f.values front is long line den r (forth r u) (off_front units f ok line h den den_is den_narrow front is long few_rows (line_of line) refl) lane (line_is units f ok line h)
-        (den_is ∙ ap (λ (x : Line). line_common units f.values x.units) (line_is units f ok line h))
+        (den_is ∙ ap (λ (x : Line). common_of units f.values x.units) (line_is units f ok line h))
 
     pub no_plus : (r : Reach) → r ≡ reach (over_common den f.values) (line_of line) → end_gathered units f.values front (line_of line) den r ≡ false → next units f ≡ wide
     no_plus r u n = wide_plus units f h.circuit h.finds (sym (plus_is r u) ∙ n)
@@ -283,10 +275,10 @@ module _ (units : Units) (f : Flight) (ok : IsFlying units f) (front : Front) (i
       pub back_inside : (j : ℕ) → j < back.number → get_or back.units j 0 < length f.values
       back_inside = inside (length units.members) f.values back den (reach (over_common den f.values) (line_of back)) (backward (reach (over_common den f.values) (line_of back)) refl)
 
-      minus_is : (r : Reach) → r ≡ reach (over_common den f.values) (line_of back) → end_gathered units f.values front (line_of back) den r ≡ nat_le (common_of units (moved_values units f.values (turned lane))) (2 ^ 80)
+      minus_is : (r : Reach) → r ≡ reach (over_common den f.values) (line_of back) → end_gathered units f.values front (line_of back) den r ≡ nat_le (common_of units (moved_values units f.values (turned lane)) []) (2 ^ 80)
       minus_is r d =
           end_there units ok.are f.values front is long back den r (backward r d) (off_front units f ok line h den den_is den_narrow front is long few_rows (line_of back) (ap (λ (x : Line). x.units) turns)) (turned lane) (turns ∙ ap turned (line_is units f ok line h))
-          (den_is ∙ ap (λ (x : Line). line_common units f.values x.units) (line_is units f ok line h))
+          (den_is ∙ ap (λ (x : Line). common_of units f.values x.units) (line_is units f ok line h))
 
       pub no_minus : (r : Reach) → r ≡ reach (over_common den f.values) (line_of back) → end_gathered units f.values front (line_of back) den r ≡ false → next units f ≡ wide
       no_minus r d n = wide_minus units f h.circuit h.finds (sym (minus_is r d) ∙ n)

@@ -1,5 +1,5 @@
 -- How strata are stored, and the columns of their units.
-use Rattle.std.proofs.Common.{◌≡◌, ◌≢◌, ℕ, zero, suc, ◌+◌, ◌-◌, ◌/◌, ◌<◌, ◌≤◌, nat_eq, if◌then◌else◌, ℤ, pos, List, [], ◌∷◌, ◌++◌, map, take, drop, set, length, get_or, arith, refl, sym, ap, ap₂, ◌∙◌, subst, inl, inr, append_assoc, length-append, length-set, length-take, get_or-take}
+use Rattle.std.proofs.Common.{◌≡◌, ◌≢◌, ℕ, zero, suc, ◌+◌, ◌-◌, ◌<◌, ◌≤◌, ℤ, pos, List, [], ◌∷◌, ◌++◌, map, take, drop, set, length, get_or, arith, refl, sym, ap, ap₂, ◌∙◌, subst, inl, inr, append_assoc, length-append, length-set, length-take, get_or-take}
 use Rattle.std.specs.Prelude.{replicate}
 use Rattle.std.specs.List.{range_with_len}
 use Rattle.std.proofs.lemmas.Bool.{cases_eq, cases_lt, ne_eqb}
@@ -8,11 +8,10 @@ use Rattle.smp_kernel.specs.Vectors.{entry}
 use Rattle.smp_prob.specs.declared.requests.Request.{Request}
 use Rattle.smp_prob.specs.Requests.{IsRequest}
 use Rattle.smp_prob.specs.Shares.{common_denominator}
-use Rattle.smp_frac.specs.Divisors.{greatest_common_divisor}
-use Rattle.smp_stratcube.specs.Layers.{AreNumbers, IsLayer, Layer, first_of, layer_of, no_layer, variables, width}
+use Rattle.smp_stratcube.specs.Layers.{AreNumbers, IsLayer, Layer, no_layer, variables}
 use Rattle.smp_stratcube.specs.declared.units.Member.{Member}
 use Rattle.smp_stratcube.specs.Units.{column_of, member_of, members_from, units_of}
-use Rattle.smp_stratcube.specs.Kept.Layers.{EachIsLayer, IsFilledUp, IsStored, stored}
+use Rattle.smp_stratcube.specs.Kept.Layers.{EachIsLayer, IsFilledUp, IsStored, stored, width, layer_of, first_of}
 
 -- a list with one element more
 pub more_each : {A : Type 0} (P : ℕ → A → Type 0) (xs : List A) (d x : A) (n : ℕ) → length xs ≡ n → ((k : ℕ) → k < n → P k (get_or xs k d)) → P n x → (k : ℕ) → k < n + 1 → P k (get_or (xs ++ x ∷ []) k d)
@@ -39,19 +38,10 @@ take_filled xs places n count few is =
 
 module _ (request : Request) (is : IsRequest request) (xs : List (List ℤ)) (one_each : length xs ≡ length request.free) (numbers : AreNumbers xs) where
   pub layer_is : IsLayer (layer_of request xs)
-  layer_is = record {
-    few = omega (arith, is.few, is.paired);
-    paired = one_each ∙ sym is.paired;
-    positive = is.positive;
-    small = is.small;
-    narrow = is.narrow;
-    drawn = λ l. is.drawn (omega (arith, l, is.paired));
-    below_one = is.below_one;
-    numbers = numbers;
-  }
+  layer_is = record { request = is; one_each = one_each; numbers = numbers }
 
   module _ (places : List (List ℤ)) (count : length places ≡ length xs) (each : (k : ℕ) → k < length xs → IsFilledUp (get_or xs k []) (get_or places k []))
-      (shape : List ℕ) (shape_is : shape ≡ request.shape) (variables : ℕ) (variables_is : variables ≡ length (get_or xs 0 [])) where
+      (variables : ℕ) (variables_is : variables ≡ length (get_or xs 0 [])) where
     values_are : map (take variables) places ≡ xs
     values_are =
         ext_get_or [] (map (take variables) places) xs (length-map places (take variables) ∙ count)
@@ -60,13 +50,16 @@ module _ (request : Request) (is : IsRequest request) (xs : List (List ℤ)) (on
         get_or-map (take variables) places k [] [] (omega (arith, b, count))
         ∙ take_filled (get_or xs k []) (get_or places k []) variables (numbers.same k b ∙ sym variables_is) (omega (arith, variables_is, numbers.few)) (each k b)))
 
-    pub stored_view : stored shape request.r request.total places variables ≡ layer_of request xs
-    stored_view = ap₂ (λ (ss : List ℕ) (vs : List (List ℤ)). record { shape = ss; r = request.r; total = request.total; values = vs }) shape_is values_are
+    pub stored_view : stored request places variables ≡ layer_of request xs
+    stored_view = ap (layer_of request) values_are
 
-    pub is_stored : (first : ℕ) → first ≡ common_denominator request → IsStored shape request.r request.total places variables first
-    is_stored first first_is = record {
+    pub is_stored : (shape : List ℕ) (first : ℕ) → shape ≡ request.shape → first ≡ common_denominator request → IsStored request shape request.r request.total places variables first
+    is_stored shape first shape_is first_is = record {
       is = subst IsLayer (sym stored_view) layer_is;
-      first_is = first_is ∙ ap (λ n. if nat_eq n 0 then 1 else request.total / greatest_common_divisor request.total request.r) (sym is.paired) ∙ ap first_of (sym stored_view);
+      shape_is = shape_is;
+      r_is = refl;
+      total_is = refl;
+      first_is = first_is;
       long = λ k l. (each k (omega (arith, l, count))).long;
       few = omega (arith, variables_is, numbers.few);
       past = λ k i l m. (let b : k < length xs = omega (arith, l, count) in (each k b).past i (omega (arith, m, variables_is, numbers.same k b)));
@@ -177,11 +170,11 @@ pub first_none : (layer : Layer) (layers : List Layer) → length layer.values �
 first_none layer layers empty = rw empty refl
 
 pub members_step : (strata : ℕ) (layers : List Layer) (i : ℕ) (layer : Layer) → i < length layers → layer ≡ get_or layers i layer →
-    members_from strata i (drop i layers) ≡ map (member_of strata i layer) (range_with_len 0 (length layer.shape)) ++ members_from strata (i + 1) (drop (i + 1) layers)
+    members_from strata i (drop i layers) ≡ map (member_of strata i layer) (range_with_len 0 (length layer.request.shape)) ++ members_from strata (i + 1) (drop (i + 1) layers)
 members_step strata layers i layer l e =
     let next : suc i ≡ i + 1 = omega arith in
     ap (members_from strata i) (here_of layers i layer l e)
-    ∙ ap (λ j. map (member_of strata i layer) (range_with_len 0 (length layer.shape)) ++ members_from strata j (drop (i + 1) layers)) next
+    ∙ ap (λ j. map (member_of strata i layer) (range_with_len 0 (length layer.request.shape)) ++ members_from strata j (drop (i + 1) layers)) next
 
 -- the units by their parts
 pub units_view : (layers : List Layer) (members : List Member) (firsts : List ℕ) (number many : ℕ) → members ≡ members_from (length layers) 0 layers → firsts ≡ map first_of layers → number ≡ length layers → many ≡ variables layers →

@@ -22,10 +22,10 @@ use Rattle.smp_moves.proofs.LineSums.{sum_line, line_dot}
 use Rattle.smp_moves.proofs.Totals.{sum_stays, back_total}
 use Rattle.smp_frac.proofs.Signs.{neg-diff}
 use Rattle.smp_stratcube.specs.Units.{Units, column, columns_of, share, stratum}
-use Rattle.smp_stratcube.specs.Values.{fractional_units, over_common, value_at}
+use Rattle.smp_stratcube.specs.Values.{fractional_units, over_common, value_at, common_of}
 use Rattle.smp_stratcube.specs.States.{Flight, IsFlying}
 use Rattle.smp_stratcube.specs.Kept.Computed.{moved_values}
-use Rattle.smp_stratcube.specs.Moves.{line_common, setting_of}
+use Rattle.smp_stratcube.specs.Moves.{setting_of}
 use Rattle.smp_stratcube.specs.Balances.{expanded}
 use Rattle.smp_stratcube.specs.Laws.Directions.{is_direction, line_ok, prefix_in, some_shares}
 use Rattle.smp_stratcube.specs.Laws.Moves.{plus_end, minus_end}
@@ -57,42 +57,30 @@ number_is fn fd wn pn pd L d h =
     let b : q * (fn * wn * pd) ≡ fn * wn * (pd * q) = omega arith in
     a ∙ ap (λ x. q * x) (sym h) ∙ b ∙ ap (λ x. fn * wn * x) whole_is
 
-entry_at : (D L fn fd N e e' u v : ℕ) → 1 ≤ D → 1 ≤ fd → D * (e * fd) + L * (fn * v) ≡ D * (e' * fd) + L * (fn * u) →
+entry_at : (D L fn fd e e' u v : ℕ) → 1 ≤ D → 1 ≤ fd → D * (e * fd) + L * (fn * v) ≡ D * (e' * fd) + L * (fn * u) →
     Same (integer (diff e e')) (times (over L D) (times (over fn fd) (integer (diff u v))))
-entry_at D L fn fd N e e' u v pD pf h =
+entry_at D L fn fd e e' u v pD pf h =
     let eD : max 1 D ≡ D = omega arith in
     let ef : max 1 fd ≡ fd = omega arith in
     record { cross = rw (eD, ef) (simp diffs (diff-same _ _ _ _ (omega (arith, h)))) }
 
-module _ (D L fn fd N : ℕ) (pD : 1 ≤ D) (pf : 1 ≤ fd) where
-  forth : (e : ℤ) (n : ℕ) → pos D *ℤ e ≡ pos N → N * fd ≡ fn * n * L → Same (integer e) (times (over L D) (times (over fn fd) (integer (pos n))))
-  forth e n h k =
+module _ (D L fn fd : ℕ) (pD : 1 ≤ D) (pf : 1 ≤ fd) where
+  -- where the factor is a difference, and so is the product
+  in_differences : (e : ℤ) (u v N M : ℕ) → pos D *ℤ e ≡ diff N M → N * fd ≡ fn * u * L → M * fd ≡ fn * v * L → Same (integer e) (times (over L D) (times (over fn fd) (integer (diff u v))))
+  in_differences e u v N M h p q =
+      by_diff (λ e. pos D *ℤ e ≡ diff N M → Same (integer e) (times (over L D) (times (over fn fd) (integer (diff u v)))))
+      (λ a b r. entry_at D L fn fd a b u v pD pf (let s = ap (λ x. x * fd) (sums D N M a b r) in omega (arith, s, p, q))) e h
+    where
+      sums : (D N M a b : ℕ) → pos D *ℤ diff a b ≡ diff N M → D * a + M ≡ D * b + N
+      sums D N M a b r = (let k : diff (D * a + 0 * b) (D * b + 0 * a) ≡ diff N M = simp diffs at r in omega (arith, same-diff _ _ _ _ k))
+
+  entry_in_proportion : (e w : ℤ) (N : ℕ) → pos D *ℤ e ≡ signed w N → N * fd ≡ fn * unsigned_abs w * L → Same (integer e) (times (over L D) (times (over fn fd) (integer w)))
+  entry_in_proportion e (pos n) N h k =
       subst (λ (z : ℤ). Same (integer e) (times (over L D) (times (over fn fd) (integer z)))) (sym (pos-diff n))
-      (by_diff (λ e. pos D *ℤ e ≡ pos N → Same (integer e) (times (over L D) (times (over fn fd) (integer (diff n 0)))))
-      (λ a b r. entry_at D L fn fd N a b n 0 pD pf
-      (let s : D * a ≡ D * b + N = forth_at D N a b r in
-      let t : D * a * fd ≡ (D * b + N) * fd = ap (λ x. x * fd) s in omega (arith, t, k))) e h)
-    where
-      forth_at : (D N a b : ℕ) → pos D *ℤ diff a b ≡ pos N → D * a ≡ D * b + N
-      forth_at D N a b r = (let k : diff (D * a + 0 * b) (D * b + 0 * a) ≡ diff N 0 = simp diffs at (r ∙ pos-diff N) in omega (arith, same-diff _ _ _ _ k))
-
-  backward : (e : ℤ) (n : ℕ) → pos D *ℤ e ≡ neg_ℤ (pos N) → N * fd ≡ fn * suc n * L → Same (integer e) (times (over L D) (times (over fn fd) (integer (negsuc n))))
-  backward e n h k =
+      (in_differences e n 0 N 0 (h ∙ pos-diff N) k (omega arith))
+  entry_in_proportion e (negsuc n) N h k =
       subst (λ (z : ℤ). Same (integer e) (times (over L D) (times (over fn fd) (integer z)))) (sym (neg-diff n))
-      (by_diff (λ e. pos D *ℤ e ≡ neg_ℤ (pos N) → Same (integer e) (times (over L D) (times (over fn fd) (integer (diff 0 (suc n))))))
-      (λ a b r. entry_at D L fn fd N a b 0 (suc n) pD pf
-      (let s : D * a + N ≡ D * b = back_at D N a b r in
-      let t : (D * a + N) * fd ≡ D * b * fd = ap (λ x. x * fd) s in omega (arith, t, k))) e h)
-    where
-      back_at : (D N a b : ℕ) → pos D *ℤ diff a b ≡ neg_ℤ (pos N) → D * a + N ≡ D * b
-      back_at D N a b r = (let k : diff (D * a + 0 * b) (D * b + 0 * a) ≡ diff 0 N = simp diffs at (r ∙ neg_pos N) in omega (arith, same-diff _ _ _ _ k))
-        where
-          neg_pos : (N : ℕ) → neg_ℤ (pos N) ≡ diff 0 N
-          neg_pos N = ap neg_ℤ (pos-diff N) ∙ diff-neg N 0
-
-  entry_in_proportion : (e w : ℤ) → pos D *ℤ e ≡ signed w N → N * fd ≡ fn * unsigned_abs w * L → Same (integer e) (times (over L D) (times (over fn fd) (integer w)))
-  entry_in_proportion e (pos n) h k = forth e n h k
-  entry_in_proportion e (negsuc n) h k = backward e n h k
+      (in_differences e 0 (suc n) 0 N (h ∙ ap neg_ℤ (pos-diff N) ∙ diff-neg N 0) (omega arith) k)
 
 -- ---- a row
 
@@ -167,7 +155,7 @@ module _ (units : Units) (f : Flight) (ok : IsFlying units f) (w : List ℤ) (fi
       let num : p.num * (L / p.den) * (share units k).den ≡ (share units k).num * unsigned_abs (entry w j) * L = number_is (share units k).num (share units k).den (unsigned_abs (entry w j)) p.num p.den L d low.same in
       let prod : pos D *ℤ entry line.entries j ≡ signed (entry w j) (p.num * (L / p.den)) =
       ap (λ (z : ℤ). z *ℤ entry line.entries j) (sym (as_positive is.entries.divisor is.entries.positive)) ∙ is.entries.product j ∙ entry-scaled (share units) L prefix w j l m in
-      entry_in_proportion D L (share units k).num (share units k).den (p.num * (L / p.den)) some_D (omega (arith, s.below)) (entry line.entries j) (entry w j) prod num
+      entry_in_proportion D L (share units k).num (share units k).den some_D (omega (arith, s.below)) (entry line.entries j) (entry w j) (p.num * (L / p.den)) prod num
 
   factor : ℕ → Fraction
   factor row = cond (nat_lt row (length units.firsts)) (times (over L D) (ok.are.scale row)) (over L D)
@@ -213,11 +201,11 @@ module _ (units : Units) (f : Flight) (ok : IsFlying units f) (left : ℕ) (m : 
   pub plus_total : (row : ℕ) → row < f.rows → Same (sum_below (length units.members) (λ u. times (expanded units row u) (value_at (moved_values units f.values (direction (share units) (fractional_units f.values) k.circuit)) u)))
       (sum_below (length units.members) (λ u. times (expanded units row u) (value_at f.values u)))
   plus_total row l =
-      sum_stays (length units.members) (expanded units row) (value_at f.values) (value_at (moved_values units f.values flown)) (fraction_of (extent (over_common (line_common units f.values (take (length k.circuit) (fractional_units f.values))) f.values) flown)) (entry_of flown)
+      sum_stays (length units.members) (expanded units row) (value_at f.values) (value_at (moved_values units f.values flown)) (fraction_of (extent (over_common (common_of units f.values (take (length k.circuit) (fractional_units f.values))) f.values) flown)) (entry_of flown)
       (plus_end units f ok left m k).along (direction_total units f ok k.circuit k.finds row l)
 
   pub minus_total : (row : ℕ) → row < f.rows → Same (sum_below (length units.members) (λ u. times (expanded units row u) (value_at (moved_values units f.values (turned (direction (share units) (fractional_units f.values) k.circuit))) u)))
       (sum_below (length units.members) (λ u. times (expanded units row u) (value_at f.values u)))
   minus_total row l =
-      sum_stays (length units.members) (expanded units row) (value_at f.values) (value_at (moved_values units f.values (turned flown))) (fraction_of (extent (over_common (line_common units f.values (take (length k.circuit) (fractional_units f.values))) f.values) (turned flown))) (entry_of (turned flown))
+      sum_stays (length units.members) (expanded units row) (value_at f.values) (value_at (moved_values units f.values (turned flown))) (fraction_of (extent (over_common (common_of units f.values (take (length k.circuit) (fractional_units f.values))) f.values) (turned flown))) (entry_of (turned flown))
       (minus_end units f ok left m k).along (back_total (length units.members) (expanded units row) flown (direction_total units f ok k.circuit k.finds row l))

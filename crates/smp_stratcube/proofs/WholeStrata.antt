@@ -1,7 +1,8 @@
 -- Where the probabilities of a stratum add up to a whole number, each leaf selects that many of its units, after pivotal steps too.
-use Rattle.std.proofs.Common.{◌≡◌, ◌≢◌, ℕ, zero, suc, ◌<◌, ◌≤◌, nat_eq, true, false, Option, Some, None, List, [], ◌∷◌, length, get_or, arith, refl, sym, ap, ◌∙◌, subst, inl, inr, ◌⊎◌}
+use Rattle.std.proofs.Common.{◌≡◌, ◌≢◌, ℕ, suc, ◌<◌, true, false, Option, Some, None, List, [], ◌∷◌, take, length, get_or, arith, refl, sym, ap, ◌∙◌, subst, inl, inr, ◌⊎◌}
 use Rattle.std.proofs.lemmas.Bool.{cases_Bool, cases_eq, ne_eqb, true≢false}
-use Rattle.smp_frac.specs.Fractions.{Same, whole}
+use Rattle.smp_frac.specs.Fractions.{Same, plus, whole}
+use Rattle.smp_prob.specs.Shares.{Shares}
 use Rattle.smp_frac.proofs.Arithmetic.{same_refl, same_trans}
 use Rattle.smp_split.specs.Trees.{EachPart}
 use Rattle.smp_split.specs.Parts.{moved}
@@ -9,25 +10,26 @@ use Rattle.smp_split.proofs.Paths.{at_each_leaf_kept}
 use Rattle.smp_moves.specs.Balances.{Begins}
 use Rattle.smp_moves.specs.Moves.{Move, Next, fraction_of, independent, move, wide}
 use Rattle.smp_moves.specs.Owed.{HasKept, HasStayed}
-use Rattle.smp_moves.specs.Cubes.{dropped, flying, pairing, values_in, flight_kind}
+use Rattle.smp_moves.specs.Cubes.{flying, pairing, values_in, flight_kind}
+use Rattle.smp_moves.specs.Kept.Computed.{dropped}
 use Rattle.smp_stratcube.specs.declared.values.Value.{Value}
 use Rattle.smp_stratcube.specs.Units.{IsUnits, Units, stratum}
-use Rattle.smp_stratcube.specs.Values.{fractional_units, is_fractional, value, value_at}
+use Rattle.smp_stratcube.specs.Values.{fractional_units, is_fractional, taken_over, value, value_at}
 use Rattle.smp_stratcube.specs.States.{Balancing, Flight, IsBalancing, IsFlying, IsPairing, started}
 use Rattle.smp_stratcube.specs.Kept.Computed.{chosen, next}
-use Rattle.smp_stratcube.specs.Pairs.{first_pair, is_either, meeting, parts_by, settling}
+use Rattle.smp_stratcube.specs.Pairs.{first_pair}
+use Rattle.smp_stratcube.specs.Kept.Pairs.{is_one_of, parts_of, units_by}
 use Rattle.smp_stratcube.specs.Kept.Trees.{HasCounts, flight_parts, strat_parts, strat_tree, weighed_of}
 use Rattle.smp_stratcube.specs.Laws.Meetings.{meeting_sums}
-use Rattle.smp_stratcube.specs.Laws.Pairs.{IsMeeting, pair_found}
+use Rattle.smp_stratcube.specs.Laws.Pairs.{IsMeeting, IsStep, each_paired, not_among, pair_found, step_at}
 use Rattle.smp_stratcube.specs.Laws.Splits.{none_open, strat_lawful, values_ok}
 use Rattle.smp_stratcube.specs.Laws.Taken.{taken_kept}
-use Rattle.smp_stratcube.specs.Laws.Units.{fractional_in, order_apart, order_going, order_place}
-use Rattle.smp_stratcube.proofs.Ahead.{order_rises}
+use Rattle.smp_stratcube.specs.Laws.Units.{fractional_in, order_going}
 use Rattle.smp_stratcube.proofs.Alone.{alone_in}
 use Rattle.smp_moves.proofs.Flights.{IsInFlight}
 use Rattle.smp_stratcube.proofs.Balances.{kept_by, started_flying, stays_by, strat_start}
 use Rattle.smp_stratcube.proofs.Landed.{drop_at}
-use Rattle.smp_stratcube.proofs.Pairing.{AreApart, apart}
+use Rattle.smp_stratcube.proofs.FirstPairs.{alone}
 use Rattle.smp_stratcube.proofs.StratumSums.{NoneOpen, alone_never, counted, kept_sum, paired_sum, stratum_sum, total_is}
 
 -- the values of the stratum add up to n, and as long as one of them isn't settled in the flight, its row is in force
@@ -92,74 +94,37 @@ module _ (units : Units) (h n : ℕ) (inside : h < length units.firsts) where
     same_at : (after : List Value) (k : ℕ) → value after k ≡ value values k → Same (value_at after k) (value_at values k)
     same_at after k e = subst (λ (v : Value). Same (fraction_of v.at) (value_at values k)) (sym e) (same_refl (value_at values k))
 
-    module _ (i j : ℕ) (m : IsMeeting units values i j) where
-      out : (k : ℕ) → i ≢ k → j ≢ k → is_either i j k ≡ false
-      out k ni nj = rw (ne_eqb i k ni, ne_eqb j k nj) refl
+    -- a step of another stratum
+    away_keeps : (ks : List ℕ) → IsStep units values ks → stratum units (get_or ks 0 0) ≢ h → EachPart (λ p. IsWholeIn units h n p.state) (moved (λ v. pairing v left) (parts_of units values ks))
+    away_keeps ks step ne =
+        let out : (k : ℕ) → stratum units k ≡ h → is_one_of ks k ≡ false = λ k e. not_among ks k (λ t. ne (sym (step_at units values ks step k t).1 ∙ e)) in
+        each_paired units values ks left (IsWholeIn units h n)
+        (λ t. same_trans (kept_sum units h values (taken_over (is_one_of ks) values t) (λ k l e. same_at _ k (taken_kept (is_one_of ks) values t k (out k e)))) keeps)
 
-      pair_in : i < length units.members
-      pair_in = omega (arith, fractional_in values i m.first, ok.values.count)
+    module _ (i j : ℕ) (m : IsMeeting units values i j) (e : stratum units i ≡ h) where
+      pair_keeps : (t : Shares) → Same (plus (value_at (taken_over (is_one_of (i ∷ j ∷ [])) values t) i) (value_at (taken_over (is_one_of (i ∷ j ∷ [])) values t) j)) (plus (value_at values i) (value_at values j)) →
+          IsWholeIn units h n (pairing (taken_over (is_one_of (i ∷ j ∷ [])) values t) left)
+      pair_keeps t sum =
+          same_trans
+          (paired_sum units h values (taken_over (is_one_of (i ∷ j ∷ [])) values t) i j (omega (arith, fractional_in values i m.first, ok.values.count)) (omega (arith, fractional_in values j m.second, ok.values.count)) m.apart e (sym m.stratum_is ∙ e)
+          (λ k ni nj. same_at _ k (taken_kept (is_one_of (i ∷ j ∷ [])) values t k (rw (ne_eqb i k ni, ne_eqb j k nj) refl))) sum)
+          keeps
 
-      pair_also : j < length units.members
-      pair_also = omega (arith, fractional_in values j m.second, ok.values.count)
-
-      meeting_keeps : EachPart (λ p. IsWholeIn units h n p.state) (moved (λ v. pairing v left) (meeting units values i j))
-      meeting_keeps =
-          let sums = meeting_sums units values ok left i j m in
-          elim (cases_eq (stratum units i) h) [
-            | inl e ↦ (
-              same_trans (paired_sum units h values _ i j pair_in pair_also m.apart e (sym m.stratum_is ∙ e) (λ k ni nj. same_at _ k (taken_kept (is_either i j) values _ k (out k ni nj))) sums.0) keeps,
-              (same_trans (paired_sum units h values _ i j pair_in pair_also m.apart e (sym m.stratum_is ∙ e) (λ k ni nj. same_at _ k (taken_kept (is_either i j) values _ k (out k ni nj))) sums.1.0) keeps, tt),
-            )
-            | inr ne ↦
-                (let away : (k : ℕ) → stratum units k ≡ h → is_either i j k ≡ false =
-                λ k e. out k (λ same. ne (ap (stratum units) same ∙ e)) (λ same. ne (m.stratum_is ∙ ap (stratum units) same ∙ e)) in (
-                  same_trans (kept_sum units h values _ (λ k l e. same_at _ k (taken_kept (is_either i j) values _ k (away k e)))) keeps,
-                  (same_trans (kept_sum units h values _ (λ k l e. same_at _ k (taken_kept (is_either i j) values _ k (away k e)))) keeps, tt),
-                ))
-          ]
+      meeting_keeps : EachPart (λ p. IsWholeIn units h n p.state) (moved (λ v. pairing v left) (parts_of units values (i ∷ j ∷ [])))
+      meeting_keeps = (let sums = meeting_sums units values ok left i j m in (pair_keeps _ sums.0, (pair_keeps _ sums.1.0, tt)))
 
     -- a unit that is settled by itself is of another stratum
-    settling_keeps : (i : ℕ) → stratum units i ≢ h → EachPart (λ p. IsWholeIn units h n p.state) (moved (λ v. pairing v left) (settling values i))
-    settling_keeps i ne =
-        let away : (k : ℕ) → stratum units k ≡ h → nat_eq i k ≡ false = λ k e. ne_eqb i k (λ same. ne (ap (stratum units) same ∙ e)) in (
-          same_trans (kept_sum units h values _ (λ k l e. same_at _ k (taken_kept (nat_eq i) values _ k (away k e)))) keeps,
-          (same_trans (kept_sum units h values _ (λ k l e. same_at _ k (taken_kept (nat_eq i) values _ k (away k e)))) keeps, tt),
-        )
+    lone_keeps : (order : List ℕ) → fractional_units values ≡ order → first_pair units (fractional_units values) ≡ None → EachPart (λ p. IsWholeIn units h n p.state) (moved (λ v. pairing v left) (parts_of units values (take 1 order)))
+    lone_keeps [] e none = tt
+    lone_keeps (i ∷ order) e none =
+        let going : is_fractional values i ≡ true = subst (λ (us : List ℕ). is_fractional values (get_or us 0 0) ≡ true) e (order_going values 0 (omega (arith, ap (λ us. length us) e))) in
+        away_keeps (i ∷ []) going (λ same. alone_never units h values n i ok.values going same (λ k opened ek. alone units values ok none k i opened going (ek ∙ sym same)) keeps)
 
-    -- where no two neighbours are of one stratum, the strata of fractional units rise
-    rises_next : AreApart units (fractional_units values) → (p : ℕ) → suc p < length (fractional_units values) → stratum units (get_or (fractional_units values) p 0) < stratum units (get_or (fractional_units values) (suc p) 0)
-    rises_next far p l =
-        let here : ℕ = get_or (fractional_units values) p 0 in
-        let after : ℕ = get_or (fractional_units values) (suc p) 0 in
-        let less : here < after = order_rises values p (suc p) 0 (omega arith) l in
-        let after_in : after < length units.members = omega (arith, fractional_in values after (order_going values (suc p) l), ok.values.count) in
-        let le : stratum units here ≤ stratum units after = ok.are.rises here after (omega (arith, less)) after_in in
-        omega (arith, le, far p l)
-
-    climbs : AreApart units (fractional_units values) → (p : ℕ) → suc p < length (fractional_units values) → stratum units (get_or (fractional_units values) 0 0) < stratum units (get_or (fractional_units values) (suc p) 0)
-    climbs far zero l = rises_next far 0 l
-    climbs far (suc p) l = (let before = climbs far p (omega (arith, l)) in let up = rises_next far (suc p) l in omega (arith, before, up))
-
-    first_alone : AreApart units (fractional_units values) → (k : ℕ) → is_fractional values k ≡ true → stratum units k ≡ stratum units (get_or (fractional_units values) 0 0) → k ≡ get_or (fractional_units values) 0 0
-    first_alone far k opened same = (let at = order_place values k opened in by_place at.0 at.1 at.2)
-      where
-        by_place : (p : ℕ) → p < length (fractional_units values) → get_or (fractional_units values) p 0 ≡ k → k ≡ get_or (fractional_units values) 0 0
-        by_place zero l e = sym e
-        by_place (suc p) l e = absurd (let up = climbs far p l in omega (arith, up, same, ap (stratum units) e))
-
-    lone_keeps : (order : List ℕ) → fractional_units values ≡ order → AreApart units (fractional_units values) → EachPart (λ p. IsWholeIn units h n p.state) (moved (λ v. pairing v left) (parts_by units values order None))
-    lone_keeps [] e far = tt
-    lone_keeps (i ∷ order) e far =
-        settling_keeps i
-        (λ same.
-        (let at : get_or (fractional_units values) 0 0 ≡ i = ap (λ us. get_or us 0 0) e in
-        let some : 0 < length (fractional_units values) = omega (arith, ap (λ us. length us) e) in
-        let going : is_fractional values i ≡ true = subst (λ (x : ℕ). is_fractional values x ≡ true) at (order_going values 0 some) in
-        alone_never units h values n i ok.values going same (λ k opened ek. first_alone far k opened (ek ∙ sym same ∙ sym (ap (stratum units) at)) ∙ at) keeps))
-
-    paired_keeps : (p : Option (ℕ × ℕ)) → first_pair units (fractional_units values) ≡ p → EachPart (λ q. IsWholeIn units h n q.state) (moved (λ v. pairing v left) (parts_by units values (fractional_units values) p))
-    paired_keeps (Some pair) e = meeting_keeps pair.0 pair.1 (pair_found units values (fractional_units values) (order_going values) (order_apart values) pair e)
-    paired_keeps None e = lone_keeps (fractional_units values) refl (apart units (fractional_units values) e)
+    paired_keeps : (p : Option (ℕ × ℕ)) → first_pair units (fractional_units values) ≡ p → EachPart (λ q. IsWholeIn units h n q.state) (moved (λ v. pairing v left) (parts_of units values (units_by p (fractional_units values))))
+    paired_keeps (Some pair) e =
+        let m = pair_found units values pair e in
+        elim (cases_eq (stratum units pair.0) h) [ inl here ↦ meeting_keeps pair.0 pair.1 m here | inr ne ↦ away_keeps (pair.0 ∷ pair.1 ∷ []) m ne ]
+    paired_keeps None e = lone_keeps (fractional_units values) refl e
 
   step_keeps : (s : Balancing) → IsBalancing units s → IsWholeIn units h n s → EachPart (λ p. IsWholeIn units h n p.state) (strat_parts units s)
   step_keeps (flying f left) ok keeps = flight_keeps f ok left keeps (next units f) refl

@@ -1,10 +1,8 @@
 -- A pivotal step, written unit by unit.
-use Rattle.std.proofs.Common.{◌≡◌, ◌≢◌, ℕ, suc, ◌+◌, ◌-◌, ◌*◌, ◌/◌, ◌<◌, ◌≤◌, nat_eq, nat_lt, true, false, Some, None, List, [], ◌∷◌, length, get_or, set, suc-le-suc, arith, refl, sym, ap, ap₂, ◌∙◌, subst, inl, inr, length-set, length-take, get_or-take}
-use Rattle.std.proofs.lemmas.Bool.{cases_Bool, cases_eq, eq-eqb, eqb-false, ne_eqb, lt-ltb, ltb-false}
+use Rattle.std.proofs.Common.{◌≡◌, ◌≢◌, ℕ, ◌+◌, ◌-◌, ◌*◌, ◌/◌, ◌<◌, ◌≤◌, nat_lt, true, false, Some, None, List, [], ◌∷◌, take, length, get_or, set, arith, refl, sym, ap, ap₂, ◌∙◌, subst, inl, inr, length-set, length-take, get_or-take}
+use Rattle.std.proofs.lemmas.Bool.{cases_Bool, eqb-false, le-ltb, lt-ltb, ltb-false}
 use Rattle.std.proofs.lemmas.List.{ext_get_or, get_or-set_same, get_or-set_other}
-use Rattle.std.proofs.lemmas.Nat.Gcd.{dvd_refl}
 use Prim.Native.Nat.{◌∣◌}
-use Rattle.smp_frac.proofs.Arithmetic.{cancel}
 use Rattle.smp_prob.specs.Shares.{Shares}
 use Rattle.smp_split.specs.Trees.{picked, weight_sum}
 use Rattle.smp_values.specs.Pairs.{pair_bound, pair_weights}
@@ -18,7 +16,6 @@ use Rattle.smp_moves.specs.Ends.{end_of, reach}
 use Rattle.smp_moves.specs.Moves.{IsLine, Line, turned}
 use Rattle.smp_moves.specs.Kept.Ends.{HasSmallEntries}
 use Rattle.smp_moves.proofs.Entries.{turned_line}
-use Rattle.smp_stratcube.specs.Moves.{line_common}
 use Rattle.smp_stratcube.specs.Kept.Computed.{moved_values, moves}
 use Rattle.smp_stratcube.specs.Kept.Moves.{AreMoved, IsAlong}
 use Rattle.smp_stratcube.proofs.Ending.{length_moved, moved_is}
@@ -26,30 +23,32 @@ use Rattle.smp_stratcube.proofs.Pairing.{pair_of_front}
 use Rattle.smp_stratcube.specs.declared.fronts.Front.{Front}
 use Rattle.smp_stratcube.specs.declared.values.Value.{Value}
 use Rattle.smp_stratcube.specs.Units.{Units, IsUnits, stratum}
-use Rattle.smp_stratcube.specs.Values.{fractional_count, fractional_units, is_fractional, is_settled, nothing, over_common, stratum_common, taken_over, value}
-use Rattle.smp_stratcube.specs.Pairs.{first_pair, is_either, meeting, paired_parts, parts_by, settling}
+use Rattle.smp_stratcube.specs.Values.{fractional_count, fractional_units, is_fractional, is_settled, nothing, over_common, stratum_common, taken_over, value, common_of}
+use Rattle.smp_stratcube.specs.Pairs.{first_pair, paired_parts, step_units}
 use Rattle.smp_stratcube.specs.States.{IsPairing}
 use Rattle.smp_stratcube.specs.Kept.Fronts.{IsFront, front_units}
-use Rattle.smp_stratcube.specs.Kept.Pairs.{HasStratum, as_value, met_at, settled_value}
-use Rattle.smp_stratcube.specs.Laws.Pairs.{IsMeeting, pair_found}
-use Rattle.smp_stratcube.specs.Laws.Taken.{cross, length_over, length_taken, numer_over, over_fractional, taken_kept, taken_moved}
-use Rattle.smp_stratcube.specs.Laws.Units.{fractional_in, order_apart, order_going, stratum_divides, stratum_some}
+use Rattle.smp_stratcube.specs.Kept.Pairs.{HasStratum, as_value, is_one_of, met_at, parts_of, settled_at, units_by}
+use Rattle.smp_stratcube.specs.Laws.Meetings.{step_in, step_open, step_some}
+use Rattle.smp_stratcube.specs.Laws.Pairs.{EachOf, IsMeeting, among_apart, each_of, first_among, pair_found, second_among, stands_at}
+use Rattle.smp_stratcube.specs.Laws.Taken.{length_taken, numer_over, taken_kept, taken_moved}
+use Rattle.smp_stratcube.specs.Laws.Units.{fractional_in}
 use Rattle.smp_stratcube.proofs.Ahead.{front_count, front_going, in_front}
 
--- a value over a common denominator, where it is fractional
-pub open_over : (units : Units) (values : List Value) (ok : IsPairing units values) (den k : ℕ) → 1 ≤ den → (value values k).at.den ∣ den → is_fractional values k ≡ true →
-    (1 ≤ get_or (over_common den values).numer k 0) × (get_or (over_common den values).numer k 0 < den)
-open_over units values ok den k some d h =
-    let f = fractional_is den (get_or (over_common den values).numer k 0) (over_fractional (length units.members) values ok.values den some k d ∙ h) in (f.0, f.1)
+-- values of which these units have taken over numerators, and the others are as they were
+pub written : (ks : List ℕ) (values : List Value) (t : Shares) (new : List Value) → length new ≡ length values →
+    EachOf (λ k. value new k ≡ as_value (get_or t.numer k 0) t.den) ks → ((k : ℕ) → is_one_of ks k ≡ false → value new k ≡ value values k) → new ≡ taken_over (is_one_of ks) values t
+written ks values t new count on off =
+    ext_get_or nothing new (taken_over (is_one_of ks) values t) (count ∙ sym (length_taken (is_one_of ks) values t))
+    (λ k l. elim (cases_Bool (is_one_of ks k)) [
+      | inl h ↦ each_of (λ k. value new k ≡ as_value (get_or t.numer k 0) t.den) ks on k h ∙ sym (taken_moved (is_one_of ks) values t k (omega (arith, l, count)) h)
+      | inr f ↦ off k f ∙ sym (taken_kept (is_one_of ks) values t k f)
+    ])
 
 -- ---- two units meet
 
 module _ (units : Units) (values : List Value) (ok : IsPairing units values) (i j : ℕ) (e : first_pair units (fractional_units values) ≡ Some (i, j)) where
-  n : ℕ
-  n = length units.members
-
-  pub meet : IsMeeting units values i j
-  meet = pair_found units values (fractional_units values) (order_going values) (order_apart values) (i, j) e
+  meet : IsMeeting units values i j
+  meet = pair_found units values (i, j) e
 
   abbrev den : ℕ
   den = stratum_common units values (stratum units i)
@@ -58,13 +57,7 @@ module _ (units : Units) (values : List Value) (ok : IsPairing units values) (i 
   s = over_common (stratum_common units values (stratum units i)) values
 
   pub meet_some : 1 ≤ stratum_common units values (stratum units i)
-  meet_some = stratum_some units ok.are (length units.members) values ok.values (stratum units i)
-
-  first_divides : (value values i).at.den ∣ den
-  first_divides = stratum_divides units ok.are (length units.members) values ok.values i meet.first
-
-  second_divides : (value values j).at.den ∣ den
-  second_divides = subst (λ (h : ℕ). (value values j).at.den ∣ stratum_common units values h) (sym meet.stratum_is) (stratum_divides units ok.are (length units.members) values ok.values j meet.second)
+  meet_some = step_some units values ok 0 (i ∷ j ∷ []) meet
 
   pub first_inside : i < length values
   first_inside = fractional_in values i meet.first
@@ -79,13 +72,13 @@ module _ (units : Units) (values : List Value) (ok : IsPairing units values) (i 
   b = get_or (over_common (stratum_common units values (stratum units i)) values).numer j 0
 
   pub first_open : (1 ≤ get_or (over_common (stratum_common units values (stratum units i)) values).numer i 0) × (get_or (over_common (stratum_common units values (stratum units i)) values).numer i 0 < stratum_common units values (stratum units i))
-  first_open = open_over units values ok den i meet_some first_divides meet.first
+  first_open = (let f = fractional_is den a (step_open units values ok 0 (i ∷ j ∷ []) meet i (first_among i (j ∷ []))) in (f.0, f.1))
 
   pub second_open : (1 ≤ get_or (over_common (stratum_common units values (stratum units i)) values).numer j 0) × (get_or (over_common (stratum_common units values (stratum units i)) values).numer j 0 < stratum_common units values (stratum units i))
-  second_open = open_over units values ok den j meet_some second_divides meet.second
+  second_open = (let f = fractional_is den b (step_open units values ok 0 (i ∷ j ∷ []) meet j (second_among i j [])) in (f.0, f.1))
 
-  pub parts_are : paired_parts units values ≡ meeting units values i j
-  parts_are = ap (parts_by units values (fractional_units values)) e
+  parts_are : paired_parts units values ≡ parts_of units values (i ∷ j ∷ [])
+  parts_are = ap (λ p. parts_of units values (units_by p (fractional_units values))) e
 
   pub bound_is : weight_sum (paired_parts units values) ≡ pair_bound (get_or (over_common (stratum_common units values (stratum units i)) values).numer i 0) (get_or (over_common (stratum_common units values (stratum units i)) values).numer j 0) (stratum_common units values (stratum units i))
   bound_is =
@@ -94,56 +87,32 @@ module _ (units : Units) (values : List Value) (ok : IsPairing units values) (i 
       let plus_zero : w + (x + 0) ≡ w + x = omega arith in
       ap weight_sum parts_are ∙ plus_zero
 
-  in_numbers : (k : ℕ) → k < length values → k < length s.numer
-  in_numbers k l = omega (arith, l, length_over (length units.members) values ok.values den meet_some, ok.values.count)
-
-  both_set : (x y : ℕ) → set (set values i (as_value x den)) j (as_value y den) ≡ taken_over (is_either i j) values (with_pair s i j (x, y))
-  both_set x y =
-      let t : Shares = with_pair s i j (x, y) in
-      let one : List Value = set values i (as_value x den) in
-      ext_get_or nothing (set one j (as_value y den)) (taken_over (is_either i j) values t)
-      (omega (arith, length-set {A = Value}, length_taken (is_either i j) values t))
-      (λ k l. each x y k (omega (arith, l, length-set {A = Value})))
-    where
-      each : (x y k : ℕ) → k < length values → value (set (set values i (as_value x den)) j (as_value y den)) k ≡ value (taken_over (is_either i j) values (with_pair s i j (x, y))) k
-      each x y k l =
-          let t : Shares = with_pair s i j (x, y) in
-          let one : List Value = set values i (as_value x den) in
-          elim (cases_eq j k) [
-            | inl ej ↦
-                subst (λ (m : ℕ). value (set one j (as_value y den)) m ≡ value (taken_over (is_either i j) values t) m) ej
-                (get_or-set_same one j (as_value y den) nothing (omega (arith, second_inside, length-set {A = Value}))
-                ∙ ap (λ (m : ℕ). as_value m den) (sym (two_at_j s.numer i j x y meet.apart (in_numbers i first_inside) (in_numbers j second_inside)))
-                ∙ sym (taken_moved (is_either i j) values t j second_inside (either_second)))
-            | inr nj ↦ elim (cases_eq i k) [
-              | inl ei ↦
-                  subst (λ (m : ℕ). value (set one j (as_value y den)) m ≡ value (taken_over (is_either i j) values t) m) ei
-                  (get_or-set_other one j i (as_value y den) nothing meet.apart
-                  ∙ get_or-set_same values i (as_value x den) nothing first_inside
-                  ∙ ap (λ (m : ℕ). as_value m den) (sym (two_at_i s.numer i j x y meet.apart (in_numbers i first_inside) (in_numbers j second_inside)))
-                  ∙ sym (taken_moved (is_either i j) values t i first_inside either_first))
-              | inr ni ↦
-                  (let out : is_either i j k ≡ false = rw (ne_eqb i k ni, ne_eqb j k nj) refl in
-                  get_or-set_other one j k (as_value y den) nothing (λ h. nj (sym h)) ∙ get_or-set_other values i k (as_value x den) nothing (λ h. ni (sym h))
-                  ∙ sym (taken_kept (is_either i j) values t k out))
-            ]
-          ]
-        where
-          either_first : is_either i j i ≡ true
-          either_first = rw (eq-eqb i i refl) refl
-
-          either_second : is_either i j j ≡ true
-          either_second = elim (cases_Bool (nat_eq i j)) [ inl t ↦ rw t refl | inr f ↦ rw (f, eq-eqb j j refl) refl ]
+  both_set : (new : ℕ × ℕ) → set (set values i (as_value new.0 den)) j (as_value new.1 den) ≡ taken_over (is_one_of (i ∷ j ∷ [])) values (with_pair s i j new)
+  both_set new =
+      let one : List Value = set values i (as_value new.0 den) in
+      let i_in = step_in units values ok 0 (i ∷ j ∷ []) meet i (first_among i (j ∷ [])) in
+      let j_in = step_in units values ok 0 (i ∷ j ∷ []) meet j (second_among i j []) in
+      written (i ∷ j ∷ []) values (with_pair s i j new) (set one j (as_value new.1 den)) (omega (arith, length-set {A = Value})) (
+        get_or-set_other one j i (as_value new.1 den) nothing meet.apart ∙ get_or-set_same values i (as_value new.0 den) nothing first_inside
+            ∙ ap (λ (m : ℕ). as_value m den) (sym (two_at_i s.numer i j new.0 new.1 meet.apart i_in j_in)),
+        (
+          get_or-set_same one j (as_value new.1 den) nothing (omega (arith, second_inside, length-set {A = Value}))
+              ∙ ap (λ (m : ℕ). as_value m den) (sym (two_at_j s.numer i j new.0 new.1 meet.apart i_in j_in)),
+          tt,
+        ),
+      )
+      (λ k f. get_or-set_other one j k (as_value new.1 den) nothing (among_apart (i ∷ j ∷ []) j k (second_among i j []) f)
+      ∙ get_or-set_other values i k (as_value new.0 den) nothing (among_apart (i ∷ j ∷ []) i k (first_among i (j ∷ [])) f))
 
   pub met_is : (draw : ℕ) → draw < weight_sum (paired_parts units values) →
       set (set values i (as_value (met_at units values (i, j) draw).0 (stratum_common units values (stratum units i)))) j (as_value (met_at units values (i, j) draw).1 (stratum_common units values (stratum units i)))
       ≡ picked values (paired_parts units values) draw
   met_is draw l =
-      both_set (met_at units values (i, j) draw).0 (met_at units values (i, j) draw).1
+      both_set (met_at units values (i, j) draw)
       ∙ chosen_part
       ∙ sym (ap (λ ps. picked values ps draw) parts_are)
     where
-      chosen_part : taken_over (is_either i j) values (with_pair s i j (met_at units values (i, j) draw)) ≡ picked values (meeting units values i j) draw
+      chosen_part : taken_over (is_one_of (i ∷ j ∷ [])) values (with_pair s i j (met_at units values (i, j) draw)) ≡ picked values (parts_of units values (i ∷ j ∷ [])) draw
       chosen_part =
           let w : ℕ = (pair_weights a b den).first in
           let x : ℕ = (pair_weights a b den).second in
@@ -155,6 +124,11 @@ module _ (units : Units) (values : List Value) (ok : IsPairing units values) (i 
           ]
 
 -- ---- a unit alone
+
+-- a numerator that was read
+pub numer_read : (units : Units) (values : List Value) (ok : IsPairing units values) (den k m x : ℕ) (v : Value) → 1 ≤ den → x ≡ v.at.num * (m / v.at.den) → v ≡ value values k → m ≡ den → x ≡ get_or (over_common den values).numer k 0
+numer_read units values ok den k m x v some e same m_is =
+    e ∙ ap₂ (λ (w : Value) (d : ℕ). w.at.num * (d / w.at.den)) same m_is ∙ sym (numer_over (length units.members) values ok.values den some k)
 
 module _ (units : Units) (values : List Value) (ok : IsPairing units values) (front : Front) (is : IsFront values front) (long : front.number ≤ length front.units) (going : is_settled values ≡ false) where
   pub some_front : 1 ≤ front.number
@@ -175,93 +149,75 @@ module _ (units : Units) (values : List Value) (ok : IsPairing units values) (fr
   unit_inside = fractional_in values unit unit_open
 
   -- the first fractional unit
-  head_is : (order : List ℕ) → order ≡ fractional_units values → get_or order 0 0 ≡ unit → 1 ≤ length order → parts_by units values order None ≡ settling values unit
-  head_is [] e h some = absurd (omega (arith, some))
-  head_is (k ∷ order) e h some = ap (settling values) h
+  head_is : (order : List ℕ) → get_or order 0 0 ≡ unit → 1 ≤ length order → take 1 order ≡ unit ∷ []
+  head_is [] h some = absurd (omega (arith, some))
+  head_is (k ∷ order) h some = ap (λ x. x ∷ []) h
 
-  pub alone : first_pair units (fractional_units values) ≡ None → paired_parts units values ≡ settling values (get_or front.units 0 0)
+  pub alone : first_pair units (fractional_units values) ≡ None → step_units units values ≡ get_or front.units 0 0 ∷ []
   alone e =
-      ap (parts_by units values (fractional_units values)) e
-      ∙ head_is (fractional_units values) refl (sym (in_front values front is long 0 some_front).0) (omega (arith, (in_front values front is long 0 some_front).1))
+      ap (λ p. units_by p (fractional_units values)) e
+      ∙ head_is (fractional_units values) (sym (in_front values front is long 0 some_front).0) (omega (arith, (in_front values front is long 0 some_front).1))
 
   abbrev d : ℕ
-  d = (value values (get_or front.units 0 0)).at.den
+  d = stratum_common units values (stratum units (get_or front.units 0 0))
 
-  numer_is : get_or (over_common d values).numer unit 0 ≡ (value values unit).at.num
-  numer_is = cancel (get_or (over_common d values).numer unit 0) (value values unit).at.num d (ok.values.each unit).positive (cross (length units.members) values ok.values d (ok.values.each unit).positive unit (dvd_refl d))
+  abbrev t : Shares
+  t = over_common (stratum_common units values (stratum units (get_or front.units 0 0))) values
 
-  below : (value values unit).at.num < d
-  below = (fractional_is d (value values unit).at.num unit_open).1
+  pub unit_some : 1 ≤ stratum_common units values (stratum units (get_or front.units 0 0))
+  unit_some = step_some units values ok 0 (unit ∷ []) unit_open
 
-  pub lone_bound : first_pair units (fractional_units values) ≡ None → weight_sum (paired_parts units values) ≡ (value values (get_or front.units 0 0)).at.den
+  pub lone_bound : first_pair units (fractional_units values) ≡ None → weight_sum (paired_parts units values) ≡ stratum_common units values (stratum units (get_or front.units 0 0))
   lone_bound e =
-      let x : ℕ = get_or (over_common d values).numer unit 0 in
-      let whole : x + (d - x + 0) ≡ d = omega (arith, numer_is, below) in
-      ap weight_sum (alone e) ∙ whole
+      let x : ℕ = get_or t.numer unit 0 in
+      let below = (fractional_is d x (step_open units values ok 0 (unit ∷ []) unit_open unit (first_among unit []))).1 in
+      let whole : x + (d - x + 0) ≡ d = omega (arith, below) in
+      ap (λ ks. weight_sum (parts_of units values ks)) (alone e) ∙ whole
 
-  one_set : (x : ℕ) → set values unit (as_value x d) ≡ taken_over (nat_eq unit) values (with_one (over_common d values) unit x)
+  -- the value to which a draw settles it, by its numerator that was read
+  pub settled_by : (draw m x : ℕ) (v : Value) → x ≡ v.at.num * (m / v.at.den) → v ≡ value values (get_or front.units 0 0) → m ≡ stratum_common units values (stratum units (get_or front.units 0 0))
+      → (draw < x → as_value m m ≡ settled_at units values (get_or front.units 0 0) draw) × (x ≤ draw → as_value 0 m ≡ settled_at units values (get_or front.units 0 0) draw)
+  settled_by draw m x v e same m_is =
+      let read = numer_read units values ok d unit m x v unit_some e same m_is in
+      (
+        (λ l. ap (λ (n : ℕ). as_value n n) m_is ∙ rw (lt-ltb draw (get_or t.numer unit 0) (omega (arith, read, l))) refl),
+        (λ l. ap (as_value 0) m_is ∙ rw (le-ltb draw (get_or t.numer unit 0) (omega (arith, read, l))) refl),
+      )
+
+  one_set : (x : ℕ) → set values unit (as_value x d) ≡ taken_over (is_one_of (unit ∷ [])) values (with_one t unit x)
   one_set x =
-      let t : Shares = with_one (over_common d values) unit x in
-      ext_get_or nothing (set values unit (as_value x d)) (taken_over (nat_eq unit) values t)
-      (omega (arith, length-set {A = Value}, length_taken (nat_eq unit) values t))
-      (λ k l. each x k (omega (arith, l, length-set {A = Value})))
-    where
-      each : (x k : ℕ) → k < length values → value (set values unit (as_value x d)) k ≡ value (taken_over (nat_eq unit) values (with_one (over_common d values) unit x)) k
-      each x k l =
-          let t : Shares = with_one (over_common d values) unit x in
-          let b : unit < length (over_common d values).numer = omega (arith, unit_inside, length_over (length units.members) values ok.values d (ok.values.each unit).positive, ok.values.count) in
-          elim (cases_eq unit k) [
-            | inl h ↦
-                subst (λ (m : ℕ). value (set values unit (as_value x d)) m ≡ value (taken_over (nat_eq unit) values t) m) h
-                (get_or-set_same values unit (as_value x d) nothing unit_inside
-                ∙ ap (λ (m : ℕ). as_value m d) (sym (get_or-set_same (over_common d values).numer unit x 0 b))
-                ∙ sym (taken_moved (nat_eq unit) values t unit unit_inside (eq-eqb unit unit refl)))
-            | inr ne ↦
-                get_or-set_other values unit k (as_value x d) nothing (λ h. ne (sym h)) ∙ sym (taken_kept (nat_eq unit) values t k (ne_eqb unit k ne))
-          ]
+      written (unit ∷ []) values (with_one t unit x) (set values unit (as_value x d)) (omega (arith, length-set {A = Value})) (
+        get_or-set_same values unit (as_value x d) nothing unit_inside
+            ∙ ap (λ (m : ℕ). as_value m d) (sym (get_or-set_same t.numer unit x 0 (step_in units values ok 0 (unit ∷ []) unit_open unit (first_among unit [])))),
+        tt,
+      )
+      (λ k f. get_or-set_other values unit k (as_value x d) nothing (among_apart (unit ∷ []) unit k (first_among unit []) f))
 
-  pub lone_is : first_pair units (fractional_units values) ≡ None → (draw : ℕ) → draw < weight_sum (paired_parts units values) → set values (get_or front.units 0 0) (settled_value (value values (get_or front.units 0 0)) draw) ≡ picked values (paired_parts units values) draw
-  lone_is e draw l = by_draw ∙ sym (ap (λ ps. picked values ps draw) (alone e))
+  pub lone_is : first_pair units (fractional_units values) ≡ None → (draw : ℕ) → draw < weight_sum (paired_parts units values) → set values (get_or front.units 0 0) (settled_at units values (get_or front.units 0 0) draw) ≡ picked values (paired_parts units values) draw
+  lone_is e draw l = by_draw ∙ sym (ap (λ ks. picked values (parts_of units values ks) draw) (alone e))
     where
-      by_draw : set values unit (settled_value (value values unit) draw) ≡ picked values (settling values unit) draw
+      by_draw : set values unit (settled_at units values unit draw) ≡ picked values (parts_of units values (unit ∷ [])) draw
       by_draw =
-          let x : ℕ = get_or (over_common d values).numer unit 0 in
-          elim (cases_Bool (nat_lt draw (value values unit).at.num)) [
-            | inl t ↦
-                (let t' : nat_lt draw x ≡ true = ap (nat_lt draw) numer_is ∙ t in
-                rw (t, t') (one_set d))
+          let x : ℕ = get_or t.numer unit 0 in
+          elim (cases_Bool (nat_lt draw x)) [
+            | inl h ↦ rw h (one_set d)
             | inr f ↦
-                (let f' : nat_lt draw x ≡ false = ap (nat_lt draw) numer_is ∙ f in
-                let rest : nat_lt (draw - x) (d - x) ≡ true = lt-ltb (draw - x) (d - x) (omega (arith, l, lone_bound e, numer_is, ltb-false draw (value values unit).at.num f)) in
-                rw (f, f', rest) (one_set 0))
+                (let rest : nat_lt (draw - x) (d - x) ≡ true = lt-ltb (draw - x) (d - x) (omega (arith, l, lone_bound e, ltb-false draw x f)) in
+                rw (f, rest) (one_set 0))
           ]
 
--- ---- where the pair stands
-
-pair_place : (units : Units) (xs : List ℕ) (p : ℕ × ℕ) → first_pair units xs ≡ Some p → (k : ℕ) × (k < length xs) × (get_or xs k 0 ≡ p.0)
-pair_place units [] p e = absurd (let h : None ≡ Some p = e in cc)
-pair_place units (i ∷ []) p e = absurd (let h : None ≡ Some p = e in cc)
-pair_place units (i ∷ j ∷ xs) p e =
-    elim (cases_Bool (nat_eq (stratum units i) (stratum units j))) [
-      | inl t ↦ (let here : Some (i, j) ≡ Some p = rw t at e in let same : (i, j) ≡ p = cc in (0, omega arith, ap (λ (q : ℕ × ℕ). q.0) same))
-      | inr f ↦ (let r = pair_place units (j ∷ xs) p (rw f at e) in (suc r.0, suc-le-suc r.1, r.2))
-    ]
+-- ---- where the units of a step stand
 
 pub stratum_in_front : (units : Units) (are : IsUnits units) (values : List Value) (count : length values ≡ length units.members) (front : Front) (is : IsFront values front) (long : front.number ≤ length front.units) (i j h : ℕ) →
     first_pair units (fractional_units values) ≡ Some (i, j) → h ≡ stratum units i → HasStratum units front h
 stratum_in_front units are values count front is long i j h e same =
-    let at = pair_place units (front_units front) (i, j) (pair_of_front units are values count front is long ∙ e) in
-    let b : at.0 < front.number = omega (arith, at.1, length-take front.number front.units) in
-    record { place = at.0; inside = b; is = ap (stratum units) (sym (get_or-take front.number front.units at.0 0 b) ∙ at.2) ∙ sym same }
-
--- a numerator that was read
-pub numer_read : (units : Units) (values : List Value) (ok : IsPairing units values) (den k m x : ℕ) (v : Value) → 1 ≤ den → x ≡ v.at.num * (m / v.at.den) → v ≡ value values k → m ≡ den → x ≡ get_or (over_common den values).numer k 0
-numer_read units values ok den k m x v some e same m_is =
-    e ∙ ap₂ (λ (w : Value) (d : ℕ). w.at.num * (d / w.at.den)) same m_is ∙ sym (numer_over (length units.members) values ok.values den some k)
+    let at = stands_at units (front_units front) (i, j) (pair_of_front units are values count front is long ∙ e) in
+    let b : at.place < front.number = omega (arith, at.inside, length-take front.number front.units) in
+    record { place = at.place; inside = b; is = ap (stratum units) (sym (get_or-take front.number front.units at.place 0 b) ∙ at.first) ∙ sym same }
 
 -- ---- a move, written
 
-pub gone_is : (units : Units) (count : ℕ) (values new : List Value) (line : LineOfPlaces) (den : ℕ) (r : Reach) → IsAlong count values line den r → AreMoved values new (line_of line) den r → (target : Line) → line_of line ≡ target → den ≡ line_common units values target.units → new ≡ moved_values units values target
+pub gone_is : (units : Units) (count : ℕ) (values new : List Value) (line : LineOfPlaces) (den : ℕ) (r : Reach) → IsAlong count values line den r → AreMoved values new (line_of line) den r → (target : Line) → line_of line ≡ target → den ≡ common_of units values target.units → new ≡ moved_values units values target
 gone_is units count values new line den r a h target same den_is =
     ext_get_or nothing new (taken_over (moves (line_of line)) values (end_of 1 (over_common den values) (line_of line)))
     (h.count ∙ sym (length_moved count values line den r a))

@@ -2,15 +2,16 @@
 -- keep the size of each stratum and the total of each variable over all strata. Its pivotal steps go stratum by stratum.
 use Rattle.std.specs.Prelude.{List, length}
 use Rattle.smp_split.specs.Trees.{Tree}
+use Rattle.smp_values.specs.Steps.{kind_on}
 use Rattle.smp_moves.specs.Cubes as cubes
 use Rattle.smp_moves.specs.Cubes.{Cube}
 use Rattle.smp_stratcube.specs.declared.values.Value.{Value}
 use Rattle.smp_stratcube.specs.Units.{Units}
 use Rattle.smp_stratcube.specs.Values.{fractional_count, fractional_units, is_fractional, is_one, value_at}
-use Rattle.smp_stratcube.specs.States.{Balancing}
-use Rattle.smp_stratcube.specs.Moves.{Stepping, next_by, setting_of}
+use Rattle.smp_stratcube.specs.States.{Balancing, Flight}
+use Rattle.smp_stratcube.specs.Moves.{Stepping, setting_of}
 use Rattle.smp_stratcube.specs.Steps.{stepping}
-use Rattle.smp_stratcube.specs.Pairs.{paired_kind, paired_parts}
+use Rattle.smp_stratcube.specs.Pairs.{paired_parts, step_units}
 
 -- the cube over these units, by any `Stepping`
 abbrev pub cube_by : Stepping → Units → Cube (List Value)
@@ -23,13 +24,13 @@ cube_by steps units = record {
   fractional_count = fractional_count;
   setting = setting_of units;
   end_at = steps.end_at units;
-  pair_kind = paired_kind units;
+  pair_kind = λ values. kind_on (step_units units values);
   pair_parts = paired_parts units;
 }
 
 -- the draw tree of the cube over all strata of these units, by such steps
 abbrev pub tree_by : Stepping → Units → Tree Balancing
-tree_by steps units = cubes.tree_by (cube_by steps units) (next_by steps units)
+tree_by steps units = cubes.tree_by (cube_by steps units) (λ (f : Flight). steps.next_on units (fractional_units f.values) f)
 
 -- the draw tree of the cube over all strata of these units, by the steps of the cube
 abbrev pub strat_tree : Units → Tree Balancing

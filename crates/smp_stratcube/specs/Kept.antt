@@ -3,7 +3,6 @@ pub mod Gates
 pub mod Moves
 pub mod Fronts
 pub mod Lines
-pub mod Steps
 pub mod Pairs
 pub mod States
 pub mod Behind

@@ -1,22 +1,14 @@
 -- A step of the flight by its properties is that of a cube whose values stand in lowest terms, each with whether a move has changed it, and
 -- whose search goes through the fractional units in order.
-use Rattle.std.specs.Prelude.{◌≡◌, ◌≢◌, ℕ, ◌<◌, true}
-use Rattle.std.specs.Prelude.{List, ◌++◌, pos, length, map}
+use Rattle.std.specs.Prelude.{◌≡◌, ◌≢◌, ℕ, ◌<◌, true, [], List, pos, length}
 use Rattle.smp_frac.specs.Fractions.{Same, integer, plus, times}
 use Rattle.smp_moves.specs.declared.lines.Ratio.{Ratio}
-use Rattle.smp_moves.specs.Moves.{Line, Next, Setting, entry_of, fraction_of}
+use Rattle.smp_moves.specs.Moves.{Line, Setting, entry_of, fraction_of}
 use Rattle.smp_moves.specs.Steps as steps
-use Rattle.smp_moves.specs.Steps.{common_multiple}
 use Rattle.smp_stratcube.specs.declared.values.Value.{Value}
-use Rattle.smp_stratcube.specs.Units.{Units, column, first, share}
-use Rattle.smp_stratcube.specs.Values.{AreValues, common_of, denominators, fractional_units, over_common, touched_units}
-use Rattle.smp_stratcube.specs.Values.{value, value_at}
-use Rattle.smp_stratcube.specs.States.{Flight, IsFlying}
-
--- the common denominator of a state and of the strata of these units
-abbrev pub line_common : Units → List Value → List ℕ → ℕ
-line_common units values prefix =
-    common_multiple (denominators units values (touched_units values) ++ map (first units) prefix)
+use Rattle.smp_stratcube.specs.Units.{Units, column, share}
+use Rattle.smp_stratcube.specs.Values.{AreValues, common_of, fractional_units, over_common, value, value_at}
+use Rattle.smp_stratcube.specs.States.{IsFlying}
 
 -- the values so far along the line, each in lowest terms, and touched where the line moves it
 pub record IsMovedTo (values : List Value) (line : Line) (r : Ratio) (end : List Value) : Type 0 where
@@ -30,15 +22,11 @@ abbrev pub setting_of : Units → Setting (List Value)
 setting_of units = record {
   column = column units;
   share = share units;
-  over = λ values prefix. over_common (line_common units values prefix) values;
-  common = common_of units;
+  over = λ values prefix. over_common (common_of units values prefix) values;
+  common = λ values. common_of units values [];
   IsEnd = IsMovedTo;
 }
 
 -- the step of a state of the flight, whose search goes through its fractional units in order, and the values at the end of a line
 abbrev pub Stepping : Type 0
 Stepping = steps.Stepping setting_of (λ units f order. IsFlying units f × (order ≡ fractional_units f.values))
-
--- the step of a state, by any `Stepping`
-abbrev pub next_by : Stepping → Units → Flight → Next
-next_by stepping units f = stepping.next_on units (fractional_units f.values) f

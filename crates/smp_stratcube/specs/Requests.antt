@@ -1,6 +1,5 @@
 -- The values with which a selection starts are those that are requested.
-use Rattle.std.specs.Prelude.{ℕ, zero, suc, ◌+◌, ◌*◌, ◌<◌, List, ◌∷◌, [], length, slice_index}
-use Rattle.std.specs.Prelude.{slice_index_or}
+use Rattle.std.specs.Prelude.{ℕ, zero, suc, ◌+◌, ◌*◌, ◌<◌, List, ◌∷◌, [], length, slice_index, slice_index_or}
 use Rattle.smp_frac.specs.Fractions.{Same, over}
 use Rattle.smp_moves.specs.Cubes.{values_in}
 use Rattle.smp_stratcube.specs.Layers.{Layer, no_layer}
@@ -11,13 +10,13 @@ use Rattle.smp_stratcube.specs.States.{Balancing}
 abbrev pub offset : List Layer → ℕ → ℕ
 offset [] h = 0
 offset (layer ∷ layers) zero = 0
-offset (layer ∷ layers) (suc h) = length layer.shape + offset layers h
+offset (layer ∷ layers) (suc h) = length layer.request.shape + offset layers h
 
 -- each unit of each stratum, in the order of the strata, has the probability that is requested of it
 abbrev pub AreRequested : List Layer → Balancing → Type 0
 AreRequested layers s =
     (h place : ℕ) → h < length layers
-    → place < length (slice_index_or layers h no_layer).shape
+    → place < length (slice_index_or layers h no_layer).request.shape
     → Same (value_at (values_in s) (offset layers h + place))
-    (over (slice_index (slice_index_or layers h no_layer).shape place * (slice_index_or layers h no_layer).r)
-    (slice_index_or layers h no_layer).total)
+    (over (slice_index (slice_index_or layers h no_layer).request.shape place * (slice_index_or layers h no_layer).request.r)
+    (slice_index_or layers h no_layer).request.total)

@@ -5,7 +5,7 @@ use Rattle.smp_split.specs.Trees.{Lawful}
 use Rattle.smp_stratcube.specs.Units.{Units, IsUnits}
 use Rattle.smp_stratcube.specs.States.{Flight, IsBalancing, IsFlying, IsPairing, started}
 use Rattle.smp_stratcube.specs.Steps.{stepping}
-use Rattle.smp_stratcube.specs.Moves.{next_by, setting_of}
+use Rattle.smp_stratcube.specs.Moves.{setting_of}
 use Rattle.smp_stratcube.specs.Cube.{strat_tree}
 use Rattle.smp_stratcube.specs.declared.values.Value.{Value}
 use Rattle.smp_stratcube.specs.Values.{fractional_units}
@@ -29,7 +29,8 @@ EachCounted = (units : Units) → IsUnits units → HasCounts units (started uni
 -- the step of a state has the properties of a step
 abbrev pub EachNext : Type 0
 EachNext =
-    (units : Units) (f : Flight) → IsFlying units f → IsNext (setting_of units) f (fractional_units f.values) (next_by stepping units f)
+    (units : Units) (f : Flight) → IsFlying units f
+    → IsNext (setting_of units) f (fractional_units f.values) (stepping.next_on units (fractional_units f.values) f)
 
 -- and no other has
 abbrev pub OneNext : Type 0

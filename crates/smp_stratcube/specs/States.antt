@@ -1,5 +1,5 @@
 -- The states of a selection by the cube over all strata, and which of them are the selection's.
-use Rattle.std.specs.Prelude.{◌≡◌, ℕ, ◌<◌, ◌≤◌, false, List, length, map}
+use Rattle.std.specs.Prelude.{◌≡◌, ℕ, ◌<◌, ◌≤◌, false, List, length, map, []}
 use Rattle.smp_frac.specs.Limits.{most_denominator}
 use Rattle.smp_moves.specs.Cubes as cubes
 use Rattle.smp_moves.specs.Cubes.{flying, pairing}
@@ -16,17 +16,14 @@ Flight = cubes.Flight (List Value) Units
 abbrev pub Balancing : Type 0
 Balancing = cubes.Balancing (List Value) Units
 
--- the requested probability of a unit as its value
-abbrev pub requested_value : Member → Value
-requested_value m = record { at = m.share; touched = false }
-
--- the requested probabilities of all units as their values
-abbrev pub requested_values : Units → List Value
-requested_values units = map requested_value units.members
-
--- the state before the first step: the requested values, with all rows in force
+-- the state before the first step: the value of each unit is the probability that is requested of it, and all rows are in force
 abbrev pub started : Units → Balancing
-started units = flying (record { values = requested_values units; rows = units.rows; fixed = units }) 0
+started units =
+    flying (record {
+      values = map (λ (m : Member). record { at = m.share; touched = false }) units.members;
+      rows = units.rows;
+      fixed = units;
+    }) 0
 
 -- ---- the states of a selection
 
@@ -37,7 +34,7 @@ pub record IsFlying (units : Units) (f : Flight) : Type 0 where
   pub values : AreValues (length units.members) f.values
   pub fresh : (k : ℕ) → k < length units.members → (value f.values k).touched ≡ false
       → (value f.values k).at ≡ share units k
-  pub narrow : common_of units f.values ≤ most_denominator
+  pub narrow : common_of units f.values [] ≤ most_denominator
   pub rows_in : f.rows ≤ units.rows
 
 -- values on which pivotal steps go on: those of each stratum have a common denominator that fits the gate

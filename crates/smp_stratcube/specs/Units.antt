@@ -1,17 +1,17 @@
 -- The units of all strata that are balanced together, stratum by stratum.
-use Rattle.std.specs.Prelude.{◌≡◌, ◌≢◌, ℕ, suc, ◌+◌, ◌-◌, ◌*◌, ◌^◌, ◌<◌, ◌≤◌}
-use Rattle.std.specs.Prelude.{List, [], ◌∷◌, ◌++◌, ℤ, pos, length, map, take, replicate, slice_index}
-use Rattle.std.specs.Prelude.{slice_index_or, slice_set}
+use Rattle.std.specs.Prelude.{◌≡◌, ◌≢◌, ℕ, suc, ◌+◌, ◌-◌, ◌*◌, ◌^◌, ◌<◌, ◌≤◌, List, [], ◌∷◌, ◌++◌, ℤ, pos, length, map, take, replicate}
+use Rattle.std.specs.Prelude.{slice_index, slice_index_or, slice_set}
 use Rattle.std.specs.List.{range_with_len}
 use Rattle.std.specs.Int.{IsGcd}
 use Prim.Native.Nat.{◌∣◌}
 use Rattle.smp_frac.specs.Fractions.{Fraction, Same, whole, times}
 use Rattle.smp_kernel.specs.Vectors.{entry, Within}
+use Rattle.smp_prob.specs.Shares.{common_denominator}
 use Rattle.smp_moves.specs.declared.lines.Ratio.{Ratio}
 use Rattle.smp_moves.specs.Ends.{lowest}
 use Rattle.smp_moves.specs.Moves.{fraction_of}
 use Rattle.smp_stratcube.specs.declared.units.Member.{Member}
-use Rattle.smp_stratcube.specs.Layers.{Layer, first_of, variables}
+use Rattle.smp_stratcube.specs.Layers.{Layer, variables}
 
 -- ---- the units
 
@@ -30,23 +30,23 @@ column_of strata h size xs =
 -- unit k of stratum h, where there are so many strata
 abbrev pub member_of : ℕ → ℕ → Layer → ℕ → Member
 member_of strata h layer k = record {
-  column = column_of strata h (slice_index layer.shape k) (slice_index_or layer.values k []);
+  column = column_of strata h (slice_index layer.request.shape k) (slice_index_or layer.values k []);
   stratum = h;
-  share = lowest (slice_index layer.shape k * layer.r) layer.total;
+  share = lowest (slice_index layer.request.shape k * layer.request.r) layer.request.total;
 }
 
 -- the units of these strata, of which the first has the number h, a stratum after the other
 abbrev pub members_from : ℕ → ℕ → List Layer → List Member
 members_from strata h [] = []
 members_from strata h (layer ∷ layers) =
-    map (member_of strata h layer) (range_with_len 0 (length layer.shape))
+    map (member_of strata h layer) (range_with_len 0 (length layer.request.shape))
     ++ members_from strata (suc h) layers
 
 -- the units of all strata, and their rows
 abbrev pub units_of : List Layer → Units
 units_of layers = record {
   members = members_from (length layers) 0 layers;
-  firsts = map first_of layers;
+  firsts = map (λ layer. common_denominator layer.request) layers;
   rows = length layers + variables layers;
 }
 

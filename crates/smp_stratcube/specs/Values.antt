@@ -1,5 +1,5 @@
 -- Values of units in lowest terms. With each stands whether a move has changed it.
-use Rattle.std.specs.Prelude.{◌≡◌, ℕ, ◌*◌, ◌/◌, ◌≤◌, Bool, true, false, cond, nat_eq, List, [], ◌∷◌}
+use Rattle.std.specs.Prelude.{◌≡◌, ℕ, ◌*◌, ◌/◌, ◌≤◌, Bool, true, false, cond, nat_eq, List, [], ◌∷◌, ◌++◌}
 use Rattle.std.specs.Prelude.{length, map, filter, slice_index, slice_index_or}
 use Rattle.std.specs.List.{count_by, range_with_len}
 use Rattle.std.specs.Int.{IsGcd}
@@ -63,19 +63,18 @@ denominators units values [] = []
 denominators units values (k ∷ ks) =
     first units k ∷ (value values k).at.den ∷ denominators units values ks
 
--- The common denominator of a state of the flight: the least common multiple of the denominator of each stratum in which a touched unit is
--- fractional, and of those of the values of these units.
-abbrev pub common_of : Units → List Value → ℕ
-common_of units values = common_multiple (denominators units values (touched_units values))
-
--- the fractional units of a stratum
-abbrev pub open_in : Units → List Value → ℕ → List ℕ
-open_in units values h = filter (λ k. nat_eq (stratum units k) h) (fractional_units values)
+-- The common denominator of a state of the flight and of a line through these units, of which there may be none: the least common
+-- multiple of the denominator of each stratum in which a touched unit is fractional, of those of the values of these units, and of
+-- the denominators of the strata of the line.
+abbrev pub common_of : Units → List Value → List ℕ → ℕ
+common_of units values line =
+    common_multiple (denominators units values (touched_units values) ++ map (first units) line)
 
 -- the least common denominator of the values of a stratum's fractional units
 abbrev pub stratum_common : Units → List Value → ℕ → ℕ
 stratum_common units values h =
-    common_multiple (map (λ k. (value values k).at.den) (open_in units values h))
+    common_multiple (map (λ k. (value values k).at.den)
+    (filter (λ k. nat_eq (stratum units k) h) (fractional_units values)))
 
 -- ---- what a step changes
 

@@ -1,9 +1,9 @@
 //! The cube over all strata as a design.
 
 ghost use Rattle.std.specs.Prelude.{◌≡◌, ◌≤◌, IfOk, length};
-ghost use Rattle.smp_moves.specs.Cubes.{left_in};
+ghost use Rattle.smp_moves.specs.Cubes.{left_in, values_in};
 ghost use Rattle.smp_stratcube.specs.{Layers.{AreLayers}, Units.{IsUnits, Units, units_of}, Requests.{AreRequested}};
-ghost use Rattle.smp_stratcube.specs.{States.{requested_values, started}, Balances.{IsBalanced}, Counts.{HasCounts}, Method.{method_of}};
+ghost use Rattle.smp_stratcube.specs.{States.{started}, Balances.{IsBalanced}, Counts.{HasCounts}, Method.{method_of}};
 ghost use Rattle.smp_split.specs.Methods.{HasMeans};
 
 use crate::fronts::{EMPTY, front_of};
@@ -38,7 +38,7 @@ impl Model for StratCube {
 
 /// The values that are requested of the units.
 fn requested(alloc: Global, units: &Units) -> Result<Vec<Value>, NoMemory>
-    ensures { IfOk result (λ values. values.items ≡ requested_values units.now) }
+    ensures { IfOk result (λ values. values.items ≡ values_in (started units.now)) }
 {
     let mut values = Vec::with_capacity(alloc, units.len())?;
     for unit in 0..units.len() {

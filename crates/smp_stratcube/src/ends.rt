@@ -5,7 +5,7 @@ ghost use Prim.Native.Nat.{◌∣◌};
 ghost use Rattle.smp_frac.specs.Limits.{most_denominator, most_entry};
 ghost use Rattle.smp_moves.specs.{Moves.{IsLine, entry_of}, Ends.{reach}, Answers.{IsPadded, line_of}};
 ghost use Rattle.smp_moves.specs.Kept.Ends.{CanMove, HasSmallEntries};
-ghost use Rattle.smp_stratcube.specs.{Units.{IsUnits, first}, Values.{IsValue, AreValues, over_common, value}, Moves.{line_common}};
+ghost use Rattle.smp_stratcube.specs.{Units.{IsUnits, first}, Values.{IsValue, AreValues, common_of, over_common, value}};
 ghost use Rattle.smp_stratcube.specs.{Kept.Fronts.{IsFront}, Kept.Gates.{IsSome, held, with_unit}, Kept.Lines.{AreInside}};
 ghost use Rattle.smp_stratcube.specs.{Kept.Moves.{AreMoved, IsAlong, end_gathered, joined, moved_value}, Kept.Pairs.{as_value}};
 
@@ -29,7 +29,7 @@ pub(crate) fn denominator(
     requires padded { IsPadded line.now }
     requires line { (j : ℕ) → j < line.now.number
         → slice_index line.now.units j < length units.now.members }
-    ensures { result ≡ held (line_common units.now values.now (line_of line.now).units) }
+    ensures { result ≡ held (common_of units.now values.now (line_of line.now).units) }
 {
     let mut common = gathered(units, values, front);
     for place in 0..line.number {

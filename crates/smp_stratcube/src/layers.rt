@@ -2,12 +2,13 @@
 
 ghost use Rattle.std.specs.Prelude.{◌≡◌, ◌∷◌, ◌++◌, ◌≤◌, ◌<◌, [], IfErr, IfOk, length, map, slice_index_or, take};
 ghost use Rattle.smp_prob.specs.Requests.{IsRequest};
-ghost use Rattle.smp_stratcube.specs.{Layers.{AreNumbers, layer_of}, Kept.Layers.{IsFilledUp}};
+ghost use Rattle.smp_stratcube.specs.{Layers.{AreNumbers}, Kept.Layers.{IsFilledUp}};
 
 use smp_frac::{NoMemory, Numbers};
 use smp_prob::Request;
 use std::alloc::Global;
 use std::marker::Model;
+use std::snapshot::Snapshot;
 
 /// The free units of a stratum with their sizes and balancing values.
 #[derive(Drop)]
@@ -21,6 +22,8 @@ pub(crate) struct Layer {
     pub(crate) variables: usize,
     /// The common denominator of the probabilities.
     pub(crate) first: u64,
+    /// The request, for contracts alone: it takes no bytes.
+    pub(crate) request: Snapshot<Request>,
 }
 
 impl Model for Layer {
@@ -29,9 +32,9 @@ impl Model for Layer {
 
     ghost Value = { stratum_specs.Layer };
 
-    ghost view = { λ a. stored a.shape.items a.r a.total a.values.items a.variables };
+    ghost view = { λ a. stored a.request.value a.values.items a.variables };
 
-    ghost invariant = { λ a. IsStored a.shape.items a.r a.total a.values.items a.variables a.first };
+    ghost invariant = { λ a. IsStored a.request.value a.shape.items a.r a.total a.values.items a.variables a.first };
 }
 
 /// The strata of a design, in their order.
@@ -81,7 +84,7 @@ fn layer_of(alloc: Global, request: &Request, xs: &[Numbers]) -> Result<Layer, N
     requires request { IsRequest request.now }
     requires one_each { length xs.now ≡ length request.now.free }
     requires values { AreNumbers xs.now }
-    ensures { IfOk result (λ layer. layer ≡ layer_of request.now xs.now) }
+    ensures { IfOk result (λ layer. layer ≡ record { request = request.now; values = xs.now }) }
 {
     let mut values = Vec::with_capacity(alloc, xs.len())?;
     for unit in 0..xs.len() {
@@ -94,6 +97,7 @@ fn layer_of(alloc: Global, request: &Request, xs: &[Numbers]) -> Result<Layer, N
         values,
         variables: variables_of(xs),
         first: request.common_denominator(),
+        request: Snapshot::of(request),
     })
 }
 
@@ -115,7 +119,7 @@ impl Layers {
         requires one_each { length xs.now ≡ length request.now.free }
         requires values { AreNumbers xs.now }
         ensures appended { IfOk result (λ done.
-            self.new ≡ self.old ++ layer_of request.now xs.now ∷ []) }
+            self.new ≡ self.old ++ record { request = request.now; values = xs.now } ∷ []) }
         ensures kept { IfErr result (λ error. self.new ≡ self.old) }
     {
         let layer = layer_of(self.alloc, request, xs)?;

@@ -4,9 +4,9 @@ ghost use Rattle.std.specs.Prelude.{◌≡◌, ℕ, ◌+◌, ◌<◌, ◌≤◌,
 ghost use Rattle.std.specs.List.{range_with_len};
 ghost use Rattle.smp_frac.specs.Limits.{number_limit};
 ghost use Rattle.smp_kernel.specs.Vectors.{entry};
-ghost use Rattle.smp_stratcube.specs.{Layers.{AreLayers, variables, width}, Units.{IsUnits, column_of, member_of, units_of}};
-ghost use Rattle.smp_stratcube.specs.{Requests.{AreRequested}, States.{started}, Kept.Behind.{AreBehind, HaveCommon}};
-ghost use Rattle.smp_stratcube.specs.Kept.Layers.{EachIsLayer};
+ghost use Rattle.smp_stratcube.specs.{Layers.{AreLayers, variables}, Units.{IsUnits, column_of, member_of, units_of}};
+ghost use Rattle.smp_stratcube.specs.{Requests.{AreRequested}, States.{started}, Kept.Behind.{AreBehind, HaveCommon, IsBehind}};
+ghost use Rattle.smp_stratcube.specs.Kept.Layers.{EachIsLayer, width};
 
 use crate::layers::{Layer, Layers};
 use crate::units::{Member, Units};
@@ -40,7 +40,7 @@ fn column_of(
 fn member_of(strata: usize, stratum: usize, layer: &Layer, unit: usize) -> Member
     requires stratum { stratum < strata }
     requires rows { strata + width layer.now ≤ 16 }
-    requires unit { unit < length layer.now.shape }
+    requires unit { unit < length layer.now.request.shape }
     ensures { result ≡ member_of strata stratum layer.now unit }
 {
     let size = layer.shape[unit];
@@ -59,10 +59,10 @@ fn push_members(
     layer: &Layer,
 ) -> Result<(), NoMemory>
     requires stratum { stratum < strata }
-    requires rows { 1 ≤ length layer.now.shape → strata + width layer.now ≤ 16 }
+    requires rows { 1 ≤ length layer.now.request.shape → strata + width layer.now ≤ 16 }
     ensures { IfOk result (λ done. members.new.items
         ≡ members.old.items ++ map (member_of strata stratum layer.now)
-        (range_with_len 0 (length layer.now.shape))) }
+        (range_with_len 0 (length layer.now.request.shape))) }
 {
     for unit in 0..layer.shape.len() {
         members.push(member_of(strata, stratum, layer, unit))?;
@@ -83,22 +83,33 @@ fn variables_of(layers: &[Layer]) -> usize
     0
 }
 
-/// The least common denominators of the probabilities of each unit and of those behind it in its stratum.
+/// The least common denominator of the probabilities of a unit and of those behind it in its stratum, by that of the next unit.
+fn behind(members: &[Member], unit: usize, next: u128) -> u128
+    requires have { HaveCommon members.now }
+    requires unit { unit < length members.now }
+    requires next { unit + 1 < length members.now → IsBehind members.now (unit + 1) next }
+    ensures { IsBehind members.now unit result }
+{
+    let own = members[unit].share.den;
+    if unit + 1 < members.len() && members[unit + 1].stratum == members[unit].stratum {
+        least_multiple(own, next)
+    } else {
+        own
+    }
+}
+
+/// The least common denominators of the probabilities of each unit and of those behind it in its stratum, from the last unit to the first.
 fn behind_of(alloc: Global, members: &[Member]) -> Result<Vec<u128>, NoMemory>
     requires { HaveCommon members.now }
     ensures { IfOk result (λ behind. AreBehind members.now behind.items) }
 {
-    let mut behind = Vec::with_capacity(alloc, members.len())?;
-    for unit in 0..members.len() {
-        behind.push(members[unit].share.den)?;
+    let mut all = Vec::with_capacity(alloc, members.len())?;
+    let mut last = 1;
+    for back in 0..members.len() {
+        last = behind(members, members.len() - 1 - back, last);
+        all.push(last)?;
     }
-    for back in 1..members.len() {
-        let unit = members.len() - 1 - back;
-        if members[unit + 1].stratum == members[unit].stratum {
-            behind[unit] = least_multiple(behind[unit], behind[unit + 1]);
-        }
-    }
-    Ok(behind)
+    Ok(all)
 }
 
 /// The units of all strata, and the common denominator of the probabilities of each stratum.

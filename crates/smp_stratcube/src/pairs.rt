@@ -1,11 +1,12 @@
 //! Pivotal steps, stratum by stratum.
 
-ghost use Rattle.std.specs.Prelude.{◌≡◌, ◌<◌, ◌≤◌, Some, false, length};
+ghost use Rattle.std.specs.Prelude.{◌≡◌, ◌<◌, ◌≤◌, Some, false, length, slice_index};
 ghost use Rattle.smp_frac.specs.Limits.{most_denominator};
 ghost use Rattle.smp_split.specs.Trees.{picked, weight_sum};
+ghost use Rattle.smp_values.specs.Steps.{kind_on};
 ghost use Rattle.smp_stratcube.specs.{Units.{IsUnits}, Values.{fractional_units, is_settled, stratum_common, value}};
-ghost use Rattle.smp_stratcube.specs.{Pairs.{first_pair, paired_kind, paired_parts}, States.{IsPairing}, Kept.Fronts.{IsFront}};
-ghost use Rattle.smp_stratcube.specs.Kept.Pairs.{AreMet, HasStratum, IsMeeting, IsOfFront, settled_value};
+ghost use Rattle.smp_stratcube.specs.{Pairs.{first_pair, paired_parts, step_units}, States.{IsPairing}, Kept.Fronts.{IsFront}};
+ghost use Rattle.smp_stratcube.specs.Kept.Pairs.{AreMet, HasStratum, IsMeeting, settled_at};
 
 use crate::fronts::Front;
 use crate::units::Units;
@@ -38,11 +39,12 @@ fn first_pair(units: &Units, values: &[Value], front: &Front) -> Option<(usize, 
     None
 }
 
-/// The least common denominator of the fractional values of a stratum among the units of a front.
-fn front_common(units: &Units, values: &[Value], front: &Front, stratum: usize) -> u128
+/// The least common denominator of the fractional values of a stratum that has a unit in the front.
+fn stratum_common(units: &Units, values: &[Value], front: &Front, stratum: usize) -> u128
     requires pairing { IsPairing units.now values.now }
     requires front { IsFront values.now front.now }
-    ensures { IsOfFront units.now values.now front.now stratum result }
+    requires within { HasStratum units.now front.now stratum }
+    ensures { result ≡ stratum_common units.now values.now stratum }
 {
     let mut common = 1;
     for place in 0..front.number {
@@ -51,17 +53,6 @@ fn front_common(units: &Units, values: &[Value], front: &Front, stratum: usize) 
             common = least_multiple(common, at(values, unit).at.den);
         }
     }
-    common
-}
-
-/// The least common denominator of the fractional values of a stratum that has a unit in the front.
-fn stratum_common(units: &Units, values: &[Value], front: &Front, stratum: usize) -> u128
-    requires pairing { IsPairing units.now values.now }
-    requires front { IsFront values.now front.now }
-    requires within { HasStratum units.now front.now stratum }
-    ensures { result ≡ stratum_common units.now values.now stratum }
-{
-    let common = front_common(units, values, front, stratum);
     if front.place < units.len() && units.stratum(front.place) == stratum {
         least_multiple(common, units.behind(front.place))
     } else {
@@ -73,7 +64,7 @@ fn stratum_common(units: &Units, values: &[Value], front: &Front, stratum: usize
 pub(crate) fn kind(units: &Units, values: &[Value], front: &Front) -> Kind
     requires pairing { IsPairing units.now values.now }
     requires front { IsFront values.now front.now }
-    ensures { result ≡ paired_kind units.now values.now }
+    ensures { result ≡ kind_on (step_units units.now values.now) }
 {
     match first_pair(units, values, front) {
         Some(_) => Kind::Pivot,
@@ -119,7 +110,7 @@ pub(crate) fn bound(units: &Units, values: &[Value], front: &Front) -> u128
             let two = meeting(units, values, front, pair);
             pair_bound(two.first, two.second, two.den)
         }
-        None => at(values, front.units[0]).at.den,
+        None => stratum_common(units, values, front, units.stratum(front.units[0])),
     }
 }
 
@@ -142,15 +133,20 @@ fn met(
     (value_over(taken, two.den), value_over(left, two.den))
 }
 
-/// The value of a unit that is settled by itself.
-fn settled(value: Value, draw: u128) -> Value
-    requires { 1 ≤ value.at.den }
-    ensures { result ≡ settled_value value draw }
+/// The value of the first fractional unit after it was settled by itself.
+fn settled(units: &Units, values: &[Value], front: &Front, draw: u128) -> Value
+    requires pairing { IsPairing units.now values.now }
+    requires front { IsFront values.now front.now }
+    requires going { is_settled values.now ≡ false }
+    ensures { result ≡ settled_at units.now values.now (slice_index front.now.units 0) draw }
 {
-    value_over(
-        if draw < value.at.num { value.at.den } else { 0 },
-        value.at.den,
-    )
+    let unit = front.units[0];
+    let den = stratum_common(units, values, front, units.stratum(unit));
+    if draw < at(values, unit).over(den) {
+        value_over(den, den)
+    } else {
+        value_over(0, den)
+    }
 }
 
 /// Makes the step that a draw leads to.
@@ -169,9 +165,8 @@ pub(crate) fn advance(units: &Units, values: &mut Vec<Value>, front: &Front, dra
             values[second] = b;
         }
         None => {
-            let unit = front.units[0];
-            let value = settled(at(values.as_slice(), unit), draw);
-            values[unit] = value;
+            let value = settled(units, values.as_slice(), front, draw);
+            values[front.units[0]] = value;
         }
     }
 }

@@ -3,7 +3,7 @@
 ghost use Rattle.std.specs.Prelude.{take};
 ghost use Rattle.smp_kernel.specs.{RowReduction.{cut}, Searches.{IsSearch}, Searched.{answer, ArePadded}};
 ghost use Rattle.smp_stratcube.specs.{Units.{columns_of}, States.{IsFlying}, Kept.Fronts.{IsFront}, Kept.Moves.{IsStep}};
-ghost use Rattle.smp_stratcube.specs.{Kept.Computed.{flight_of}, Kept.Steps.{HasDirection}};
+ghost use Rattle.smp_stratcube.specs.{Kept.Computed.{flight_of}, Kept.Lines.{HasDirection}};
 
 use crate::directions::{columns_of, direction};
 use crate::ends::{denominator, end_fits, reach_along};

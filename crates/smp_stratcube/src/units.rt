@@ -1,8 +1,8 @@
 //! The units of all strata.
 
 ghost use Rattle.std.specs.Prelude.{◌≡◌, ◌<◌, ◌≤◌, ◌^◌, length, slice_index};
-ghost use Rattle.smp_stratcube.specs.{Units.{IsUnits, column, first, member, share, stratum}, States.{requested_value}};
-ghost use Rattle.smp_stratcube.specs.Kept.Behind.{IsBehind};
+ghost use Rattle.smp_stratcube.specs.{Units.{IsUnits, column, first, member, share, stratum}};
+ghost use Rattle.smp_stratcube.specs.Kept.{Behind.{IsBehind}, States.{requested_value}};
 
 use crate::values::Value;
 use smp_moves::Ratio;
@@ -20,7 +20,8 @@ pub(crate) struct Member {
 #[derive(Drop)]
 pub(crate) struct Units {
     pub(crate) members: Vec<Member>,
-    /// The least common denominator of the probabilities of each unit and of those behind it in its stratum.
+    /// The least common denominator of the probabilities of each unit and of those behind it in its stratum, from the last unit to
+    /// the first.
     pub(crate) behind: Vec<u128>,
     /// The common denominator of the probabilities of each stratum.
     pub(crate) firsts: Vec<u64>,
@@ -100,7 +101,7 @@ impl Units {
         requires { unit < length self.now.members }
         ensures { IsBehind self.now.members unit result }
     {
-        self.behind[unit]
+        self.behind[self.members.len() - 1 - unit]
     }
 
     /// The value with which a unit starts.

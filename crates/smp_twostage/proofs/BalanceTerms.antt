@@ -1,7 +1,7 @@
 -- What each unit of a stratum adds to its sums: what the free units add to those of the cube, and a fixed part of the certain ones.
-use Rattle.std.proofs.Common.{◌≡◌, ◌≢◌, ℕ, zero, suc, ◌*◌, ◌<◌, ◌≤◌, mul-pos, Bool, true, false, cond, ℤ, pos, List, [], ◌∷◌, length, get_or, arith, refl, sym, ap, ◌∙◌, subst, le_of_suc-le-suc}
+use Rattle.std.proofs.Common.{◌≡◌, ◌≢◌, ℕ, zero, suc, ◌*◌, ◌<◌, ◌≤◌, mul-pos, Bool, true, false, cond, ℤ, pos, List, [], length, arith, refl, sym, ap, ◌∙◌, subst}
 use Rattle.std.specs.Prelude.{slice_index}
-use Rattle.std.proofs.lemmas.List.{get_or-map, length-map}
+use Rattle.std.proofs.lemmas.List.{get_or-map}
 use Rattle.smp_frac.specs.Fractions.{Fraction, Same, whole, integer, plus, times, inverse}
 use Rattle.smp_frac.specs.Bounds.{absolute}
 use Rattle.smp_frac.proofs.Arithmetic.{same_refl, same_sym, same_trans, times_same, times-one, times-zero, zero-plus, plus-zero, zero-plus-zero, inverse_same}
@@ -15,9 +15,9 @@ use Rattle.smp_values.specs.Values.{value_at}
 use Rattle.smp_split.specs.Rows.{row_value}
 use Rattle.smp_split.specs.Laws.Rows.{free_within}
 use Rattle.smp_flight.specs.States.{column}
-use Rattle.smp_flight.specs.Requests.{columns_with}
 use Rattle.smp_flight.specs.Totals.{expanded, addend}
 use Rattle.smp_flight.proofs.CubeStarts.{starts_requested}
+use Rattle.smp_flight.proofs.Making.{column_at}
 use Rattle.smp_twostage.specs.Strata.{StratumUnits, AreStratumUnits, values_of, value_in, free_values, free_units}
 use Rattle.smp_twostage.specs.Totals.{can_be_selected, counted, is_undecided, known_value}
 use Rattle.smp_split.proofs.RowSums.{free_is, at_free}
@@ -25,13 +25,6 @@ use Rattle.smp_split.proofs.RowSums.{free_is, at_free}
 pub cond_same : (b : Bool) {a c : Fraction} → Same a c → Same (cond b a (whole 0)) (cond b c (whole 0))
 cond_same true h = h
 cond_same false h = same_refl (whole 0)
-
--- the balancing values of a unit stand in its column behind the size
-pub entry_with : (sizes : List ℕ) (xs : List (List ℤ)) (u j : ℕ) → length xs ≡ length sizes → u < length sizes → entry (get_or (columns_with sizes xs) u []) (suc j) ≡ entry (get_or xs u []) j
-entry_with [] xs u j e l = absurd (omega arith)
-entry_with (z ∷ sizes) [] u j e l = absurd (omega arith)
-entry_with (z ∷ sizes) (x ∷ xs) zero j e l = refl
-entry_with (z ∷ sizes) (x ∷ xs) (suc u) j e l = entry_with sizes xs u j (omega arith) (le_of_suc-le-suc l)
 
 module _ (s : StratumUnits) where
   -- what a certain unit adds, whatever is drawn
@@ -53,7 +46,7 @@ module _ (s : StratumUnits) (ok : AreStratumUnits s) where
 
   pub free_value : (u j : ℕ) → u < length s.request.free → entry (column (free_units s) u) (suc j) ≡ value_in s j (free_at u)
   free_value u j l =
-      entry_with s.request.shape (free_values s) u j (length-map s.request.free (values_of s) ∙ sym ok.request.paired) (omega (arith, l, ok.request.paired))
+      ap (λ (c : List ℤ). entry c (suc j)) (column_at s.request (free_values s) u (omega (arith, l, ok.request.paired)))
       ∙ ap (λ (x : List ℤ). entry x j) (get_or-map (values_of s) s.request.free u 0 [] l)
 
   pub free_asked : (u : ℕ) → u < length s.request.free → Same (value_at (shares_of s.request) u) (free_fraction s.request u)

@@ -11,7 +11,8 @@ use Rattle.smp_moves.specs.Cubes.{values_in}
 use Rattle.smp_flight.specs.Totals as free
 use Rattle.smp_stratcube.specs.Balances.{addend, expanded, weighed_of}
 use Rattle.smp_stratcube.specs.States.{Balancing, started}
-use Rattle.smp_stratcube.specs.Layers.{AreLayers, IsLayer, Layer, first_of, no_layer, variables, width}
+use Rattle.smp_stratcube.specs.Layers.{AreLayers, IsLayer, Layer, no_layer, variables}
+use Rattle.smp_stratcube.specs.Kept.Layers.{width, first_of}
 use Rattle.smp_stratcube.specs.Units.{IsUnits, Units, members_from}
 use Rattle.smp_stratcube.specs.Values.{is_fractional, is_one, value_at}
 use Rattle.smp_moves.specs.Balances.{IsBalanced}
@@ -32,20 +33,8 @@ use Rattle.smp_twostage.proofs.BalanceTerms.{cond_same}
 
 layer_ok : (s : StratumUnits) → AreStratumUnits s → IsLayer (layer_in s)
 layer_ok s ok =
-    let request = ok.request in
-    let paired = request.paired in
-    let few = request.few in
     let values = free_are_values s ok in
-    record {
-      few = omega (arith, few, paired);
-      paired = one_each s ok ∙ sym paired;
-      positive = request.positive;
-      small = request.small;
-      narrow = request.narrow;
-      drawn = λ some. request.drawn (omega (arith, some, paired));
-      below_one = request.below_one;
-      numbers = record { same = values.same; few = values.few; within = values.within };
-    }
+    record { request = ok.request; one_each = one_each s ok; numbers = record { same = values.same; few = values.few; within = values.within } }
 
 no_units : StratumUnits
 no_units = record { request = record { certain = []; free = []; shape = []; r = 0; total = 0 }; values = [] }
@@ -119,7 +108,7 @@ module _ (frame : List StratumUnits) (is : IsFrame frame) where
     | inr e ↦ (let none = e.1 in omega (arith, none))
   ]
 
-  same_width : (h : ℕ) → h < length (layers_of frame) → 1 ≤ length (layer_in (get_or frame h no_units)).shape → width (layer_in (get_or frame h no_units)) ≡ variables (layers_of frame)
+  same_width : (h : ℕ) → h < length (layers_of frame) → 1 ≤ length (layer_in (get_or frame h no_units)).request.shape → width (layer_in (get_or frame h no_units)) ≡ variables (layers_of frame)
   same_width h l some =
       let s : StratumUnits = get_or frame h no_units in
       let ok = unit_ok h l in
@@ -139,7 +128,7 @@ module _ (frame : List StratumUnits) (is : IsFrame frame) where
         some = omega (arith, some, all);
         few = omega (arith, few, all);
         rows = omega (arith, rows, all, variables_most);
-        same = λ h l. subst (λ (t : Layer). 1 ≤ length t.shape → width t ≡ variables (layers_of frame)) (sym (layer_at h l)) (same_width h l);
+        same = λ h l. subst (λ (t : Layer). 1 ≤ length t.request.shape → width t ≡ variables (layers_of frame)) (sym (layer_at h l)) (same_width h l);
       }
 
   are_units : IsUnits (frame_units frame)

@@ -153,7 +153,7 @@ module _ (s : StratumUnits) (ok : AreStratumUnits s) where
     within = λ u l. let m : u < length s.request.free = omega (arith, l, one_each) in subst (Within (2 ^ 31 - 1)) (sym (free_at u m)) (ok.values.within (slice_index s.request.free u) (ok.inside u m));
   }
 
-  first_flight : flights.IsFlight (free_units s) (flights.started (free_units s))
+  first_flight : flights.IsFlight (free_units s) (flights.tracked_start (free_units s)).flight
   first_flight = started_flight (free_units s) (units_are s.request ok.request (free_values s) one_each free_are_values)
 
   -- a row of the stratum is a row of the free units, where there are any

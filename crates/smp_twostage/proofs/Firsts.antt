@@ -28,7 +28,8 @@ use Rattle.smp_strata.specs.Plans.{Parts}
 use Rattle.smp_strata.specs.declared.strata.FirstUnit.{FirstUnit}
 use Rattle.smp_strata.specs.declared.strata.Stratum.{Stratum}
 use Rattle.smp_twostage.specs.Strata.{StratumUnits, free_values, values_of}
-use Rattle.smp_stratcube.specs.Layers.{IsLayer, layer_of, no_layer}
+use Rattle.smp_stratcube.specs.Layers.{IsLayer, no_layer}
+use Rattle.smp_stratcube.specs.Kept.Layers.{layer_of}
 use Rattle.smp_stratcube.specs.Units.{IsUnits, units_of}
 use Rattle.smp_stratcube.proofs.BySteps.{counts_so, is_balanced}
 use Rattle.smp_stratcube.proofs.Layered.{units_are}

@@ -6,7 +6,8 @@ use Rattle.std.proofs.lemmas.List.Elements.{All-head, All-tail}
 use Rattle.smp_frac.specs.Fractions.{Fraction, Same, plus, sum_below, whole}
 use Rattle.smp_frac.proofs.Arithmetic.{plus-zero, plus_same, plus_swap, same_refl, same_sym, same_trans, sum_same, zero-plus, zero-plus-zero}
 use Rattle.smp_stratcube.specs.declared.units.Member.{Member}
-use Rattle.smp_stratcube.specs.Layers.{Layer, layer_of}
+use Rattle.smp_stratcube.specs.Layers.{Layer}
+use Rattle.smp_stratcube.specs.Kept.Layers.{layer_of}
 use Rattle.smp_stratcube.specs.Units.{member_of, members_from, nobody}
 use Rattle.smp_twostage.specs.Strata.{StratumUnits, free_values}
 use Rattle.smp_twostage.specs.Totals.{layers_of, over_frame, size_of, variable_of}

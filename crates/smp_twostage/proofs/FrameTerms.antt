@@ -1,6 +1,6 @@
 -- What each free unit counts for among those of all strata is what it counts for in its stratum: in the row of its stratum as in the first
 -- row there, in that of a variable as in the row of the column, and in the rows of other strata 0.
-use Rattle.std.proofs.Common.{◌≡◌, ◌≢◌, ℕ, suc, ◌+◌, ◌-◌, ◌*◌, ◌<◌, ◌≤◌, true, false, cond, ℤ, pos, List, [], ◌++◌, All, length, get_or, arith, refl, sym, ◌∙◌, subst, inl, inr}
+use Rattle.std.proofs.Common.{◌≡◌, ◌≢◌, ℕ, suc, ◌+◌, ◌-◌, ◌*◌, ◌<◌, ◌≤◌, true, false, cond, ℤ, pos, List, [], ◌++◌, All, length, get_or, arith, refl, sym, ap, ◌∙◌, subst, inl, inr}
 use Rattle.std.specs.Prelude.{nat_eq, nat_lt, replicate}
 use Rattle.std.proofs.lemmas.Bool.{cases_Bool, cases_lt, eq-eqb, lt-ltb, le-ltb, ltb-true, ltb-false, ne_eqb}
 use Rattle.std.proofs.lemmas.List.{get_or-append_right, get_or-replicate, get_or_append_left, get_or_past}
@@ -13,14 +13,15 @@ use Rattle.smp_moves.specs.Moves.{fraction_of}
 use Rattle.smp_values.specs.Values.{value_at}
 use Rattle.smp_flight.specs.States as flights
 use Rattle.smp_flight.specs.Totals as free
+use Rattle.smp_flight.proofs.Making.{column_at}
 use Rattle.smp_stratcube.specs.declared.units.Member.{Member}
 use Rattle.smp_stratcube.specs.Units.{column_of, member_of, members_from, nobody}
 use Rattle.smp_stratcube.specs.Laws.Taken.{lowest_same}
 use Rattle.smp_stratcube.proofs.Stored.{in_rest, length-column}
 use Rattle.smp_twostage.specs.Strata.{StratumUnits, AreStratumUnits, column_count, free_units, free_values}
 use Rattle.smp_twostage.specs.Totals.{layers_of, over_frame, variable_of}
-use Rattle.smp_twostage.proofs.Balances.{one_each, same_length}
-use Rattle.smp_twostage.proofs.BalanceTerms.{entry_with, free_asked, some_asked}
+use Rattle.smp_twostage.proofs.Balances.{same_length}
+use Rattle.smp_twostage.proofs.BalanceTerms.{free_asked, some_asked}
 use Rattle.smp_twostage.proofs.FrameSums.{ArePaired, layer_in, members_sum, size_sums, sums, variable_sums}
 
 -- in so many strata
@@ -79,7 +80,7 @@ module _ (count : ℕ) where
     entry_is : (j : ℕ) → entry (member_of count h (layer_in s) u).column (count + j) ≡ entry (flights.column (free_units s) u) (suc j)
     entry_is j =
         in_row j
-        ∙ sym (entry_with s.request.shape (free_values s) u j (one_each s is.ok ∙ sym is.ok.request.paired) l)
+        ∙ sym (ap (λ (c : List ℤ). entry c (suc j)) (column_at s.request (free_values s) u l))
 
     share_is : Same (fraction_of (member_of count h (layer_in s) u).share) (value_at (shares_of s.request) u)
     share_is =

@@ -34,24 +34,24 @@ module _ (members : List Member) (g : ℕ) (f : ℕ → Fraction) (i : ℕ) wher
 module _ (count : ℕ) where
   module _ (h0 : ℕ) (layer : Layer) (layers : List Layer) where
     abbrev size : ℕ
-    size = length layer.shape
+    size = length layer.request.shape
 
     abbrev rest : List Member
     rest = members_from count (suc h0) layers
 
-    pub all_units : length (members_from count h0 (layer ∷ layers)) ≡ length layer.shape + length (members_from count (suc h0) layers)
+    pub all_units : length (members_from count h0 (layer ∷ layers)) ≡ length layer.request.shape + length (members_from count (suc h0) layers)
     all_units = omega (arith, length-append (own count h0 layer) rest, length-own count h0 layer)
 
-    pub own_unit : (i : ℕ) → i < length layer.shape → get_or (members_from count h0 (layer ∷ layers)) i nobody ≡ member_of count h0 layer i
+    pub own_unit : (i : ℕ) → i < length layer.request.shape → get_or (members_from count h0 (layer ∷ layers)) i nobody ≡ member_of count h0 layer i
     own_unit i l = get_or_append_left (own count h0 layer) rest nobody i (omega (arith, l, length-own count h0 layer)) ∙ own_at count h0 layer i l
 
-    own_stratum : (i : ℕ) → i < length layer.shape → (get_or (members_from count h0 (layer ∷ layers)) i nobody).stratum ≡ h0
+    own_stratum : (i : ℕ) → i < length layer.request.shape → (get_or (members_from count h0 (layer ∷ layers)) i nobody).stratum ≡ h0
     own_stratum i l = ap (λ (m : Member). m.stratum) (own_unit i l)
 
-    pub later_unit : (k : ℕ) → get_or (members_from count h0 (layer ∷ layers)) (length layer.shape + k) nobody ≡ get_or rest k nobody
+    pub later_unit : (k : ℕ) → get_or (members_from count h0 (layer ∷ layers)) (length layer.request.shape + k) nobody ≡ get_or rest k nobody
     later_unit k =
-        let back : length layer.shape + k - length layer.shape ≡ k = omega arith in
-        get_or-append_right (own count h0 layer) rest (length layer.shape) (length layer.shape + k) nobody (length-own count h0 layer) (omega arith)
+        let back : length layer.request.shape + k - length layer.request.shape ≡ k = omega arith in
+        get_or-append_right (own count h0 layer) rest (length layer.request.shape) (length layer.request.shape + k) nobody (length-own count h0 layer) (omega arith)
         ∙ ap (λ i. get_or rest i nobody) back
 
     later_stratum : (k : ℕ) → k < length (members_from count (suc h0) layers) → suc h0 ≤ (get_or rest k nobody).stratum
@@ -66,11 +66,11 @@ module _ (count : ℕ) where
 
   pub run : (h0 : ℕ) (layers : List Layer) (h : ℕ) (f : ℕ → Fraction) → h < length layers
       → Same (sum_below (length (members_from count h0 layers)) (term_of (members_from count h0 layers) (h0 + h) f))
-      (sum_below (length (get_or layers h no_layer).shape) (λ j. f (offset layers h + j)))
+      (sum_below (length (get_or layers h no_layer).request.shape) (λ j. f (offset layers h + j)))
   run h0 [] h f l = absurd (omega (arith, l))
   run h0 (layer ∷ layers) zero f l =
       let all : List Member = members_from count h0 (layer ∷ layers) in
-      let n : ℕ = length layer.shape in
+      let n : ℕ = length layer.request.shape in
       let here : Same (sum_below n (term_of all (h0 + 0) f)) (sum_below n (λ j. f (0 + j))) =
       sum_same n (term_of all (h0 + 0) f) (λ j. f (0 + j))
       (λ i b. (let e : i ≡ 0 + i = omega arith in
@@ -85,7 +85,7 @@ module _ (count : ℕ) where
       (same_trans (plus_same here none) (plus-zero (sum_below n (λ j. f (0 + j)))))
   run h0 (layer ∷ layers) (suc h) f l =
       let all : List Member = members_from count h0 (layer ∷ layers) in
-      let n : ℕ = length layer.shape in
+      let n : ℕ = length layer.request.shape in
       let others : List Member = rest h0 layer layers in
       let none : Same (sum_below n (term_of all (h0 + suc h) f)) (whole 0) =
       sum-zero n (term_of all (h0 + suc h) f)
@@ -96,10 +96,10 @@ module _ (count : ℕ) where
       (λ k b. subst (λ (m : Member). Same (times (whole (cond (nat_eq m.stratum (h0 + suc h)) 1 0)) (f (n + k))) (term_of others (suc h0 + h) (λ i. f (n + i)) k)) (sym (later_unit h0 layer layers k))
       (subst (λ g. Same (times (whole (cond (nat_eq (get_or others k nobody).stratum g) 1 0)) (f (n + k))) (term_of others (suc h0 + h) (λ i. f (n + i)) k)) (sym next)
       (same_refl (term_of others (suc h0 + h) (λ i. f (n + i)) k)))) in
-      let own_run : Same (sum_below (length (get_or layers h no_layer).shape) (λ j. f (n + (offset layers h + j)))) (sum_below (length (get_or layers h no_layer).shape) (λ j. f (n + offset layers h + j))) =
-      sum_same (length (get_or layers h no_layer).shape) (λ j. f (n + (offset layers h + j))) (λ j. f (n + offset layers h + j))
+      let own_run : Same (sum_below (length (get_or layers h no_layer).request.shape) (λ j. f (n + (offset layers h + j)))) (sum_below (length (get_or layers h no_layer).request.shape) (λ j. f (n + offset layers h + j))) =
+      sum_same (length (get_or layers h no_layer).request.shape) (λ j. f (n + (offset layers h + j))) (λ j. f (n + offset layers h + j))
       (λ j b. (let e : n + (offset layers h + j) ≡ n + offset layers h + j = omega arith in
       subst (λ i. Same (f (n + (offset layers h + j))) (f i)) e (same_refl (f (n + (offset layers h + j)))))) in
       same_trans (halves h0 layer layers (term_of all (h0 + suc h) f))
       (same_trans (plus_same none (same_trans there (same_trans (run (suc h0) layers h (λ i. f (n + i)) (le_of_suc-le-suc l)) own_run)))
-      (zero-plus (sum_below (length (get_or layers h no_layer).shape) (λ j. f (n + offset layers h + j)))))
+      (zero-plus (sum_below (length (get_or layers h no_layer).request.shape) (λ j. f (n + offset layers h + j)))))

@@ -12,7 +12,8 @@ use Rattle.smp_design.proofs.Rows.{balance_columns, no_coordinates, together_bal
 use Rattle.smp_methods.proofs.Columns.{are_values}
 use Rattle.smp_methods.proofs.OneStratum.{are_numbers}
 use Rattle.smp_twostage.specs.Strata.{StratumUnits, free_values, values_of}
-use Rattle.smp_stratcube.specs.Layers.{AreLayers, AreNumbers, Layer, layer_of, no_layer, variables, width}
+use Rattle.smp_stratcube.specs.Layers.{AreLayers, AreNumbers, Layer, no_layer, variables}
+use Rattle.smp_stratcube.specs.Kept.Layers.{width, layer_of}
 use Rattle.smp_prob.specs.declared.requests.Request.{Request}
 use Rattle.smp_strata.specs.Bounds.{IsStratum}
 use Rattle.smp_strata.specs.Plans.{Parts}
@@ -154,7 +155,7 @@ module _ (plan : Parts) (drawable : CanBeDrawn plan) (together : draws_together 
 
 -- a stratum with free units has so many values of each
 record IsFilled (columns : ℕ) (layer : Layer) : Type 0 where
-  pub paired : length layer.values ≡ length layer.shape
+  pub paired : length layer.values ≡ length layer.request.shape
   pub wide : 1 ≤ length layer.values → width layer ≡ columns
 
 module _ (columns : ℕ) where
@@ -173,7 +174,7 @@ module _ (columns : ℕ) where
       some_at zero other = absurd (cc)
       some_at (suc n) other = omega arith
 
-  variables_wide : (layers : List Layer) → All (IsFilled columns) layers → (h : ℕ) → h < length layers → 1 ≤ length (get_or layers h no_layer).shape → variables layers ≡ columns
+  variables_wide : (layers : List Layer) → All (IsFilled columns) layers → (h : ℕ) → h < length layers → 1 ≤ length (get_or layers h no_layer).request.shape → variables layers ≡ columns
   variables_wide [] all h l some = absurd (omega (arith, l))
   variables_wide (layer ∷ layers) all zero l some =
       let own : IsFilled columns layer = All-head (IsFilled columns) layer layers all in

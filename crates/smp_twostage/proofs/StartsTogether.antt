@@ -17,7 +17,7 @@ use Rattle.smp_strata.specs.Draws.{IsFor}
 use Rattle.smp_strata.specs.Plans.{Parts}
 use Rattle.smp_strata.specs.declared.strata.Stratum.{Stratum}
 use Rattle.smp_stratcube.specs.Counts.{selected_in}
-use Rattle.smp_stratcube.specs.Layers.{first_of}
+use Rattle.smp_stratcube.specs.Kept.Layers.{first_of}
 use Rattle.smp_twostage.specs.Covered.{StartsAlone}
 use Rattle.smp_twostage.specs.Cubes.{units_together}
 use Rattle.smp_twostage.specs.Plans.{CanBeDrawn}

@@ -44,7 +44,8 @@ use Rattle.smp_moves.specs.Cubes.{values_in}
 use Rattle.smp_stratcube.specs.declared.values.Value.{Value}
 use Rattle.smp_stratcube.specs.Balances.{addend, target}
 use Rattle.smp_stratcube.specs.Counts.{selected_in}
-use Rattle.smp_stratcube.specs.Layers.{Layer, first_of, layer_of, no_layer}
+use Rattle.smp_stratcube.specs.Layers.{Layer, no_layer}
+use Rattle.smp_stratcube.specs.Kept.Layers.{layer_of, first_of}
 use Rattle.smp_stratcube.specs.Requests.{AreRequested, offset}
 use Rattle.smp_stratcube.specs.Units.{IsUnits, member_of, members_from, share, stratum}
 use Rattle.smp_stratcube.specs.Values.{is_one, value_at}
@@ -115,9 +116,9 @@ module _ (plan : Parts) (drawable : CanBeDrawn plan) (asked : AreRequested (laye
     free_value : (j : ℕ) → j < length s.request.free → Same (start_value (free_before plan.strata h + j)) (free_fraction s.request j)
     free_value j l =
         let within : h < length (layers_of plan) = omega (arith, slice_get_within plan.strata h s is, length-map plan.strata (layer_in plan)) in
-        let inside : j < length (get_or (layers_of plan) h no_layer).shape = subst (λ (t : Layer). j < length t.shape) (sym layer_is) (omega (arith, l, own.sound.paired)) in
+        let inside : j < length (get_or (layers_of plan) h no_layer).request.shape = subst (λ (t : Layer). j < length t.request.shape) (sym layer_is) (omega (arith, l, own.sound.paired)) in
         subst (λ n. Same (start_value (n + j)) (free_fraction s.request j)) (offset_is plan plan.strata (are_over plan drawable) h)
-        (subst (λ (t : Layer). Same (start_value (offset (layers_of plan) h + j)) (over (get_or t.shape j 0 * t.r) t.total)) layer_is (asked h j within inside))
+        (subst (λ (t : Layer). Same (start_value (offset (layers_of plan) h + j)) (over (get_or t.request.shape j 0 * t.request.r) t.request.total)) layer_is (asked h j within inside))
 
     stand_value : (i : Inclusion) → ((j : ℕ) → i ≡ Free j → j < length s.request.free) → Same (row_value start_value (stands_behind (free_before plan.strata h) i)) (fraction_at s.request i)
     stand_value Certain within = same_refl (whole 1)
@@ -154,15 +155,15 @@ module _ (plan : Parts) (drawable : CanBeDrawn plan) (asked : AreRequested (laye
           let inside : nat_lt h (length (units_together plan).firsts) ≡ true = lt-ltb h (length (units_together plan).firsts) (omega (arith, in_layers, length-map (layers_of plan) first_of)) in
           rw inside refl
 
-      run_size : length (get_or (layers_of plan) h no_layer).shape ≡ length s.request.free
-      run_size = ap (λ (t : Layer). length t.shape) layer_is ∙ own.sound.paired
+      run_size : length (get_or (layers_of plan) h no_layer).request.shape ≡ length s.request.free
+      run_size = ap (λ (t : Layer). length t.request.shape) layer_is ∙ own.sound.paired
 
       pub run_here : (f : ℕ → Fraction) → Same (sum_below (length (units_together plan).members) (term_of (units_together plan).members h f)) (sum_below (length s.request.free) (λ j. f (free_before plan.strata h + j)))
       run_here f =
           let none : 0 + h ≡ h = omega arith in
           subst (λ n. Same (sum_below (length (units_together plan).members) (term_of (units_together plan).members h f)) (sum_below (length s.request.free) (λ j. f (n + j)))) (offset_is plan plan.strata (are_over plan drawable) h)
           (subst (λ n. Same (sum_below (length (units_together plan).members) (term_of (units_together plan).members h f)) (sum_below n (λ j. f (offset (layers_of plan) h + j)))) run_size
-          (subst (λ g. Same (sum_below (length (units_together plan).members) (term_of (units_together plan).members g f)) (sum_below (length (get_or (layers_of plan) h no_layer).shape) (λ j. f (offset (layers_of plan) h + j)))) none
+          (subst (λ g. Same (sum_below (length (units_together plan).members) (term_of (units_together plan).members g f)) (sum_below (length (get_or (layers_of plan) h no_layer).request.shape) (λ j. f (offset (layers_of plan) h + j)))) none
           (run (length (layers_of plan)) 0 (layers_of plan) h f in_layers)))
 
       pub target_adds : DrawsWhole s.request → Same (target (units_together plan) h) (whole s.request.r)

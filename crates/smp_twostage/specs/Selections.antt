@@ -27,7 +27,7 @@ use Rattle.smp_split.specs.declared.places.Seat.TheVariants.{Nowhere, First, Sec
 use Rattle.smp_split.specs.declared.places.Stage.{Stage}
 use Rattle.smp_split.specs.OwnStages.{sections_by}
 use Rattle.smp_split.specs.Stages.{Progress, IsUnderWay, progress, staged_tree}
-use Rattle.smp_stratcube.specs.Layers.{Layer, layer_of}
+use Rattle.smp_stratcube.specs.Layers.{Layer}
 use Rattle.smp_twostage.specs.Plans.{CanBeDrawn}
 
 -- ---- how the units of one stage are drawn
@@ -147,7 +147,7 @@ request_over strata = record {
 
 -- the free units of each stratum, with their balancing values
 abbrev pub layers_of : Parts → List Layer
-layers_of plan = map (λ s. layer_of s.request (free_values (balancing plan s))) plan.strata
+layers_of plan = map (λ s. record { request = s.request; values = free_values (balancing plan s) }) plan.strata
 
 -- the stage of all strata: their first stage units, drawn together
 abbrev pub stage_of_strata : Parts → Stage Selecting

@@ -20,7 +20,7 @@ use Rattle.smp_flight.specs.Cube.{cube_of}
 use Rattle.smp_localcube.specs.Local.{IsLocal, local_of}
 use Rattle.smp_localcube.specs.Method.{started}
 use Rattle.smp_stratcube.specs.Cube.{cube_by, strat_tree}
-use Rattle.smp_stratcube.specs.Layers.{Layer, layer_of}
+use Rattle.smp_stratcube.specs.Layers.{Layer}
 use Rattle.smp_stratcube.specs.States as strata
 use Rattle.smp_stratcube.specs.Steps.{stepping}
 use Rattle.smp_stratcube.specs.Units.{Units, units_of}
@@ -157,7 +157,7 @@ EachIsBalanced = (s : StratumUnits) → AreStratumUnits s → AreBalanced s
 
 -- the free units of each stratum with their balancing values
 abbrev pub layers_of : List StratumUnits → List Layer
-layers_of frame = map (λ s. layer_of s.request (free_values s)) frame
+layers_of frame = map (λ s. record { request = s.request; values = free_values s }) frame
 
 -- the units that the method draws from
 abbrev pub frame_units : List StratumUnits → Units

@@ -18,7 +18,8 @@ use Rattle.smp_values.specs.Values.{IsValues, fractional_count, is_settled, valu
 use Rattle.smp_values.specs.Steps.{pivotal_parts, steps_tree}
 use Rattle.smp_values.proofs.Pivotal.{steps_lawful}
 use Rattle.smp_moves.proofs.Flights.{lone_split}
-use Rattle.smp_moves.specs.Cubes.{flying, pairing, values_in, dropped, flight_parts, landed, tree_by}
+use Rattle.smp_moves.specs.Cubes.{flying, pairing, values_in, flight_parts, landed, tree_by}
+use Rattle.smp_moves.specs.Kept.Computed.{dropped}
 use Rattle.smp_flight.specs.States.{Units, Flight, IsFlight, columns_of, column}
 use Rattle.smp_moves.specs.Moves.{Move, IsOrder, fraction_of, entry_of, Next, move, independent, wide, chosen_line, chosen_extent}
 use Rattle.smp_flight.specs.Steps.{next_on, chosen}

@@ -1,9 +1,11 @@
 -- The first fractional units: a window among them stays there.
-use Rattle.std.proofs.Common.{◌≡◌, ℕ, zero, suc, ◌+◌, ◌<◌, ◌≤◌, Bool, true, nat_eq, List, [], ◌∷◌, take, length}
+use Rattle.std.proofs.Common.{◌≡◌, ◌≢◌, ℕ, zero, suc, ◌+◌, ◌-◌, ◌<◌, ◌≤◌, Bool, true, nat_eq, List, [], ◌∷◌, ◌++◌, pos, take, drop, length}
 use Rattle.std.proofs.Common.{get_or, arith, sym, ap, ◌∙◌, subst, inl, inr}
 use Rattle.std.specs.List.{All, Contains, filter, range_with_len}
-use Rattle.std.proofs.lemmas.Bool.{cases_Bool, cases_eq, eq-eqb, ne_eqb, or_left, or_right, true≢false}
-use Rattle.std.proofs.lemmas.List.{get_or_default, take_all, length-map}
+use Rattle.std.proofs.lemmas.Bool.{both_ways, cases_Bool, cases_eq, eq-eqb, ne_eqb, or_left, or_right, true_from_ne_false, true≢false}
+use Rattle.std.proofs.lemmas.List.{get_or_default, take-append-drop, take-append-le, take_all, length-map}
+use Rattle.std.proofs.lemmas.List.Folds.{list_any_kept}
+use Rattle.std.proofs.Math.Seq.{take-append-add}
 use Rattle.std.proofs.lemmas.List.FromFn.{get_or-range_with_len, length-range_with_len}
 use Rattle.smp_kernel.specs.RowReduction.{cut, AreIndependent}
 use Rattle.smp_kernel.proofs.Existence.{cut_short, elimination_of}
@@ -15,7 +17,9 @@ use Rattle.smp_values.proofs.Units.{fractional_units_length, fractional_within}
 use Rattle.smp_flight.specs.States.{Units, column, columns_of}
 use Rattle.smp_flight.specs.Kept.Windows.{is_in}
 use Rattle.smp_moves.proofs.Filtered.{filter_twice}
-use Rattle.smp_flight.specs.Laws.Windowed.{in_at, in_or}
+use Rattle.smp_moves.specs.Moves.{Line, entry_of}
+use Rattle.smp_moves.proofs.Entries.{entry_at_none}
+use Rattle.smp_flight.specs.Laws.Windowed.{in_append_left, in_at, in_or}
 
 -- ---- the units of a list
 
@@ -29,29 +33,36 @@ in_contains xs k t = (let at = in_or xs k t in contains_at xs at.place k at.here
 pub each_in : (order units : List ℕ) → All (Contains order) units → (k : ℕ) → is_in units k ≡ true → is_in order k ≡ true
 each_in order units h k t = (let at = in_or units k t in contains_in order k (subst (Contains order) at.is (h at.place 0 at.here)))
 
+pub all_in : (P : ℕ → Type 0) (xs : List ℕ) → ((k : ℕ) → is_in xs k ≡ true → P k) → All P xs
+all_in P xs h j d l = subst P (get_or_default xs j 0 d l) (h (get_or xs j 0) (in_at xs j l))
+
 pub from_each : (order units : List ℕ) → ((k : ℕ) → is_in units k ≡ true → is_in order k ≡ true)
     → All (Contains order) units
-from_each order units h j d l = in_contains order (get_or units j d)
-    (subst (λ (x : ℕ). is_in order x ≡ true) (get_or_default units j 0 d l)
-    (h (get_or units j 0) (in_at units j l)))
+from_each order units h = all_in (Contains order) units (λ k t. in_contains order k (h k t))
 
 pub in_take : (n : ℕ) (xs : List ℕ) (k : ℕ) → is_in (take n xs) k ≡ true → is_in xs k ≡ true
-in_take zero xs k t = absurd (true≢false (sym t))
-in_take (suc n) [] k t = t
-in_take (suc n) (x ∷ xs) k t =
-    elim (cases_eq x k) [
-      | inl e ↦ or_left (nat_eq x k) (is_in xs k) (eq-eqb x k e)
-      | inr ne ↦ or_right (nat_eq x k) (is_in xs k) (in_take n xs k (rw (ne_eqb x k ne) at t))
-    ]
+in_take n xs k t = subst (λ (ys : List ℕ). is_in ys k ≡ true) (take-append-drop n xs) (in_append_left (take n xs) (drop n xs) k t)
 
 in_more : (n : ℕ) (xs : List ℕ) (k : ℕ) → is_in (take n xs) k ≡ true → is_in (take (suc n) xs) k ≡ true
-in_more zero xs k t = absurd (true≢false (sym t))
-in_more (suc n) [] k t = t
-in_more (suc n) (x ∷ xs) k t =
-    elim (cases_eq x k) [
-      | inl e ↦ or_left (nat_eq x k) (is_in (take (suc n) xs) k) (eq-eqb x k e)
-      | inr ne ↦ or_right (nat_eq x k) (is_in (take (suc n) xs) k) (in_more n xs k (rw (ne_eqb x k ne) at t))
-    ]
+in_more n xs k t =
+    let e : n + 1 ≡ suc n = omega arith in
+    subst (λ (m : ℕ). is_in (take m xs) k ≡ true) e (list_any_kept (λ u. nat_eq u k) xs n t)
+
+pub in_front : (n : ℕ) (xs ys : List ℕ) (k : ℕ) → length xs ≤ n → is_in xs k ≡ true → is_in (take n (xs ++ ys)) k ≡ true
+in_front n xs ys k l h =
+    let total : length xs + (n - length xs) ≡ n = omega (arith, l) in
+    subst (λ (zs : List ℕ). is_in zs k ≡ true)
+    (sym (take-append-add xs ys (n - length xs)) ∙ ap (λ m. take m (xs ++ ys)) total)
+    (in_append_left xs (take (n - length xs) ys) k h)
+
+pub within_front : (n : ℕ) (xs ys : List ℕ) (k : ℕ) → n ≤ length xs → is_in (take n (xs ++ ys)) k ≡ true → is_in xs k ≡ true
+within_front n xs ys k l h = in_take n xs k (subst (λ (zs : List ℕ). is_in zs k ≡ true) (take-append-le n xs ys l) h)
+
+-- a line changes its units alone
+pub changed_in : (line : Line) (k : ℕ) → entry_of line k ≢ pos 0 → is_in line.units k ≡ true
+changed_in line k some =
+    true_from_ne_false (is_in line.units k)
+    (λ out. some (entry_at_none line.units line.entries k (λ c. both_ways (is_in line.units k) out (contains_in line.units k c))))
 
 -- one of the first elements that passes a test is one of the first that do
 pub first_passing : (p : ℕ → Bool) (n : ℕ) (xs : List ℕ) (k : ℕ) → is_in (take n xs) k ≡ true → p k ≡ true

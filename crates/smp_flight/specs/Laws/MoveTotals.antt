@@ -13,7 +13,7 @@ use Rattle.smp_values.specs.Values.{value_at}
 use Rattle.smp_flight.specs.States.{Units, Flight, IsFlight, size, column, columns_of}
 use Rattle.smp_moves.specs.Moves.{Line, IsLine, Move, entry_of, fraction_of, chosen_line, chosen_extent}
 use Rattle.smp_moves.specs.Steps.{Finds, IsDirection}
-use Rattle.smp_flight.specs.Moves.{setting_of, share}
+use Rattle.smp_flight.specs.Moves.{setting_of}
 use Rattle.smp_flight.specs.Steps.{chosen}
 use Rattle.smp_flight.specs.Statements.{EachKeepsTotals}
 use Rattle.smp_moves.proofs.Entries.{order_within}
@@ -39,7 +39,7 @@ numbers_are units row (k ∷ order) = ap (λ xs. number_in units row k ∷ xs) (
 
 module _ (units : Units) (f : Flight) (is_flight : IsFlight units f) (order : List ℕ) (w : List ℤ)
     (finds : Finds (setting_of units) f order (found w)) (line : Line) (ok : IsLine f.values line)
-    (d : IsDirection (share units) order w line) where
+    (d : IsDirection (setting_of units).share order w line) where
   own : IsReduced (sized units line.units w) line.entries
   own = sized_entries units order w line d
 

@@ -10,10 +10,10 @@ use Rattle.smp_kernel.proofs.SearchLaw.{together, one_answer, first_decide, few_
 use Rattle.smp_kernel.proofs.Existence.{cut_short}
 use Rattle.smp_frac.specs.Limits.{most_denominator}
 use Rattle.smp_kernel.proofs.FoundCircuits.{circuit_length}
-use Rattle.smp_flight.specs.States.{Units, Flight, IsUnits, IsFlight, column, columns_of, started}
+use Rattle.smp_flight.specs.States.{Units, Flight, IsUnits, IsFlight, column, columns_of, tracked_start}
 use Rattle.smp_moves.specs.Moves.{independent, Move, Next, IsOrder, move, turned, wide}
 use Rattle.smp_moves.specs.Steps.{Finds, IsNext, scale_of}
-use Rattle.smp_flight.specs.Moves.{setting_of, share}
+use Rattle.smp_flight.specs.Moves.{setting_of}
 use Rattle.smp_moves.specs.Ends.{end_of, entries_fit}
 use Rattle.smp_flight.specs.Steps.{next_on, next_on_is}
 use Rattle.smp_moves.specs.Kept.Computed.{direction_on, next_along, next_by, next_of}
@@ -23,7 +23,7 @@ use Rattle.smp_flight.specs.Laws.Nexts.{IsKnown, known_by, owes}
 -- ---- the first state
 
 -- the state before the first step
-pub started_flight : (units : Units) → IsUnits units → IsFlight units (started units)
+pub started_flight : (units : Units) → IsUnits units → IsFlight units (tracked_start units).flight
 started_flight units are = record {
   are = are;
   values = are.requested;
@@ -70,8 +70,8 @@ module _ (units : Units) (s : Flight) (order : List ℕ) where
   -- the step along a circuit by its first units
   along : List ℤ → List ℕ → Next
   along w ks =
-      let line = direction_on (share units) ks w in
-      if nat_le (scale_of (share units) ks w) most_denominator
+      let line = direction_on (setting_of units).share ks w in
+      if nat_le (scale_of (setting_of units).share ks w) most_denominator
       && (entries_fit line
       && (nat_le s.values.den most_denominator
       && (nat_le (end_of units.requested.den s.values line).den most_denominator

@@ -1,6 +1,5 @@
 -- There is a step with the properties of a search and of a move.
-use Rattle.std.proofs.Common.{◌≡◌, ℕ, ◌≤◌, true, nat_le, List, ℤ}
-use Rattle.std.proofs.Common.{take, length, get_or, arith, refl, sym, ap, subst}
+use Rattle.std.proofs.Common.{◌≡◌, ℕ, ◌≤◌, true, nat_le, List, ℤ, take, length, get_or, arith, refl, sym, ap, subst}
 use Rattle.std.proofs.lemmas.Bool.{and_from, le-leb}
 use Rattle.smp_frac.specs.Limits.{most_entry, most_denominator}
 use Rattle.smp_kernel.specs.Vectors.{IsZero, Within}
@@ -21,7 +20,7 @@ use Rattle.smp_moves.proofs.LineEnds.{moved}
 use Rattle.smp_moves.proofs.Products.{HaveSome}
 use Rattle.smp_moves.proofs.Weights.{within_to}
 use Rattle.smp_flight.specs.States.{Units, Flight, IsFlight, columns_of}
-use Rattle.smp_flight.specs.Moves.{IsAllowed, setting_of, share}
+use Rattle.smp_flight.specs.Moves.{setting_of}
 use Rattle.smp_flight.specs.Kept.Steps.{direction, fits, next_along, next_by, next_of, sized}
 use Rattle.smp_flight.specs.Laws.Entries.{scale_one, scaled_sized}
 
@@ -29,7 +28,7 @@ use Rattle.smp_flight.specs.Laws.Entries.{scale_one, scaled_sized}
 
 -- any line with its direction
 pub direction_line : (units : Units) (s : Shares) (order : List ℕ) → IsOrder s order → (w : List ℤ) (line : Line)
-    → IsDirection (share units) order w line → IsLine s line
+    → IsDirection (setting_of units).share order w line → IsLine s line
 direction_line units s order ok w line d = record {
   lengths = d.lengths;
   order = subst (IsOrder s) (sym d.prefix) (order_front s order ok (length w));
@@ -53,7 +52,7 @@ narrow_line units s is_flight w line entries = record {
 }
 
 module _ (units : Units) (s : Flight) (order : List ℕ) (is_flight : IsFlight units s) (ok : IsOrder s.values order) where
-  some_sizes : HaveSome (share units) order
+  some_sizes : HaveSome (setting_of units).share order
   some_sizes j l = record {
     num = is_flight.are.some_size (get_or order j 0) (omega (arith, order_within s.values order ok j l, is_flight.values.count));
     den = omega arith;
@@ -64,11 +63,11 @@ module _ (units : Units) (s : Flight) (order : List ℕ) (is_flight : IsFlight u
     some_sized z = steps.some_scaled (setting_of units) s order w finds some_sizes
         (subst IsZero (sym (scaled_sized units (take (length w) order) w)) z)
 
-    pub direction_is : IsDirection (share units) order w (computed.direction (share units) order w)
+    pub direction_is : IsDirection (setting_of units).share order w (computed.direction (setting_of units).share order w)
     direction_is = is_direction (setting_of units) s order w finds some_sizes
 
-    pub line_ok : IsLine s.values (computed.direction (share units) order w)
-    line_ok = direction_line units s.values order ok w (computed.direction (share units) order w) direction_is
+    pub line_ok : IsLine s.values (computed.direction (setting_of units).share order w)
+    line_ok = direction_line units s.values order ok w (computed.direction (setting_of units).share order w) direction_is
 
   over : IsOver units.requested.den s.values
   over = flight_over units s is_flight
@@ -77,10 +76,10 @@ module _ (units : Units) (s : Flight) (order : List ℕ) (is_flight : IsFlight u
   owes = record {
     some = some_sizes;
     goes = λ w finds narrow. record { first = units.requested.den; over = over; ok = line_ok w finds };
-    up = λ w finds narrow. moved units.requested.den s.values over (computed.direction (share units) order w) (line_ok w finds);
+    up = λ w finds narrow. moved units.requested.den s.values over (computed.direction (setting_of units).share order w) (line_ok w finds);
     down = λ w finds narrow.
-        moved units.requested.den s.values over (turned (computed.direction (share units) order w))
-        (turned_line s.values (computed.direction (share units) order w) (line_ok w finds));
+        moved units.requested.den s.values over (turned (computed.direction (setting_of units).share order w))
+        (turned_line s.values (computed.direction (setting_of units).share order w) (line_ok w finds));
   }
 
 -- ---- what a move of a step is
@@ -115,15 +114,15 @@ known_by units s order is_flight ok m e =
 
 -- ---- so there are steps
 
-abbrev pub each_step : Stepping setting_of IsAllowed
+abbrev pub each_step : Stepping setting_of (λ units s order. IsFlight units s × IsOrder s.values order)
 each_step =
-    stepping_by setting_of IsAllowed (λ units. end_of units.requested.den)
+    stepping_by setting_of (λ units s order. IsFlight units s × IsOrder s.values order) (λ units. end_of units.requested.den)
     (λ units s order allowed. owes units s order allowed.0 allowed.1)
 
 -- ---- by sizes: the gates of the products and of the state hold nothing up
 
 pub direction_sized : (units : Units) (order : List ℕ) (w : List ℤ)
-    → computed.direction (share units) order w ≡ direction units order w
+    → computed.direction (setting_of units).share order w ≡ direction units order w
 direction_sized units order w =
     ap (λ (es : List ℤ). record { units = take (length w) order; entries = primitive_part es })
     (scaled_sized units (take (length w) order) w)
@@ -136,7 +135,7 @@ fit_is first s line w a b =
     (le-leb (end_of first s line).den most_denominator a) (le-leb (end_of first s (turned line)).den most_denominator b))
 
 module _ (units : Units) (s : Flight) (narrow : s.values.den ≤ most_denominator) (order : List ℕ) where
-  scale_fits : (w : List ℤ) → nat_le (scale_of (share units) (take (length w) order) w) most_denominator ≡ true
+  scale_fits : (w : List ℤ) → nat_le (scale_of (setting_of units).share (take (length w) order) w) most_denominator ≡ true
   scale_fits w = ap (λ (n : ℕ). nat_le n most_denominator) (scale_one units (take (length w) order) w)
 
   of_sized : (answer : Search) → computed.next_of (setting_of units) (end_of units.requested.den) s.values order answer

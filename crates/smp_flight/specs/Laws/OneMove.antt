@@ -9,12 +9,13 @@ use Rattle.smp_frac.proofs.Signs.{over_cross}
 use Rattle.smp_prob.specs.Shares.{Shares}
 use Rattle.smp_moves.specs.Ends.{end_of}
 use Rattle.smp_moves.specs.declared.lines.Ratio.{Ratio}
-use Rattle.smp_moves.specs.Moves.{Line, Move, IsOrder, MakesWhole, IsMoved, Next}
+use Rattle.smp_moves.specs.Kept.Ends.{MakesWhole}
+use Rattle.smp_moves.specs.Moves.{Line, Move, IsOrder, IsMoved, Next}
 use Rattle.smp_moves.proofs.Computed as computed
 use Rattle.smp_moves.proofs.OneStep.{Goes, plus_some, minus_some, some_up, some_down}
 use Rattle.smp_flight.specs.States.{Units, Flight, IsFlight}
 use Rattle.smp_moves.specs.Steps.{IsDirection, IsMove, IsNext}
-use Rattle.smp_flight.specs.Moves.{setting_of, share}
+use Rattle.smp_flight.specs.Moves.{setting_of}
 use Rattle.smp_flight.specs.Statements.{GoesBothWays}
 use Rattle.smp_flight.specs.Laws.Nexts.{direction_line, flight_over, owes}
 
@@ -60,7 +61,7 @@ module _ (first : ℕ) (s : Shares) (line : Line) (r : Ratio) (t v : Shares) (m 
 -- ---- the step
 
 module _ (units : Units) (s : Flight) (order : List ℕ) (is_flight : IsFlight units s) (ok : IsOrder s.values order) where
-  goes : (w : List ℤ) (line : Line) → IsDirection (share units) order w line → Goes s.values line
+  goes : (w : List ℤ) (line : Line) → IsDirection (setting_of units).share order w line → Goes s.values line
   goes w line d = record {
     first = units.requested.den;
     over = flight_over units s is_flight;

@@ -5,6 +5,8 @@ use Rattle.std.proofs.Common.{inr, le_of_suc-le-suc, suc-le-suc, length-take, ge
 use Rattle.std.specs.List.{AllPairs, remove}
 use Rattle.std.proofs.lemmas.Bool.{cases_Bool, cases_eq, cases_lt, eq-eqb, ne_eqb, or_left, or_right, both_ways, true≢false}
 use Rattle.std.proofs.lemmas.List.{ext_get_or, get_or_past, get_or_read}
+use Rattle.std.proofs.lemmas.List.Folds.{list_any-append, list_any_at}
+use Rattle.std.proofs.Math.Bool.{or-false}
 use Rattle.std.proofs.Math.Nat.{mul-le-mul_right}
 use Rattle.std.proofs.lemmas.List.Quantifiers.{all_pairs_remove}
 use Rattle.std.proofs.lemmas.List.Edits.{length-remove}
@@ -19,9 +21,7 @@ use Rattle.smp_flight.specs.Kept.Windows.{Covers, IsWindowed, Windowed, is_in, n
 -- ---- the units of a window
 
 pub in_at : (window : List ℕ) (j : ℕ) → j < length window → is_in window (get_or window j 0) ≡ true
-in_at [] j l = absurd (omega (arith, l))
-in_at (u ∷ us) zero l = or_left (nat_eq u u) (is_in us u) (eq-eqb u u refl)
-in_at (u ∷ us) (suc j) l = or_right (nat_eq u (get_or us j 0)) (is_in us (get_or us j 0)) (in_at us j (le_of_suc-le-suc l))
+in_at window j l = list_any_at (λ u. nat_eq u (get_or window j 0)) window j 0 l (eq-eqb (get_or window j 0) (get_or window j 0) refl)
 
 -- where a unit of the window stands
 pub record StandsAt (window : List ℕ) (k : ℕ) : Type 0 where
@@ -44,24 +44,13 @@ pub not_in : (window : List ℕ) (k : ℕ) → is_in window k ≡ false → (j :
 not_in window k h j l e = both_ways (is_in window k) h (subst (λ (x : ℕ). is_in window x ≡ true) e (in_at window j l))
 
 pub in_append : (xs ys : List ℕ) (k : ℕ) → is_in ys k ≡ false → is_in (xs ++ ys) k ≡ is_in xs k
-in_append [] ys k h = h
-in_append (x ∷ xs) ys k h =
-    elim (cases_eq x k) [
-      | inl e ↦ rw (eq-eqb x k e) refl
-      | inr ne ↦ rw (ne_eqb x k ne) (in_append xs ys k h)
-    ]
+in_append xs ys k h = list_any-append (λ u. nat_eq u k) xs ys ∙ ap (λ b. is_in xs k || b) h ∙ or-false (is_in xs k)
 
 pub in_append_right : (xs ys : List ℕ) (k : ℕ) → is_in ys k ≡ true → is_in (xs ++ ys) k ≡ true
-in_append_right [] ys k h = h
-in_append_right (x ∷ xs) ys k h = or_right (nat_eq x k) (is_in (xs ++ ys) k) (in_append_right xs ys k h)
+in_append_right xs ys k h = list_any-append (λ u. nat_eq u k) xs ys ∙ or_right (is_in xs k) (is_in ys k) h
 
 pub in_append_left : (xs ys : List ℕ) (k : ℕ) → is_in xs k ≡ true → is_in (xs ++ ys) k ≡ true
-in_append_left [] ys k h = absurd (true≢false (sym h))
-in_append_left (x ∷ xs) ys k h =
-    elim (cases_eq x k) [
-      | inl e ↦ rw (eq-eqb x k e) refl
-      | inr ne ↦ rw (ne_eqb x k ne) (in_append_left xs ys k (rw (ne_eqb x k ne) at h))
-    ]
+in_append_left xs ys k h = list_any-append (λ u. nat_eq u k) xs ys ∙ or_left (is_in xs k) (is_in ys k) h
 
 pub in_one : (u : ℕ) → is_in (u ∷ []) u ≡ true
 in_one u = or_left (nat_eq u u) false (eq-eqb u u refl)

@@ -7,19 +7,17 @@ use Rattle.smp_near.specs.Nearest.{LivingPoints, is_living}
 use Rattle.smp_frac.specs.Limits.{most_rows}
 use Rattle.smp_prob.specs.Shares.{Shares}
 use Rattle.smp_values.specs.Values.{AllFractional, fractional_units, is_fractional}
-use Rattle.smp_moves.specs.Cubes.{flying, pairing}
-use Rattle.smp_flight.specs.Selections.{Balancing}
-use Rattle.smp_moves.specs.Moves.{Line, entry_of}
+use Rattle.smp_moves.specs.Kept.Phases.{balancing_of}
+use Rattle.smp_moves.specs.Moves.{Line, entry_of, Next}
 use Rattle.smp_moves.specs.declared.lines.Line.{Line as LineOfPlaces}
-use Rattle.smp_flight.specs.States.{Flight, IsFlight, Tracked, Units}
+use Rattle.smp_flight.specs.States.{IsFlight, Tracked, Units}
 use Rattle.smp_flight.specs.Answers.{Allows, IsMoveOf, answer_of}
 use Rattle.smp_flight.specs.declared.steps.Next.{Next as Answer}
-use Rattle.smp_moves.specs.Moves.{Next}
 use Rattle.smp_flight.specs.Steps.{next_on}
 use Rattle.smp_localcube.specs.Local.{IsCarried, Local, head_of, is_one_of, order_around, untouched}
 use Rattle.smp_localcube.specs.declared.orders.Order.{Order}
-use Rattle.smp_localcube.specs.declared.state.Phase.{Phase}
-use Rattle.smp_localcube.specs.declared.state.Phase.TheVariants.{Flying, Pairing}
+use Rattle.smp_moves.specs.declared.phases.Phase.{Phase}
+use Rattle.smp_moves.specs.declared.phases.Phase.TheVariants.{Flying, Pairing}
 
 -- of a design: each unit has a point and may be selected or not
 pub record IsPlaced (dimensions : ℕ) (units : Units) (coords : List (List ℤ)) (count : ℕ) : Type 0 where
@@ -63,10 +61,6 @@ abbrev pub line_to : LineOfPlaces → ℕ → Line
 line_to line place = record { units = take place line.units; entries = take place line.entries }
 
 -- a state by its phase, its flight, its pivotal steps, and how many units were left
-abbrev pub balancing_of : Phase → Flight → Shares → ℕ → Balancing
-balancing_of Flying f s left = flying f left
-balancing_of Pairing f s left = pairing s left
-
 abbrev pub state_of : Phase → Tracked → Shares → ℕ → LivingPoints → Option ℕ → Local
 state_of phase f s left points chosen = record {
   coords = points.coords;

@@ -1,10 +1,10 @@
 -- What a search goes through: all fractional units, each of them once.
-use Rattle.std.proofs.Common.{◌≡◌, ◌≢◌, ℕ, Bool, true, false, not, nat_eq, ℤ, List, [], ◌∷◌}
-use Rattle.std.proofs.Common.{◌++◌, ◌⊎◌, map, length, get_or, arith, refl, sym, ap, ◌∙◌, subst, inl, inr, suc, suc-le-suc}
-use Rattle.std.specs.List.{All, AllPairs, filter, range_with_len}
+use Rattle.std.proofs.Common.{◌≡◌, ◌≢◌, ℕ, Bool, true, false, not, nat_eq, ◌&&◌, ℤ, List, [], ◌∷◌}
+use Rattle.std.proofs.Common.{◌++◌, ◌⊎◌, map, length, arith, refl, sym, ap, ◌∙◌, subst, inl, inr, suc, suc-le-suc}
+use Rattle.std.specs.List.{AllPairs, filter, range_with_len}
 use Rattle.std.proofs.lemmas.Bool.{and_from, and_parts, both_ways, cases_Bool, cases_eq, cases_lt, eq-eqb, eqb-false, ne_eqb, not-true}
 use Rattle.std.proofs.lemmas.Bool.{or_left, or_right, true≢false}
-use Rattle.std.proofs.lemmas.List.{get_or_default, get_or_past, length-map}
+use Rattle.std.proofs.lemmas.List.{get_or_past, length-map}
 use Rattle.std.proofs.lemmas.List.Elements.{All-append}
 use Rattle.std.proofs.lemmas.List.FromFn.{get_or-map-range_with_len, length-range_with_len}
 use Rattle.std.proofs.lemmas.List.Kept.{AllPairs-cons, AllPairs-filter}
@@ -16,21 +16,14 @@ use Rattle.smp_values.proofs.Units.{fractional_within}
 use Rattle.smp_flight.specs.Kept.Windows.{is_in}
 use Rattle.smp_flight.specs.Selections.{IsWholeOrder}
 use Rattle.smp_moves.proofs.Entries.{frame_order}
-use Rattle.smp_flight.specs.Laws.Firsts.{contains_in, in_contains}
-use Rattle.smp_flight.proofs.Free.{in_filter, out_filter}
+use Rattle.smp_flight.specs.Laws.Firsts.{all_in, contains_in, in_contains}
+use Rattle.smp_flight.proofs.Free.{filter_in, out_filter}
 use Rattle.smp_flight.specs.Laws.WholeOrders.{in_order_going}
-use Rattle.smp_flight.specs.Laws.Windowed.{in_append_left, in_append_right, in_at, in_one}
-use Rattle.smp_localcube.specs.Local.{front_of, is_one_of, is_untouched, order_around, untouched}
+use Rattle.smp_flight.specs.Laws.Windowed.{in_append_left, in_append_right, in_one}
+use Rattle.smp_localcube.specs.Local.{front_of, is_one_of, order_around, untouched}
+use Rattle.smp_localcube.specs.Kept.Orders.{is_untouched}
 
 -- ---- lists
-
-pub same_truth : (a b : Bool) → (a ≡ true → b ≡ true) → (b ≡ true → a ≡ true) → a ≡ b
-same_truth true b to from = sym (to refl)
-same_truth false true to from = from refl
-same_truth false false to from = refl
-
-pub all_in : (P : ℕ → Type 0) (xs : List ℕ) → ((k : ℕ) → is_in xs k ≡ true → P k) → All P xs
-all_in P xs h j d l = subst P (get_or_default xs j 0 d l) (h (get_or xs j 0) (in_at xs j l))
 
 -- tests that agree on each member
 pub filter_same : (p q : ℕ → Bool) (xs : List ℕ) → ((k : ℕ) → is_in xs k ≡ true → p k ≡ q k)
@@ -46,9 +39,7 @@ filter_same p q (x ∷ xs) h =
 
 -- what was filtered is what its own members filter
 pub filter_again : (p : ℕ → Bool) (xs : List ℕ) → filter p xs ≡ filter (is_one_of (filter p xs)) xs
-filter_again p xs =
-    filter_same p (is_one_of (filter p xs)) xs
-    (λ k h. same_truth (p k) (is_one_of (filter p xs) k) (λ t. in_filter p xs k h t) (λ t. (out_filter p xs k t).1))
+filter_again p xs = filter_same p (is_one_of (filter p xs)) xs (λ k h. sym (filter_in p xs k ∙ ap (λ b. b && p k) h))
 
 pub filter_none : (xs : List ℕ) → [] ≡ filter (is_one_of []) xs
 filter_none [] = refl

@@ -1,7 +1,7 @@
 -- The splits of the local cube are lawful, and its steps are those of flight and landing beside its choices.
 use Rattle.std.proofs.Common.{◌≡◌, ◌≢◌, ℕ, ◌<◌, ◌≤◌, true, false, ℤ, nat_eq, not, ◌||◌}
-use Rattle.std.proofs.Common.{List, [], ◌∷◌, Option, Some, None, length, refl, sym, subst, ap, arith}
-use Rattle.std.specs.Prelude.{unwrap_or}
+use Rattle.std.proofs.Common.{List, [], ◌∷◌, Option, Some, None, length, refl, sym, subst, ap, ap₂, arith}
+use Rattle.std.specs.Prelude.{option_map, unwrap_or}
 use Rattle.std.specs.Int.RustNames.{unsigned_abs}
 use Rattle.std.proofs.lemmas.Bool.{eq-eqb, eqb-false, or_left}
 use Rattle.std.proofs.lemmas.List.Sums.{count_by-le-length}
@@ -11,6 +11,8 @@ use Rattle.smp_frac.proofs.Arithmetic.{plus-zero, same_refl}
 use Rattle.smp_prob.specs.Shares.{Shares}
 use Rattle.smp_split.specs.Lenses.{as_unit}
 use Rattle.smp_split.specs.Parts.{equal_parts, moved}
+use Rattle.smp_split.specs.declared.kind.Kind.{Kind}
+use Rattle.smp_split.specs.declared.kind.Kind.TheVariants as kind
 use Rattle.smp_split.specs.Trees.{EachPart, Part, IsPart, Lawful, LawfulParts, weight_sum}
 use Rattle.smp_split.specs.Laws.Lenses.{parts_through}
 use Rattle.smp_split.specs.Laws.Parts.{each_equal, weight_sum-equal, weighted-same}
@@ -19,18 +21,17 @@ use Rattle.smp_values.specs.Values.{IsValues, fractional, fractional_at, fractio
 use Rattle.smp_values.specs.Values.{value_at}
 use Rattle.smp_values.proofs.Pivotal.{steps_lawful}
 use Rattle.smp_values.proofs.Units.{fractional_at_is}
-use Rattle.smp_moves.specs.Moves.{Move, entry_of}
-use Rattle.smp_moves.specs.Cubes.{dropped, flight_kind, flight_parts, flying, landed, pairing, rank_in, tree_by, values_in}
+use Rattle.smp_moves.specs.Moves.{Move, entry_of, Next, move, independent, wide}
+use Rattle.smp_moves.specs.Cubes.{flight_kind, flight_parts, flying, landed, pairing, rank_in, tree_by, values_in}
+use Rattle.smp_moves.specs.Kept.Computed.{dropped}
 use Rattle.smp_flight.specs.Selections.{Balancing, GoesOn, IsBalancing, IsSelection, IsWholeOrder, chooses, flies, shares_cube}
 use Rattle.smp_flight.specs.Kept.Windows.{is_in}
 use Rattle.smp_flight.specs.States.{Flight, Units}
-use Rattle.smp_moves.specs.Moves.{Next, move, independent, wide}
 use Rattle.smp_flight.specs.Steps.{next_on}
-use Rattle.smp_flight.specs.Laws.ByOrder.{end_lawful, move_split, some_row}
+use Rattle.smp_flight.specs.Laws.ByOrder.{dropped_flight, end_lawful, move_split, some_row}
 use Rattle.smp_flight.specs.Laws.WholeOrders.{frame_whole}
-use Rattle.smp_localcube.specs.Local.{AreCarried, IsCarried, IsLocal, Local, after, choice, choosing, head_of, is_one_of}
-use Rattle.smp_localcube.specs.Local.{kind_around, local_of, local_tree, order_around, order_with, next_around, parts_around, parts_from}
-use Rattle.smp_localcube.specs.Local.{rank_of, settling, touched_after}
+use Rattle.smp_localcube.specs.Local.{AreCarried, IsCarried, IsLocal, Local, after, head_of, is_one_of, local_of, local_tree}
+use Rattle.smp_localcube.specs.Local.{order_around, parts_from, parts_in_flight}
 use Rattle.smp_localcube.specs.Laws.Orders.{IsHead, filter_again, carried_going, whole as whole_order}
 
 -- ---- the head
@@ -71,20 +72,30 @@ order_whole s f head carried is =
     let has = has_head f.values s.touched s.chosen head carried is in
     whole_order s.coords f.values s.touched head carried.touched_are has.open_at has.is_head
 
+-- the next step of a flight with this head
+abbrev pub next_around : Units → List (List ℤ) → Flight → List ℕ → ℕ → Next
+next_around units coords f touched head = next_on units (order_around coords f.values touched head) f
+
 -- ---- lists of parts
 
 moved_twice : {A B C : Type 0} (g : B → C) (f : A → B) (ps : List (Part A)) → moved g (moved f ps) ≡ moved (λ a. g (f a)) ps
 moved_twice g f [] = refl
 moved_twice g f (p ∷ ps) = ap (λ rest. record { weight = p.weight; state = g (f p.state) } ∷ rest) (moved_twice g f ps)
 
+at_after : (s : Local) (next : Next) (t : Balancing) → (after s next t).at ≡ t
+at_after s (move m) t = refl
+at_after s independent t = refl
+at_after s wide t = refl
+
 there_again : (s : Local) (next : Next) (ps : List (Part Balancing)) → moved (λ t. t.at) (moved (after s next) ps) ≡ ps
 there_again s next [] = refl
-there_again s next (p ∷ ps) = ap (λ rest. p ∷ rest) (there_again s next ps)
+there_again s next (p ∷ ps) =
+    ap₂ (λ t rest. record { weight = p.weight; state = t } ∷ rest) (at_after s next p.state) (there_again s next ps)
 
 -- ---- a move
 
 -- what the touched units are after a move
-pub carried_after : (s : Local) (m : Move) (t : Balancing) → AreCarried t (touched_after s.touched (move m) (values_in t)) None
+pub carried_after : (s : Local) (m : Move) (t : Balancing) → AreCarried t (after s (move m) t).touched None
 carried_after s m (flying f left) = record {
   touched_are = filter_again (λ k. is_one_of s.touched k || not
       (nat_eq (unsigned_abs (entry_of m.direction k)) 0)) (fractional_units f.values);
@@ -118,7 +129,7 @@ module _ (units : Units) (coords : List (List ℤ)) (f : Flight) (left : ℕ) (t
         }) (flight_parts (shares_cube units) f left (move m)) (move_split units f left order ok.state w.is_order m is (λ _. independent))
 
     -- one part with the same values
-    lone_through : (t : Local) → values_in t.at ≡ f.values → rank_of t < rank_of here → IsLocal units t
+    lone_through : (t : Local) → values_in t.at ≡ f.values → (local_tree units).rank t < (local_tree units).rank here → IsLocal units t
         → IsSplit (record { weight = 1; state = t } ∷ [])
     lone_through t same falls member = record {
       some = omega arith;
@@ -133,25 +144,16 @@ module _ (units : Units) (coords : List (List ℤ)) (f : Flight) (left : ℕ) (t
     step_through order w independent is =
         let some = some_row units f left order ok.state w is going in
         lone_through (after here independent (flying (dropped f) (landed (fractional_count f.values) left))) refl (omega (arith, some))
-        (record {
-          state = record {
-            are = ok.state.are;
-            values = ok.state.values;
-            fixed_is = ok.state.fixed_is;
-            multiple = ok.state.multiple;
-            rows_in = omega (arith, ok.state.rows_in);
-          };
-          carried = ok.carried;
-        })
+        (record { state = dropped_flight units f left order ok.state w; carried = ok.carried })
     step_through order w wide is =
         lone_through (after here wide (pairing f.values (landed (fractional_count f.values) left))) refl (omega arith)
         (record { state = ok.state.values; carried = tt })
 
     -- a choice, after which the values are what they were
-    choice_through : chosen ≡ None → IsSplit (choice here f.values)
+    choice_through : chosen ≡ None → IsSplit (parts_in_flight units here f left None)
     choice_through none =
         let some : fractional_count f.values ≢ 0 = eqb-false (fractional_count f.values) 0 going in
-        let to : ℕ → Local = λ place. choosing here (fractional_at f.values place) in
+        let to : ℕ → Local = λ place. record here { chosen = Some (fractional_at f.values place) } in
         let total : weight_sum (equal_parts (fractional_count f.values) to) ≡ fractional_count f.values =
         weight_sum-equal to (fractional_count f.values) in
         let most : fractional_count f.values ≤ length f.values.numer = count_by-le-length (fractional f.values.den) f.values.numer in
@@ -171,16 +173,17 @@ module _ (units : Units) (coords : List (List ℤ)) (f : Flight) (left : ℕ) (t
                 };
               });
           even = λ k h.
-              weighted-same (λ t. value_at (values_in t.at) k) (value_at f.values k) (choice here f.values)
+              weighted-same (λ t. value_at (values_in t.at) k) (value_at f.values k) (parts_in_flight units here f left None)
               (each_equal to (λ p. value_at (values_in p.state.at) k ≡ value_at f.values k)
               (fractional_count f.values) (λ place _. refl));
         }
 
-    flight_through : (head : Option ℕ) → head_of touched chosen ≡ head → IsSplit (parts_around units here f left head)
+    flight_through : (head : Option ℕ) → head_of touched chosen ≡ head
+        → IsSplit (parts_in_flight units here f left (option_map (next_around units coords f touched) head))
     flight_through None is = choice_through (no_head touched chosen is)
     flight_through (Some head) is =
         step_through (order_around coords f.values touched head) (order_whole here f head ok.carried is)
-        (next_around units here f head) refl
+        (next_around units coords f touched head) refl
 
 -- ---- pivotal steps
 
@@ -188,11 +191,14 @@ module _ (units : Units) (coords : List (List ℤ)) (t : Shares) (left : ℕ) (t
   abbrev there : Local
   there = record { coords = coords; at = pairing t left; touched = touched; chosen = chosen }
 
+  abbrev settle : Shares → Local
+  settle v = record there { at = pairing v left }
+
   pairing_through : IsLocal units there → is_settled t ≡ false
-      → LawfulParts (local_tree units) (IsLocal units) there (moved (settling there left) (pivotal_parts t))
+      → LawfulParts (local_tree units) (IsLocal units) there (moved settle (pivotal_parts t))
   pairing_through ok going =
       parts_through (steps_tree (length units.sizes)) (IsValues (length units.sizes) most_denominator)
-      (local_tree units) (IsLocal units) (settling there left) as_unit t there
+      (local_tree units) (IsLocal units) settle as_unit t there
       (record {
         within = λ k h. h;
         part = λ p q. (let falls : fractional_count p.state < fractional_count t = q.falls in
@@ -226,20 +232,28 @@ module _ (units : Units) (coords : List (List ℤ)) (f : Flight) (left : ℕ) (t
   abbrev state : Local
   state = record { coords = coords; at = flying f left; touched = touched; chosen = chosen }
 
+  -- the parts, the kind and the order by a head
+  abbrev parts_at : Option ℕ → List (Part Local)
+  parts_at h = parts_in_flight units state f left (option_map (next_around units coords f touched) h)
+
+  abbrev kind_at : Option ℕ → Kind
+  kind_at h = unwrap_or (option_map flight_kind (option_map (next_around units coords f touched) h)) kind.Choose
+
+  abbrev order_at : Option ℕ → List ℕ
+  order_at h = unwrap_or (option_map (order_around coords f.values touched) h) (fractional_units f.values)
+
   flight_goes : (head : Option ℕ) → head_of touched chosen ≡ head → GoesOn (local_of units) state
   flight_goes None is =
-      chooses (ap (kind_around units state f) is)
-      (subst (λ (h : Option ℕ). EachPart (λ p. p.state.at ≡ flying f left) (parts_around units state f left h)) (sym is)
-      (each_equal (λ place. choosing state (fractional_at f.values place)) (λ p. p.state.at ≡ flying f left)
+      chooses (ap kind_at is)
+      (subst (λ (h : Option ℕ). EachPart (λ p. p.state.at ≡ flying f left) (parts_at h)) (sym is)
+      (each_equal (λ place. record state { chosen = Some (fractional_at f.values place) }) (λ p. p.state.at ≡ flying f left)
       (fractional_count f.values) (λ place _. refl)))
   flight_goes (Some head) is =
-      flies (subst (λ (h : Option ℕ). IsWholeOrder f.values (order_with state f.values h)) (sym is)
-      (order_whole state f head carried is))
-      (subst (λ (h : Option ℕ). kind_around units state f h
-      ≡ flight_kind (next_on units (order_with state f.values h) f)) (sym is) refl)
-      (subst (λ (h : Option ℕ). moved (λ t. t.at) (parts_around units state f left h)
-      ≡ flight_parts (shares_cube units) f left (next_on units (order_with state f.values h) f)) (sym is)
-      (there_again state (next_around units state f head) (flight_parts (shares_cube units) f left (next_around units state f head))))
+      let next = next_around units coords f touched head in
+      flies (subst (λ (h : Option ℕ). IsWholeOrder f.values (order_at h)) (sym is) (order_whole state f head carried is))
+      (subst (λ (h : Option ℕ). kind_at h ≡ flight_kind (next_on units (order_at h) f)) (sym is) refl)
+      (subst (λ (h : Option ℕ). moved (λ t. t.at) (parts_at h) ≡ flight_parts (shares_cube units) f left (next_on units (order_at h) f))
+      (sym is) (there_again state next (flight_parts (shares_cube units) f left next)))
 
 goes_from : (units : Units) (coords : List (List ℤ)) (at : Balancing) (touched : List ℕ) (chosen : Option ℕ)
     → AreCarried at touched chosen → GoesOn (local_of units)
@@ -248,8 +262,7 @@ goes_from units coords (flying f left) touched chosen carried =
     flight_goes units coords f left touched chosen carried (head_of touched chosen) refl
 goes_from units coords (pairing t left) touched chosen carried =
     flies (frame_whole t) refl (moved_twice (λ s. s.at)
-    (settling (record { coords = coords; at = pairing t left; touched = touched; chosen = chosen }) left)
-    (pivotal_parts t))
+    (λ v. record { coords = coords; at = pairing v left; touched = touched; chosen = chosen }) (pivotal_parts t))
 
 pub is_local_cube : (units : Units) → IsSelection (local_of units) (IsLocal units)
 is_local_cube units = record {

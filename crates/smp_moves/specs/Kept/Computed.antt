@@ -1,5 +1,5 @@
 -- How a step is found, in whatever the values are kept: the direction in whole numbers, and whether each number fits its gate.
-use Rattle.std.specs.Prelude.{◌≡◌, ℕ, nat_le, ◌&&◌, Bool, true, if◌then◌else◌, List, ℤ, length, map, take}
+use Rattle.std.specs.Prelude.{◌≡◌, ℕ, ◌-◌, nat_le, ◌&&◌, Bool, true, if◌then◌else◌, List, ℤ, length, map, take}
 use Rattle.smp_frac.specs.Limits.{most_denominator}
 use Rattle.smp_kernel.specs.Reduced.{primitive_part}
 use Rattle.smp_kernel.specs.Searches.{Search, found, none, too_wide}
@@ -20,6 +20,10 @@ direction_on share prefix w = record {
 -- the direction of the circuit w of the first of these units
 abbrev pub direction : (ℕ → Ratio) → List ℕ → List ℤ → Line
 direction share order w = direction_on share (take (length w) order) w
+
+-- the last row in force is dropped
+abbrev pub dropped : {Values Fixed : Type 0} → Flight Values Fixed → Flight Values Fixed
+dropped f = record f { rows = f.rows - 1 }
 
 module _ {Values : Type 0} (setting : Setting Values) where
   -- the move along a line

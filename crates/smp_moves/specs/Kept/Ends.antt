@@ -16,6 +16,10 @@ pub record IsOver (first : ℕ) (s : Shares) : Type 0 where
   pub multiple : first ∣ s.den
   pub values : IsValues (length s.numer) most_denominator s
 
+-- each value, times d, is whole
+abbrev pub MakesWhole : ℕ → Shares → Type 0
+MakesWhole d t = (k : ℕ) → t.den ∣ slice_index t.numer k * d
+
 -- the numbers of a move of the numerator a by an entry fit 128 bits, and it doesn't fall below 0
 pub record CanMove (a : ℕ) (r : Reach) (e : ℤ) : Type 0 where
   pub small : a ≤ most_denominator

@@ -4,13 +4,7 @@ use Rattle.std.specs.List.{filter, range_with_len}
 use Prim.Native.Nat.{◌∣◌}
 use Rattle.smp_stratcube.specs.declared.units.Member.{Member}
 use Rattle.smp_stratcube.specs.Units.{nobody}
-use Rattle.smp_moves.proofs.Multiples.{AllDivide}
-
--- a least common multiple of some numbers
-pub record IsLeastOf (numbers : List ℕ) (m : ℕ) : Type 0 where
-  pub some : 1 ≤ m
-  pub each : AllDivide numbers m
-  pub least : (n : ℕ) → 1 ≤ n → AllDivide numbers n → m ∣ n
+use Rattle.smp_moves.specs.Steps.{common_multiple}
 
 -- the units of a stratum from a place on
 abbrev pub units_behind : List Member → ℕ → ℕ → List ℕ
@@ -23,14 +17,16 @@ abbrev pub dens_behind : List Member → ℕ → ℕ → List ℕ
 dens_behind members h place =
     map (λ k. (slice_index_or members k nobody).share.den) (units_behind members h place)
 
+-- the least common denominator of a unit and those behind it in its stratum
 abbrev pub IsBehind : List Member → ℕ → ℕ → Type 0
 IsBehind members unit m =
-    IsLeastOf (dens_behind members (slice_index_or members unit nobody).stratum unit) m
+    m ≡ common_multiple (dens_behind members (slice_index_or members unit nobody).stratum unit)
 
--- that of each unit
+-- that of each unit, from the last one to the first
 pub record AreBehind (members : List Member) (behind : List ℕ) : Type 0 where
   pub count : length behind ≡ length members
-  pub each : (k : ℕ) → k < length members → IsBehind members k (slice_index behind k)
+  pub each : (k : ℕ) → k < length members
+      → IsBehind members k (slice_index behind (length members - 1 - k))
 
 -- In each stratum all denominators divide one number, and the strata rise.
 pub record HaveCommon (members : List Member) : Type 0 where

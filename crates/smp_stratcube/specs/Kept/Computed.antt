@@ -8,8 +8,8 @@ use Rattle.smp_moves.specs.Moves.{Line, Move, Next, entry_of}
 use Rattle.smp_stratcube.specs.declared.values.Value.{Value}
 use Rattle.smp_stratcube.specs.Units.{Units}
 use Rattle.smp_stratcube.specs.States.{Flight}
-use Rattle.smp_stratcube.specs.Moves.{line_common, setting_of}
-use Rattle.smp_stratcube.specs.Values.{fractional_units, over_common, taken_over}
+use Rattle.smp_stratcube.specs.Moves.{setting_of}
+use Rattle.smp_stratcube.specs.Values.{fractional_units, over_common, taken_over, common_of}
 
 -- ---- the ends
 
@@ -20,7 +20,7 @@ moves line k = not (nat_eq (unsigned_abs (entry_of line k)) 0)
 -- the values at the end of a line
 abbrev pub moved_values : Units → List Value → Line → List Value
 moved_values units values line =
-    let den = line_common units values line.units in
+    let den = common_of units values line.units in
     taken_over (moves line) values (end_of 1 (over_common den values) line)
 
 -- ---- the step

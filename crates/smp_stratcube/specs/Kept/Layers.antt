@@ -1,7 +1,9 @@
 -- How the code keeps a stratum.
 use Rattle.std.specs.Prelude.{◌≡◌, ℕ, ◌<◌, ◌≤◌, List, [], ℤ, pos, length, map, slice_index_or, take}
 use Rattle.smp_kernel.specs.Vectors.{entry}
-use Rattle.smp_stratcube.specs.Layers.{IsLayer, Layer, first_of, no_layer}
+use Rattle.smp_prob.specs.declared.requests.Request.{Request}
+use Rattle.smp_prob.specs.Shares.{common_denominator}
+use Rattle.smp_stratcube.specs.Layers.{IsLayer, Layer, no_layer}
 
 -- some numbers in 15 places, and 0 in the places past them
 pub record IsFilledUp (xs places : List ℤ) : Type 0 where
@@ -9,18 +11,28 @@ pub record IsFilledUp (xs places : List ℤ) : Type 0 where
   pub same : (k : ℕ) → k < length xs → entry places k ≡ entry xs k
   pub past : (k : ℕ) → length xs ≤ k → entry places k ≡ pos 0
 
--- a stratum by its units' balancing values in the first places of arrays
-abbrev pub stored : List ℕ → ℕ → ℕ → List (List ℤ) → ℕ → Layer
-stored shape r total values variables = record {
-  shape = shape;
-  r = r;
-  total = total;
-  values = map (take variables) values;
-}
+-- how many balancing values a unit of a stratum has
+abbrev pub width : Layer → ℕ
+width layer = length (slice_index_or layer.values 0 [])
 
-pub record IsStored (shape : List ℕ) (r total : ℕ) (values : List (List ℤ)) (variables first : ℕ) : Type 0 where
-  pub is : IsLayer (stored shape r total values variables)
-  pub first_is : first ≡ first_of (stored shape r total values variables)
+-- a stratum by a request, and by the balancing values of its units
+abbrev pub layer_of : Request → List (List ℤ) → Layer
+layer_of request values = record { request = request; values = values }
+
+-- the common denominator of the probabilities of a stratum
+abbrev pub first_of : Layer → ℕ
+first_of layer = common_denominator layer.request
+
+-- a stratum by its units' balancing values in the first places of arrays
+abbrev pub stored : Request → List (List ℤ) → ℕ → Layer
+stored request values variables = layer_of request (map (take variables) values)
+
+pub record IsStored (request : Request) (shape : List ℕ) (r total : ℕ) (values : List (List ℤ)) (variables first : ℕ) : Type 0 where
+  pub is : IsLayer (stored request values variables)
+  pub shape_is : shape ≡ request.shape
+  pub r_is : r ≡ request.r
+  pub total_is : total ≡ request.total
+  pub first_is : first ≡ common_denominator request
   pub long : (k : ℕ) → k < length values → length (slice_index_or values k []) ≡ 15
   pub few : variables ≤ 15
   pub past : (k i : ℕ) → k < length values → variables ≤ i → entry (slice_index_or values k []) i ≡ pos 0

@@ -1,7 +1,7 @@
 -- What the code keeps of a line.
-use Rattle.std.specs.Prelude.{◌≡◌, ℕ, ◌*◌, ◌/◌, ◌<◌, ◌≤◌, ◌&&◌, nat_le, true, Bool}
-use Rattle.std.specs.Prelude.{List, ℤ, slice_index, slice_index_or}
+use Rattle.std.specs.Prelude.{◌≡◌, ℕ, ◌*◌, ◌/◌, ◌<◌, ◌≤◌, ◌&&◌, nat_le, true, Bool, List, ℤ, length, slice_index, slice_index_or, take}
 use Rattle.smp_frac.specs.Limits.{most_denominator, most_entry}
+use Rattle.smp_kernel.specs.Searches.{found}
 use Rattle.smp_kernel.specs.Vectors.{entry}
 use Rattle.smp_moves.specs.declared.lines.Ratio.{Ratio}
 use Rattle.smp_moves.specs.Answers.{IsPadded, line_of}
@@ -10,8 +10,10 @@ use Rattle.smp_moves.specs.Kept.Ends.{HasSmallEntries}
 use Rattle.smp_moves.specs.declared.lines.Line.{Line as LineOfPlaces}
 use Rattle.smp_stratcube.specs.declared.fronts.Front.{Front}
 use Rattle.smp_stratcube.specs.Units.{Units, share}
-use Rattle.smp_moves.specs.Steps.{product}
-use Rattle.smp_moves.specs.Steps.{scale_of}
+use Rattle.smp_stratcube.specs.Values.{fractional_units}
+use Rattle.smp_stratcube.specs.States.{Flight}
+use Rattle.smp_stratcube.specs.Moves.{setting_of}
+use Rattle.smp_moves.specs.Steps.{Finds, product, scale_of}
 use Rattle.smp_moves.specs.Kept.Computed.{direction_on}
 
 -- the units of a front are among so many
@@ -51,3 +53,9 @@ pub record IsLineOf (units : Units) (prefix : List ℕ) (w : List ℤ) (line : L
   pub fits : direction_fits units prefix w ≡ true
   pub padded : IsPadded line
   pub small : HasSmallEntries line
+
+-- the line is that of a circuit which the search finds
+pub record HasDirection (units : Units) (f : Flight) (line : LineOfPlaces) : Type 0 where
+  pub circuit : List ℤ
+  pub finds : Finds (setting_of units) f (fractional_units f.values) (found circuit)
+  pub is_line : IsLineOf units (take (length circuit) (fractional_units f.values)) circuit line

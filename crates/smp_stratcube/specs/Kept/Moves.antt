@@ -1,14 +1,12 @@
 -- What the code keeps of a move.
-use Rattle.std.specs.Prelude.{◌≡◌, ℕ, ◌<◌, ◌≤◌, ◌*◌, ◌/◌, nat_eq, true, Bool, Option, Some, if◌then◌else◌, List}
-use Rattle.std.specs.Prelude.{ℤ, length, slice_index}
+use Rattle.std.specs.Prelude.{◌≡◌, ℕ, ◌<◌, ◌≤◌, ◌*◌, ◌/◌, nat_eq, true, Bool, Option, Some, if◌then◌else◌, List, ℤ, length, slice_index}
 use Prim.Native.Nat.{◌∣◌}
 use Rattle.std.specs.Option.{is_some}
 use Rattle.std.specs.Int.RustNames.{unsigned_abs}
 use Rattle.smp_frac.specs.Limits.{most_denominator}
 use Rattle.smp_moves.specs.declared.lines.Line.{Line as LineOfPlaces}
 use Rattle.smp_moves.specs.declared.reaches.Reach.{Reach}
-use Rattle.smp_moves.specs.Moves.{Line, IsLine, entry_of, independent, move, wide}
-use Rattle.smp_moves.specs.Moves.{turned}
+use Rattle.smp_moves.specs.Moves.{Line, IsLine, entry_of, independent, move, wide, turned}
 use Rattle.smp_moves.specs.Ends.{advanced, lowest, reach}
 use Rattle.smp_moves.specs.Answers.{IsPadded, line_of}
 use Rattle.smp_moves.specs.Kept.Ends.{HasSmallEntries}
@@ -19,10 +17,10 @@ use Rattle.smp_stratcube.specs.declared.steps.Move.{Move}
 use Rattle.smp_stratcube.specs.declared.steps.Next.{Next as Answer}
 use Rattle.smp_stratcube.specs.declared.steps.Next.TheVariants as answers
 use Rattle.smp_stratcube.specs.Units.{Units}
-use Rattle.smp_stratcube.specs.Values.{AreValues, over_common, value}
+use Rattle.smp_stratcube.specs.Values.{AreValues, over_common, value, common_of}
 use Rattle.smp_stratcube.specs.States.{Flight}
 use Rattle.smp_stratcube.specs.Kept.Computed.{chosen, next}
-use Rattle.smp_stratcube.specs.Moves.{line_common, setting_of}
+use Rattle.smp_stratcube.specs.Moves.{setting_of}
 use Rattle.smp_stratcube.specs.Kept.Fronts.{front_units}
 use Rattle.smp_stratcube.specs.Kept.Gates.{gated, gathered}
 use Rattle.smp_moves.specs.Kept.Computed.{next_along}
@@ -65,7 +63,7 @@ end_gathered units values front line den r =
 -- a move of a state's next step, with what is known of its line
 pub record IsMoveOf (units : Units) (f : Flight) (m : Move) : Type 0 where
   pub next : next units f ≡ move (next_along (setting_of units) f.values (line_of m.line))
-  pub den : m.den ≡ line_common units f.values (line_of m.line).units
+  pub den : m.den ≡ common_of units f.values (line_of m.line).units
   pub plus : m.plus_weight ≡ (next_along (setting_of units) f.values (line_of m.line)).plus_weight
   pub minus : m.minus_weight ≡ (next_along (setting_of units) f.values (line_of m.line)).minus_weight
   pub up : IsAlong (length units.members) f.values m.line m.den m.up

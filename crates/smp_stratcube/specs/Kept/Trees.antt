@@ -8,8 +8,9 @@ use Rattle.smp_moves.specs.Owed.{Weighed, balance_of}
 use Rattle.smp_stratcube.specs.Units.{Units}
 use Rattle.smp_stratcube.specs.States.{Balancing, Flight}
 use Rattle.smp_moves.specs.Cubes as cubes
+use Rattle.smp_stratcube.specs.Values.{fractional_units}
 use Rattle.smp_stratcube.specs.Cube.{cube_by, tree_by}
-use Rattle.smp_stratcube.specs.Moves.{Stepping, next_by}
+use Rattle.smp_stratcube.specs.Moves.{Stepping}
 use Rattle.smp_stratcube.specs.Balances.{weighed_by}
 use Rattle.smp_stratcube.specs.Counts.{HasCountsIn}
 use Rattle.smp_stratcube.specs.Laws.Nexts.{each_step}
@@ -17,7 +18,10 @@ use Rattle.smp_stratcube.specs.Laws.Nexts.{each_step}
 abbrev pub flight_parts : Units → Flight → ℕ → Next → List (Part Balancing)
 flight_parts units = cubes.flight_parts (cube_by each_step units)
 
--- the kind of the step of a state, and its parts, by any `Stepping`
+-- the step of a state, its kind and its parts, by any `Stepping`
+abbrev pub next_by : Stepping → Units → Flight → Next
+next_by steps units f = steps.next_on units (fractional_units f.values) f
+
 abbrev pub kind_by : Stepping → Units → Balancing → Kind
 kind_by steps units = cubes.kind_by (cube_by steps units) (next_by steps units)
 

@@ -11,11 +11,11 @@ use Rattle.smp_moves.specs.Kept.Computed.{direction}
 use Rattle.smp_moves.proofs.Computed.{is_direction as its_direction}
 use Rattle.smp_moves.proofs.Products.{HaveSome}
 use Rattle.smp_stratcube.specs.Units.{Units, share}
-use Rattle.smp_stratcube.specs.Values.{fractional_units, over_common, value}
+use Rattle.smp_stratcube.specs.Values.{fractional_units, over_common, value, common_of}
 use Rattle.smp_stratcube.specs.States.{Flight, IsFlying}
-use Rattle.smp_stratcube.specs.Moves.{line_common, setting_of}
+use Rattle.smp_stratcube.specs.Moves.{setting_of}
 use Rattle.smp_stratcube.specs.Laws.Taken.{over_fractional}
-use Rattle.smp_stratcube.specs.Laws.Units.{fractional_in, fresh_divides, front_apart, front_going, line_divides, line_some, order_going}
+use Rattle.smp_stratcube.specs.Laws.Units.{fractional_in, fresh_divides, front_apart, front_going, line_divides, common_some, order_going}
 
 module _ (units : Units) (f : Flight) (ok : IsFlying units f) where
   abbrev order : List ℕ
@@ -43,13 +43,13 @@ module _ (units : Units) (f : Flight) (ok : IsFlying units f) where
     line = direction (share units) (fractional_units f.values) w
 
     abbrev den : ℕ
-    den = line_common units f.values (take (length w) (fractional_units f.values))
+    den = common_of units f.values (take (length w) (fractional_units f.values))
 
-    pub den_some : 1 ≤ line_common units f.values (take (length w) (fractional_units f.values))
-    den_some = line_some units ok.are (length units.members) f.values ok.values prefix
+    pub den_some : 1 ≤ common_of units f.values (take (length w) (fractional_units f.values))
+    den_some = common_some units ok.are (length units.members) f.values ok.values prefix
 
     pub den_divides : (j : ℕ) → j < length (take (length w) (fractional_units f.values))
-        → (value f.values (get_or (take (length w) (fractional_units f.values)) j 0)).at.den ∣ line_common units
+        → (value f.values (get_or (take (length w) (fractional_units f.values)) j 0)).at.den ∣ common_of units
         f.values (take (length w) (fractional_units f.values))
     den_divides j l =
         line_divides units ok.are (length units.members) f.values ok.values prefix j l (front_going f.values (length w) j l)
@@ -59,7 +59,7 @@ module _ (units : Units) (f : Flight) (ok : IsFlying units f) where
     going j l = over_fractional (length units.members) f.values ok.values den den_some (get_or prefix j 0)
         (den_divides j l) ∙ front_going f.values (length w) j l
 
-    pub line_ok : IsLine (over_common (line_common units f.values (take (length w) (fractional_units f.values)))
+    pub line_ok : IsLine (over_common (common_of units f.values (take (length w) (fractional_units f.values)))
         f.values) (direction (share units) (fractional_units f.values) w)
     line_ok = record {
       lengths = is_direction.lengths;

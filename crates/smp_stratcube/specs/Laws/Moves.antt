@@ -1,10 +1,7 @@
 -- A move of the flight is split lawfully.
-use Rattle.std.proofs.Common.{◌≡◌, ℕ, ◌+◌, ◌<◌, ◌≤◌, ◌^◌, true, false, ℤ, List}
-use Rattle.std.proofs.Common.{take, length, get_or, arith, sym, ap, ◌∙◌, subst, inl, inr}
-use Rattle.std.proofs.lemmas.Bool.{true≢false}
+use Rattle.std.proofs.Common.{◌≡◌, ℕ, ◌+◌, ◌<◌, ◌≤◌, ◌^◌, true, false, ℤ, List, [], take, length, get_or, arith, sym, ap, ◌∙◌, subst}
 use Prim.Native.Nat.{◌∣◌}
 use Rattle.smp_frac.specs.Fractions.{Fraction, Same, whole, integer, plus, times}
-use Rattle.smp_kernel.proofs.Ring.{zero_or}
 use Rattle.smp_split.specs.Trees.{LawfulParts}
 use Rattle.smp_moves.specs.Moves.{Line, Move, IsLine, entry_of, fraction_of, turned, move}
 use Rattle.smp_moves.specs.Ends.{end_of, extent}
@@ -19,10 +16,10 @@ use Rattle.smp_stratcube.specs.Values.{AreValues, common_of, fractional_count, f
 use Rattle.smp_stratcube.specs.Values.{value_at}
 use Rattle.smp_stratcube.specs.States.{Flight, IsBalancing, IsFlying}
 use Rattle.smp_stratcube.specs.Kept.Computed.{moved_values, moves, next, flight_of}
-use Rattle.smp_stratcube.specs.Moves.{line_common, setting_of}
+use Rattle.smp_stratcube.specs.Moves.{setting_of}
 use Rattle.smp_stratcube.specs.Kept.Trees.{flight_parts, strat_tree}
-use Rattle.smp_stratcube.specs.Laws.Taken.{taken_kept, taken_moved}
-use Rattle.smp_stratcube.specs.Laws.Ends.{after_along, after_falls, after_fractional, after_values, is_over, moving, still}
+use Rattle.smp_stratcube.specs.Laws.Taken.{taken_fresh}
+use Rattle.smp_stratcube.specs.Laws.Ends.{after_along, after_falls, after_fractional, after_values, is_over}
 use Rattle.smp_stratcube.specs.Laws.Directions.{line_ok, den_some, den_divides}
 use Rattle.smp_moves.specs.Kept.Computed.{direction, next_along, IsKnown}
 use Rattle.smp_moves.specs.Steps.{FitsAtEnds, FitsOnLine}
@@ -38,16 +35,16 @@ pub record IsEnd (units : Units) (f : Flight) (line : Line) (t : Fraction) : Typ
   pub flight : IsFlying units (flight_of f.fixed (moved_values units f.values line) f.rows)
 
 module _ (units : Units) (f : Flight) (ok : IsFlying units f) (line : Line)
-    (some : 1 ≤ line_common units f.values line.units) (narrow : line_common units f.values line.units ≤ 2 ^ 80)
-    (is : IsLine (over_common (line_common units f.values line.units) f.values) line)
+    (some : 1 ≤ common_of units f.values line.units) (narrow : common_of units f.values line.units ≤ 2 ^ 80)
+    (is : IsLine (over_common (common_of units f.values line.units) f.values) line)
     (divides : (j : ℕ) → j < length line.units
-    → (value f.values (get_or line.units j 0)).at.den ∣ line_common units f.values line.units)
-    (room : common_of units (moved_values units f.values line) ≤ 2 ^ 80) where
+    → (value f.values (get_or line.units j 0)).at.den ∣ common_of units f.values line.units)
+    (room : common_of units (moved_values units f.values line) [] ≤ 2 ^ 80) where
   abbrev n : ℕ
   n = length units.members
 
   abbrev line_den : ℕ
-  line_den = line_common units f.values line.units
+  line_den = common_of units f.values line.units
 
   abbrev after : List Value
   after = moved_values units f.values line
@@ -58,19 +55,11 @@ module _ (units : Units) (f : Flight) (ok : IsFlying units f) (line : Line)
   -- a unit that isn't touched there has kept its value
   after_fresh : (k : ℕ) → k < length units.members → (value after k).touched ≡ false → (value after k).at ≡ share units k
   after_fresh k l fresh =
-      elim (zero_or (entry_of line k)) [
-        | inl none ↦
-            (let same : value after k ≡ value f.values k =
-            taken_kept (moves line) f.values (end_of 1 (over_common line_den f.values) line) k
-            (still line k none) in
-            ap (λ (v : Value). v.at) same ∙ ok.fresh k l (ap (λ (v : Value). v.touched) (sym same) ∙ fresh))
-        | inr ne ↦
-            absurd (let here = taken_moved (moves line) f.values (end_of 1 (over_common line_den f.values) line) k
-            (omega (arith, l, ok.values.count)) (moving line k ne) in
-            true≢false (ap (λ (v : Value). v.touched) (sym here) ∙ fresh))
-      ]
+      let same = taken_fresh (moves line) f.values (end_of 1 (over_common line_den f.values) line) k
+      (omega (arith, l, ok.values.count)) fresh in
+      ap (λ (v : Value). v.at) same ∙ ok.fresh k l (ap (λ (v : Value). v.touched) (sym same) ∙ fresh)
 
-  pub is_end : IsEnd units f line (fraction_of (extent (over_common (line_common units f.values line.units) f.values) line))
+  pub is_end : IsEnd units f line (fraction_of (extent (over_common (common_of units f.values line.units) f.values) line))
   is_end = record {
     along = after_along n f.values ok.values line_den some narrow line is divides;
     fewer = after_fractional n f.values ok.values line_den some narrow line is divides;
@@ -92,7 +81,7 @@ module _ (units : Units) (f : Flight) (ok : IsFlying units f) (left : ℕ) where
     line = direction (share units) (fractional_units f.values) k.circuit
 
     abbrev den : ℕ
-    den = line_common units f.values (take (length k.circuit) (fractional_units f.values))
+    den = common_of units f.values (take (length k.circuit) (fractional_units f.values))
 
     fit : FitsOnLine (setting_of units) f.values k.circuit line
     fit = on_line (setting_of units) (moved_values units) f (fractional_units f.values) (owes units f ok) k.circuit k.finds k.fits
@@ -100,7 +89,7 @@ module _ (units : Units) (f : Flight) (ok : IsFlying units f) (left : ℕ) where
     there : FitsAtEnds (setting_of units) (moved_values units f.values line) (moved_values units f.values (turned line))
     there = at_ends (setting_of units) (moved_values units) f (fractional_units f.values) (owes units f ok) k.circuit k.finds k.fits
 
-    pub line_is : IsLine (over_common (line_common units f.values
+    pub line_is : IsLine (over_common (common_of units f.values
         (take (length k.circuit) (fractional_units f.values))) f.values)
         (direction (share units) (fractional_units f.values) k.circuit)
     line_is = line_ok units f ok k.circuit k.finds

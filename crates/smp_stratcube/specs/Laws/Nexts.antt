@@ -11,10 +11,10 @@ use Rattle.smp_moves.proofs.Computed.{Owes, next_is as next_is_by, stepping_by}
 use Rattle.smp_moves.proofs.Entries.{turned_line}
 use Rattle.smp_stratcube.specs.declared.values.Value.{Value}
 use Rattle.smp_stratcube.specs.Units.{Units, share}
-use Rattle.smp_stratcube.specs.Values.{fractional_units, over_common, taken_over, value}
+use Rattle.smp_stratcube.specs.Values.{fractional_units, over_common, taken_over, value, common_of}
 use Rattle.smp_stratcube.specs.States.{Flight, IsFlying}
 use Rattle.smp_stratcube.specs.Kept.Computed.{moved_values, moves, next}
-use Rattle.smp_stratcube.specs.Moves.{IsMovedTo, Stepping, line_common, setting_of}
+use Rattle.smp_stratcube.specs.Moves.{IsMovedTo, Stepping, setting_of}
 use Rattle.smp_stratcube.specs.Laws.Taken.{taken_kept, taken_moved}
 use Rattle.smp_stratcube.specs.Laws.Ends.{after_along, after_values, is_over, moving, still}
 use Rattle.smp_stratcube.specs.Laws.Directions.{den_divides, den_some, line_ok, some_shares}
@@ -31,7 +31,7 @@ module _ (units : Units) (f : Flight) (ok : IsFlying units f) (w : List ℤ)
   line = direction (share units) (fractional_units f.values) w
 
   abbrev den : ℕ
-  den = line_common units f.values (take (length w) (fractional_units f.values))
+  den = common_of units f.values (take (length w) (fractional_units f.values))
 
   forth : IsLine (over_common den f.values) line
   forth = line_ok units f ok w finds

@@ -1,25 +1,75 @@
--- Units of a stratum that take over numerators of its common denominator.
-use Rattle.std.proofs.Common.{◌≡◌, ◌≢◌, ℕ, suc, ◌<◌, ◌≤◌}
-use Rattle.std.proofs.Common.{nat_eq, Bool, true, false, Some, None, List, [], ◌∷◌, map, length, get_or, arith}
-use Rattle.std.proofs.Common.{sym, ap, ◌∙◌, subst, inl, inr, suc-le-suc}
-use Rattle.std.specs.List.{AllPairs}
-use Rattle.std.proofs.lemmas.Bool.{cases_Bool, eqb-true, true≢false}
+-- The units of a pivotal step, and what holds where they take over numerators of the common denominator of their stratum.
+use Rattle.std.proofs.Common.{◌≡◌, ◌≢◌, ℕ, zero, suc, ◌<◌, ◌≤◌, nat_eq, Bool, true, false, Option, Some, None, List, [], ◌∷◌, length}
+use Rattle.std.proofs.Common.{get_or, arith, refl, sym, ap, ◌∙◌, subst, inl, inr, le_of_suc-le-suc, suc-le-suc}
+use Rattle.std.proofs.lemmas.Bool.{cases_Bool, cases_eq, eq-eqb, eqb-false, eqb-true, ne_eqb, true≢false}
 use Rattle.std.proofs.lemmas.Nat.Gcd.{dvd_trans}
 use Prim.Native.Nat.{◌∣◌}
 use Rattle.smp_prob.specs.Shares.{Shares}
+use Rattle.smp_split.specs.Trees.{EachPart, Part}
+use Rattle.smp_split.specs.Parts.{moved}
+use Rattle.smp_split.specs.Laws.Parts.{each_moved}
 use Rattle.smp_values.specs.Values.{fractional}
+use Rattle.smp_values.specs.Steps.{parts_on}
+use Rattle.smp_moves.specs.Cubes.{pairing}
 use Rattle.smp_stratcube.specs.declared.values.Value.{Value}
 use Rattle.smp_stratcube.specs.Units.{Units, share, stratum}
-use Rattle.smp_stratcube.specs.Values.{AreValues, fractional_units, is_fractional, open_in, stratum_common}
+use Rattle.smp_stratcube.specs.Values.{AreValues, fractional_count, fractional_units, is_fractional, is_settled, stratum_common}
 use Rattle.smp_stratcube.specs.Values.{taken_over, value}
-use Rattle.smp_stratcube.specs.Pairs.{first_pair}
-use Rattle.smp_stratcube.specs.States.{IsPairing}
-use Rattle.smp_moves.proofs.Multiples.{map_divide, multiple_most, some_map}
-use Rattle.smp_stratcube.specs.Laws.Taken.{taken_divides}
-use Rattle.smp_stratcube.specs.Laws.Taken.{taken_kept, taken_moved, taken_values}
-use Rattle.smp_stratcube.specs.Laws.Units.{filter_from, filter_is, fractional_in, order_going, stratum_divides, stratum_some}
+use Rattle.smp_stratcube.specs.Pairs.{first_pair, step_units}
+use Rattle.smp_stratcube.specs.States.{Balancing, IsPairing}
+use Rattle.smp_stratcube.specs.Kept.Pairs.{is_one_of, parts_of, units_by}
+use Rattle.smp_stratcube.specs.Laws.Taken.{taken_divides, taken_fresh, taken_kept, taken_values}
+use Rattle.smp_stratcube.specs.Laws.Units.{fractional_in, order_apart, order_count, order_going, stratum_divides, stratum_most}
+use Rattle.smp_stratcube.specs.Laws.Units.{stratum_some}
 
 -- ---- the pair
+
+-- where the pair stands: no neighbours before it are of one stratum
+pub record StandsAt (units : Units) (xs : List ℕ) (pair : ℕ × ℕ) : Type 0 where
+  pub place : ℕ
+  pub inside : suc place < length xs
+  pub first : get_or xs place 0 ≡ pair.0
+  pub second : get_or xs (suc place) 0 ≡ pair.1
+  pub same : stratum units pair.0 ≡ stratum units pair.1
+  pub before : (j : ℕ) → j < place → stratum units (get_or xs j 0) ≢ stratum units (get_or xs (suc j) 0)
+
+pub stands_at : (units : Units) (xs : List ℕ) (pair : ℕ × ℕ) → first_pair units xs ≡ Some pair → StandsAt units xs pair
+stands_at units [] pair e = absurd (let h : None ≡ Some pair = e in cc)
+stands_at units (i ∷ []) pair e = absurd (let h : None ≡ Some pair = e in cc)
+stands_at units (i ∷ k ∷ xs) pair e =
+    elim (cases_Bool (nat_eq (stratum units i) (stratum units k))) [
+      | inl t ↦
+          (let found : Some (i, k) ≡ Some pair = rw t at e in
+          let is : (i, k) ≡ pair = cc in
+          subst (StandsAt units (i ∷ k ∷ xs)) is
+          (record {
+            place = 0;
+            inside = omega arith;
+            first = refl;
+            second = refl;
+            same = eqb-true (stratum units i) (stratum units k) t;
+            before = λ j l. absurd (omega (arith, l));
+          }))
+      | inr f ↦ later i k xs pair f (stands_at units (k ∷ xs) pair (rw f at e))
+    ]
+  where
+    later : (i k : ℕ) (xs : List ℕ) (pair : ℕ × ℕ) → nat_eq (stratum units i) (stratum units k) ≡ false
+        → StandsAt units (k ∷ xs) pair → StandsAt units (i ∷ k ∷ xs) pair
+    later i k xs pair f s = record {
+      place = suc s.place;
+      inside = suc-le-suc s.inside;
+      first = s.first;
+      second = s.second;
+      same = s.same;
+      before = before;
+    }
+      where
+        before : (j : ℕ) → j < suc s.place
+            → stratum units (get_or (i ∷ k ∷ xs) j 0) ≢ stratum units (get_or (i ∷ k ∷ xs) (suc j) 0)
+        before zero l = eqb-false (stratum units i) (stratum units k) f
+        before (suc j) l = s.before j (le_of_suc-le-suc l)
+
+-- ---- the units of a step
 
 pub record IsMeeting (units : Units) (values : List Value) (i j : ℕ) : Type 0 where
   pub first : is_fractional values i ≡ true
@@ -27,28 +77,91 @@ pub record IsMeeting (units : Units) (values : List Value) (i j : ℕ) : Type 0 
   pub apart : i ≢ j
   pub stratum_is : stratum units i ≡ stratum units j
 
-pub pair_found : (units : Units) (values : List Value) (order : List ℕ)
-    → ((j : ℕ) → j < length order → is_fractional values (get_or order j 0) ≡ true) → AllPairs (λ k l. k ≢ l) order
-    →
-    (p : ℕ × ℕ) → first_pair units order ≡ Some p → IsMeeting units values p.0 p.1
-pair_found units values [] going apart p e = absurd (let h : None ≡ Some p = e in cc)
-pair_found units values (i ∷ []) going apart p e = absurd (let h : None ≡ Some p = e in cc)
-pair_found units values (i ∷ j ∷ rest) going apart p e =
-    elim (cases_Bool (nat_eq (stratum units i) (stratum units j))) [
-      | inl t ↦
-          (let here : Some (i, j) ≡ Some p = rw t at e in
-          let same : (i, j) ≡ p = cc in
-          subst (λ (q : ℕ × ℕ). IsMeeting units values q.0 q.1) same
-          (record {
-            first = going 0 (omega arith);
-            second = going 1 (omega arith);
-            apart = apart 0 1 0 (omega arith) (omega arith);
-            stratum_is = eqb-true (stratum units i) (stratum units j) t;
-          }))
-      | inr f ↦
-          pair_found units values (j ∷ rest) (λ k l. going (suc k) (omega (arith, l)))
-          (λ a b d l m. apart (suc a) (suc b) d (suc-le-suc l) (suc-le-suc m)) p (rw f at e)
+-- one fractional unit, or two of a stratum
+abbrev pub IsStep : Units → List Value → List ℕ → Type 0
+IsStep units values [] = ⊥
+IsStep units values (i ∷ []) = is_fractional values i ≡ true
+IsStep units values (i ∷ j ∷ []) = IsMeeting units values i j
+IsStep units values (i ∷ j ∷ k ∷ ks) = ⊥
+
+module _ (units : Units) (values : List Value) where
+  pub pair_found : (p : ℕ × ℕ) → first_pair units (fractional_units values) ≡ Some p → IsMeeting units values p.0 p.1
+  pair_found p e =
+      let at = stands_at units (fractional_units values) p e in
+      record {
+        first = subst (λ (k : ℕ). is_fractional values k ≡ true) at.first (order_going values at.place (omega (arith, at.inside)));
+        second = subst (λ (k : ℕ). is_fractional values k ≡ true) at.second (order_going values (suc at.place) at.inside);
+        apart = λ h. order_apart values at.place (suc at.place) 0 (omega arith) at.inside (at.first ∙ h ∙ sym at.second);
+        stratum_is = at.same;
+      }
+
+  step_by : (p : Option (ℕ × ℕ)) → first_pair units (fractional_units values) ≡ p → (order : List ℕ)
+      → ((j : ℕ) → j < length order → is_fractional values (get_or order j 0) ≡ true) → length order ≢ 0
+      → IsStep units values (units_by p order)
+  step_by (Some p) e order going some = pair_found p e
+  step_by None e [] going some = absurd (some refl)
+  step_by None e (i ∷ order) going some = going 0 (omega arith)
+
+  pub step_is : is_settled values ≡ false → IsStep units values (step_units units values)
+  step_is going =
+      step_by (first_pair units (fractional_units values)) refl (fractional_units values) (order_going values)
+      (λ z. eqb-false (fractional_count values) 0 going (sym (order_count values) ∙ z))
+
+-- ---- units among some
+
+abbrev pub EachOf : (ℕ → Type 0) → List ℕ → Type 0
+EachOf P [] = Unit {0}
+EachOf P (k ∷ ks) = P k × EachOf P ks
+
+pub each_of : (P : ℕ → Type 0) (ks : List ℕ) → EachOf P ks → (k : ℕ) → is_one_of ks k ≡ true → P k
+each_of P [] each k h = absurd (true≢false (sym h))
+each_of P (i ∷ ks) each k h =
+    elim (cases_eq i k) [
+      | inl e ↦ subst P e each.0
+      | inr ne ↦ each_of P ks each.1 k (rw (ne_eqb i k ne) at h)
     ]
+
+pub first_among : (i : ℕ) (ks : List ℕ) → is_one_of (i ∷ ks) i ≡ true
+first_among i ks = rw (eq-eqb i i refl) refl
+
+pub second_among : (i j : ℕ) (ks : List ℕ) → is_one_of (i ∷ j ∷ ks) j ≡ true
+second_among i j ks = elim (cases_Bool (nat_eq i j)) [ inl t ↦ rw t refl | inr f ↦ rw f (first_among j ks) ]
+
+pub not_among : (ks : List ℕ) (k : ℕ) → (is_one_of ks k ≡ true → ⊥) → is_one_of ks k ≡ false
+not_among ks k none = elim (cases_Bool (is_one_of ks k)) [ inl t ↦ absurd (none t) | inr f ↦ f ]
+
+pub among_apart : (ks : List ℕ) (i k : ℕ) → is_one_of ks i ≡ true → is_one_of ks k ≡ false → k ≢ i
+among_apart ks i k h f e = true≢false (sym h ∙ subst (λ (x : ℕ). is_one_of ks x ≡ false) e f)
+
+-- each is fractional, and of one stratum
+module _ (units : Units) (values : List Value) where
+  step_each : (ks : List ℕ) → IsStep units values ks
+      → EachOf (λ k. (is_fractional values k ≡ true) × (stratum units k ≡ stratum units (get_or ks 0 0))) ks
+  step_each [] step = absurd step
+  step_each (i ∷ []) step = ((step, refl), tt)
+  step_each (i ∷ j ∷ []) step = ((step.first, refl), ((step.second, sym step.stratum_is), tt))
+  step_each (i ∷ j ∷ k ∷ ks) step = absurd step
+
+  pub step_at : (ks : List ℕ) → IsStep units values ks → (k : ℕ) → is_one_of ks k ≡ true
+      → (is_fractional values k ≡ true) × (stratum units k ≡ stratum units (get_or ks 0 0))
+  step_at ks step =
+      each_of (λ k. (is_fractional values k ≡ true) × (stratum units k ≡ stratum units (get_or ks 0 0))) ks (step_each ks step)
+
+  -- what holds whatever the units of a step take over
+  pub each_taken : (ks : List ℕ) (P : List Value → Type 0) → ((t : Shares) → P (taken_over (is_one_of ks) values t))
+      → EachPart (λ p. P p.state) (parts_of units values ks)
+  each_taken ks P holds = by_parts (parts_on _ ks)
+    where
+      by_parts : (ps : List (Part Shares)) → EachPart (λ p. P p.state) (moved (taken_over (is_one_of ks) values) ps)
+      by_parts [] = tt
+      by_parts (p ∷ ps) = (holds p.state, by_parts ps)
+
+  pub each_paired : (ks : List ℕ) (left : ℕ) (P : Balancing → Type 0)
+      → ((t : Shares) → P (pairing (taken_over (is_one_of ks) values t) left))
+      → EachPart (λ p. P p.state) (moved (λ v. pairing v left) (parts_of units values ks))
+  each_paired ks left P holds =
+      each_moved (λ v. pairing v left) (λ p. P (pairing p.state left)) (λ p. P p.state) (λ p h. h) (parts_of units values ks)
+      (each_taken ks (λ v. P (pairing v left)) holds)
 
 -- ---- units that take over numerators of a stratum's denominator
 
@@ -88,37 +201,17 @@ module _ (units : Units) (values : List Value) (ok : IsPairing units values) (mo
     values = after_ok;
     fresh = after_fresh;
     narrow = λ h.
-        (let dens : List ℕ = map (λ k. (value after k).at.den) (open_in units after h) in
-        let m : ℕ = stratum_common units values h in
-        let le : stratum_common units after h ≤ m =
-        multiple_most dens m (some_map (λ k. (value after k).at.den) (open_in units after h)
-        (λ k. (after_ok.each k).positive)) (stratum_some units ok.are (length units.members) values ok.values h)
-        (map_divide (λ k. (value after k).at.den) (open_in units after h) m (in_stratum h)) in
-        omega (arith, le, ok.narrow h));
+        omega (
+          arith,
+          ok.narrow h,
+          stratum_most units ok.are (length units.members) after after_ok h (stratum_common units values h)
+              (stratum_some units ok.are (length units.members) values ok.values h)
+              (λ k going here. subst (λ (x : ℕ). (value after k).at.den ∣ stratum_common units values x) here (after_den k going)),
+        );
   }
     where
       after_fresh : (k : ℕ) → k < length units.members → (value (taken_over moves values t) k).touched ≡ false
           → (value (taken_over moves values t) k).at ≡ share units k
       after_fresh k l f =
-          elim (cases_Bool (moves k)) [
-            | inl m ↦ absurd (true≢false (sym (ap (λ (v : Value). v.touched)
-                (taken_moved moves values t k (omega (arith, l, ok.values.count)) m)) ∙ f))
-            | inr n ↦
-                (let same : value (taken_over moves values t) k ≡ value values k = taken_kept moves values t k n in
-                ap (λ (v : Value). v.at) same ∙ ok.fresh k l (ap (λ (v : Value). v.touched) (sym same) ∙ f))
-          ]
-
-      in_stratum : (h j : ℕ) → j < length (open_in units after h)
-          → (value after (get_or (open_in units after h) j 0)).at.den ∣ stratum_common units values h
-      in_stratum h j l =
-          let k : ℕ = get_or (open_in units after h) j 0 in
-          let here : stratum units k ≡ h = eqb-true (stratum units k) h
-          (filter_is (λ i. nat_eq (stratum units i) h) (fractional_units after) j l) in
-          let at = filter_from (λ i. nat_eq (stratum units i) h) (fractional_units after) j l in
-          let going : is_fractional after k ≡ true =
-          subst (λ (x : ℕ). is_fractional after x ≡ true) at.2 (order_going after at.0 at.1) in
-          subst (λ (x : ℕ). (value after k).at.den ∣ stratum_common units values x) here (after_den_of h j l k going)
-        where
-          after_den_of : (h j : ℕ) → j < length (open_in units after h) → (k : ℕ) → is_fractional after k ≡ true
-              → (value after k).at.den ∣ stratum_common units values (stratum units k)
-          after_den_of h j l k going = after_den k going
+          let same = taken_fresh moves values t k (omega (arith, l, ok.values.count)) f in
+          ap (λ (v : Value). v.at) same ∙ ok.fresh k l (ap (λ (v : Value). v.touched) (sym same) ∙ f)

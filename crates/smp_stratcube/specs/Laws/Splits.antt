@@ -1,35 +1,32 @@
 -- The splits of the cube over all strata are lawful.
-use Rattle.std.proofs.Common.{◌≡◌, ◌≢◌, ℕ, ◌<◌, ◌≤◌, ◌^◌, ◌&&◌, ◌⊎◌, zero, suc}
-use Rattle.std.proofs.Common.{le_of_suc-le-suc, suc-le-suc, nat_eq, Bool, true, false, Option, Some, None, List, [], ◌∷◌, map, length}
-use Rattle.std.proofs.Common.{get_or, arith, refl, sym, ◌∙◌, subst, inl, inr}
-use Rattle.std.specs.List.{range_with_len}
+use Rattle.std.proofs.Common.{◌≡◌, ◌≢◌, ℕ, ◌≤◌, ◌^◌, ◌&&◌, nat_eq, Bool, true, false, List, [], length, get_or, arith, refl, sym, ◌∙◌}
+use Rattle.std.proofs.Common.{subst, inl, inr}
+use Rattle.std.specs.List.{list_any}
+use Rattle.std.proofs.lemmas.List.Folds.{Any-from_list_any, list_any_at}
 use Rattle.std.proofs.lemmas.Bool.{and_parts, cases_Bool, eq-eqb, eqb-false, eqb-true, true≢false}
 use Rattle.std.proofs.lemmas.Nat.Gcd.{dvd_trans}
 use Rattle.std.specs.Prelude.{slice_index_or}
 use Prim.Native.Nat.{◌∣◌}
-use Rattle.std.proofs.lemmas.List.{length-map}
-use Rattle.std.proofs.lemmas.List.Sums.{length-filter}
+use Rattle.std.proofs.lemmas.List.{get_or_default, length-map}
 use Rattle.smp_kernel.proofs.SearchLaw.{none_is_few}
 use Rattle.smp_split.specs.Trees.{LawfulParts, LawfulSplit, LawfulEnd, Lawful}
-use Rattle.smp_split.specs.Parts.{moved}
 use Rattle.smp_values.proofs.Fractional.{not_fractional, over_settled}
 use Rattle.smp_moves.specs.Moves.{Next, move, independent, wide}
-use Rattle.smp_moves.specs.Cubes.{dropped, flying, landed, pairing, values_in}
+use Rattle.smp_moves.specs.Cubes.{flying, landed, pairing, values_in}
+use Rattle.smp_moves.specs.Kept.Computed.{dropped}
 use Rattle.smp_stratcube.specs.declared.values.Value.{Value}
 use Rattle.smp_stratcube.specs.Units.{Units, column, columns_of, first, stratum}
-use Rattle.smp_stratcube.specs.Values.{AreValues, common_of, fractional_count, fractional_units, is_fractional, is_settled, open_in}
+use Rattle.smp_stratcube.specs.Values.{AreValues, common_of, fractional_count, fractional_units, is_fractional, is_settled}
 use Rattle.smp_stratcube.specs.Values.{stratum_common, value}
 use Rattle.smp_stratcube.specs.States.{Balancing, Flight, IsBalancing, IsFlying, IsPairing}
 use Rattle.smp_stratcube.specs.Kept.Computed.{next, moved_values}
-use Rattle.smp_stratcube.specs.Pairs.{first_pair, parts_by}
+use Rattle.smp_stratcube.specs.Pairs.{step_units}
 use Rattle.smp_stratcube.specs.Kept.Trees.{flight_parts, strat_tree}
-use Rattle.smp_moves.proofs.Multiples.{map_divide, multiple_most, some_map}
-use Rattle.smp_stratcube.specs.Laws.Units.{common_divides, common_some, filter_from, filter_is, fractional_in, fresh_divides, order_apart}
-use Rattle.smp_stratcube.specs.Laws.Units.{order_going, order_place}
+use Rattle.smp_stratcube.specs.Laws.Units.{common_divides, common_some, fractional_in, fresh_divides}
+use Rattle.smp_stratcube.specs.Laws.Units.{order_count, order_going, order_place, stratum_most}
 use Rattle.smp_stratcube.specs.Laws.Moves.{move_split}
-use Rattle.smp_stratcube.specs.Laws.Meetings.{meeting_split}
-use Rattle.smp_stratcube.specs.Laws.Pairs.{pair_found}
-use Rattle.smp_stratcube.specs.Laws.Settlings.{settling_split}
+use Rattle.smp_stratcube.specs.Laws.Meetings.{step_split}
+use Rattle.smp_stratcube.specs.Laws.Pairs.{step_is}
 use Rattle.smp_moves.proofs.Computed.{finds_none}
 use Rattle.smp_moves.proofs.Flights.{lone_split}
 use Rattle.smp_stratcube.specs.Cube.{cube_by}
@@ -38,22 +35,19 @@ use Rattle.smp_stratcube.specs.Moves.{setting_of}
 
 -- ---- where no direction is left
 
-pub order_count : (values : List Value) → length (fractional_units values) ≡ fractional_count values
-order_count values = length-filter (is_fractional values) (range_with_len 0 (length values))
+pub few_fractional : (units : Units) (f : Flight) → next units f ≡ independent → fractional_count f.values ≤ f.rows
+few_fractional units f is =
+    let few : length (columns_of units (fractional_units f.values)) ≤ f.rows =
+    none_is_few f.rows (columns_of units (fractional_units f.values))
+    (finds_none (setting_of units) (moved_values units) f (fractional_units f.values) is) in
+    omega (arith, few, length-map (fractional_units f.values) (column units), order_count f.values)
 
 module _ (units : Units) (f : Flight) (ok : IsFlying units f) where
-  pub few_fractional : next units f ≡ independent → fractional_count f.values ≤ f.rows
-  few_fractional is =
-      let few : length (columns_of units (fractional_units f.values)) ≤ f.rows =
-      none_is_few f.rows (columns_of units (fractional_units f.values))
-      (finds_none (setting_of units) (moved_values units) f (fractional_units f.values) is) in
-      omega (arith, few, length-map (fractional_units f.values) (column units), order_count f.values)
-
   -- so where units are fractional, some row is in force
   pub some_row : next units f ≡ independent → is_settled f.values ≡ false → 1 ≤ f.rows
   some_row is going =
       let some : fractional_count f.values ≢ 0 = eqb-false (fractional_count f.values) 0 going in
-      omega (arith, few_fractional is, some)
+      omega (arith, few_fractional units f is, some)
 
   -- ---- over to pivotal steps
 
@@ -64,16 +58,7 @@ module _ (units : Units) (f : Flight) (ok : IsFlying units f) where
   narrow_by : (h m : ℕ) → 1 ≤ m → m ≤ 2 ^ 80
       → ((k : ℕ) → is_fractional f.values k ≡ true → stratum units k ≡ h → (value f.values k).at.den ∣ m)
       → stratum_common units f.values h ≤ 2 ^ 80
-  narrow_by h m some le each =
-      let dens : List ℕ = map (λ k. (value vs k).at.den) (open_in units vs h) in
-      let most : stratum_common units vs h ≤ m =
-      multiple_most dens m (some_map (λ k. (value vs k).at.den) (open_in units vs h) (λ k. (ok.values.each k).positive)) some
-      (map_divide (λ k. (value vs k).at.den) (open_in units vs h) m (λ j l.
-      (let at = filter_from (λ i. nat_eq (stratum units i) h) (fractional_units vs) j l in
-      each (get_or (open_in units vs h) j 0) (subst (λ (x : ℕ). is_fractional vs x ≡ true) at.2 (order_going vs at.0 at.1))
-      (eqb-true (stratum units (get_or (open_in units vs h) j 0)) h
-      (filter_is (λ i. nat_eq (stratum units i) h) (fractional_units vs) j l))))) in
-      omega (arith, most, le)
+  narrow_by h m some le each = omega (arith, stratum_most units ok.are (length units.members) vs ok.values h m some each, le)
 
   -- whether a unit is one of the stratum that moves have changed
   abbrev changed : ℕ → ℕ → Bool
@@ -88,13 +73,13 @@ module _ (units : Units) (f : Flight) (ok : IsFlying units f) where
   with_changed h u going is =
       let p = and_parts (value vs u).touched (nat_eq (stratum units u) h) is in
       let u_in : stratum units u ≡ h = eqb-true (stratum units u) h p.1 in
-      let d = (common_divides units ok.are (length units.members) vs ok.values u going p.0).0 in
-      narrow_by h (common_of units vs) (common_some units ok.are (length units.members) vs ok.values) ok.narrow
+      let d = (common_divides units ok.are (length units.members) vs ok.values [] u going p.0).0 in
+      narrow_by h (common_of units vs []) (common_some units ok.are (length units.members) vs ok.values []) ok.narrow
       (λ k opened here. elim (cases_Bool (value vs k).touched) [
-        | inl t ↦ (common_divides units ok.are (length units.members) vs ok.values k opened t).1
+        | inl t ↦ (common_divides units ok.are (length units.members) vs ok.values [] k opened t).1
         | inr n ↦
             dvd_trans (value vs k).at.den (fresh_at k opened n)
-            (subst (λ (x : ℕ). slice_index_or units.firsts x 1 ∣ common_of units vs) (u_in ∙ sym here) d)
+            (subst (λ (x : ℕ). slice_index_or units.firsts x 1 ∣ common_of units vs []) (u_in ∙ sym here) d)
       ])
 
   -- where none is, that of the stratum
@@ -110,30 +95,18 @@ module _ (units : Units) (f : Flight) (ok : IsFlying units f) where
       ]) in
       subst (λ (x : ℕ). (value vs k).at.den ∣ slice_index_or units.firsts x 1) here (fresh_at k opened n)))
 
-  decided : (P : ℕ → Bool) (ks : List ℕ) → ((j : ℕ) × (j < length ks) × (P (get_or ks j 0) ≡ true))
-      ⊎ ((j : ℕ) → j < length ks → P (get_or ks j 0) ≡ false)
-  decided P [] = inr (λ j l. absurd (omega (arith, l)))
-  decided P (k ∷ ks) =
-      elim (cases_Bool (P k)) [
-        | inl t ↦ inl (0, omega arith, t)
-        | inr n ↦ elim (decided P ks) [
-          | inl h ↦ inl (suc h.0, suc-le-suc h.1, h.2)
-          | inr out ↦ inr (λ j l. not_first P k ks n out j l)
-        ]
-      ]
-    where
-      not_first : (P : ℕ → Bool) (k : ℕ) (ks : List ℕ) → P k ≡ false
-          → ((j : ℕ) → j < length ks → P (get_or ks j 0) ≡ false) → (j : ℕ) → j < length (k ∷ ks)
-          → P (get_or (k ∷ ks) j 0) ≡ false
-      not_first P k ks n out zero l = n
-      not_first P k ks n out (suc j) l = out j (le_of_suc-le-suc l)
-
   narrow_at : (h : ℕ) → stratum_common units f.values h ≤ 2 ^ 80
   narrow_at h =
-      elim (decided (changed h) (fractional_units vs)) [
-        | inl c ↦ with_changed h (get_or (fractional_units vs) c.0 0) (order_going vs c.0 c.1) c.2
-        | inr none ↦ without_changed h (λ k going.
-            (let at = order_place vs k going in subst (λ (x : ℕ). changed h x ≡ false) at.2 (none at.0 at.1)))
+      let order : List ℕ = fractional_units vs in
+      elim (cases_Bool (list_any (changed h) order)) [
+        | inl some ↦
+            (let at = Any-from_list_any (changed h) order some in
+            with_changed h (get_or order at.0 0) (order_going vs at.0 at.2) (rw (get_or_default order at.0 0 at.1 at.2, at.3) at.4))
+        | inr none ↦ without_changed h (λ k going. elim (cases_Bool (changed h k)) [
+          | inr n ↦ n
+          | inl t ↦ absurd (let at = order_place vs k going in
+              true≢false (sym (list_any_at (changed h) order at.0 0 at.1 (rw at.2 t)) ∙ none))
+        ])
       ]
 
   pub wide_pairing : IsPairing units f.values
@@ -163,24 +136,8 @@ module _ (units : Units) (f : Flight) (ok : IsFlying units f) where
 -- ---- the pivotal steps
 
 module _ (units : Units) (values : List Value) (ok : IsPairing units values) (left : ℕ) (going : is_settled values ≡ false) where
-  abbrev IsSplit : Option (ℕ × ℕ) → List ℕ → Type 0
-  IsSplit p order = LawfulParts (strat_tree units) (IsBalancing units) (pairing values left)
-      (moved (λ v. pairing v left) (parts_by units values order p))
-
-  alone : (order : List ℕ) → ((j : ℕ) → j < length order → is_fractional values (get_or order j 0) ≡ true)
-      → length order ≢ 0 → IsSplit None order
-  alone [] opened some = absurd (some refl)
-  alone (i ∷ order) opened some = settling_split units values ok left i (opened 0 (omega arith))
-
-  paired_by : (p : Option (ℕ × ℕ)) → first_pair units (fractional_units values) ≡ p → IsSplit p (fractional_units values)
-  paired_by (Some pair) e = meeting_split units values ok left pair.0 pair.1
-      (pair_found units values (fractional_units values) (order_going values) (order_apart values) pair e)
-  paired_by None e =
-      alone (fractional_units values) (order_going values)
-      (λ z. eqb-false (fractional_count values) 0 going (sym (order_count values) ∙ z))
-
   pub paired_split : LawfulSplit (strat_tree units) (IsBalancing units) (pairing values left)
-  paired_split = paired_by (first_pair units (fractional_units values)) refl
+  paired_split = step_split units values ok left (step_units units values) (step_is units values going)
 
 -- ---- all states
 

@@ -1,8 +1,7 @@
 -- Values over a common denominator, and values that some units take over from numerators.
-use Rattle.std.proofs.Common.{◌≡◌, ℕ, ◌+◌, ◌*◌, ◌/◌, ◌<◌, ◌≤◌, ◌^◌, Bool, true}
-use Rattle.std.proofs.Common.{false, cond, List, length, get_or, arith, refl, sym, ap, ◌∙◌, subst, inl}
-use Rattle.std.proofs.Common.{inr}
-use Rattle.std.proofs.lemmas.Bool.{cases_Bool, cases_lt}
+use Rattle.std.proofs.Common.{◌≡◌, ℕ, ◌+◌, ◌*◌, ◌/◌, ◌<◌, ◌≤◌, ◌^◌, Bool, true, false, cond, List, length, get_or, arith, refl, sym, ap}
+use Rattle.std.proofs.Common.{◌∙◌, subst, inl, inr}
+use Rattle.std.proofs.lemmas.Bool.{cases_Bool, cases_lt, true≢false}
 use Rattle.std.proofs.lemmas.List.{length-map, get_or-map, get_or_past}
 use Rattle.std.proofs.lemmas.List.FromFn.{get_or-map-range_with_len, length-map-range_with_len}
 use Rattle.std.proofs.Math.Nat.{mul-le-mul_right, mul-div_cancel'}
@@ -137,6 +136,15 @@ module _ (moves : ℕ → Bool) (values : List Value) (t : Shares) where
         | inl l ↦ taken_in k l ∙ (rw h refl)
         | inr past ↦ get_or_past (taken_over moves values t) k nothing (omega (arith, past, length_taken))
             ∙ sym (get_or_past values k nothing past)
+      ]
+
+  -- a unit that isn't touched there has the value that it had
+  pub taken_fresh : (k : ℕ) → k < length values → (value (taken_over moves values t) k).touched ≡ false
+      → value (taken_over moves values t) k ≡ value values k
+  taken_fresh k l fresh =
+      elim (cases_Bool (moves k)) [
+        | inr f ↦ taken_kept k f
+        | inl h ↦ absurd (true≢false (sym (ap (λ (v : Value). v.touched) (taken_moved k l h)) ∙ fresh))
       ]
 
   module _ (n : ℕ) (are : AreValues n values) (positive : 1 ≤ t.den) (most : (k : ℕ) → get_or t.numer k 0 ≤ t.den) where

@@ -3,23 +3,23 @@ use Rattle.std.proofs.Common.{◌≡◌, ◌≢◌, ℕ, zero, suc, ◌+◌, ◌
 use Rattle.std.proofs.Common.{[], ◌∷◌, ◌++◌, map, take, filter, length, get_or, arith, refl, sym, ap, ◌∙◌, subst, inl, inr}
 use Rattle.std.proofs.Common.{le_of_suc-le-suc, suc-le-suc, length-take, get_or-take}
 use Rattle.std.specs.List.{AllPairs, range_with_len}
-use Rattle.std.proofs.lemmas.Bool.{cases_Bool, cases_lt, eq-eqb}
+use Rattle.std.proofs.lemmas.Bool.{cases_Bool, cases_lt, eq-eqb, eqb-true}
 use Rattle.std.proofs.lemmas.List.{get_or_past}
 use Rattle.std.proofs.lemmas.List.Elements.{All-get_or, filter_passes}
 use Rattle.std.proofs.lemmas.List.FromFn.{length-range_with_len, get_or-range_with_len}
 use Rattle.std.proofs.lemmas.List.Kept.{AllPairs-filter}
+use Rattle.std.proofs.lemmas.List.Sums.{length-filter}
 use Rattle.std.proofs.lemmas.Nat.Gcd.{dvd_trans}
 use Prim.Native.Nat.{◌∣◌}
 use Rattle.smp_values.proofs.Fractional.{fractional_is}
 use Rattle.smp_moves.specs.declared.lines.Ratio.{Ratio}
 use Rattle.smp_stratcube.specs.declared.values.Value.{Value}
 use Rattle.smp_stratcube.specs.Units.{Units, IsUnits, first, stratum}
-use Rattle.smp_stratcube.specs.Values.{AreValues, common_of, denominators, fractional_units, is_fractional, nothing}
-use Rattle.smp_stratcube.specs.Values.{open_in, stratum_common, touched_units, value}
+use Rattle.smp_stratcube.specs.Values.{AreValues, common_of, denominators, fractional_count, fractional_units, is_fractional, nothing}
+use Rattle.smp_stratcube.specs.Values.{stratum_common, touched_units, value}
 use Rattle.smp_stratcube.specs.States.{Flight, IsFlying}
-use Rattle.smp_stratcube.specs.Moves.{line_common}
 use Rattle.smp_moves.proofs.Multiples.{AllSome, AllDivide, multiple_some, multiple_each, some_append, divide_append, some_map}
-use Rattle.smp_moves.proofs.Multiples.{divide_map}
+use Rattle.smp_moves.proofs.Multiples.{divide_map, map_divide, multiple_most}
 
 -- ---- elements that pass a test
 
@@ -57,6 +57,9 @@ filter_from P (x ∷ xs) j l =
 -- ---- the fractional units
 
 module _ (values : List Value) where
+  pub order_count : length (fractional_units values) ≡ fractional_count values
+  order_count = length-filter (is_fractional values) (range_with_len 0 (length values))
+
   pub fractional_in : (k : ℕ) → is_fractional values k ≡ true → k < length values
   fractional_in k h =
       elim (cases_lt k (length values)) [
@@ -133,46 +136,50 @@ module _ (units : Units) (are : IsUnits units) (n : ℕ) (values : List Value) (
       let d = denominators_at (touched_units values) m all r.0 r.1 in
       subst (λ (x : ℕ). (first units x ∣ m) × ((value values x).at.den ∣ m)) (r.2 ∙ at.2) d
 
-  pub common_some : 1 ≤ common_of units values
-  common_some = multiple_some (denominators units values (touched_units values)) (denominators_some (touched_units values))
+  -- ---- of the state and a line
 
-  pub common_divides : (k : ℕ) → is_fractional values k ≡ true → (value values k).touched ≡ true
-      → (first units k ∣ common_of units values) × ((value values k).at.den ∣ common_of units values)
-  common_divides k = touched_at (common_of units values) k
-      (multiple_each (denominators units values (touched_units values)) (denominators_some (touched_units values)))
+  abbrev dens : List ℕ
+  dens = denominators units values (touched_units values)
 
-  -- ---- over the strata of a line
-
-  line_some_each : (prefix : List ℕ) → AllSome (denominators units values (touched_units values) ++ map (first units) prefix)
-  line_some_each prefix =
-      some_append (denominators units values (touched_units values)) (map (first units) prefix)
-      (denominators_some (touched_units values))
+  each_some : (prefix : List ℕ) → AllSome (denominators units values (touched_units values) ++ map (first units) prefix)
+  each_some prefix =
+      some_append dens (map (first units) prefix) (denominators_some (touched_units values))
       (some_map (first units) prefix (λ k. (are.firsts (stratum units k)).0))
 
-  pub line_some : (prefix : List ℕ) → 1 ≤ line_common units values prefix
-  line_some prefix = multiple_some (denominators units values (touched_units values) ++ map (first units) prefix) (line_some_each prefix)
+  pub common_some : (prefix : List ℕ) → 1 ≤ common_of units values prefix
+  common_some prefix = multiple_some (dens ++ map (first units) prefix) (each_some prefix)
+
+  each_divides : (prefix : List ℕ) → AllDivide (denominators units values (touched_units values)) (common_of units values prefix)
+      × AllDivide (map (first units) prefix) (common_of units values prefix)
+  each_divides prefix =
+      divide_append dens (map (first units) prefix) (common_of units values prefix)
+      (multiple_each (dens ++ map (first units) prefix) (each_some prefix))
+
+  pub common_divides : (prefix : List ℕ) (k : ℕ) → is_fractional values k ≡ true → (value values k).touched ≡ true
+      → (first units k ∣ common_of units values prefix) × ((value values k).at.den ∣ common_of units values prefix)
+  common_divides prefix k = touched_at (common_of units values prefix) k (each_divides prefix).0
 
   pub line_divides : (prefix : List ℕ) (j : ℕ) → j < length prefix → is_fractional values (get_or prefix j 0) ≡ true
       → ((value values (get_or prefix j 0)).touched ≡ false
       → (value values (get_or prefix j 0)).at.den ∣ first units (get_or prefix j 0)) →
-      (value values (get_or prefix j 0)).at.den ∣ line_common units values prefix
+      (value values (get_or prefix j 0)).at.den ∣ common_of units values prefix
   line_divides prefix j l opened fresh =
-      let all = divide_append (denominators units values (touched_units values)) (map (first units) prefix)
-      (line_common units values prefix)
-      (multiple_each (denominators units values (touched_units values) ++ map (first units) prefix) (line_some_each prefix)) in
       elim (cases_Bool (value values (get_or prefix j 0)).touched) [
-        | inl t ↦ (touched_at (line_common units values prefix) (get_or prefix j 0) all.0 opened t).1
+        | inl t ↦ (common_divides prefix (get_or prefix j 0) opened t).1
         | inr f ↦ dvd_trans (value values (get_or prefix j 0)).at.den (fresh f)
-            (divide_map (first units) prefix (line_common units values prefix) all.1 j l)
+            (divide_map (first units) prefix (common_of units values prefix) (each_divides prefix).1 j l)
       ]
 
   -- ---- of a stratum
 
-  stratum_each : (h : ℕ) → AllSome (map (λ k. (value values k).at.den) (open_in units values h))
-  stratum_each h = some_map (λ k. (value values k).at.den) (open_in units values h) (λ k. (ok.each k).positive)
+  abbrev open_in : ℕ → List ℕ
+  open_in h = filter (λ k. nat_eq (stratum units k) h) (fractional_units values)
+
+  stratum_each : (h : ℕ) → AllSome (map (λ k. (value values k).at.den) (filter (λ k. nat_eq (stratum units k) h) (fractional_units values)))
+  stratum_each h = some_map (λ k. (value values k).at.den) (open_in h) (λ k. (ok.each k).positive)
 
   pub stratum_some : (h : ℕ) → 1 ≤ stratum_common units values h
-  stratum_some h = multiple_some (map (λ k. (value values k).at.den) (open_in units values h)) (stratum_each h)
+  stratum_some h = multiple_some (map (λ k. (value values k).at.den) (open_in h)) (stratum_each h)
 
   pub stratum_divides : (k : ℕ) → is_fractional values k ≡ true
       → (value values k).at.den ∣ stratum_common units values (stratum units k)
@@ -180,9 +187,21 @@ module _ (units : Units) (are : IsUnits units) (n : ℕ) (values : List Value) (
       let h : ℕ = stratum units k in
       let at = order_place values k opened in
       let r = filter_place (λ i. nat_eq (stratum units i) h) (fractional_units values) at.0 at.1 (rw at.2 (eq-eqb h h refl)) in
-      let all = multiple_each (map (λ k. (value values k).at.den) (open_in units values h)) (stratum_each h) in
+      let all = multiple_each (map (λ k. (value values k).at.den) (open_in h)) (stratum_each h) in
       subst (λ (x : ℕ). (value values x).at.den ∣ stratum_common units values h) (r.2 ∙ at.2)
-      (divide_map (λ k. (value values k).at.den) (open_in units values h) (stratum_common units values h) all r.0 r.1)
+      (divide_map (λ k. (value values k).at.den) (open_in h) (stratum_common units values h) all r.0 r.1)
+
+  -- it is at most what they all divide
+  pub stratum_most : (h m : ℕ) → 1 ≤ m
+      → ((k : ℕ) → is_fractional values k ≡ true → stratum units k ≡ h → (value values k).at.den ∣ m)
+      → stratum_common units values h ≤ m
+  stratum_most h m some each =
+      multiple_most (map (λ k. (value values k).at.den) (open_in h)) m (stratum_each h) some
+      (map_divide (λ k. (value values k).at.den) (open_in h) m (λ j l.
+      (let at = filter_from (λ i. nat_eq (stratum units i) h) (fractional_units values) j l in
+      each (get_or (open_in h) j 0) (subst (λ (x : ℕ). is_fractional values x ≡ true) at.2 (order_going values at.0 at.1))
+      (eqb-true (stratum units (get_or (open_in h) j 0)) h
+      (filter_is (λ i. nat_eq (stratum units i) h) (fractional_units values) j l)))))
 
 -- ---- a state of the flight
 

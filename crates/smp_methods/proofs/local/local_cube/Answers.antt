@@ -1,4 +1,5 @@
-use Rattle.std.proofs.Common.{◌≡◌, sym, subst, ◌∙◌}
+use Rattle.std.proofs.Common.{◌≡◌, sym, ap, subst, ◌∙◌}
+use Rattle.smp_near.specs.Dimensions.{in_any}
 use Rattle.smp_prob.specs.declared.requests.Request.{Request}
 use Rattle.smp_values.specs.Starts.{IsRequested}
 use Rattle.smp_localcube.specs.Method.{LocalUnits, method_of, started}
@@ -13,8 +14,8 @@ handed request own design same = subst (λ (d : LocalUnits). IsRequested (method
 -- src/local.rt:20:1
 pub returns-clause-requested : goal.returns-clause-requested
 returns-clause-requested c = elim c.match-near.branch [
-  | in-1+in_ok-located-in-1 w ↦ handed c.args.request.now _ _ (w.result-is ∙ w.one.ensures) w.in_ok-located-in-1.ensures.requested
-  | in-2+in_ok-located-in-2 w ↦ handed c.args.request.now _ _ (w.result-is ∙ w.two.ensures) w.in_ok-located-in-2.ensures.requested
-  | in-3+in_ok-located-in-3 w ↦ handed c.args.request.now _ _ (w.result-is ∙ w.three.ensures) w.in_ok-located-in-3.ensures.requested
-  | in_default+in_ok-located-in_default w ↦ handed c.args.request.now _ _ (w.result-is ∙ w.four.ensures) w.in_ok-located-in_default.ensures.requested
+  | in-1+in_ok-located-in-1 w ↦ handed c.args.request.now _ _ (c.of.ensures ∙ ap in_any w.design-is) w.in_ok-located-in-1.ensures.requested
+  | in-2+in_ok-located-in-2 w ↦ handed c.args.request.now _ _ (c.of.ensures ∙ ap in_any w.design-is) w.in_ok-located-in-2.ensures.requested
+  | in-3+in_ok-located-in-3 w ↦ handed c.args.request.now _ _ (c.of.ensures ∙ ap in_any w.design-is) w.in_ok-located-in-3.ensures.requested
+  | in_default+in_ok-located-in_default w ↦ handed c.args.request.now _ _ (c.of.ensures ∙ ap in_any w.design-is) w.in_ok-located-in_default.ensures.requested
 ]

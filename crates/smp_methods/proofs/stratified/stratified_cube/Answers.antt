@@ -2,7 +2,8 @@ use Rattle.std.proofs.Common.{◌≡◌, List, [], ◌∷◌, ◌++◌, sym, ap,
 use Rattle.smp_values.specs.Starts.{IsRequested}
 use Rattle.smp_stratcube.specs.States.{started}
 use Rattle.smp_stratcube.specs.Cube.{strat_tree}
-use Rattle.smp_stratcube.specs.Layers.{AreLayers, Layer, layer_of}
+use Rattle.smp_stratcube.specs.Layers.{AreLayers, Layer}
+use Rattle.smp_stratcube.specs.Kept.Layers.{layer_of}
 use Rattle.smp_stratcube.specs.Requests.{AreRequested}
 use Rattle.smp_stratcube.specs.Units.{Units, units_of}
 use Rattle.smp_methods.proofs.OneStratum.{are_layers, are_numbers, one_requested}

@@ -3,7 +3,7 @@ use Rattle.std.proofs.lemmas.List.{take_more}
 use Rattle.smp_kernel.proofs.Lists.{map_last}
 use Rattle.smp_stratcube.specs.declared.values.Value.{Value}
 use Rattle.smp_stratcube.specs.Units.{nobody}
-use Rattle.smp_stratcube.specs.States.{requested_value}
+use Rattle.smp_stratcube.specs.Kept.States.{requested_value}
 use Rattle.smp_stratcube.proofs.design.requested.Goals as goal
 
 pub loop-unit-preserved : goal.loop-unit-preserved

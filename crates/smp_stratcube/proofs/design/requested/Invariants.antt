@@ -1,5 +1,5 @@
 use Rattle.std.proofs.Common.{◌≡◌, map, take}
-use Rattle.smp_stratcube.specs.States.{requested_value}
+use Rattle.smp_stratcube.specs.Kept.States.{requested_value}
 use Rattle.smp_stratcube.proofs.design.requested.Given as goal
 
 -- the values so far

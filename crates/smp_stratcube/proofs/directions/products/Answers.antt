@@ -12,9 +12,6 @@ use Rattle.std.specs.Int.RustNames.{unsigned_abs}
 use Rattle.smp_stratcube.proofs.Directed.{over_most}
 use Rattle.smp_stratcube.proofs.directions.products.Goals as goal
 
-pub returns-clause-are : goal.returns-clause-are
-returns-clause-are c k l = c.loop-place.invariant.each k (omega (arith, l))
-
 pub returns-clause-within : goal.returns-clause-within
 returns-clause-within c = All-from_get_or (λ x. unsigned_abs x ≤ 2 ^ 124) c.loop-place.products (pos 0) (λ k l. c.loop-place.invariant.small k)
 

@@ -14,9 +14,6 @@ loop-place-init c =
       omega arith,
     )
 
-pub within_gate-scale-requires-clause-other : goal.within_gate-scale-requires-clause-other
-within_gate-scale-requires-clause-other c = (c.requires.each c.loop-place.place (omega (arith, c.requires.short))).some
-
 pub loop-place-preserved : goal.loop-place-preserved
 loop-place-preserved c =
     let parts = c.args.parts.now in

@@ -1,8 +1,8 @@
-use Rattle.std.proofs.Common.{◌≡◌, ◌+◌, ◌≤◌, map, arith, get_or, sym, ap, ◌∙◌, subst}
+use Rattle.std.proofs.Common.{◌≡◌, ◌+◌, map, arith, sym, ap, ◌∙◌}
 use Rattle.smp_moves.proofs.Places.{rest_all, rest_at, rest_none, rest_of}
-use Rattle.smp_stratcube.specs.Units.{first, stratum}
+use Rattle.smp_stratcube.specs.Units.{first}
 use Rattle.smp_stratcube.specs.Kept.Gates.{gated, held}
-use Rattle.smp_stratcube.specs.Moves.{line_common}
+use Rattle.smp_stratcube.specs.Values.{common_of}
 use Rattle.smp_stratcube.proofs.Ahead.{front_inside}
 use Rattle.smp_stratcube.proofs.Ending.{line_held}
 use Rattle.smp_stratcube.proofs.Gated.{gate_all}
@@ -18,13 +18,9 @@ loop-place-init c =
     let units = c.args.units.now in (
       ap (λ m. gate_all m (map (first units) (rest_of n us 0))) c.gathered-common.ensures.is
           ∙ line_held units c.requires.are c.args.values.now c.args.front.now c.requires.values c.requires.front (rest_of n us 0)
-          ∙ ap (λ ks. held (line_common units c.args.values.now ks)) (rest_all n us),
+          ∙ ap (λ ks. held (common_of units c.args.values.now ks)) (rest_all n us),
       c.gathered-common.ensures.some,
     )
-
-pub within_gate-common-requires-clause-other : goal.within_gate-common-requires-clause-other
-within_gate-common-requires-clause-other c =
-    subst (λ m. 1 ≤ m) (sym c.first.ensures.is) (c.requires.are.firsts (stratum c.args.units.now (get_or c.args.line.now.units c.loop-place.place 0))).0
 
 pub loop-place-preserved : goal.loop-place-preserved
 loop-place-preserved c =

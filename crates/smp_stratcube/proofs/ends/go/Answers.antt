@@ -44,11 +44,6 @@ moved-requires-clause-can c =
     let here = subst (λ (v : Value). CanMove (v.at.num * (c.args.den / v.at.den)) c.args.reach (entry line.entries j)) (sym old) there in
     simp to_z-of_z here
 
-pub index_mut-requires : goal.index_mut-requires
-index_mut-requires c =
-    let inside = c.requires.inside c.loop-place.place (omega arith) in
-    omega (arith, inside, c.loop-place.invariant.count, c.loop-place.values.ok.0)
-
 pub loop-place-preserved : goal.loop-place-preserved
 loop-place-preserved c =
     let j = c.loop-place.place in

@@ -29,6 +29,3 @@ returns-clause-is c =
     let number : c.advanced-number.result ≡ advanced (c.args.value.at.num * (c.args.den / c.args.value.at.den)) c.args.reach c.args.entry = (simp to_z-of_z at c.advanced-number.ensures) ∙ ap (λ x. advanced x c.args.reach c.args.entry) c.over.ensures.is in
     c.with_moved.ensures.is
     ∙ ap (λ (v : Value). with_unit (first c.args.units.now c.args.unit) v (joined (c.args.den * c.args.reach.size) c.args.gathered)) (sym (moved_over c.args.value c.args.den c.args.reach c.args.entry c.advanced-number.result moves number))
-
-pub with_moved-requires-clause-full : goal.with_moved-requires-clause-full
-with_moved-requires-clause-full c = mul-pos c.requires.den.0 c.requires.size

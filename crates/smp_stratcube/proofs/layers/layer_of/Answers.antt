@@ -1,6 +1,7 @@
-use Rattle.std.proofs.Common.{◌≡◌, List, ℤ, [], ◌∷◌, ◌++◌, length, get_or, arith, ap, ◌∙◌, subst, length-append}
+use Rattle.std.proofs.Common.{◌≡◌, List, ℤ, [], ◌∷◌, ◌++◌, length, get_or, arith, sym, ap, ◌∙◌, subst, length-append}
 use Rattle.std.proofs.lemmas.List.{get_or_read}
-use Rattle.smp_stratcube.specs.Kept.Layers.{IsFilledUp}
+use Rattle.smp_prob.specs.declared.requests.Request.{Request}
+use Rattle.smp_stratcube.specs.Kept.Layers.{IsFilledUp, IsStored, stored}
 use Rattle.smp_stratcube.proofs.Stored.{is_stored, more_each, stored_view}
 use Rattle.smp_stratcube.proofs.layers.layer_of.Goals as goal
 
@@ -28,11 +29,13 @@ loop-unit-preserved c =
 pub invariant_of-result : goal.invariant_of-result
 invariant_of-result c =
     let i = c.loop-unit.invariant in
-    is_stored c.args.request.now c.requires.request c.args.xs.now c.requires.one_each c.requires.values c.loop-unit.values.items (omega (arith, i.count, c.loop-unit.auto.unit-end, c.loop-unit-test.false))
-    (λ k l. i.each k (omega (arith, l, c.loop-unit-test.false))) c.in_ok-from_slice.field-0.items (c.in_ok-from_slice.ensures.items ∙ c.as_slice-2.ensures) c.variables_of.result c.variables_of.ensures c.common_denominator.result c.common_denominator.ensures.value
+    subst (λ (request : Request). IsStored request c.in_ok-from_slice.field-0.items c.args.request.now.r c.args.request.now.total c.loop-unit.values.items c.variables_of.result c.common_denominator.result) (sym c.of.ensures)
+    (is_stored c.args.request.now c.requires.request c.args.xs.now c.requires.one_each c.requires.values c.loop-unit.values.items (omega (arith, i.count, c.loop-unit.auto.unit-end, c.loop-unit-test.false))
+    (λ k l. i.each k (omega (arith, l, c.loop-unit-test.false))) c.variables_of.result c.variables_of.ensures c.in_ok-from_slice.field-0.items c.common_denominator.result (c.in_ok-from_slice.ensures.items ∙ c.as_slice-2.ensures) c.common_denominator.ensures.value)
 
 pub returns : goal.returns
 returns c =
     let i = c.loop-unit.invariant in
-    stored_view c.args.request.now c.requires.request c.args.xs.now c.requires.one_each c.requires.values c.loop-unit.values.items (omega (arith, i.count, c.loop-unit.auto.unit-end, c.loop-unit-test.false))
-    (λ k l. i.each k (omega (arith, l, c.loop-unit-test.false))) c.in_ok-from_slice.field-0.items (c.in_ok-from_slice.ensures.items ∙ c.as_slice-2.ensures) c.variables_of.result c.variables_of.ensures
+    ap (λ (request : Request). stored request c.loop-unit.values.items c.variables_of.result) c.of.ensures
+    ∙ stored_view c.args.request.now c.requires.request c.args.xs.now c.requires.one_each c.requires.values c.loop-unit.values.items (omega (arith, i.count, c.loop-unit.auto.unit-end, c.loop-unit-test.false))
+    (λ k l. i.each k (omega (arith, l, c.loop-unit-test.false))) c.variables_of.result c.variables_of.ensures

@@ -3,7 +3,8 @@ use Rattle.std.specs.List.{range_with_len}
 use Rattle.std.proofs.lemmas.List.{append-nil, get_or_read, take_more}
 use Rattle.smp_kernel.proofs.Lists.{map_last}
 use Rattle.smp_stratcube.specs.declared.units.Member.{Member}
-use Rattle.smp_stratcube.specs.Layers.{Layer, first_of, no_layer, variables, width}
+use Rattle.smp_stratcube.specs.Layers.{Layer, no_layer, variables}
+use Rattle.smp_stratcube.specs.Kept.Layers.{width, first_of}
 use Rattle.smp_stratcube.specs.Units.{member_of, members_from}
 use Rattle.smp_stratcube.proofs.Stored.{members_step, none_left}
 use Rattle.smp_stratcube.proofs.making.members_of.Goals as goal
@@ -13,7 +14,7 @@ push_members-requires-clause-rows c some =
     let layers = c.args.layers.now in
     let i = c.loop-stratum.stratum in
     let at : c.index-layers-stratum.result ≡ get_or layers i no_layer = get_or_read layers i c.index-layers-stratum.result c.loop-stratum-test.true c.index-layers-stratum.is no_layer in
-    let same : width (get_or layers i no_layer) ≡ variables layers = c.requires.are.same i c.loop-stratum-test.true (subst (λ (y : Layer). 1 ≤ length y.shape) at some) in
+    let same : width (get_or layers i no_layer) ≡ variables layers = c.requires.are.same i c.loop-stratum-test.true (subst (λ (y : Layer). 1 ≤ length y.request.shape) at some) in
     omega (arith, ap width at, same, c.requires.are.rows)
 
 pub loop-stratum-preserved : goal.loop-stratum-preserved
@@ -23,7 +24,7 @@ loop-stratum-preserved c =
     let i = c.loop-stratum.stratum in
     let layer = c.index-layers-stratum.result in
     let inside = c.loop-stratum-test.true in
-    let own = map (member_of strata i layer) (range_with_len 0 (length layer.shape)) in
+    let own = map (member_of strata i layer) (range_with_len 0 (length layer.request.shape)) in
     let first_is : c.layer.inside.first ≡ first_of (get_or layers i no_layer) =
     c.layer.invariant.first_is ∙ ap first_of (c.layer.view_is ∙ get_or_read layers i layer inside c.index-layers-stratum.is no_layer) in
     record {

@@ -1,5 +1,5 @@
 use Rattle.std.proofs.Common.{◌≡◌, ◌++◌, map, take, drop, length}
-use Rattle.smp_stratcube.specs.Layers.{first_of}
+use Rattle.smp_stratcube.specs.Kept.Layers.{first_of}
 use Rattle.smp_stratcube.specs.Units.{members_from}
 use Rattle.smp_stratcube.proofs.making.members_of.Given as goal
 

@@ -1,10 +1,10 @@
 use Rattle.std.proofs.Common.{◌≡◌, List, map, length, arith, sym, ap, ◌∙◌, subst}
-use Rattle.smp_stratcube.specs.Layers.{AreLayers, Layer, first_of, variables}
+use Rattle.smp_stratcube.specs.Layers.{AreLayers, Layer, variables}
 use Rattle.smp_stratcube.specs.Units.{IsUnits, Units, members_from, units_of}
 use Rattle.smp_stratcube.specs.Requests.{AreRequested}
 use Rattle.smp_stratcube.specs.States.{started}
 use Rattle.smp_stratcube.specs.Kept.Behind.{HaveCommon}
-use Rattle.smp_stratcube.specs.Kept.Layers.{EachIsLayer}
+use Rattle.smp_stratcube.specs.Kept.Layers.{EachIsLayer, first_of}
 use Rattle.smp_stratcube.proofs.Behinds.{have_common}
 use Rattle.smp_stratcube.proofs.Layered.{units_are}
 use Rattle.smp_stratcube.proofs.Starting.{are_requested}

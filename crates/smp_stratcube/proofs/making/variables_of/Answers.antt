@@ -1,6 +1,7 @@
 use Rattle.std.proofs.Common.{◌≡◌, ◌+◌, ◌≤◌, drop, take, length, arith, sym, ap, ◌∙◌}
 use Rattle.std.proofs.lemmas.List.{length-map}
-use Rattle.smp_stratcube.specs.Layers.{Layer, variables, width}
+use Rattle.smp_stratcube.specs.Layers.{Layer, variables}
+use Rattle.smp_stratcube.specs.Kept.Layers.{width}
 use Rattle.smp_stratcube.proofs.Stored.{first_has, first_none, here_of, none_left}
 use Rattle.smp_stratcube.proofs.making.variables_of.Goals as goal
 use Rattle.smp_stratcube.proofs.making.variables_of.Goals.{After-len}

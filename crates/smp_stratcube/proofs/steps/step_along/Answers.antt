@@ -19,24 +19,6 @@ pub denominator-requires-clause-line : goal.denominator-requires-clause-line
 denominator-requires-clause-line c =
     λ j l. line_inside c.args.units.now (flight_of c.args.units.now c.args.values.now c.args.rows) c.requires.flying c.args.line c.requires.line j l
 
-pub denominator-requires-clause-are : goal.denominator-requires-clause-are
-denominator-requires-clause-are c = c.requires.flying.are
-
-pub denominator-requires-clause-values : goal.denominator-requires-clause-values
-denominator-requires-clause-values c = c.requires.flying.values
-
-pub denominator-requires-clause-front : goal.denominator-requires-clause-front
-denominator-requires-clause-front c = c.requires.front
-
-pub denominator-requires-clause-padded : goal.denominator-requires-clause-padded
-denominator-requires-clause-padded c = c.requires.line.is_line.padded
-
-pub turned-back-requires-clause-padded : goal.turned-back-requires-clause-padded
-turned-back-requires-clause-padded c = c.requires.line.is_line.padded
-
-pub turned-back-requires-clause-small : goal.turned-back-requires-clause-small
-turned-back-requires-clause-small c = c.requires.line.is_line.small
-
 -- how far a line is followed, whose units are there
 can_reach : (c : In-Some) (along : Line) → IsPadded along → HasSmallEntries along → ((j : ℕ) → j < along.number → get_or along.units j 0 < length c.args.values.now) → record {
   values : (k : ℕ) → IsValue (value c.args.values.now k);

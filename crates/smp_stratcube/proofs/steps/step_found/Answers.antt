@@ -5,10 +5,6 @@ use Rattle.smp_stratcube.proofs.Stepped.{found_fewer, found_line, found_small, f
 use Rattle.smp_stratcube.specs.Kept.Computed.{flight_of}
 use Rattle.smp_stratcube.proofs.steps.step_found.Goals as goal
 
-pub direction-requires-clause-are : goal.direction-requires-clause-are
-direction-requires-clause-are c =
-    c.requires.flying.are
-
 pub direction-requires-clause-inside : goal.direction-requires-clause-inside
 direction-requires-clause-inside c =
     record { short = c.requires.front.short; inside = λ j l. (let b = front_inside c.args.values.now c.args.front.now c.requires.front (omega (arith, c.requires.front.short)) j l in omega (arith, b, c.requires.flying.values.count)) }
@@ -25,14 +21,6 @@ pub direction-requires-clause-some : goal.direction-requires-clause-some
 direction-requires-clause-some c =
     found_some c.args.units.now (flight_of c.args.units.now c.args.values.now c.args.rows) c.requires.flying c.args.front.now c.requires.front (omega (arith, c.requires.front.short)) c.in-Found.factors.w c.in-Found.factors.number (let p = rw c.in-Found.is at c.requires.padded in omega (arith, p.0, c.requires.flying.rows_in, c.requires.flying.are.few_rows)) (let p = rw c.in-Found.is at c.requires.padded in p.1) (rw c.in-Found.is at c.requires.is)
 
-pub step_along-requires-clause-flying : goal.step_along-requires-clause-flying
-step_along-requires-clause-flying c =
-    c.requires.flying
-
-pub step_along-requires-clause-front : goal.step_along-requires-clause-front
-step_along-requires-clause-front c =
-    c.requires.front
-
 pub step_along-requires-clause-line : goal.step_along-requires-clause-line
 step_along-requires-clause-line c =
     found_line c.args.units.now (flight_of c.args.units.now c.args.values.now c.args.rows) c.requires.flying c.args.front.now c.requires.front (omega (arith, c.requires.front.short)) c.in-Found.factors.w c.in-Found.factors.number (let p = rw c.in-Found.is at c.requires.padded in omega (arith, p.0, c.requires.flying.rows_in, c.requires.flying.are.few_rows)) (let p = rw c.in-Found.is at c.requires.padded in p.1) (rw c.in-Found.is at c.requires.is) c.in-Some.line c.in-Some.ensures
@@ -48,7 +36,3 @@ returns-in-TooWide c =
 pub returns-in-None : goal.returns-in-None
 returns-in-None c =
     found_wide c.args.units.now (flight_of c.args.units.now c.args.values.now c.args.rows) c.requires.flying c.args.front.now c.requires.front (omega (arith, c.requires.front.short)) c.in-Found.factors.w c.in-Found.factors.number (let p = rw c.in-Found.is at c.requires.padded in omega (arith, p.0, c.requires.flying.rows_in, c.requires.flying.are.few_rows)) (let p = rw c.in-Found.is at c.requires.padded in p.1) (rw c.in-Found.is at c.requires.is) c.in-None.ensures
-
-pub returns-in-Some : goal.returns-in-Some
-returns-in-Some c =
-    c.step_along.ensures

@@ -2,7 +2,7 @@ use Rattle.std.proofs.Common.{◌≡◌, ◌<◌, ℕ, nat_lt, false, List, [], 
 use Rattle.smp_values.specs.Values.{fractional_at, fractional_count, is_settled}
 use Rattle.smp_moves.specs.Cubes.{flying}
 use Rattle.smp_flight.specs.Answers.{move_of}
-use Rattle.smp_moves.specs.Moves.{independent, move}
+use Rattle.smp_moves.specs.Moves.{independent}
 use Rattle.smp_flight.specs.Laws.ByOrder.{some_row}
 use Rattle.smp_flight.specs.Laws.NextProperties.{known}
 use Rattle.smp_localcube.specs.Laws.Splits.{order_whole}
@@ -11,7 +11,7 @@ use Rattle.smp_localcube.proofs.Moving.{flown_ready, flown_touched, head_found, 
 use Rattle.smp_localcube.proofs.Picked.{move_picked, move_within}
 use Rattle.smp_split.specs.Trees.{Part, picked, weight_sum}
 use Rattle.smp_split.specs.Laws.Parts.{picked-equal}
-use Rattle.smp_localcube.specs.Local.{Local, choosing, head_of, order_around, parts_from, untouched}
+use Rattle.smp_localcube.specs.Local.{Local, head_of, order_around, parts_from, untouched}
 use Rattle.smp_localcube.specs.Kept.States.{step_around, touched_in, weights_of}
 use Rattle.smp_localcube.proofs.Touch.{choice_bound, choice_parts, choice_total, none_head, none_touched}
 use Rattle.smp_localcube.proofs.Chosen.{found_is, found_open}
@@ -104,14 +104,13 @@ returns-in-Move g c =
     let searched = searched_by c.args.shape.now c.self.inside.flight c.self.inside.points.coords c.self.inside.chosen c.deref-next.result.now c.self.inside.found.value here.state c.deref-next.ensures (rw c.in-Flying.is at c.self.invariant).searched in
     let allows = rw (c.in-Some.is, c.in-Move.is) at searched.allows in
     let e = rw (c.in-Some.is, c.in-Move.is) at searched.is in
-    let found = head_found (step_around c.args.shape.now c.self.inside.points.coords c.self.inside.flight) (head_of (touched_in c.self.inside.flight) c.self.inside.chosen) (move (move_of c.in-Move.mv)) e in
     let touched = flown_touched c.args.shape.now c.self.inside.flight c.fly.new.flight c.self.inside.left allows.order here.state allows.is_order (move_of c.in-Move.mv) allows.is (nat_lt c.args.draw c.in-Move.mv.plus_weight) c.fly.ensures.is c.fly.ensures.window in
     let within = subst (λ (s : Local). c.args.draw < weight_sum (parts_from c.args.shape.now s s.at)) (sym c.self.view_is) c.requires.within in
     let below = rw c.in-Flying.is at within in
-    let sum = move_within c.args.shape.now c.self.inside.points.coords c.self.inside.flight c.fly.new.flight c.self.inside.left c.self.inside.chosen (move_of c.in-Move.mv) c.args.draw found c.fly.ensures.is touched below in
+    let sum = move_within c.args.shape.now c.self.inside.points.coords c.self.inside.flight c.fly.new.flight c.self.inside.left c.self.inside.chosen (move_of c.in-Move.mv) c.args.draw e below in
     let view = rw c.in-Flying.is at c.self.view_is in
     rw (c.in-Flying.is, c.touch.ensures.touched.coords)
-    (move_picked c.args.shape.now c.self.inside.points.coords c.self.inside.flight c.fly.new.flight c.self.inside.left c.self.inside.chosen (move_of c.in-Move.mv) c.args.draw found c.fly.ensures.is touched sum
+    (move_picked c.args.shape.now c.self.inside.points.coords c.self.inside.flight c.fly.new.flight c.self.inside.left c.self.inside.chosen (move_of c.in-Move.mv) c.args.draw e c.fly.ensures.is touched sum
     ∙ ap (λ (s : Local). picked s (parts_from c.args.shape.now s s.at) c.args.draw) view)
 
 pub returns-in-None : goal.returns-in-None
@@ -132,7 +131,7 @@ returns-in-None g c =
     let st : Local = record { coords = c.self.inside.points.coords; at = flying c.self.inside.flight.flight c.self.inside.left; touched = touched_in c.self.inside.flight; chosen = c.self.inside.chosen } in
     let view = rw c.in-Flying.is at c.self.view_is in
     rw c.in-Flying.is
-    (ap (choosing st) found
-    ∙ sym (picked-equal (λ place. choosing st (fractional_at c.self.inside.flight.flight.values place)) st (fractional_count c.self.inside.flight.flight.values) c.args.draw (omega (arith, below, ready_args, total)))
+    (ap (λ unit. record st { chosen = Some unit }) found
+    ∙ sym (picked-equal (λ place. record st { chosen = Some (fractional_at c.self.inside.flight.flight.values place) }) st (fractional_count c.self.inside.flight.flight.values) c.args.draw (omega (arith, below, ready_args, total)))
     ∙ ap (λ (ps : List (Part Local)). picked st ps c.args.draw) (sym (choice_parts c.args.shape.now c.self.inside.flight c.self.inside.left c.self.inside.room c.self.inside.points c.self.inside.weights c.self.inside.chosen ready none))
     ∙ ap (λ (s : Local). picked s (parts_from c.args.shape.now s s.at) c.args.draw) view)

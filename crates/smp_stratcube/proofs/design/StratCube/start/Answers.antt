@@ -3,7 +3,8 @@ use Rattle.std.proofs.lemmas.List.{length-map}
 use Rattle.smp_moves.specs.Cubes.{flying}
 use Rattle.smp_stratcube.specs.declared.values.Value.{Value}
 use Rattle.smp_stratcube.specs.Units.{IsUnits, Units}
-use Rattle.smp_stratcube.specs.States.{requested_value, started}
+use Rattle.smp_stratcube.specs.States.{started}
+use Rattle.smp_stratcube.specs.Kept.States.{requested_value}
 use Rattle.smp_stratcube.specs.Balances.{IsBalanced}
 use Rattle.smp_stratcube.specs.Counts.{HasCounts}
 use Rattle.smp_split.specs.Methods.{HasMeans}

@@ -1,4 +1,4 @@
-use Rattle.std.proofs.Common.{arith, ◌≡◌, ◌-◌, ◌≤◌, ◌<◌, nat_lt, false, List, length, sym, ap, ◌∙◌, subst}
+use Rattle.std.proofs.Common.{arith, ◌≡◌, ◌-◌, ◌<◌, nat_lt, false, List, length, sym, ap, ◌∙◌, subst}
 use Rattle.smp_split.specs.Trees.{weight_sum}
 use Rattle.smp_moves.specs.Answers.{line_of}
 use Rattle.smp_moves.specs.Cubes.{flying, landed, pairing}
@@ -16,14 +16,6 @@ use Rattle.smp_stratcube.proofs.state.StratCubeState.advance.Goals as goal
 use Rattle.smp_moves.specs.Kept.Computed.{next_along}
 use Rattle.smp_stratcube.specs.Moves.{setting_of}
 
-pub landed-self-inside-requires-clause-few : goal.landed-self-inside-requires-clause-few
-landed-self-inside-requires-clause-few c =
-    subst (λ (vs : List Value). length vs ≤ 3000000) (sym c.as_slice-values.ensures.value) c.self.invariant.few
-
-pub landed-self-inside-requires-clause-front : goal.landed-self-inside-requires-clause-front
-landed-self-inside-requires-clause-front c =
-    subst (λ (vs : List Value). IsFront vs c.self.inside.front) (sym c.as_slice-values.ensures.value) c.self.invariant.first
-
 pub overflow_sub-self : goal.overflow_sub-self
 overflow_sub-self c =
     let ok : IsFlying c.args.units.now (flight_of c.self.inside.of.value c.self.inside.values.items c.self.inside.rows) = rw (← c.self.view_is, c.in-Flying.is) at c.requires.state in
@@ -36,9 +28,6 @@ step-next-requires-clause-flying c =
     let ok : IsFlying c.args.units.now (flight_of c.self.inside.of.value c.self.inside.values.items c.self.inside.rows) = rw (← c.self.view_is, c.in-Flying.is) at c.requires.state in
     subst (λ (vs : List Value). IsFlying c.args.units.now (flight_of c.args.units.now vs (c.self.inside.rows - 1))) (sym c.as_slice-values.ensures.value) (own_flight c.args.units.now c.self.inside.of.value c.self.inside.values.items (c.self.inside.rows - 1) (dropped_flight c.args.units.now (flight_of c.self.inside.of.value c.self.inside.values.items c.self.inside.rows) ok))
 
-pub step-next-requires-clause-front : goal.step-next-requires-clause-front
-step-next-requires-clause-front c = subst (λ (vs : List Value). IsFront vs c.self.inside.front) (sym c.as_slice-values.ensures.value) c.self.invariant.first
-
 pub invariant_of-self : goal.invariant_of-self
 invariant_of-self c =
     let ok : IsFlying c.args.units.now (flight_of c.self.inside.of.value c.self.inside.values.items c.self.inside.rows) = rw (← c.self.view_is, c.in-Flying.is) at c.requires.state in
@@ -47,18 +36,6 @@ invariant_of-self c =
       first = c.self.invariant.first;
       step = rw (c.in-Flying.is, c.keep.ensures) (step_there c.args.units.now c.self.inside.of.value c.self.inside.values.items c.as_slice-values.result.now (c.self.inside.rows - 1) c.step-next.result (sym ok.fixed_is) c.as_slice-values.ensures.value c.step-next.ensures);
     }
-
-pub landed-self-inside-requires-in-Wide-clause-few : goal.landed-self-inside-requires-in-Wide-clause-few
-landed-self-inside-requires-in-Wide-clause-few c =
-    subst (λ (vs : List Value). length vs ≤ 3000000) (sym c.as_slice.ensures.value) c.self.invariant.few
-
-pub landed-self-inside-requires-in-Wide-clause-front : goal.landed-self-inside-requires-in-Wide-clause-front
-landed-self-inside-requires-in-Wide-clause-front c =
-    subst (λ (vs : List Value). IsFront vs c.self.inside.front) (sym c.as_slice.ensures.value) c.self.invariant.first
-
-pub invariant_of-self-in-Wide : goal.invariant_of-self-in-Wide
-invariant_of-self-in-Wide c =
-    record { few = c.self.invariant.few; first = c.self.invariant.first; step = tt }
 
 pub fly-requires-clause-flying : goal.fly-requires-clause-flying
 fly-requires-clause-flying c =
@@ -97,18 +74,6 @@ invariant_of-self-in-Move c =
       first = subst (λ (vs : List Value). IsFront vs c.front_of-self-inside.result) c.as_slice-values-in-Move.ensures.value c.front_of-self-inside.ensures;
       step = rw (c.in-Flying.is, c.keep-in-Move.ensures) (step_there c.args.units.now c.self.inside.of.value c.fly.new.values.items c.as_slice-values-in-Move.result.now c.self.inside.rows c.step-next-in-Move.result (sym ok.fixed_is) c.as_slice-values-in-Move.ensures.value c.step-next-in-Move.ensures);
     }
-
-pub advance-requires-clause-pairing : goal.advance-requires-clause-pairing
-advance-requires-clause-pairing c =
-    (rw (← c.self.view_is, c.in-Pairing.is) at c.requires.state)
-
-pub advance-requires-clause-front : goal.advance-requires-clause-front
-advance-requires-clause-front c =
-    c.self.invariant.first
-
-pub advance-requires-clause-going : goal.advance-requires-clause-going
-advance-requires-clause-going c =
-    (rw (← c.self.view_is, c.in-Pairing.is) at c.requires.going)
 
 pub advance-requires-clause-within : goal.advance-requires-clause-within
 advance-requires-clause-within c =
