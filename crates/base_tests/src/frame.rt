@@ -13,7 +13,8 @@ fn columns(alloc: Global) -> Result<Columns, NoMemory> {
         size: None,
         second_size: Some(Text::from_str(alloc, "w")?),
         prob: Some(Text::from_str(alloc, "p")?),
-        values: Names::from_vec(Vec::new(alloc)),
+        balance: Names::from_vec(Vec::new(alloc)),
+        near: Names::from_vec(Vec::new(alloc)),
     })
 }
 

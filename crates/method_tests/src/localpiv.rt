@@ -1,4 +1,4 @@
-//! Coordinates that stand behind other values, as no design of the program has them.
+//! Points with fewer coordinates than are asked for, as no design of the program has them.
 
 ghost use Rattle.std.specs.Prelude.{◌≡◌, length};
 ghost use Rattle.smp_prob.specs.Requests.{IsRequest};
@@ -34,32 +34,32 @@ fn walks_from_the_start(alloc: Global, design: &AnyLocalPivotal) -> Result<bool,
     walks_to_the_third(alloc, design, &mut state)
 }
 
-/// Whether the walk does so of units whose coordinates are the values of these lists from the second on.
-fn walks_behind_a_value(alloc: Global, request: &Request, values: &[Numbers]) -> Result<bool, Fail>
+/// Whether the walk does so of units with two coordinates, which are the values of these lists.
+fn walks_in_a_plane(alloc: Global, request: &Request, values: &[Numbers]) -> Result<bool, Fail>
     requires request { IsRequest request.now }
     requires paired { length values.now ≡ length request.now.free }
 {
-    let design = AnyLocalPivotal::new(alloc, request, Dimensions::Two, 1, values)?;
+    let design = AnyLocalPivotal::new(alloc, request, 2, values)?;
     walks_from_the_start(alloc, &design)
 }
 
-/// Lists of values with the points [3, 4], [0, 0] and [3, 0] behind the first ones.
+/// Lists of values that are the points [3, 4], [0, 0] and [3, 0].
 fn values_of_points(alloc: Global) -> Result<[Numbers; 3], NoMemory> {
     Ok([
-        Numbers::from_slice(alloc, &[-9, 3, 4])?,
-        Numbers::from_slice(alloc, &[-8])?,
-        Numbers::from_slice(alloc, &[100, 3])?,
+        Numbers::from_slice(alloc, &[3, 4])?,
+        Numbers::from_slice(alloc, &[])?,
+        Numbers::from_slice(alloc, &[3])?,
     ])
 }
 
-fn walks_among_other_values(alloc: Global) -> Result<bool, Fail> {
+fn walks_to_shorter_points(alloc: Global) -> Result<bool, Fail> {
     let values = values_of_points(alloc)?;
     let thirds = Request::all_free(alloc, &[1; 3], 1, 3)?;
-    walks_behind_a_value(alloc, &thirds, values.as_slice())
+    walks_in_a_plane(alloc, &thirds, values.as_slice())
 }
 
 #[test]
-fn coordinates_among_other_values(rt: HostRuntime) -> Result<(), Fail> {
-    assert!(rt; walks_among_other_values(rt.alloc())?);
+fn coordinates_that_are_left_out(rt: HostRuntime) -> Result<(), Fail> {
+    assert!(rt; walks_to_shorter_points(rt.alloc())?);
     Ok(())
 }

@@ -1,5 +1,5 @@
 -- What the cube draws of the strata of a plan, and what the report tells of it.
-use Rattle.std.proofs.Common.{◌≡◌, ℕ, Bool, true, false, List, [], ◌∷◌, length, map, take, Option, Some, None, refl, sym, ap, subst, ◌∙◌}
+use Rattle.std.proofs.Common.{◌≡◌, ℕ, Bool, true, false, List, [], ◌∷◌, length, map, Option, Some, None, refl, sym, ap, subst, ◌∙◌}
 use Rattle.std.specs.Prelude.{option_map, unwrap_or}
 use Rattle.std.specs.List.{range_with_len, slice_get}
 use Rattle.std.proofs.Math.Path.{fun_ext}
@@ -28,7 +28,7 @@ use Rattle.smp_strata.specs.declared.strata.Stratum.{Stratum}
 use Rattle.smp_twostage.specs.Covered.{covered_left}
 use Rattle.smp_twostage.specs.Laws.Numbering.{first_there}
 use Rattle.smp_twostage.specs.Cubes.{IsDrawnByCube, IsDrawnTogether, balancing, by_cube, by_local_cube, frame_of, leaf_of}
-use Rattle.smp_twostage.specs.Selections.{Selecting, all_of, covered_stages, covered_states, first_number, first_stage, place_together, stage_of_strata, stages_of, tree_of as stage_tree, units_at, valued}
+use Rattle.smp_twostage.specs.Selections.{Selecting, all_of, covered_stages, covered_states, first_number, first_stage, free_points, place_together, stage_of_strata, stages_of, tree_of as stage_tree, units_at}
 use Rattle.smp_strata.specs.Seats.{first_fraction, unit_fraction}
 use Rattle.smp_strata.specs.declared.strata.Seat.{Seat}
 use Rattle.smp_twostage.specs.Lines.{seat_values, told, told_seats}
@@ -55,7 +55,7 @@ module _ (plan : Plan) (drawable : CanBeDrawn (parts plan)) (balance : balances 
   all = parts plan
 
   -- the stratum, as the cube draws from it
-  pub is_stratum : AreStratumUnits (balancing all s)
+  pub is_stratum : AreStratumUnits (balancing s)
   is_stratum = cube_stratum all drawable balance h s is
 
   -- ---- what was drawn of it
@@ -78,15 +78,15 @@ module _ (plan : Plan) (drawable : CanBeDrawn (parts plan)) (balance : balances 
     over_units : {A : Type 0} (says : Seat → A) → map says (told_seats (covered here) h) ≡ map (λ k. says (seat k)) units
     over_units says = ap (map says) seats ∙ map-map says seat units
 
-    long : length (balancing all s).values ≡ length s.units
-    long = length-map s.units (λ u. take all.procedure.balance u.values)
+    long : length (balancing s).values ≡ length s.units
+    long = length-map s.units (λ u. u.balance)
 
-    tells_of : TellsOf (balancing all s) (is_one (values_in (leaf_of drawn))) (told (covered here) to.states h)
+    tells_of : TellsOf (balancing s) (is_one (values_in (leaf_of drawn))) (told (covered here) to.states h)
     tells_of = record {
       values =
           over_units (seat_values all)
-          ∙ ap (λ (o : Option Stratum). map (λ k. unwrap_or (option_map (λ (t : Stratum). values_of (balancing all t) k) o) []) units) is
-          ∙ sym (fill_by_all (values_of (balancing all s)) (balancing all s).values (length s.units) [] long (λ k l. refl));
+          ∙ ap (λ (o : Option Stratum). map (λ k. unwrap_or (option_map (λ (t : Stratum). values_of (balancing t) k) o) []) units) is
+          ∙ sym (fill_by_all (values_of (balancing s)) (balancing s).values (length s.units) [] long (λ k l. refl));
       asked =
           over_units (λ p. lowest_terms (first_fraction all.strata p.stratum p.unit))
           ∙ ap (λ (o : Option Stratum). map (λ k. lowest_terms (unit_fraction o k)) units) is
@@ -102,10 +102,10 @@ module _ (plan : Plan) (drawable : CanBeDrawn (parts plan)) (balance : balances 
     left_by_cube : (d : IsDrawnByCube all h s part to.states) → left_by (Some (first_stage all s)) (slice_get to.states (first_number all h)) ≡ left_in (leaf_of d)
     left_by_cube (by_cube m d) =
         ap (left_by (Some (first_stage all s))) d.leaf_is
-        ∙ ap (λ m. left_at (design_by m all.procedure s.request (free_values (valued s))) (states.Cube d.leaf)) m
+        ∙ ap (λ m. left_at (design_by m all.procedure s.request (free_values (balancing s)) (free_points s)) (states.Cube d.leaf)) m
     left_by_cube (by_local_cube m d) =
         ap (left_by (Some (first_stage all s))) d.leaf_is
-        ∙ ap (λ m. left_at (design_by m all.procedure s.request (free_values (valued s))) (states.LocalCube d.leaf)) m
+        ∙ ap (λ m. left_at (design_by m all.procedure s.request (free_values (balancing s)) (free_points s)) (states.LocalCube d.leaf)) m
 
     left_is : (told (covered here) to.states h).left ≡ left_in (leaf_of drawn)
     left_is =
@@ -114,9 +114,9 @@ module _ (plan : Plan) (drawable : CanBeDrawn (parts plan)) (balance : balances 
         ∙ ap (λ (o : Option (Stage Selecting)). left_by o (slice_get to.states (first_number all h))) (first_there all h s is)
         ∙ left_by_cube drawn
 
-    pub tells : TellsSection (told (covered here) to.states h) (balancing all s ∷ []) (is_one (values_in (leaf_of drawn))) (left_in (leaf_of drawn))
+    pub tells : TellsSection (told (covered here) to.states h) (balancing s ∷ []) (is_one (values_in (leaf_of drawn))) (left_in (leaf_of drawn))
     tells = record {
-      columns = each_line_tells (balancing all s) is_stratum (is_one (values_in (leaf_of drawn))) (told (covered here) to.states h) tells_of;
+      columns = each_line_tells (balancing s) is_stratum (is_one (values_in (leaf_of drawn))) (told (covered here) to.states h) tells_of;
       left = left_is;
     }
 
@@ -153,7 +153,7 @@ module _ (plan : FramePlan) (planned : IsPlanned plan) (path : List Entry) (to :
             (let drawn_so = has.cubes balance apart h s is in
             record {
               drawn_so = drawn_so;
-              balanced = each_is_balanced (balancing (parts (plan_view plan)) s) (is_stratum (plan_view plan) (subst CanBeDrawn planned.parts_are planned.drawable) balance apart h s is);
+              balanced = each_is_balanced (balancing s) (is_stratum (plan_view plan) (subst CanBeDrawn planned.parts_are planned.drawable) balance apart h s is);
             });
         together = λ all.
             (let drawn_so = has.together all in

@@ -1,5 +1,5 @@
 -- What the report tells of all strata that are drawn together: each first stage unit is a row of the frame.
-use Rattle.std.proofs.Common.{◌≡◌, ℕ, zero, suc, ◌+◌, ◌-◌, ◌<◌, Bool, true, List, [], ◌∷◌, length, map, take, get_or, Option, Some, None, All, arith, refl, sym, ap, ap₂, subst, ◌∙◌}
+use Rattle.std.proofs.Common.{◌≡◌, ℕ, zero, suc, ◌+◌, ◌-◌, ◌<◌, Bool, true, List, [], ◌∷◌, length, map, get_or, Option, Some, None, All, arith, refl, sym, ap, ap₂, subst, ◌∙◌}
 use Rattle.std.specs.Prelude.{option_map, option_and_then, unwrap_or}
 use Rattle.std.specs.List.{range_with_len, slice_get}
 use Rattle.std.proofs.lemmas.List.{get_or-map, length-map}
@@ -114,18 +114,18 @@ module _ (plan : Parts) (drawable : CanBeDrawn plan) (together : draws_together 
 
   -- ---- they are the units of the plan's strata
 
-  stratum_is : (h : ℕ) (s : Stratum) → slice_get plan.strata h ≡ Some s → stratum_at (frame_of plan) h ≡ balancing plan s
+  stratum_is : (h : ℕ) (s : Stratum) → slice_get plan.strata h ≡ Some s → stratum_at (frame_of plan) h ≡ balancing s
   stratum_is h s is =
-      get_or-map (balancing plan) plan.strata h s no_stratum (slice_get_within plan.strata h s is)
-      ∙ ap (balancing plan) (get_or_from_slice_get plan.strata h s s is)
+      get_or-map balancing plan.strata h s no_stratum (slice_get_within plan.strata h s is)
+      ∙ ap balancing (get_or_from_slice_get plan.strata h s s is)
 
   strata_long : length (frame_of plan) ≡ length plan.strata
-  strata_long = length-map plan.strata (balancing plan)
+  strata_long = length-map plan.strata balancing
 
   width_is : (h : ℕ) → h < length plan.strata → width h ≡ length (stratum_at (frame_of plan) h).values
   width_is h l =
       let s = some_within plan.strata h l in
-      let units : length (balancing plan s.0).values ≡ length s.0.units = length-map s.0.units (λ u. take plan.procedure.balance u.values) in
+      let units : length (balancing s.0).values ≡ length s.0.units = length-map s.0.units (λ u. u.balance) in
       ap (λ (o : Option Stratum). length (units_at o)) s.1
       ∙ sym (ap (λ (t : StratumUnits). length t.values) (stratum_is h s.0 s.1) ∙ units)
 
@@ -150,13 +150,13 @@ module _ (plan : Parts) (drawable : CanBeDrawn plan) (together : draws_together 
 
   requests : All (λ (s : StratumUnits). IsRequest s.request) (frame_of plan)
   requests =
-      All-map (λ (s : StratumUnits). IsRequest s.request) (balancing plan) plan.strata
+      All-map (λ (s : StratumUnits). IsRequest s.request) balancing plan.strata
       (λ k d l.
       let s = some_within plan.strata k l in
       subst (λ (t : Stratum). IsRequest t.request) (sym (get_or_from_slice_get plan.strata k s.0 d s.1))
       (is_planned plan drawable k s.0 s.1).stratum.over.sound)
 
-  before_is : (strata : List Stratum) (h : ℕ) → units_before (map (balancing plan) strata) h ≡ free_before strata h
+  before_is : (strata : List Stratum) (h : ℕ) → units_before (map balancing strata) h ≡ free_before strata h
   before_is [] h = refl
   before_is (s ∷ strata) zero = refl
   before_is (s ∷ strata) (suc h) = ap (λ (n : ℕ). length s.request.free + n) (before_is strata h)
@@ -167,12 +167,12 @@ module _ (plan : Parts) (drawable : CanBeDrawn plan) (together : draws_together 
     abbrev here : StandsIn plan.strata k (place_of plan.strata k)
     here = place_stands plan drawable k l
 
-    abbrev own_is : stratum_at (frame_of plan) (first k) ≡ balancing plan here.stratum
+    abbrev own_is : stratum_at (frame_of plan) (first k) ≡ balancing here.stratum
     own_is = stratum_is (first k) here.stratum here.is_stratum
 
     value_so : seat_values plan (place_of plan.strata k) ≡ values_of (stratum_at (frame_of plan) (first k)) (second k)
     value_so =
-        ap (λ (o : Option Stratum). unwrap_or (option_map (λ (s : Stratum). values_of (balancing plan s) (second k)) o) []) here.is_stratum
+        ap (λ (o : Option Stratum). unwrap_or (option_map (λ (s : Stratum). values_of (balancing s) (second k)) o) []) here.is_stratum
         ∙ sym (ap (λ (t : StratumUnits). values_of t (second k)) own_is)
 
     asked_so : lowest_terms (first_fraction plan.strata (first k) (second k)) ≡ lowest_terms (asked_fraction (stratum_at (frame_of plan) (first k)).request (second k))

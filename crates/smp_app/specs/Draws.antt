@@ -50,7 +50,7 @@ Goes drawn =
 -- says what else holds.
 pub record IsCubeDraw (drawn : Drawn) (goes : Goes drawn) (h : ℕ) (s : Stratum) : Type 0 where
   pub drawn_so : IsDrawnByCube (parts drawn.plan) h s (goes.part (first_number (parts drawn.plan) h)) drawn.leaf.states
-  pub balanced : AreBalanced (balancing (parts drawn.plan) s)
+  pub balanced : AreBalanced (balancing s)
 
 -- What is drawn of all strata together. The path leads through the method's tree, from the requested probabilities to a leaf. On it, as on
 -- every path of the method from there, each flight step keeps every balancing total in force exactly, over all strata, and the landing

@@ -32,7 +32,7 @@ pub record TellsBalance (drawn : Drawn) (kept : KeepsBalance drawn) : Type 0 whe
       (apart : draws_together drawn.plan.design.procedure.method ≡ false) (h : ℕ) (s : Stratum)
       (is : slice_get (parts drawn.plan).strata h ≡ Some s)
       → let leaf = leaf_of (kept.cubes balanced apart h s is).drawn_so in
-      TellsSection (told (covered drawn) drawn.leaf.states h) (balancing (parts drawn.plan) s ∷ [])
+      TellsSection (told (covered drawn) drawn.leaf.states h) (balancing s ∷ [])
       (is_one (values_in leaf)) (left_in leaf)
   pub together : (all : draws_together drawn.plan.design.procedure.method ≡ true)
       → let leaf = (kept.together all).drawn_so.leaf in

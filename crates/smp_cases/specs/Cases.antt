@@ -1,5 +1,5 @@
 -- What a case comes to: n units, with probabilities in proportion to size, drawn by a method with the values of a tape.
-use Rattle.std.specs.Prelude.{ℕ, ◌^◌, Bool, true, false, nat_lt, if◌then◌else◌, List, [], length, map, sum_by, Result, Ok, Err}
+use Rattle.std.specs.Prelude.{ℕ, ◌^◌, Bool, true, false, nat_lt, if◌then◌else◌, List, [], length, sum_by, Result, Ok, Err}
 use Rattle.smp_tape.specs.TapeSources.{tape_source}
 use Rattle.smp_tape.specs.Tapes.{Values, tape_of_values}
 use Rattle.smp_split.specs.Counts.{selected_units}
@@ -21,7 +21,7 @@ use Rattle.smp_cases.specs.declared.fault.CaseFault.TheVariants.{TooMany, Draw, 
 
 -- the design that draws the free units of a request by a method, without columns of values, in frame order
 abbrev pub design : Method → Request → AnyDesign
-design method request = design_of (without_values method) request (map (λ _. []) request.free)
+design method request = design_of (without_values method) request [] []
 
 -- The draw tree of a case over all units. The certain ones are selected at each leaf, those of size 0 at none.
 abbrev pub case_tree : Method → List ℕ → ℕ → Tree AnyState

@@ -1,6 +1,6 @@
 //! How a case is run.
 
-ghost use Rattle.std.specs.Prelude.{◌≡◌, ◌<◌, ◌≤◌, true, false, length, map, slice_index, EachIndex, IfOk, []};
+ghost use Rattle.std.specs.Prelude.{◌≡◌, ◌<◌, ◌≤◌, true, false, length, slice_index, EachIndex, IfOk, []};
 ghost use Rattle.smp_frac.specs.{Limits.{number_limit}, Memory.{Reads}};
 ghost use Rattle.smp_cases.specs.Cases.{drawn, is_memory, mask, verdict};
 ghost use Rattle.smp_design.specs.{Procedures.{without_values}, Words.{needs_columns}};
@@ -11,7 +11,7 @@ ghost use Rattle.smp_split.specs.{Rows.{BelongsToRows, rows_tree}, Counts.{selec
 use crate::CaseFault;
 use smp_design::{Method, Procedure};
 use smp_frac::NoMemory;
-use smp_methods::{Started, no_values};
+use smp_methods::Started;
 use smp_prob::{ProbFault, Request, requested};
 use smp_split::{NoTrace, Rows, Splitting, WalkFault, walk};
 use smp_tape::Tape;
@@ -30,11 +30,10 @@ fn start(alloc: Global, method: Method, request: &Request) -> Result<Started, No
     requires request { IsRequest request.now }
     requires whole { DrawsWhole request.now }
     ensures { IfOk result
-        (IsStarted (without_values method) request.now (map (λ _. []) request.now.free)) }
+        (IsStarted (without_values method) request.now [] []) }
 {
-    let values = no_values(alloc, request)?;
     let procedure = Procedure::without_values(method);
-    Started::new(alloc, procedure, request, values.as_slice())
+    Started::new(alloc, procedure, request, &[], &[])
 }
 
 // The units that a done state selects, as a mask.

@@ -1,5 +1,5 @@
 -- Every design that was read keeps the ranges, and its parts go together.
-use Rattle.std.proofs.Common.{◌≡◌, ℕ, ◌+◌, Bool, true, false, not, ◌&&◌, List, [], length, Option, Some, None, IfSome, IfOk, Result, Ok, Err, codes, refl, sym, ap, ◌∙◌, subst, inl, inr, length-append}
+use Rattle.std.proofs.Common.{◌≡◌, ℕ, Bool, true, false, not, ◌&&◌, List, [], length, Option, Some, None, IfSome, IfOk, Result, Ok, Err, codes, refl, sym, ap, ◌∙◌, subst, inl, inr}
 use Rattle.std.specs.Prelude.{IfNone, OnSome, option_and_then, is_some, unwrap_or}
 use Rattle.std.proofs.lemmas.Bool.{cases_Bool}
 use Rattle.toml.specs.Data.{Members, get_member}
@@ -90,8 +90,8 @@ not_random o h k = absurd (cc)
 abbrev parts : ℕ → Method → UnitColumns → SampleSize → ValueColumns → SecondStage → Design
 parts version m unit sample columns second = record {
   version = version;
-  procedure = record { method = m; order = sample.order; balance = columns.balance; near = columns.near };
-  columns = record { id = unit.id; stratum = unit.stratum; psu = second.psu; size = unit.size; second_size = second.size; prob = sample.prob; values = columns.names };
+  procedure = record { method = m; order = sample.order; balance = length columns.balance; near = length columns.near };
+  columns = record { id = unit.id; stratum = unit.stratum; psu = second.psu; size = unit.size; second_size = second.size; prob = sample.prob; balance = columns.balance; near = columns.near };
   n = sample.n;
   sizes = sample.sizes;
   second = second.second;
@@ -118,7 +118,7 @@ parts_are_design : (version : ℕ) (t : Members) (m : Method) (unit : UnitColumn
     → NoClash t m → Ascend sample.sizes → IsDesign (parts version m unit sample columns second)
 parts_are_design version t m unit sample columns second is missing method_is u s v w clash ascend =
     let needs_is = needs-is version t m method_is in
-    let f = subst (λ (xs : ValueColumns). AreNeeded (row m).needs xs.balance xs.near) v.is (fits (row m).needs v.balance v.near v.balance_few v.near_few
+    let f = subst (λ (xs : ValueColumns). AreNeeded (row m).needs (length xs.balance) (length xs.near)) v.is (fits (row m).needs v.balance v.near v.balance_few v.near_few
     (ap (λ b. b && not (is_balance (row m).needs)) v.balance_there ∙ clash.balance)
     (ap (λ b. b && not (is_near (row m).needs)) v.near_there ∙ clash.near)
     (λ balance. v.balance_there ∙ both _ (has (codes "balance") t) missing.balance (ap is_balance needs_is ∙ balance))
@@ -141,7 +141,8 @@ parts_are_design version t m unit sample columns second is missing method_is u s
         ];
         columns = f;
       };
-      values = subst (λ (xs : ValueColumns). length xs.names ≡ xs.balance + xs.near) v.is (length-append (unwrap_or v.balance []) (unwrap_or v.near []));
+      balance = refl;
+      near = refl;
       second_size = w.size;
       second_method = w.method;
       second_first = on_some second.second _ (λ there. (takes_one there).0);

@@ -1,13 +1,12 @@
 -- What the columns of a method's row say.
-use Rattle.std.proofs.Common.{◌≡◌, ◌⊎◌, ℕ, ◌+◌, ◌≤◌, true, false, refl, ap, subst, inl, inr, arith}
+use Rattle.std.proofs.Common.{◌≡◌, ◌⊎◌, ℕ, ◌+◌, ◌≤◌, true, false, refl, ap, inl, inr, arith}
 use Rattle.std.specs.Prelude.{not}
 use Rattle.smp_design.specs.declared.method.Method.{Method}
 use Rattle.smp_design.specs.declared.method.Method.TheVariants.{Cube, LocalCube, StratifiedCube, Systematic}
 use Rattle.smp_design.specs.declared.method.Needs.{Needs}
 use Rattle.smp_design.specs.declared.method.Needs.TheVariants.{Nothing, Balance, Near, Both}
-use Rattle.smp_design.specs.declared.procedure.Procedure.{Procedure}
 use Rattle.smp_design.specs.Procedures.{AreNeeded, From1To, IsProcedure, without_values}
-use Rattle.smp_design.specs.Words.{row, balances, draws_together, in_second, is_balance, is_nothing, most_balance, most_near, needs_columns}
+use Rattle.smp_design.specs.Words.{row, balances, draws_together, in_second, is_balance, is_near, is_nothing, most_balance, most_near, needs_columns}
 
 -- ---- the columns of a procedure
 
@@ -17,6 +16,13 @@ balance_columns Nothing balance near h are = absurd (cc)
 balance_columns Balance balance near h are = are.0
 balance_columns Near balance near h are = absurd (cc)
 balance_columns Both balance near h are = are.0
+
+-- a method among neighbours has columns of coordinates, and few
+pub near_columns : (needs : Needs) (balance near : ℕ) → is_near needs ≡ true → AreNeeded needs balance near → From1To most_near near
+near_columns Nothing balance near h are = absurd (cc)
+near_columns Balance balance near h are = absurd (cc)
+near_columns Near balance near h are = are.1
+near_columns Both balance near h are = are.1
 
 -- in all they are few
 pub few_columns : (needs : Needs) (balance near : ℕ) → AreNeeded needs balance near → balance + near ≤ most_balance + most_near
@@ -52,15 +58,6 @@ pub is_together : (method : Method) → draws_together method ≡ true → metho
 unfolding row
 is_together StratifiedCube together = refl
 is_together other together = absurd (cc)
-
--- it has no coordinates
-no_near : (balance near : ℕ) → AreNeeded (row StratifiedCube).needs balance near → near ≡ 0
-unfolding row
-no_near balance near are = are.1
-
-pub no_coordinates : (way : Procedure) → draws_together way.method ≡ true → IsProcedure way → way.near ≡ 0
-no_coordinates way together is =
-    no_near way.balance way.near (subst (λ m. AreNeeded (row m).needs way.balance way.near) (is_together way.method together) is.columns)
 
 -- it balances
 pub together_balances : (method : Method) → draws_together method ≡ true → balances method ≡ true

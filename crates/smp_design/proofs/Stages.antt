@@ -1,5 +1,5 @@
 -- What is true of each part of a design that was read.
-use Rattle.std.proofs.Common.{◌≡◌, ℕ, true, false, not, ◌&&◌, List, [], ◌++◌, length, Option, Some, None, IfSome, Result, Ok, codes, refl, ap, ◌∙◌, arith}
+use Rattle.std.proofs.Common.{◌≡◌, ℕ, true, false, not, ◌&&◌, List, [], Option, Some, None, IfSome, Result, Ok, codes, refl, ap, ◌∙◌, arith}
 use Rattle.std.specs.Option.{option_map_or}
 use Rattle.std.specs.Prelude.{All, IfNone, option_and_then, is_some, unwrap_or}
 use Rattle.toml.specs.Data.{Data, Members, get_member, as_str, as_table}
@@ -130,7 +130,7 @@ pub record ValueFacts (t : Members) (columns : ValueColumns) : Type 0 where
   pub near_few : IfSome near (Few 4)
   pub balance_there : is_some balance ≡ has (codes "balance") t
   pub near_there : is_some near ≡ has (codes "near") t
-  pub is : record { names = unwrap_or balance [] ++ unwrap_or near []; balance = length (unwrap_or balance []); near = length (unwrap_or near []) } ≡ columns
+  pub is : record { balance = unwrap_or balance []; near = unwrap_or near [] } ≡ columns
 
 pub value_facts : (t : Members) (columns : ValueColumns) → value_columns t ≡ Ok columns → ValueFacts t columns
 unfolding value_columns
@@ -144,7 +144,7 @@ value_facts t columns h =
       near_few = optional-holds (Few 4) (names 4) (names-few 4) (get_member (codes "near") t) near.value near.is;
       balance_there = optional-there (names 15) (get_member (codes "balance") t) balance.value balance.is;
       near_there = optional-there (names 4) (get_member (codes "near") t) near.value near.is;
-      is = let same : ◌≡◌ {A = Result ValueColumns _} (Ok (record { names = unwrap_or balance.value [] ++ unwrap_or near.value []; balance = length (unwrap_or balance.value []); near = length (unwrap_or near.value []) })) (Ok columns) = near.gives in cc;
+      is = let same : ◌≡◌ {A = Result ValueColumns _} (Ok (record { balance = unwrap_or balance.value []; near = unwrap_or near.value [] })) (Ok columns) = near.gives in cc;
     }
 
 -- the second stage

@@ -1,5 +1,5 @@
 -- What is true of every design that was read.
-use Rattle.std.specs.Prelude.{◌≡◌, ℕ, ◌+◌, false, List, [], length, map, None, IsSome, IfSome, IfNone, OnSome, IsTrue, All, is_some}
+use Rattle.std.specs.Prelude.{◌≡◌, ℕ, false, List, [], length, map, None, IsSome, IfSome, IfNone, OnSome, IsTrue, All, is_some}
 use Rattle.std.specs.Ordering.{nat_cmp}
 use Rattle.std.specs.Cmp.Lexicographic.{slice_cmp}
 use Rattle.std.specs.List.Sorted.{IsStrictlySortedBy}
@@ -37,9 +37,10 @@ pub record IsDesign (d : Design) : Type 0 where
   pub one_size : OnSome d.n (d.sizes ≡ [])
   pub prob : OnSome d.columns.prob (HasOnlyProbabilities d)
   pub strata : IfNone d.n (IfNone d.columns.prob (IsSome d.columns.stratum))
-  -- what the method takes, and the columns of its values: those of `balance`, and then those of `near`
+  -- what the method takes, and so many columns of balancing values and of coordinates
   pub procedure : IsProcedure d.procedure
-  pub values : length d.columns.values ≡ d.procedure.balance + d.procedure.near
+  pub balance : length d.columns.balance ≡ d.procedure.balance
+  pub near : length d.columns.near ≡ d.procedure.near
   -- the second stage, whose first stage units stand in a column
   pub second_size : IfSome d.second (λ s. InRange s.n)
   pub second_method : IfSome d.second (λ s. IsTrue (in_second s.method))

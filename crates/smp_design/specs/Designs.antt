@@ -1,5 +1,5 @@
 -- Which bytes are a design, and which fault comes first where they aren't.
-use Rattle.std.specs.Prelude.{ℕ, List, [], ◌++◌, length, Option, Some, None, option_and_then, unwrap_or, Result, Ok, if◌then◌else◌, codes}
+use Rattle.std.specs.Prelude.{ℕ, List, [], length, Option, Some, None, option_and_then, unwrap_or, Result, Ok, if◌then◌else◌, codes}
 use Rattle.std.specs.Str.{is_utf8}
 use Rattle.toml.specs.Data.{Data, Members, get_member, as_str, as_table}
 use Rattle.toml.specs.Parse.{parse_document}
@@ -37,16 +37,12 @@ sample_size t = do
   order ← good (codes "order") (optional order (get_member (codes "order") t))
   Ok (record { n = n; sizes = unwrap_or sizes []; prob = prob; order = unwrap_or order the_order.Frame })
 
--- the columns of `balance`, and then those of `near`
+-- the columns of the balancing values, and those of the coordinates
 unfoldable pub value_columns : Members → Result ValueColumns DesignFault
 value_columns t = do
   balance ← good (codes "balance") (optional (names 15) (get_member (codes "balance") t))
   near ← good (codes "near") (optional (names 4) (get_member (codes "near") t))
-  Ok (record {
-    names = unwrap_or balance [] ++ unwrap_or near [];
-    balance = length (unwrap_or balance []);
-    near = length (unwrap_or near []);
-  })
+  Ok (record { balance = unwrap_or balance []; near = unwrap_or near [] })
 
 -- the second stage of the table `second`, in a design of this version
 unfoldable pub second_stage_of : ℕ → Members → Result SecondStage DesignFault
@@ -75,8 +71,8 @@ values version t = do
     procedure = record {
       method = method;
       order = sample.order;
-      balance = columns.balance;
-      near = columns.near;
+      balance = length columns.balance;
+      near = length columns.near;
     };
     columns = record {
       id = unit.id;
@@ -85,7 +81,8 @@ values version t = do
       size = unit.size;
       second_size = second.size;
       prob = sample.prob;
-      values = columns.names;
+      balance = columns.balance;
+      near = columns.near;
     };
     n = sample.n;
     sizes = sample.sizes;

@@ -11,8 +11,7 @@ pub struct Design {
     pub version: u32,
     /// How the first stage units of each stratum are drawn.
     pub procedure: Procedure,
-    /// The columns of the frame. The values are those on which the method balances, and then the coordinates of its
-    /// points.
+    /// The columns of the frame, with as many of balancing values and of coordinates as the procedure says.
     pub columns: Columns,
     /// How many first stage units are drawn from all strata together, from 1 to 200,000; `None` where it is said for
     /// each stratum, or where the columns name one of probabilities.

@@ -1,6 +1,6 @@
 //! Designs from their bytes.
 
-ghost use Rattle.std.specs.Prelude.{◌≡◌, ◌++◌, [], IfOk, codes, unwrap_or};
+ghost use Rattle.std.specs.Prelude.{◌≡◌, [], IfOk, codes, unwrap_or};
 ghost use Rattle.toml.specs.{Data.{get_member}, View.{table_view}};
 ghost use Rattle.smp_design.specs.{Bounds.{IsDesign, Ascend}, Designs.{design_of}, Faults.{is_memory}};
 ghost use Rattle.smp_design.specs.Designs;
@@ -16,7 +16,7 @@ use crate::keys::value_at;
 use crate::method::{MAX_BALANCE, MAX_NEAR};
 use crate::values::{method, number, second_method};
 use crate::{Design, DesignFault, Procedure, Quotas, Second};
-use smp_frac::{NoMemory, Text};
+use smp_frac::Text;
 use smp_frame::{Columns, Names};
 use smp_prob::Order;
 use std::alloc::Global;
@@ -77,15 +77,15 @@ fn values(alloc: Global, table: &Table, version: u32) -> Result<Design, DesignFa
     )?;
     let unit = unit_columns(alloc, table)?;
     let sample = sample_size(alloc, table)?;
-    let values = value_columns(alloc, table)?;
+    let columns = value_columns(alloc, table)?;
     let second = second_stage(alloc, table, version)?;
     Ok(Design {
         version,
         procedure: Procedure {
             method,
             order: sample.order,
-            balance: values.balance,
-            near: values.near,
+            balance: columns.balance.as_slice().len(),
+            near: columns.near.as_slice().len(),
         },
         columns: Columns {
             id: unit.id,
@@ -94,7 +94,8 @@ fn values(alloc: Global, table: &Table, version: u32) -> Result<Design, DesignFa
             size: unit.size,
             second_size: second.size,
             prob: sample.prob,
-            values: values.names,
+            balance: columns.balance,
+            near: columns.near,
         },
         n: sample.n,
         sizes: sample.sizes,
@@ -155,12 +156,11 @@ fn quotas_or_none(alloc: Global, quotas: Option<Quotas>) -> Quotas
     }
 }
 
-/// The columns of values: so many of `balance`, and then so many of `near`.
+/// The columns of the balancing values, and those of the coordinates.
 #[derive(Drop)]
 struct ValueColumns {
-    names: Names,
-    balance: usize,
-    near: usize,
+    balance: Names,
+    near: Names,
 }
 
 #[tactic(auto, unfolding(crate::specs::Designs::value_columns))]
@@ -177,12 +177,9 @@ fn value_columns(alloc: Global, table: &Table) -> Result<ValueColumns, DesignFau
         "near",
         optional_names_at(alloc, table, "near", MAX_NEAR)?,
     )?;
-    let balance = names_or_none(alloc, balance);
-    let near = names_or_none(alloc, near);
     Ok(ValueColumns {
-        names: joined(alloc, balance.as_slice(), near.as_slice())?,
-        balance: balance.as_slice().len(),
-        near: near.as_slice().len(),
+        balance: names_or_none(alloc, balance),
+        near: names_or_none(alloc, near),
     })
 }
 
@@ -193,25 +190,6 @@ fn names_or_none(alloc: Global, names: Option<Names>) -> Names
         Some(names) => names,
         None => Names::from_vec(Vec::new(alloc)),
     }
-}
-
-// These names, and then those.
-fn joined(alloc: Global, first: &[Text], second: &[Text]) -> Result<Names, NoMemory>
-    ensures { IfOk result (λ names. names ≡ first.now ++ second.now) }
-{
-    let mut names = Vec::new(alloc);
-    push_all(alloc, &mut names, first)?;
-    push_all(alloc, &mut names, second)?;
-    Ok(Names::from_vec(names))
-}
-
-fn push_all(alloc: Global, names: &mut Vec<Text>, more: &[Text]) -> Result<(), NoMemory>
-    ensures { IfOk result (λ _. names.new.items ≡ names.old.items ++ more.now) }
-{
-    for name in more {
-        names.push(name.copy(alloc)?)?;
-    }
-    Ok(())
 }
 
 /// The second stage, with the columns of its first stage units and of its sizes.

@@ -1,5 +1,5 @@
--- Every frame that is read has few units, with small sizes and values, probabilities, and a value for each asked column.
-use Rattle.std.proofs.Common.{◌≡◌, ℕ, zero, suc, ◌+◌, ◌<◌, ◌≤◌, ℤ, pos, neg_ℤ, nat_abs, Bool, true, false, cond, not, ◌&&◌, ◌==◌, nat_lt, nat_le, List, [], ◌∷◌, length, Option, Some, None, Result, Ok, Err, IfOk, All, refl, ap, subst, arith}
+-- Every frame that is read has few units, with small sizes and values, probabilities, and a value for each column of these that is asked for.
+use Rattle.std.proofs.Common.{◌≡◌, ℕ, zero, suc, ◌+◌, ◌<◌, ◌≤◌, ℤ, pos, neg_ℤ, nat_abs, Bool, true, false, cond, not, ◌&&◌, ◌==◌, nat_lt, nat_le, List, [], ◌∷◌, length, Option, Some, None, Result, Ok, Err, IfOk, All, refl, ap, subst, ◌∙◌, arith}
 use Rattle.std.specs.List.{list_all, list_any}
 use Rattle.std.specs.Str.{bytes_eq, is_utf8}
 use Rattle.std.specs.Str.Parse.{digits_value}
@@ -15,7 +15,7 @@ use Rattle.smp_frame.specs.Records.{field, records_of}
 use Rattle.smp_frame.specs.Fields.{size_of, size_in, sides_of, prob_of, prob_in, is_minus, without_minus, field_value, values_in}
 use Rattle.smp_frame.specs.Layouts.{column_in, asked_in, columns_in, layout_of}
 use Rattle.smp_frame.specs.Frames.{unit_of, units_from, units_of, frame_of}
-use Rattle.smp_frame.specs.Bounds.{AreNear, HaveValues, IsFrame, IsProbability}
+use Rattle.smp_frame.specs.Bounds.{AreNear, HaveBalance, HavePoints, IsFrame, IsProbability}
 use Rattle.smp_frac.specs.Memory.{Reads}
 use Rattle.smp_frame.specs.Faults.{is_memory}
 use Rattle.smp_frac.specs.declared.fractions.Frac.{Frac}
@@ -119,7 +119,12 @@ columns_are_counted header (name ∷ names) columns h =
     subst (λ (cs : List Column). length cs ≡ suc (length names)) (ok_is _ _ more.gives)
     (one_more (length more.value) (length names) (columns_are_counted header names more.value more.is))
 
-layout_is_counted : (columns : Columns) (header : List (List ℕ)) (layout : Layout) → layout_of columns header ≡ Ok layout → length layout.values ≡ length columns.values
+-- a layout with so many columns as are asked for
+record HasColumns (columns : Columns) (layout : Layout) : Type 0 where
+  balance : length layout.balance ≡ length columns.balance
+  near : length layout.near ≡ length columns.near
+
+layout_is_counted : (columns : Columns) (header : List (List ℕ)) (layout : Layout) → layout_of columns header ≡ Ok layout → HasColumns columns layout
 unfolding layout_of
 layout_is_counted columns header layout h =
     let id = goes_on _ (column_in header columns.id) layout h in
@@ -128,19 +133,24 @@ layout_is_counted columns header layout h =
     let size = goes_on _ (asked_in header columns.size) layout psu.gives in
     let second = goes_on _ (asked_in header columns.second_size) layout size.gives in
     let prob = goes_on _ (asked_in header columns.prob) layout second.gives in
-    let values = goes_on _ (columns_in header columns.values) layout prob.gives in
-    subst (λ (found : Layout). length found.values ≡ length columns.values) (ok_is _ _ values.gives)
-    (columns_are_counted header columns.values values.value values.is)
+    let balance = goes_on _ (columns_in header columns.balance) layout prob.gives in
+    let near = goes_on _ (columns_in header columns.near) layout balance.gives in
+    subst (HasColumns columns) (ok_is _ _ near.gives) (record {
+      balance = columns_are_counted header columns.balance balance.value balance.is;
+      near = columns_are_counted header columns.near near.value near.is;
+    })
 
--- a unit with small sizes, a probability, and so many values, which are small too
-record IsSmall (count : ℕ) (u : unit.Unit) : Type 0 where
+-- a unit with small sizes, a probability, and a value in each column of a layout, which is small too
+record IsSmall (layout : Layout) (u : unit.Unit) : Type 0 where
   size : u.size < number_limit
   second : u.second_size < number_limit
   prob : IsProbability u.prob
-  near : AreNear u.values
-  counted : length u.values ≡ count
+  balance : AreNear u.balance
+  point : AreNear u.point
+  balance_counted : length u.balance ≡ length layout.balance
+  point_counted : length u.point ≡ length layout.near
 
-unit_is_small : (layout : Layout) (number : ℕ) (ids row : List (List ℕ)) (u : unit.Unit) → unit_of layout number ids row ≡ Ok u → IsSmall (length layout.values) u
+unit_is_small : (layout : Layout) (number : ℕ) (ids row : List (List ℕ)) (u : unit.Unit) → unit_of layout number ids row ≡ Ok u → IsSmall layout u
 unfolding unit_of
 unit_is_small layout number ids row u h =
     let width = passes (length row == layout.width) (RowLength number) _ u h in
@@ -149,43 +159,47 @@ unit_is_small layout number ids row u h =
     let size = goes_on _ (size_in number row layout.size) u new.gives in
     let second = goes_on _ (size_in number row layout.second_size) u size.gives in
     let prob = goes_on _ (prob_in number row layout.prob) u second.gives in
-    let values = goes_on _ (values_in number row layout.values) u prob.gives in
-    subst (IsSmall (length layout.values)) (ok_is _ _ values.gives) (record {
+    let balance = goes_on _ (values_in number row layout.balance) u prob.gives in
+    let point = goes_on _ (values_in number row layout.near) u balance.gives in
+    subst (IsSmall layout) (ok_is _ _ point.gives) (record {
       size = asked_size_is_small number row layout.size size.value size.is;
       second = asked_size_is_small number row layout.second_size second.value second.is;
       prob = asked_prob_is_probability number row layout.prob prob.value prob.is;
-      near = values_are_near number row layout.values values.value values.is;
-      counted = values_are_counted number row layout.values values.value values.is;
+      balance = values_are_near number row layout.balance balance.value balance.is;
+      point = values_are_near number row layout.near point.value point.is;
+      balance_counted = values_are_counted number row layout.balance balance.value balance.is;
+      point_counted = values_are_counted number row layout.near point.value point.is;
     })
 
 -- units behind a row with this number
-record AreUnits (count number : ℕ) (units : List unit.Unit) : Type 0 where
+record AreUnits (layout : Layout) (number : ℕ) (units : List unit.Unit) : Type 0 where
   few : length units + number ≤ most_rows + 1
-  small : All (IsSmall count) units
+  small : All (IsSmall layout) units
 
-units_are_small : (layout : Layout) (number : ℕ) (ids : List (List ℕ)) (rows : List (List (List ℕ))) (units : List unit.Unit) → number ≤ most_rows + 1 → units_from layout number ids rows ≡ Ok units → AreUnits (length layout.values) number units
-units_are_small layout number ids [] units within h = subst (AreUnits (length layout.values) number) (ok_is _ _ h) (record { few = omega (arith, within); small = λ k d beyond. absurd (omega arith) })
+units_are_small : (layout : Layout) (number : ℕ) (ids : List (List ℕ)) (rows : List (List (List ℕ))) (units : List unit.Unit) → number ≤ most_rows + 1 → units_from layout number ids rows ≡ Ok units → AreUnits layout number units
+units_are_small layout number ids [] units within h = subst (AreUnits layout number) (ok_is _ _ h) (record { few = omega (arith, within); small = λ k d beyond. absurd (omega arith) })
 units_are_small layout number ids (row ∷ rows) units within h =
     let limit = passes (nat_le number most_rows) _ _ units h in
     let here : number ≤ most_rows = leb-true number most_rows limit.holds in
     let first = goes_on _ (unit_of layout number ids row) units limit.gives in
     let more = goes_on _ (units_from layout (number + 1) _ rows) units first.gives in
     let rest = units_are_small layout (number + 1) _ rows more.value (omega (arith, here)) more.is in
-    subst (AreUnits (length layout.values) number) (ok_is _ _ more.gives) (record {
+    subst (AreUnits layout number) (ok_is _ _ more.gives) (record {
       few = omega (arith, rest.few);
-      small = All-cons (IsSmall (length layout.values)) first.value more.value (unit_is_small layout number ids row first.value first.is) rest.small;
+      small = All-cons (IsSmall layout) first.value more.value (unit_is_small layout number ids row first.value first.is) rest.small;
     })
 
 no_unit : unit.Unit
-no_unit = record { id = []; stratum = []; psu = []; size = 0; second_size = 0; prob = lowest_terms (whole 0); values = [] }
+no_unit = record { id = []; stratum = []; psu = []; size = 0; second_size = 0; prob = lowest_terms (whole 0); balance = []; point = [] }
 
--- a frame, with so many values for each unit
-record IsCounted (count : ℕ) (units : List unit.Unit) : Type 0 where
+-- a frame, with a value for each column that is asked for
+record IsCounted (columns : Columns) (units : List unit.Unit) : Type 0 where
   frame : IsFrame units
-  values : HaveValues count units
+  balance : HaveBalance (length columns.balance) units
+  points : HavePoints (length columns.near) units
 
-small_units_are_frame : (count : ℕ) (units : List unit.Unit) → 0 < length units → AreUnits count 1 units → IsCounted count units
-small_units_are_frame count units some are =
+small_units_are_frame : (columns : Columns) (layout : Layout) (units : List unit.Unit) → HasColumns columns layout → 0 < length units → AreUnits layout 1 units → IsCounted columns units
+small_units_are_frame columns layout units has some are =
     let few = are.few in
     record {
       frame = record {
@@ -194,23 +208,25 @@ small_units_are_frame count units some are =
         small = λ i within. rw (get_or-map (λ (u : unit.Unit). u.size) units i no_unit 0 within) (are.small i no_unit within).size;
         second_small = λ i within. rw (get_or-map (λ (u : unit.Unit). u.second_size) units i no_unit 0 within) (are.small i no_unit within).second;
         probabilities = All-map IsProbability (λ (u : unit.Unit). u.prob) units (λ k d within. (are.small k d within).prob);
-        near = λ k d within. (are.small k d within).near;
+        balance = λ k d within. (are.small k d within).balance;
+        points = λ k d within. (are.small k d within).point;
       };
-      values = λ k d within. (are.small k d within).counted;
+      balance = λ k d within. (are.small k d within).balance_counted ∙ has.balance;
+      points = λ k d within. (are.small k d within).point_counted ∙ has.near;
     }
 
-units_are_frame : (columns : Columns) (rows : List (List (List ℕ))) (units : List unit.Unit) → units_of columns rows ≡ Ok units → IsCounted (length columns.values) units
+units_are_frame : (columns : Columns) (rows : List (List (List ℕ))) (units : List unit.Unit) → units_of columns rows ≡ Ok units → IsCounted columns units
 units_are_frame columns [] units h = absurd (cc h)
 units_are_frame columns (header ∷ rows) units h =
     let text = passes (list_all is_utf8 header) _ _ units h in
     let layout = goes_on _ (layout_of columns header) units text.gives in
     let found = goes_on _ (units_from layout.value 1 [] rows) units layout.gives in
     let some = passes (nat_lt 0 (length found.value)) _ _ units found.gives in
-    let here = small_units_are_frame (length layout.value.values) found.value (ltb-true 0 (length found.value) some.holds) (units_are_small layout.value 1 [] rows found.value (omega arith) found.is) in
-    subst (IsCounted (length columns.values)) (ok_is _ _ some.gives)
-    (subst (λ (count : ℕ). IsCounted count found.value) (layout_is_counted columns header layout.value layout.is) here)
+    subst (IsCounted columns) (ok_is _ _ some.gives)
+    (small_units_are_frame columns layout.value found.value (layout_is_counted columns header layout.value layout.is) (ltb-true 0 (length found.value) some.holds)
+    (units_are_small layout.value 1 [] rows found.value (omega arith) found.is))
 
-frame_is : (columns : Columns) (bytes : List ℕ) (units : List unit.Unit) → frame_of columns bytes ≡ Ok units → IsCounted (length columns.values) units
+frame_is : (columns : Columns) (bytes : List ℕ) (units : List unit.Unit) → frame_of columns bytes ≡ Ok units → IsCounted columns units
 unfolding frame_of
 frame_is columns bytes units h = units_are_frame columns (records_of bytes) units h
 
@@ -218,6 +234,10 @@ pub read_bounds : (columns : Columns) (bytes : List ℕ) (result : Result (List 
 read_bounds columns bytes (Ok units) h = (frame_is columns bytes units h).frame
 read_bounds columns bytes (Err fault) h = tt
 
-pub read_values : (columns : Columns) (bytes : List ℕ) (result : Result (List unit.Unit) FrameFault) → Reads is_memory result (frame_of columns bytes) → IfOk result (HaveValues (length columns.values))
-read_values columns bytes (Ok units) h = (frame_is columns bytes units h).values
-read_values columns bytes (Err fault) h = tt
+pub read_balance : (columns : Columns) (bytes : List ℕ) (result : Result (List unit.Unit) FrameFault) → Reads is_memory result (frame_of columns bytes) → IfOk result (HaveBalance (length columns.balance))
+read_balance columns bytes (Ok units) h = (frame_is columns bytes units h).balance
+read_balance columns bytes (Err fault) h = tt
+
+pub read_points : (columns : Columns) (bytes : List ℕ) (result : Result (List unit.Unit) FrameFault) → Reads is_memory result (frame_of columns bytes) → IfOk result (HavePoints (length columns.near))
+read_points columns bytes (Ok units) h = (frame_is columns bytes units h).points
+read_points columns bytes (Err fault) h = tt

@@ -16,7 +16,7 @@ AreProbabilities probs = All IsProbability probs
 abbrev pub AreNear : List ℤ → Type 0
 AreNear values = All (λ value. nat_abs value < number_limit) values
 
--- 1 to 200,000 units, with sizes and values within 2,147,483,647 of 0, and probabilities
+-- 1 to 200,000 units, with sizes, balancing values and coordinates within 2,147,483,647 of 0, and probabilities
 pub record IsFrame (units : List unit.Unit) : Type 0 where
   pub some : 1 ≤ length units
   pub few : length units ≤ most_rows
@@ -24,8 +24,13 @@ pub record IsFrame (units : List unit.Unit) : Type 0 where
   pub second_small : (i : ℕ) → i < length units → slice_index (map (λ u. u.second_size) units) i
       < number_limit
   pub probabilities : AreProbabilities (map (λ u. u.prob) units)
-  pub near : All (λ u. AreNear u.values) units
+  pub balance : All (λ u. AreNear u.balance) units
+  pub points : All (λ u. AreNear u.point) units
 
--- so many values for each unit
-abbrev pub HaveValues : ℕ → List unit.Unit → Type 0
-HaveValues count units = All (λ u. length u.values ≡ count) units
+-- so many balancing values for each unit
+abbrev pub HaveBalance : ℕ → List unit.Unit → Type 0
+HaveBalance count units = All (λ u. length u.balance ≡ count) units
+
+-- so many coordinates for each unit
+abbrev pub HavePoints : ℕ → List unit.Unit → Type 0
+HavePoints count units = All (λ u. length u.point ≡ count) units

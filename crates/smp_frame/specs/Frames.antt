@@ -22,7 +22,8 @@ unit_of layout number ids row = do
   size ← size_in number row layout.size
   second_size ← size_in number row layout.second_size
   prob ← prob_in number row layout.prob
-  values ← values_in number row layout.values
+  balance ← values_in number row layout.balance
+  point ← values_in number row layout.near
   Ok (record {
     id = field row layout.id.place;
     stratum = text_in row layout.stratum;
@@ -30,7 +31,8 @@ unit_of layout number ids row = do
     size = size;
     second_size = second_size;
     prob = prob;
-    values = values;
+    balance = balance;
+    point = point;
   })
 
 -- the units of rows, of which the first has this number, where earlier rows have these ids

@@ -46,7 +46,8 @@ layout_of columns header = do
   size ← asked_in header columns.size
   second_size ← asked_in header columns.second_size
   prob ← asked_in header columns.prob
-  values ← columns_in header columns.values
+  balance ← columns_in header columns.balance
+  near ← columns_in header columns.near
   Ok (record {
     width = length header;
     id = id;
@@ -55,5 +56,6 @@ layout_of columns header = do
     size = size;
     second_size = second_size;
     prob = prob;
-    values = values;
+    balance = balance;
+    near = near;
   })

@@ -14,7 +14,8 @@ sized_columns = record {
   size = Some (codes "size");
   second_size = None;
   prob = None;
-  values = [];
+  balance = [];
+  near = [];
 }
 
 -- the row of such a frame with this id and this size
@@ -26,5 +27,6 @@ sized_unit id size = record {
   size = size;
   second_size = 1;
   prob = lowest_terms (over 1 1);
-  values = [];
+  balance = [];
+  point = [];
 }

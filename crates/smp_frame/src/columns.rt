@@ -20,6 +20,8 @@ pub struct Columns {
     pub second_size: Option<Text>,
     /// The column of the probabilities. Without it each unit has probability 1/1.
     pub prob: Option<Text>,
-    /// The columns of the balancing values, or of the coordinates.
-    pub values: Names,
+    /// The columns of the balancing values.
+    pub balance: Names,
+    /// The columns of the coordinates.
+    pub near: Names,
 }

@@ -21,8 +21,10 @@ pub struct Unit {
     /// The probability, from 0 to 1, with a numerator and a denominator up to 2,147,483,647; 1/1 where no column of
     /// those was asked for.
     pub prob: Frac,
-    /// The balancing values or coordinates in the order of their columns, each from -2,147,483,647 to 2,147,483,647.
-    pub values: Numbers,
+    /// The balancing values in the order of their columns, each from -2,147,483,647 to 2,147,483,647.
+    pub balance: Numbers,
+    /// The coordinates of the point where the unit lies, in the order of their columns, each within the same range.
+    pub point: Numbers,
 }
 
 /// The units of a frame in the order of its rows.

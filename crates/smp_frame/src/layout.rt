@@ -30,7 +30,8 @@ pub(crate) struct Layout {
     pub size: Option<Column>,
     pub second_size: Option<Column>,
     pub prob: Option<Column>,
-    pub values: Items<Column>,
+    pub balance: Items<Column>,
+    pub near: Items<Column>,
 }
 
 /// Looks for the asked columns in a header.
@@ -50,7 +51,8 @@ pub(crate) fn layout_of(
         size: asked_in(alloc, header, &columns.size)?,
         second_size: asked_in(alloc, header, &columns.second_size)?,
         prob: asked_in(alloc, header, &columns.prob)?,
-        values: columns_in(alloc, header, columns.values.as_slice())?,
+        balance: columns_in(alloc, header, columns.balance.as_slice())?,
+        near: columns_in(alloc, header, columns.near.as_slice())?,
     })
 }
 

@@ -1,5 +1,5 @@
 ghost use Rattle.std.specs.Prelude.{◌≡◌, length, IfOk};
-ghost use Rattle.smp_frame.specs.{Frames.{frame_of, units_of}, Bounds.{HaveValues, IsFrame}, Kept.Readers.{IsReading, rows_left}};
+ghost use Rattle.smp_frame.specs.{Frames.{frame_of, units_of}, Bounds.{HaveBalance, HavePoints, IsFrame}, Kept.Readers.{IsReading, rows_left}};
 ghost use Rattle.smp_frac.specs.Memory.{Reads};
 ghost use Rattle.smp_frame.specs.Faults.{is_memory};
 
@@ -19,7 +19,7 @@ use std::alloc::Global;
 /// zeros are allowed; blanks, a plus sign, points and exponents aren't.
 ///
 /// The answer is the first fault in this order: [`FrameFault::NoHeader`]; [`FrameFault::NotText`] of the header; each
-/// asked column, id, stratum, psu, size, second size, prob and then the values, with [`FrameFault::MissingColumn`] or
+/// asked column, id, stratum, psu, size, second size, prob, balance and near, with [`FrameFault::MissingColumn`] or
 /// [`FrameFault::RepeatedColumn`]; the rows in their order; [`FrameFault::NoRows`]. Within one row it is
 /// [`FrameFault::TooManyRows`], [`FrameFault::RowLength`], [`FrameFault::NotText`], [`FrameFault::RepeatedId`], and
 /// then each column of numbers, as above, with [`FrameFault::NotNumber`] or [`FrameFault::TooLarge`]. In the column of
@@ -28,8 +28,9 @@ use std::alloc::Global;
 pub fn read_frame(alloc: Global, bytes: &[u8], columns: &Columns) -> Result<Frame, FrameFault>
     ensures reads { Reads is_memory result (frame_of columns.now bytes.now) }
     ensures bounds { IfOk result IsFrame }
-    // a value for each column of values that is asked for
-    ensures columns { IfOk result (HaveValues (length columns.now.values)) }
+    // a value for each balancing column that is asked for, and one for each column of coordinates
+    ensures balance { IfOk result (HaveBalance (length columns.now.balance)) }
+    ensures points { IfOk result (HavePoints (length columns.now.near)) }
 {
     frame_in(alloc, bytes, columns)
 }

@@ -94,7 +94,8 @@ fn unit_of(
     let size = size_in(alloc, number, row, &layout.size)?;
     let second_size = size_in(alloc, number, row, &layout.second_size)?;
     let prob = prob_in(alloc, number, row, &layout.prob)?;
-    let values = values_in(alloc, number, row, layout.values.as_slice())?;
+    let balance = values_in(alloc, number, row, layout.balance.as_slice())?;
+    let point = values_in(alloc, number, row, layout.near.as_slice())?;
     Ok(Unit {
         id: Text::empty(alloc),
         stratum: text_in(alloc, row, &layout.stratum)?,
@@ -102,7 +103,8 @@ fn unit_of(
         size,
         second_size,
         prob,
-        values,
+        balance,
+        point,
     })
 }
 

@@ -100,10 +100,10 @@ module _ (plan : Parts) (one : plan.second ≡ None) where
       }
 
 -- by systematic selection in the order of the frame, the design takes no values
-systematic_is : (way : Procedure) (request : Request) (values : List (List ℤ)) → way.method ≡ Systematic → way.order ≡ Frame
-    → design_of way request values ≡ designs.Systematic (started request Frame)
-systematic_is way request values method order =
-    ap (λ (m : Method). design_by m way request values) method ∙ ap (λ (o : Order). designs.Systematic (started request o)) order
+systematic_is : (way : Procedure) (request : Request) (values points : List (List ℤ)) → way.method ≡ Systematic → way.order ≡ Frame
+    → design_of way request values points ≡ designs.Systematic (started request Frame)
+systematic_is way request values points method order =
+    ap (λ (m : Method). design_by m way request values points) method ∙ ap (λ (o : Order). designs.Systematic (started request o)) order
 
 module _ (plan : Parts) (drawable : CanBeDrawn plan) (so : IsSystematicPlan plan) where
   -- ---- the stage of a stratum
@@ -116,7 +116,7 @@ module _ (plan : Parts) (drawable : CanBeDrawn plan) (so : IsSystematicPlan plan
   drawn_by s design = record { units = length s.units; request = s.request; design = design }
 
   design_is : (s : Stratum) → (first_stage plan s).design ≡ systematic (length s.units) s.request
-  design_is s = ap (drawn_by s) (systematic_is plan.procedure s.request _ so.method so.order)
+  design_is s = ap (drawn_by s) (systematic_is plan.procedure s.request _ _ so.method so.order)
 
   module _ (h : ℕ) (s : Stratum) (is : slice_get plan.strata h ≡ Some s) where
     abbrev own : Selecting

@@ -1,21 +1,14 @@
 -- Local pivotal selection as a method, and where it starts. The method doesn't depend on the number of coordinates.
-use Rattle.std.specs.Prelude.{ℕ, ℤ, List, length}
+use Rattle.std.specs.Prelude.{ℤ, List, length}
 use Rattle.smp_prob.specs.declared.requests.Request.{Request}
 use Rattle.smp_prob.specs.Shares.{shares_of}
 use Rattle.smp_split.specs.Methods.{Method}
-use Rattle.smp_localpiv.specs.declared.dimensions.Dimensions.{Dimensions}
-use Rattle.smp_localpiv.specs.Coordinates.{coordinate_count, points_from}
 use Rattle.smp_localpiv.specs.Local.{Local, IsLocal, local_tree, located_values}
 use Rattle.smp_localpiv.specs.Laws.Splits.{local_lawful}
 
 -- the state before the first step, with the requested values
 abbrev pub started : Request → List (List ℤ) → Local
 started request coords = located_values coords (shares_of request)
-
--- the same, where the coordinates of the units are their values from a place on
-abbrev pub started_from : Request → Dimensions → ℕ → List (List ℤ) → Local
-started_from request dimensions place values =
-    started request (points_from (coordinate_count dimensions) place values)
 
 -- the method over as many units as the design has
 abbrev pub method_of : Local → Method Local

@@ -4,10 +4,10 @@ ghost use Rattle.std.specs.Prelude.{◌≡◌, ◌≤◌, length, IfOk};
 ghost use Rattle.smp_prob.specs.Requests.{IsRequest};
 ghost use Rattle.smp_split.specs.{Counts.{LeavesSelectAround}, Methods.{Starts}};
 ghost use Rattle.smp_values.specs.Starts.{IsRequested};
-ghost use Rattle.smp_localpiv.specs.{Coordinates.{points_from}, Local.{IsLocal, local_tree}, Method.{method_of, started, started_from}};
+ghost use Rattle.smp_localpiv.specs.{Coordinates.{points_of}, Local.{IsLocal, local_tree}, Method.{method_of, started}};
 
 use crate::design::LocalPivotal;
-use crate::dimensions::{Dimensions, points};
+use crate::dimensions::points;
 use crate::state::LocalState;
 use smp_frac::{NoMemory, Numbers};
 use smp_near::ByDimensions;
@@ -50,13 +50,8 @@ impl Model for AnyLocalState {
     ghost view = { λ a. in_any a.state };
 }
 
-// Whatever the number of coordinates: a design with so many; its state; or what is said of either.
+// Whatever the number of coordinates: the state that a design makes, or what is said of either.
 macro_rules! in_each {
-    (of [$($count:ident),*] design $dimensions:expr => $made:expr) => {
-        match $dimensions {
-            $(Dimensions::$count => Ok(AnyLocalPivotal { design: ByDimensions::$count($made) }),)*
-        }
-    };
     (of [$($count:ident),*] state $of:expr, $design:ident => $made:expr) => {
         match $of {
             $(ByDimensions::$count($design) => Ok(AnyLocalState { state: ByDimensions::$count($made) }),)*
@@ -75,47 +70,36 @@ macro_rules! in_each {
 impl AnyLocalPivotal {
     /// The design of a request: its units are the request's free units, and each has the value that is requested of it.
     ///
-    /// `values` has a list for each of the units, in their order. The coordinates of a unit are the values of its list from
-    /// `place` on, as many as there are dimensions, and 0 where the list is shorter.
+    /// `values` has a list for each of the units, in their order, with its coordinates: so many of them, from 1 to 4, and 0 where
+    /// the list is shorter.
     pub fn new(
         alloc: Global,
         request: &Request,
-        dimensions: Dimensions,
-        place: usize,
+        coordinates: usize,
         values: &[Numbers],
     ) -> Result<AnyLocalPivotal, NoMemory>
         requires request { IsRequest request.now }
+        requires coordinates { (1 ≤ coordinates) × (coordinates ≤ 4) }
         requires paired { length values.now ≡ length request.now.free }
         ensures design { IfOk result (λ design.
-            design ≡ started_from request.now dimensions place values.now) }
+            design ≡ started request.now (points_of coordinates values.now)) }
         ensures requested { IfOk result (λ design.
             IsRequested (method_of design).tree request.now design) }
     {
-        in_each!(design dimensions => located(alloc, request, place, values)?)
-    }
-
-    /// The same, with all values of a unit as its coordinates. There are so many of them, from 1 to 4.
-    pub fn on_columns(
-        alloc: Global,
-        request: &Request,
-        columns: usize,
-        values: &[Numbers],
-    ) -> Result<AnyLocalPivotal, NoMemory>
-        requires request { IsRequest request.now }
-        requires columns { (1 ≤ columns) × (columns ≤ 4) }
-        requires paired { length values.now ≡ length request.now.free }
-        ensures design { IfOk result (λ design.
-            design ≡ started request.now (points_from columns 0 values.now)) }
-        ensures requested { IfOk result (λ design.
-            IsRequested (method_of design).tree request.now design) }
-    {
-        let dimensions = match columns {
-            1 => Dimensions::One,
-            2 => Dimensions::Two,
-            3 => Dimensions::Three,
-            _ => Dimensions::Four,
-        };
-        AnyLocalPivotal::new(alloc, request, dimensions, 0, values)
+        match coordinates {
+            1 => Ok(AnyLocalPivotal {
+                design: ByDimensions::One(located(alloc, request, values)?),
+            }),
+            2 => Ok(AnyLocalPivotal {
+                design: ByDimensions::Two(located(alloc, request, values)?),
+            }),
+            3 => Ok(AnyLocalPivotal {
+                design: ByDimensions::Three(located(alloc, request, values)?),
+            }),
+            _ => Ok(AnyLocalPivotal {
+                design: ByDimensions::Four(located(alloc, request, values)?),
+            }),
+        }
     }
 
     /// The state before the first step. Over all draws, each unit is selected with the probability that is its value.
@@ -134,18 +118,17 @@ impl AnyLocalPivotal {
 fn located<const K: usize>(
     alloc: Global,
     request: &Request,
-    place: usize,
     values: &[Numbers],
 ) -> Result<LocalPivotal<K>, NoMemory>
     requires request { IsRequest request.now }
     requires dimensions { (1 ≤ K) × (K ≤ 4) }
     requires paired { length values.now ≡ length request.now.free }
     ensures design { IfOk result (λ design. design ≡
-        started request.now (points_from K place values.now)) }
+        started request.now (points_of K values.now)) }
     ensures requested { IfOk result (λ design.
         IsRequested (method_of design).tree request.now design) }
 {
-    let coords = points::<K>(alloc, place, values)?;
+    let coords = points::<K>(alloc, values)?;
     LocalPivotal::new(alloc, request, coords.as_slice())
 }
 

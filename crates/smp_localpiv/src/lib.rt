@@ -18,5 +18,5 @@ mod state;
 
 pub use crate::any::{AnyLocalPivotal, AnyLocalState};
 pub use crate::design::LocalPivotal;
-pub use crate::dimensions::{Dimensions, points};
+pub use crate::dimensions::points;
 pub use crate::state::LocalState;

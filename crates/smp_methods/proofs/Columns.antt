@@ -1,21 +1,19 @@
 -- A procedure takes the values that a frame has for it.
-use Rattle.std.proofs.Common.{◌≡◌, ℕ, zero, suc, ◌+◌, ◌-◌, ◌^◌, ◌<◌, ◌≤◌, false, ℤ, List, [], ◌∷◌, length, map, take, get_or, All, arith, refl, sym, ap₂, subst, ◌∙◌, suc-le-suc, length-take}
-use Rattle.std.specs.Int.RustNames.{unsigned_abs}
-use Rattle.std.proofs.lemmas.List.{take_all}
-use Rattle.std.proofs.lemmas.List.Elements.{All-get_or, All-map, All-take}
+use Rattle.std.proofs.Common.{◌≡◌, ℕ, zero, suc, ◌-◌, ◌^◌, ◌<◌, ◌≤◌, true, true≢false, ℤ, List, [], ◌∷◌, length, get_or, All, arith, refl, sym, ap, ◌∙◌, inl, inr}
+use Rattle.std.proofs.lemmas.Bool.{cases_Bool}
+use Rattle.std.proofs.lemmas.List.Elements.{All-get_or}
 use Rattle.smp_kernel.specs.Vectors.{Within}
 use Rattle.smp_design.specs.declared.method.Method.{Method}
-use Rattle.smp_design.specs.declared.method.Method.TheVariants as the
-use Rattle.smp_design.specs.declared.method.Method.TheVariants.{Cube, LocalCube, LocalPivotal}
-use Rattle.smp_design.specs.Words.{row, balances, is_balance, is_nothing}
-use Rattle.smp_design.proofs.Rows.{balance_columns}
+use Rattle.smp_design.specs.declared.method.Method.TheVariants.{Cube, LocalCube, LocalPivotal, StratifiedCube}
+use Rattle.smp_design.specs.Words.{row, balances, is_near, most_near}
+use Rattle.smp_design.proofs.Rows.{balance_columns, near_columns}
 use Rattle.smp_flight.specs.Requests.{AreValues}
 use Rattle.smp_design.specs.declared.procedure.Procedure.{Procedure}
-use Rattle.smp_design.specs.Procedures.{AreNeeded, IsProcedure, without_values}
+use Rattle.smp_design.specs.Procedures.{AreNeeded, From1To, IsProcedure, without_values}
 use Rattle.smp_prob.specs.declared.requests.Request.{Request}
 use Rattle.smp_methods.specs.Designs.{design_by, design_of}
-use Rattle.smp_methods.specs.Procedures.{NeededIf, TakesValues, balancing_values}
-use Rattle.smp_methods.proofs.Wholes.{needed_if}
+use Rattle.smp_methods.specs.Procedures.{TakesValues}
+use Rattle.smp_methods.proofs.Wholes.{is_needed, needed_if}
 
 module _ (columns : ℕ) (values : List (List ℤ)) (counted : All (λ v. length v ≡ columns) values) (small : All (Within (2 ^ 31 - 1)) values) where
   length_at : (k : ℕ) → k < length values → length (get_or values k []) ≡ columns
@@ -38,92 +36,71 @@ module _ (columns : ℕ) (values : List (List ℤ)) (counted : All (λ v. length
 
 -- ---- the values of a frame that was read with the columns of a procedure
 
-module _ (way : Procedure) (values : List (List ℤ)) (counted : All (λ v. length v ≡ way.balance + way.near) values) (small : All (Within (2 ^ 31 - 1)) values) where
-  cut_counted : All (λ v. length v ≡ way.balance) (balancing_values way.balance values)
-  cut_counted =
-      All-map (λ (v : List ℤ). length v ≡ way.balance) (take way.balance) values
-      (λ k d l. omega (arith, length-take way.balance (get_or values k d), counted k d l))
-
-  cut_small : All (Within (2 ^ 31 - 1)) (balancing_values way.balance values)
-  cut_small =
-      All-map (Within (2 ^ 31 - 1)) (take way.balance) values
-      (λ k d l. All-take (λ z. unsigned_abs z ≤ 2 ^ 31 - 1) way.balance (get_or values k d) (small k d l))
-
-  pub procedure_takes : IsProcedure way → TakesValues way values
-  procedure_takes is = record {
-    columns = is.columns;
-    each = needed_if (balances way.method) (All (λ v. length v ≡ way.balance + way.near) values) (λ balance. counted);
-    balancing = needed_if (balances way.method) (AreValues (balancing_values way.balance values))
-        (λ balance. are_values way.balance (balancing_values way.balance values) cut_counted cut_small (balance_columns (row way.method).needs way.balance way.near balance is.columns).1);
-  }
+-- they are needed where there are columns of their kind
+pub procedure_takes : (way : Procedure) (request : Request) (values points : List (List ℤ)) → IsProcedure way → (1 ≤ way.balance → length values ≡ length request.free) → (1 ≤ way.near → length points ≡ length request.free)
+    → (1 ≤ way.balance → All (λ v. length v ≡ way.balance) values) → (1 ≤ way.balance → All (Within (2 ^ 31 - 1)) values) → TakesValues way request values points
+procedure_takes way request values points is paired located counted small = record {
+  columns = is.columns;
+  paired = paired;
+  located = located;
+  balancing = needed_if (balances way.method) (AreValues values) (λ balance.
+      (let few = balance_columns (row way.method).needs way.balance way.near balance is.columns in
+      are_values way.balance values (counted few.0) (small few.0) few.1));
+}
 
 -- units that have no values
-pub takes_none : (m : Method) (units : List ℕ) → IsProcedure (without_values m) → TakesValues (without_values m) (map (λ _. []) units)
-takes_none m units is =
-    procedure_takes (without_values m) (map (λ _. []) units) (All-map (λ (v : List ℤ). length v ≡ 0) (λ _. []) units (λ k d l. refl))
-    (All-map (Within (2 ^ 31 - 1)) (λ _. []) units (λ k d l i e m. absurd (omega (arith, m)))) is
+pub takes_none : (m : Method) (request : Request) → IsProcedure (without_values m) → TakesValues (without_values m) request [] []
+takes_none m request is =
+    procedure_takes (without_values m) request [] [] is (λ some. absurd (never some)) (λ some. absurd (never some)) (λ some. absurd (never some)) (λ some. absurd (never some))
+  where
+    never : 1 ≤ 0 → ⊥
+    never some = omega (arith, some)
 
--- ---- which procedures have columns
+-- ---- what a method needs of them
 
--- those whose method needs some
-some_columns : (m : Method) (balance near : ℕ) → is_nothing (row m).needs ≡ false → AreNeeded (row m).needs balance near → 1 ≤ balance + near
-unfolding row
-some_columns LocalPivotal balance near some needed = omega (arith, needed.1.0)
-some_columns Cube balance near some needed = omega (arith, needed.0.0)
-some_columns LocalCube balance near some needed = omega (arith, needed.0.0)
-some_columns the.StratifiedCube balance near some needed = omega (arith, needed.0.0)
-some_columns other balance near some needed = absurd (cc)
+module _ (way : Procedure) (request : Request) (values points : List (List ℤ)) (takes : TakesValues way request values points) where
+  -- a method that balances
+  pub one_each : balances way.method ≡ true → length values ≡ length request.free
+  one_each balance = takes.paired (balance_columns (row way.method).needs way.balance way.near balance takes.columns).0
 
--- then each unit has its values
-pub paired_values : (way : Procedure) (values : List (List ℤ)) (free : List ℕ) → TakesValues way values → (1 ≤ way.balance + way.near → length values ≡ length free) → is_nothing (row way.method).needs ≡ false → length values ≡ length free
-paired_values way values free takes paired some = paired (some_columns way.method way.balance way.near some takes.columns)
+  pub balanced_values : balances way.method ≡ true → AreValues values
+  balanced_values balance = is_needed (balances way.method) (AreValues values) takes.balancing balance
 
--- a design of one without is the same by whatever values
-module _ (way : Procedure) (request : Request) (values others : List (List ℤ)) where
-  same_by : (m : Method) → (is_nothing (row m).needs ≡ false → ⊥) → design_by m way request values ≡ design_by m way request others
+  -- a method among neighbours
+  pub few_points : is_near (row way.method).needs ≡ true → From1To most_near way.near
+  few_points near = near_columns (row way.method).needs way.balance way.near near takes.columns
+
+  pub one_point_each : is_near (row way.method).needs ≡ true → length points ≡ length request.free
+  one_point_each near = takes.located (few_points near).0
+
+-- ---- which values it doesn't look at
+
+-- the design is the same by whatever values of a kind of which it has no columns
+module _ (way : Procedure) (request : Request) (values others points elsewhere : List (List ℤ)) (needed : AreNeeded (row way.method).needs way.balance way.near) where
+  values_apart : (m : Method) → (balances m ≡ true → ⊥) → design_by m way request values points ≡ design_by m way request others points
   unfolding row
-  same_by LocalPivotal nothing = absurd (nothing refl)
-  same_by Cube nothing = absurd (nothing refl)
-  same_by LocalCube nothing = absurd (nothing refl)
-  same_by the.StratifiedCube nothing = absurd (nothing refl)
-  same_by other nothing = refl
+  values_apart Cube apart = absurd (apart refl)
+  values_apart LocalCube apart = absurd (apart refl)
+  values_apart StratifiedCube apart = absurd (apart refl)
+  values_apart other apart = refl
 
-  pub same_design : AreNeeded (row way.method).needs way.balance way.near → way.balance + way.near ≡ 0 → design_of way request values ≡ design_of way request others
-  same_design needed none = same_by way.method (λ some. omega (arith, none, some_columns way.method way.balance way.near some needed))
-
--- ---- where no column is a coordinate
-
--- all values are balanced
-no_cut : (columns : ℕ) (values : List (List ℤ)) → All (λ v. length v ≡ columns) values → balancing_values columns values ≡ values
-no_cut columns [] counted = refl
-no_cut columns (v ∷ values) counted =
-    ap₂ (λ (w : List ℤ) rest. w ∷ rest) (take_all columns v (omega (arith, counted 0 [] (omega arith))))
-    (no_cut columns values (λ k d l. counted (suc k) d (suc-le-suc l)))
-
-module _ (way : Procedure) (values : List (List ℤ)) (takes : TakesValues way values) (is : (row way.method).needs ≡ (row Cube).needs) where
-  pub balanced_whole : balancing_values way.balance values ≡ values
+  points_apart : (m : Method) → (is_near (row m).needs ≡ true → ⊥) → design_by m way request others points ≡ design_by m way request others elsewhere
   unfolding row
-  balanced_whole =
-      let none : way.near ≡ 0 = (subst (λ needs. AreNeeded needs way.balance way.near) is takes.columns).1 in
-      let each : All (λ v. length v ≡ way.balance + way.near) values = subst (λ needs. NeededIf (is_balance needs) (All (λ v. length v ≡ way.balance + way.near) values)) is takes.each in
-      no_cut way.balance values (λ k d l. omega (arith, each k d l, none))
+  points_apart LocalPivotal apart = absurd (apart refl)
+  points_apart LocalCube apart = absurd (apart refl)
+  points_apart other apart = refl
 
-  pub whole_values : AreValues values
-  unfolding row
-  whole_values =
-      subst AreValues balanced_whole (subst (λ needs. NeededIf (is_balance needs) (AreValues (balancing_values way.balance values))) is takes.balancing)
+  by_values : (1 ≤ way.balance → values ≡ others) → design_of way request values points ≡ design_of way request others points
+  by_values same = elim (cases_Bool (balances way.method)) [
+    | inl balance ↦ ap (λ vs. design_of way request vs points) (same (balance_columns (row way.method).needs way.balance way.near balance needed).0)
+    | inr apart ↦ values_apart way.method (λ balance. absurd (true≢false (sym balance ∙ apart)))
+  ]
 
--- ---- what the local methods need of them
+  by_points : (1 ≤ way.near → points ≡ elsewhere) → design_of way request others points ≡ design_of way request others elsewhere
+  by_points same = elim (cases_Bool (is_near (row way.method).needs)) [
+    | inl near ↦ ap (λ ps. design_of way request others ps) (same (near_columns (row way.method).needs way.balance way.near near needed).0)
+    | inr apart ↦ points_apart way.method (λ near. absurd (true≢false (sym near ∙ apart)))
+  ]
 
-pub few_points : (way : Procedure) (values : List (List ℤ)) → TakesValues way values → way.method ≡ LocalPivotal → (1 ≤ way.near) × (way.near ≤ 4)
-unfolding row
-few_points way values takes is = (subst (λ m. AreNeeded (row m).needs way.balance way.near) is takes.columns).1
-
-module _ (way : Procedure) (values : List (List ℤ)) (takes : TakesValues way values) (is : way.method ≡ LocalCube) where
-  pub local_near : (1 ≤ way.near) × (way.near ≤ 4)
-  unfolding row
-  local_near = (subst (λ m. AreNeeded (row m).needs way.balance way.near) is takes.columns).1
-
-  pub local_values : AreValues (balancing_values way.balance values)
-  unfolding row
-  local_values = subst (λ m. NeededIf (balances m) (AreValues (balancing_values way.balance values))) is takes.balancing
+  pub same_design : (1 ≤ way.balance → values ≡ others) → (1 ≤ way.near → points ≡ elsewhere) → design_of way request values points ≡ design_of way request others elsewhere
+  same_design same lie = by_values same ∙ by_points lie

@@ -5,4 +5,3 @@ pub mod Columns
 pub mod Wholes
 pub mod Ways
 pub mod OneStratum
-pub mod Values

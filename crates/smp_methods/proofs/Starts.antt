@@ -31,7 +31,7 @@ use Rattle.smp_design.specs.declared.procedure.Procedure.{Procedure}
 use Rattle.smp_methods.specs.Designs.{Variant, design_by, design_of, design_of_strata, drawn_by, first_state, name_of, state_among, tree_among, variant, variant_of}
 use Rattle.smp_methods.specs.Methods.{method_of}
 use Rattle.smp_methods.specs.Kept.Alone.{AroundAlone, CountAlone, RequestedAlone, StrataAlone}
-use Rattle.smp_methods.specs.Procedures.{NeedsWhole, balancing_values}
+use Rattle.smp_methods.specs.Procedures.{NeedsWhole}
 use Rattle.smp_methods.specs.Starts.{AreStarted, IsStarted, SelectsAround}
 use Rattle.smp_methods.proofs.OneStratum.{one_count}
 use Rattle.smp_methods.proofs.Ways.{drawn_by_method}
@@ -89,11 +89,11 @@ one_stratum layer member strata =
     count_in states.StratifiedCube (elim [ states.StratifiedCube state ↦ Some state | other ↦ None ]) (λ _. refl)
     (strat_tree (units_of (layer ∷ []))) (started (units_of (layer ∷ []))) (one_count layer member.are strata.0)
 
-module _ (way : Procedure) (request : Request) (values : List (List ℤ)) (design : AnyDesign) (made : design ≡ design_of way request values) (member : (method_of design).belongs (first_state design)) where
+module _ (way : Procedure) (request : Request) (values points : List (List ℤ)) (design : AnyDesign) (made : design ≡ design_of way request values points) (member : (method_of design).belongs (first_state design)) where
   by_strata : StrataAlone design (first_state design) → way.method ≡ StratifiedCube → HasCount (method_of design).tree (first_state design)
   by_strata strata is =
-      let layer : Layer = layer_of request (balancing_values way.balance values) in
-      let same : design ≡ design_of_strata (layer ∷ []) = made ∙ ap (λ m. design_by m way request values) is in
+      let layer : Layer = layer_of request values in
+      let same : design ≡ design_of_strata (layer ∷ []) = made ∙ ap (λ m. design_by m way request values points) is in
       subst (λ (d : AnyDesign). HasCount (method_of d).tree (first_state d)) (sym same)
       (one_stratum layer (subst (λ (d : AnyDesign). (method_of d).belongs (first_state d)) same member) (subst (λ (d : AnyDesign). StrataAlone d (first_state d)) same strata))
 
@@ -104,23 +104,23 @@ module _ (way : Procedure) (request : Request) (values : List (List ℤ)) (desig
       | inl together ↦ by_strata strata (is_together way.method together)
       | inr apart ↦
           count_among (variant_of design) count
-          (ap draws_together (ap drawn_by made ∙ drawn_by_method way.method way request values) ∙ apart)
+          (ap draws_together (ap drawn_by made ∙ drawn_by_method way.method way request values points) ∙ apart)
     ];
   }
 
 -- the design of the request by the method, at its first state
-pub is_started : (way : Procedure) (request : Request) (values : List (List ℤ)) (design : AnyDesign) (state : AnyState)
-    → NeedsWhole way request → design ≡ design_of way request values → RequestedAlone request (variant_of design) → state ≡ first_state design → (method_of design).belongs state → CountAlone (variant_of design) state → StrataAlone design state
+pub is_started : (way : Procedure) (request : Request) (values points : List (List ℤ)) (design : AnyDesign) (state : AnyState)
+    → NeedsWhole way request → design ≡ design_of way request values points → RequestedAlone request (variant_of design) → state ≡ first_state design → (method_of design).belongs state → CountAlone (variant_of design) state → StrataAlone design state
     → AroundAlone (variant_of design) state
-    → IsStarted way request values (record { design = design; state = state })
-is_started way request values design state whole made requested there member count strata around =
-    let own : AnyDesign = design_of way request values in
+    → IsStarted way request values points (record { design = design; state = state })
+is_started way request values points design state whole made requested there member count strata around =
+    let own : AnyDesign = design_of way request values points in
     let start : Starts (method_of own) (first_state own) = subst (λ (d : AnyDesign). Starts (method_of d) (first_state d)) made
-    (starts_all way request values design made (subst (λ (s : AnyState). (method_of design).belongs s) there member) (subst (CountAlone (variant_of design)) there count) (subst (StrataAlone design) there strata)) in
+    (starts_all way request values points design made (subst (λ (s : AnyState). (method_of design).belongs s) there member) (subst (CountAlone (variant_of design)) there count) (subst (StrataAlone design) there strata)) in
     let asked : IsRequested (method_of own).tree request (first_state own) =
     subst (λ (d : AnyDesign). IsRequested (method_of d).tree request (first_state d)) made (requested_among (variant_of design) request requested) in
     let same : state ≡ first_state own = there ∙ ap first_state made in
-    let by_way : drawn_by own ≡ way.method = drawn_by_method way.method way request values in
+    let by_way : drawn_by own ≡ way.method = drawn_by_method way.method way request values points in
     record {
       design = made;
       state = same;

@@ -12,12 +12,12 @@ use Rattle.smp_methods.specs.Methods.{method_of}
 use Rattle.smp_methods.specs.Starts.{SelectsAround}
 
 -- this is checked method by method
-pub drawn_by_method : (m : Method) (way : Procedure) (request : Request) (values : List (List ℤ)) → drawn_by (design_by m way request values) ≡ m
-drawn_by_method Pivotal way request values = refl
-drawn_by_method other way request values = refl
+pub drawn_by_method : (m : Method) (way : Procedure) (request : Request) (values points : List (List ℤ)) → drawn_by (design_by m way request values points) ≡ m
+drawn_by_method Pivotal way request values points = refl
+drawn_by_method other way request values points = refl
 
 -- by a method that doesn't balance
-pub around_unless : (way : Procedure) (request : Request) (values : List (List ℤ)) (state : AnyState) → balances way.method ≡ false → SelectsAround (design_of way request values) state
-    → LeavesSelectAround (method_of (design_of way request values)).tree state
-around_unless way request values state unbalanced around =
-    around (ap balances (drawn_by_method way.method way request values) ∙ unbalanced)
+pub around_unless : (way : Procedure) (request : Request) (values points : List (List ℤ)) (state : AnyState) → balances way.method ≡ false → SelectsAround (design_of way request values points) state
+    → LeavesSelectAround (method_of (design_of way request values points)).tree state
+around_unless way request values points state unbalanced around =
+    around (ap balances (drawn_by_method way.method way request values points) ∙ unbalanced)

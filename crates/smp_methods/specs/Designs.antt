@@ -23,14 +23,13 @@ use Rattle.smp_moves.specs.Cubes.{left_in}
 use Rattle.smp_flight.specs.Requests.{units_of}
 use Rattle.smp_flight.specs.Selections.{starting}
 use Rattle.smp_flight.specs.Cube.{cube_tree}
-use Rattle.smp_localpiv.specs.Coordinates.{points_from}
+use Rattle.smp_localpiv.specs.Coordinates.{points_of}
 use Rattle.smp_localcube.specs.Local as near_cube
 use Rattle.smp_localcube.specs.Method as local_cube
 use Rattle.smp_stratcube.specs.States as stratified
 use Rattle.smp_stratcube.specs.Layers.{Layer}
 use Rattle.smp_stratcube.specs.Cube.{strat_tree}
 use Rattle.smp_stratcube.specs.Units as strata
-use Rattle.smp_methods.specs.Procedures.{balancing_values}
 use Rattle.smp_design.specs.declared.procedure.Procedure.{Procedure}
 use Rattle.smp_methods.specs.declared.any.AnyDesign.{AnyDesign}
 use Rattle.smp_methods.specs.declared.any.AnyDesign.TheVariants as designs
@@ -41,32 +40,29 @@ use Rattle.smp_methods.specs.declared.any.AnyState.TheVariants as states
 abbrev pub design_of_strata : List Layer → AnyDesign
 design_of_strata layers = designs.StratifiedCube (strata.units_of layers)
 
--- The design of a request by a method, with the requested values. The values of the free units serve as balancing values, or as
--- coordinates, or as these behind those, so many of each as the procedure says. By the cube over all strata it is that of one stratum.
-abbrev pub design_by : named.Method → Procedure → Request → List (List ℤ) → AnyDesign
-design_by method.Pivotal way request values =
+-- The design of a request by a method, with the requested probabilities: each free unit has a list of balancing values and one of
+-- coordinates, which a method doesn't look at that takes none. By the cube over all strata it is that of one stratum.
+abbrev pub design_by : named.Method → Procedure → Request → List (List ℤ) → List (List ℤ) → AnyDesign
+design_by method.Pivotal way request values points =
     designs.Pivotal (pivotal.started request way.order)
-design_by method.Systematic way request values =
+design_by method.Systematic way request values points =
     designs.Systematic (systematic.started request way.order)
-design_by method.MinimumSupport way request values =
+design_by method.MinimumSupport way request values points =
     designs.MinimumSupport (support.started request)
-design_by method.Brewer way request values = designs.Brewer (brewer.started request)
-design_by method.LocalPivotal way request values =
-    designs.LocalPivotal (local.started request (points_from way.near 0 values))
-design_by method.Cube way request values =
-    designs.Cube (units_of request (balancing_values way.balance values))
-design_by method.Elimination way request values =
+design_by method.Brewer way request values points = designs.Brewer (brewer.started request)
+design_by method.LocalPivotal way request values points =
+    designs.LocalPivotal (local.started request (points_of way.near points))
+design_by method.Cube way request values points = designs.Cube (units_of request values)
+design_by method.Elimination way request values points =
     designs.Elimination (elimination.started request)
-design_by method.LocalCube way request values = designs.LocalCube (record {
-  units = units_of request (balancing_values way.balance values);
-  coords = points_from way.near way.balance values;
-})
-design_by method.StratifiedCube way request values =
-    design_of_strata (record { request = request; values = balancing_values way.balance values } ∷ [])
+design_by method.LocalCube way request values points =
+    designs.LocalCube (record { units = units_of request values; coords = points_of way.near points })
+design_by method.StratifiedCube way request values points =
+    design_of_strata (record { request = request; values = values } ∷ [])
 
 -- the same, by a procedure
-abbrev pub design_of : Procedure → Request → List (List ℤ) → AnyDesign
-design_of way request values = design_by way.method way request values
+abbrev pub design_of : Procedure → Request → List (List ℤ) → List (List ℤ) → AnyDesign
+design_of way request values points = design_by way.method way request values points
 
 -- One method's design among all: its method's name; its draw tree; the design, which is seen as its first state; `into`, which puts
 -- the method's states among those of all methods, and `out`, which gives them back; and that it gives back what was put there.

@@ -27,13 +27,13 @@ SelectsAround design state =
 -- It is the design of the request by the procedure, at its first state: each free unit has the value
 -- that is requested of it, and over all draws it is selected with that probability. By every method
 -- that doesn't balance, as many units are selected as the values add up to, rounded down or up.
-pub record IsStarted (way : Procedure) (request : Request) (values : List (List ℤ))
+pub record IsStarted (way : Procedure) (request : Request) (values points : List (List ℤ))
     (started : Started) : Type 0 where
-  pub design : started.design ≡ design_of way request values
-  pub state : started.state ≡ first_state (design_of way request values)
-  pub starts : Starts (method_of (design_of way request values)) started.state
-  pub requested : IsRequested (method_of (design_of way request values)).tree request started.state
-  pub around : SelectsAround (design_of way request values) started.state
+  pub design : started.design ≡ design_of way request values points
+  pub state : started.state ≡ first_state (design_of way request values points)
+  pub starts : Starts (method_of (design_of way request values points)) started.state
+  pub requested : IsRequested (method_of (design_of way request values points)).tree request started.state
+  pub around : SelectsAround (design_of way request values points) started.state
 
 -- It is the design of all these strata together, at its first state: each free unit of each stratum has the value that is requested of it,
 -- and over all draws it is selected with that probability; as many units of a stratum are selected as its values add up to, where that is

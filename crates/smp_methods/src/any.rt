@@ -1,6 +1,6 @@
 //! The design of a request by any of the methods, and its states.
 
-ghost use Rattle.std.specs.Prelude.{◌≡◌, ◌<◌, ◌≤◌, ◌+◌, false, length, IfOk};
+ghost use Rattle.std.specs.Prelude.{◌≡◌, ◌<◌, false, IfOk};
 ghost use Rattle.smp_prob.specs.Requests.{IsRequest};
 ghost use Rattle.smp_split.specs.Trees.{weight_sum};
 ghost use Rattle.smp_stratcube.specs.States as stratified;
@@ -77,29 +77,23 @@ macro_rules! by_method {
 
 impl AnyDesign {
     /// The design of a request by a procedure. Each free unit has the value that is requested.
-    #[tactic(auto, using(crate::proofs::Columns::few_points, crate::proofs::Columns::whole_values, crate::proofs::Columns::local_near, crate::proofs::Columns::local_values, crate::proofs::Columns::balanced_whole), unfolding(smp_design::specs::Words::row))]
+    #[tactic(auto, unfolding(smp_design::specs::Words::row))]
     pub(crate) fn new(
         alloc: Global,
         procedure: Procedure,
         request: &Request,
         values: &[Numbers],
+        points: &[Numbers],
     ) -> Result<AnyDesign, NoMemory>
         requires request { IsRequest request.now }
         requires whole { NeedsWhole procedure request.now }
-        requires paired { 1 ≤ procedure.balance + procedure.near
-            → length values.now ≡ length request.now.free }
-        requires values { TakesValues procedure values.now }
+        requires values { TakesValues procedure request.now values.now points.now }
         ensures design { IfOk result (λ design.
-            design ≡ design_of procedure request.now values.now) }
+            design ≡ design_of procedure request.now values.now points.now) }
         ensures requested { IfOk result (λ design.
             RequestedAlone request.now (variant_of design)) }
     {
-        let Procedure {
-            order,
-            balance,
-            near,
-            ..
-        } = procedure;
+        let Procedure { order, near, .. } = procedure;
         Ok(match procedure.method {
             Method::Pivotal => {
                 AnyDesign::Pivotal(smp_pivotal::Pivotal::new(alloc, request, order)?)
@@ -111,15 +105,15 @@ impl AnyDesign {
                 AnyDesign::MinimumSupport(smp_minsup::MinimumSupport::new(alloc, request)?)
             }
             Method::Brewer => AnyDesign::Brewer(smp_brewer::Brewer::new(alloc, request)?),
-            Method::LocalPivotal => AnyDesign::LocalPivotal(
-                smp_localpiv::AnyLocalPivotal::on_columns(alloc, request, near, values)?,
-            ),
+            Method::LocalPivotal => AnyDesign::LocalPivotal(smp_localpiv::AnyLocalPivotal::new(
+                alloc, request, near, points,
+            )?),
             Method::Cube => AnyDesign::Cube(smp_flight::Cube::new(alloc, request, values)?),
             Method::Elimination => {
                 AnyDesign::Elimination(smp_elim::Elimination::new(alloc, request)?)
             }
             Method::LocalCube => {
-                AnyDesign::LocalCube(local_cube(alloc, request, balance, near, values)?)
+                AnyDesign::LocalCube(local_cube(alloc, request, values, near, points)?)
             }
             Method::StratifiedCube => {
                 AnyDesign::StratifiedCube(stratified_cube(alloc, request, values)?)

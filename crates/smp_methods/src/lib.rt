@@ -15,4 +15,4 @@ mod stratified;
 
 pub use any::{AnyDesign, AnyState};
 pub use boxed::Boxed;
-pub use start::{Started, no_values};
+pub use start::Started;

@@ -9,7 +9,7 @@ use Rattle.std.specs.List.Sorted.{IsStrictlySortedBy}
 use Rattle.smp_frac.specs.Limits.{most_rows}
 use Rattle.smp_design.specs.Bounds.{Ascend, IsDesign}
 use Rattle.smp_design.specs.Words.{row, draws_together, in_second}
-use Rattle.smp_design.proofs.Rows.{bare, no_coordinates}
+use Rattle.smp_design.proofs.Rows.{bare}
 use Rattle.smp_design.specs.declared.design.Design.{Design}
 use Rattle.smp_design.specs.declared.design.Second.{Second}
 use Rattle.smp_design.specs.declared.method.Method.{Method}
@@ -53,8 +53,8 @@ module _ (design : Design) (units : List unit.Unit) (is : IsDesign design) (some
     one_stage = no_second design.procedure.method design.second is.second_apart joined;
     some = (let names = some_names units some in omega (arith, names, strata_count));
     rows =
-        (let few = few_rows (draws_together design.procedure.method) (length (stratum_names units)) (length design.columns.values) (rows_fit design units fits) joined in
-        omega (arith, few, strata_count, is.values, no_coordinates design.procedure joined is.procedure));
+        (let few = few_rows (draws_together design.procedure.method) (length (stratum_names units)) (length design.columns.balance) (rows_fit design units fits) joined in
+        omega (arith, few, strata_count, is.balance));
     few = few;
   }
 
@@ -85,7 +85,8 @@ quick_is_design n some few = record {
   prob = tt;
   strata = tt;
   procedure = bare Pivotal refl;
-  values = refl;
+  balance = refl;
+  near = refl;
   second_size = tt;
   second_method = tt;
   second_first = tt;

@@ -1,5 +1,5 @@
 ghost use Rattle.std.specs.Prelude.{◌≡◌, ◌∷◌, [], IfOk, length, true};
-ghost use Rattle.smp_frame.specs.Bounds.{HaveValues, IsFrame};
+ghost use Rattle.smp_frame.specs.Bounds.{HaveBalance, HavePoints, IsFrame};
 ghost use Rattle.smp_design.specs.Bounds.{IsDesign};
 ghost use Rattle.smp_words.specs.Words.{all_distinct};
 ghost use Rattle.smp_plan.specs.{Stops.{content_of}, Inputs.{design_names, frame_names, input_names}};
@@ -124,7 +124,8 @@ fn is_large(source: FrameSource, rows: usize) -> bool
 fn plan_for(alloc: Global, design: Design, frame: Frame, head: Head) -> Result<FramePlan, Misfit>
     requires design { IsDesign design }
     requires frame { IsFrame frame }
-    requires columns { HaveValues (length design.columns.values) frame }
+    requires balance { HaveBalance (length design.columns.balance) frame }
+    requires points { HavePoints (length design.columns.near) frame }
     ensures follows { GivesPlan (result_view plan_view result)
         (plan_of (record { design = design; units = frame; head = head })) }
     ensures planned { IfOk result IsPlanned }

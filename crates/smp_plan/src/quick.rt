@@ -33,6 +33,7 @@ fn quick_columns(alloc: Global) -> Result<Columns, NoMemory>
         size: Some(Text::from_str(alloc, "size")?),
         second_size: None,
         prob: None,
-        values: Names::from_vec(Vec::new(alloc)),
+        balance: Names::from_vec(Vec::new(alloc)),
+        near: Names::from_vec(Vec::new(alloc)),
     })
 }

@@ -75,10 +75,15 @@ module _ (design : Design) (units : List unit.Unit) (rows : All (AreRows (length
       let within : k < length strata = slice_get_within strata k s e in
       rw (sym (get_or_from_slice_get strata k s s e) ∙ nth k s within) ((built.each k (omega (arith, within, long))).draws)
 
-  pub have_columns : All (λ s. All (λ f. length f.values ≡ length design.columns.values) s.units) strata
-  have_columns k d l =
-      rw (nth k d l) (All-map (λ (f : first.FirstUnit). length f.values ≡ length design.columns.values) (first_of design units) (clusters_in design units k)
-      (λ j g m. length-map-range_with_len (value_of units (get_or (clusters_in design units k) j g)) 0 (length design.columns.values)))
+  pub have_balance : All (λ s. All (λ f. length f.balance ≡ length design.columns.balance) s.units) strata
+  have_balance k d l =
+      rw (nth k d l) (All-map (λ (f : first.FirstUnit). length f.balance ≡ length design.columns.balance) (first_of design units) (clusters_in design units k)
+      (λ j g m. length-map-range_with_len (value_of units (get_or (clusters_in design units k) j g)) 0 (length design.columns.balance)))
+
+  pub have_points : All (λ s. All (λ f. length f.point ≡ length design.columns.near) s.units) strata
+  have_points k d l =
+      rw (nth k d l) (All-map (λ (f : first.FirstUnit). length f.point ≡ length design.columns.near) (first_of design units) (clusters_in design units k)
+      (λ j g m. ((built.each k (omega (arith, l, long))).firsts j g m).point))
 
   module _ (row_places : List ℕ) (row_groups : AreGroups (homes_of design.second units) (length (clusters design.second units)) (clusters design.second units) row_places)
       (long_rows : length (homes_of design.second units) ≡ length units) (together : unit_in_two design.second units ≡ None)

@@ -1,4 +1,4 @@
--- Values in columns: what is read, and sums that are within the limit.
+-- Balancing values in columns: what is read, and sums that are within the limit.
 use Rattle.std.proofs.Common.{◌≡◌, ℕ, ◌+◌, ◌<◌, ◌^◌, Bool, true, false, List, [], length, map, get_or, nat_le, nat_abs, ℤ, pos, neg_ℤ, ◌≤ℤ◌, ◌+ℤ◌, ◌*◌, SFits, to_z, of_z, w32, w64, arith, refl, sym, ap, ◌∙◌}
 use Rattle.std.specs.List.{list_any, range_with_len}
 use Rattle.std.proofs.lemmas.Bool.{or_parts, or_right, leb-false}
@@ -7,17 +7,17 @@ use Rattle.std.proofs.lemmas.List.{get_or-map}
 use Rattle.std.proofs.lemmas.List.Folds.{list_any_at, list_any-append}
 use Rattle.std.proofs.lemmas.List.FromFn.{get_or-map-range_with_len, length-map-range_with_len, map-range_with_len_more}
 use Rattle.smp_frac.specs.Limits.{most_rows}
-use Rattle.smp_frame.specs.Bounds.{AreNear, IsFrame, HaveValues}
+use Rattle.smp_frame.specs.Bounds.{AreNear, IsFrame, HaveBalance}
 use Rattle.smp_frame.specs.declared.frame.Unit as unit
 use Rattle.smp_strata.specs.Rows.{value_at, value_of, values_of, size_of, is_large}
 use Rattle.smp_strata.proofs.Ranges.{none_passes}
 
-module _ (units : List unit.Unit) (row column : ℕ) (values : List ℤ) (u : unit.Unit) (here : row < length units) (is : values ≡ (get_or units row u).values) where
+module _ (units : List unit.Unit) (row column : ℕ) (values : List ℤ) (u : unit.Unit) (here : row < length units) (is : values ≡ (get_or units row u).balance) where
   pub value_read : get_or values column (pos 0) ≡ value_at units row column
-  value_read = ap (λ v. get_or v column (pos 0)) (is ∙ sym (get_or-map (λ (w : unit.Unit). w.values) units row u [] here))
+  value_read = ap (λ v. get_or v column (pos 0)) (is ∙ sym (get_or-map (λ (w : unit.Unit). w.balance) units row u [] here))
 
-  pub value_near : (columns : ℕ) → IsFrame units → HaveValues columns units → column < columns → nat_abs (get_or values column (pos 0)) < 2 ^ 31
-  value_near columns frame have within = rw is (frame.near row u here column (pos 0) (omega (arith, within, have row u here)))
+  pub value_near : (columns : ℕ) → IsFrame units → HaveBalance columns units → column < columns → nat_abs (get_or values column (pos 0)) < 2 ^ 31
+  value_near columns frame have within = rw is (frame.balance row u here column (pos 0) (omega (arith, within, have row u here)))
 
 -- one more value is added in the code's numbers
 pub added : (s v : ℤ) (i : ℕ) → i < most_rows → nat_abs v < 2 ^ 31 → neg_ℤ (pos (i * 2 ^ 31)) ≤ℤ s → s ≤ℤ pos (i * 2 ^ 31)

@@ -131,8 +131,8 @@ some_all None units some = omega (arith, some, length-map-range_with_len (λ row
 some_all (Some second) units some = omega (arith, length-map (psu_names units) (in_psu units), psu_within units 0 some)
 
 -- no first stage unit is too large
-pub none_large : (design : Design) (units : List unit.Unit) → psu_too_large design units ≡ None → All (λ g. is_large units (length design.columns.values) g ≡ false) (clusters design.second units)
+pub none_large : (design : Design) (units : List unit.Unit) → psu_too_large design units ≡ None → All (λ g. is_large units (length design.columns.balance) g ≡ false) (clusters design.second units)
 none_large design units e k d l = when_false _ (PsuTooLarge (psu_at units (first_row (get_or (clusters design.second units) k d)))) (none_each (large design units) (clusters design.second units) e k d l)
 
 pub sizes_small : (design : Design) (units : List unit.Unit) → psu_too_large design units ≡ None → All (λ g. size_of units g < 2 ^ 31) (clusters design.second units)
-sizes_small design units e k d l = small_size units (length design.columns.values) (get_or (clusters design.second units) k d) (none_large design units e k d l)
+sizes_small design units e k d l = small_size units (length design.columns.balance) (get_or (clusters design.second units) k d) (none_large design units e k d l)

@@ -1,5 +1,5 @@
 -- What is true of every plan.
-use Rattle.std.specs.Prelude.{◌≡◌, ℕ, ◌+◌, ◌<◌, ◌≤◌, List, length, is_some, Option, IfSome, IsTrue, All}
+use Rattle.std.specs.Prelude.{◌≡◌, ℕ, ◌<◌, ◌≤◌, List, length, is_some, Option, IfSome, IsTrue, All}
 use Rattle.smp_frac.specs.Limits.{most_rows}
 use Rattle.smp_frame.specs.Bounds.{AreNear}
 use Rattle.smp_prob.specs.declared.requests.Request.{Request}
@@ -27,10 +27,12 @@ pub record DrawsWholeOver (count : ℕ) (request : Request) : Type 0 where
   pub over : IsOver count request
   pub whole : DrawsWhole request
 
--- a first stage unit has rows, values within 2,147,483,647 of 0, and a request over its rows where there is a second stage
+-- a first stage unit has rows, balancing values and coordinates within 2,147,483,647 of 0, and a request over its rows where there is a
+-- second stage
 pub record IsFirst (method : Option Method) (f : first.FirstUnit) : Type 0 where
   pub some : 1 ≤ length f.rows
-  pub near : AreNear f.values
+  pub balance : AreNear f.balance
+  pub point : AreNear f.point
   pub over : IfSome f.second (DrawsWholeOver (length f.rows))
   pub staged : is_some f.second ≡ is_some method
 
@@ -47,11 +49,11 @@ pub record AreSeated (rows : ℕ) (strata : List stratum.Stratum) : Type 0 where
   pub once : (row : ℕ) (s t : seat.Seat) → IsSeat strata row s → IsSeat strata row t → s ≡ t
   pub below : (row : ℕ) (s : seat.Seat) → IsSeat strata row s → row < rows
 
--- a plan, whose first stage units have a value in each of the procedure's columns
+-- a plan, whose first stage units have a balancing value and a coordinate in each of the procedure's columns of these
 pub record IsPlan (plan : Parts) : Type 0 where
   pub strata : All (IsStratum plan.second) plan.strata
   -- where the method draws a whole number of units alone, a whole number is asked of each stratum
   pub whole : IsTrue (row plan.procedure.method).draws_whole → All (λ s. DrawsWhole s.request) plan.strata
-  pub columns : All (λ s. All (λ f.
-      length f.values ≡ plan.procedure.balance + plan.procedure.near) s.units) plan.strata
+  pub balance : All (λ s. All (λ f. length f.balance ≡ plan.procedure.balance) s.units) plan.strata
+  pub points : All (λ s. All (λ f. length f.point ≡ plan.procedure.near) s.units) plan.strata
   pub seated : AreSeated plan.rows plan.strata

@@ -50,7 +50,7 @@ unit_in_two (Some second) units = first_apart units
 -- a psu with a sum above the limit
 abbrev pub large : Design → List unit.Unit → List ℕ → Option Misfit
 large design units rows =
-    when (is_large units (length design.columns.values) rows)
+    when (is_large units (length design.columns.balance) rows)
     (PsuTooLarge (psu_at units (first_row rows)))
 
 -- The first such psu, in the whole frame. A row by itself is within the limit.
@@ -133,7 +133,7 @@ row_limit_by together strata variables =
 -- the misfit that strata and variables make more balancing equations than there may be
 abbrev pub row_limit : Design → List unit.Unit → Option Misfit
 row_limit design units =
-    row_limit_by (draws_together design.procedure.method) (length (stratum_names units)) (length design.columns.values)
+    row_limit_by (draws_together design.procedure.method) (length (stratum_names units)) (length design.columns.balance)
 
 -- ---- the first
 

@@ -1,5 +1,5 @@
 -- The plan of a frame and a design: its strata, their first stage units and the requests over them.
-use Rattle.std.specs.Prelude.{ℕ, List, Option, Some, None, map, length, option_map, find, unwrap_or, slice_index}
+use Rattle.std.specs.Prelude.{ℕ, List, [], Option, Some, None, map, length, option_map, find, unwrap_or, slice_index, slice_index_or}
 use Rattle.std.specs.Str.{bytes_eq}
 use Rattle.smp_prob.specs.declared.requests.Request.{Request}
 use Rattle.smp_prob.specs.Requested.{requested_of}
@@ -82,11 +82,12 @@ abbrev pub second_request : Option second.Second → List unit.Unit → List ℕ
 second_request None units rows = None
 second_request (Some second) units rows = Some (requested_of (second_sizes units rows) second.n)
 
--- a first stage unit of some rows
+-- a first stage unit of some rows; where it has coordinates, it is one row, and lies where that does
 abbrev pub first_of : Design → List unit.Unit → List ℕ → first.FirstUnit
 first_of design units rows = record {
   rows = rows;
-  values = values_of units (length design.columns.values) rows;
+  balance = values_of units (length design.columns.balance) rows;
+  point = slice_index_or (map (λ u. u.point) units) (first_row rows) [];
   second = second_request design.second units rows;
 }
 

@@ -31,10 +31,10 @@ second_size_at units row = slice_index (map (λ u. u.second_size) units) row
 abbrev pub prob_at : List unit.Unit → ℕ → Frac
 prob_at units row = slice_index_or (map (λ u. u.prob) units) row (lowest_terms (whole 1))
 
--- the value of a row in a column of values
+-- the balancing value of a row in a column
 abbrev pub value_at : List unit.Unit → ℕ → ℕ → ℤ
 value_at units row column =
-    slice_index_or (slice_index_or (map (λ u. u.values) units) row []) column (pos 0)
+    slice_index_or (slice_index_or (map (λ u. u.balance) units) row []) column (pos 0)
 
 -- ---- some rows
 
@@ -44,15 +44,15 @@ value_at units row column =
 abbrev pub size_of : List unit.Unit → List ℕ → ℕ
 size_of units rows = sum_by (λ row. slice_index (map (λ u. u.size) units) row) rows
 
--- the sum of a column of values
+-- the sum of a column of balancing values
 abbrev pub value_of : List unit.Unit → List ℕ → ℕ → ℤ
 value_of units rows column = fold (λ sum row. sum +ℤ value_at units row column) (pos 0) rows
 
--- the sums of so many columns of values
+-- the sums of so many columns of balancing values
 abbrev pub values_of : List unit.Unit → ℕ → List ℕ → List ℤ
 values_of units columns rows = map (value_of units rows) (range_with_len 0 columns)
 
--- a sum of sizes, or the absolute value of a sum of values, is above 2,147,483,647
+-- a sum of sizes, or the absolute value of a sum of balancing values, is above 2,147,483,647
 abbrev pub is_large : List unit.Unit → ℕ → List ℕ → Bool
 is_large units columns rows =
     nat_le number_limit (size_of units rows)

@@ -1,7 +1,7 @@
 //! Whether a frame serves a design, and the plan of both.
 
 ghost use Rattle.std.specs.Prelude.{◌≡◌, IfOk, length};
-ghost use Rattle.smp_frame.specs.Bounds.{HaveValues, IsFrame};
+ghost use Rattle.smp_frame.specs.Bounds.{HaveBalance, HavePoints, IsFrame};
 ghost use Rattle.smp_design.specs.Bounds.{IsDesign};
 ghost use Rattle.smp_strata.specs.{Asked.{AsksAsFrame}, Bounds.{IsPlan}, Draws.{DrawsAsAsked, IsAllocated}, Misfits.{Reports, misfit_of}};
 ghost use Rattle.smp_strata.specs.Plans.{parts_of};
@@ -21,7 +21,8 @@ use std::alloc::Global;
 pub fn accept(alloc: Global, frame: &Frame, design: &Design) -> Result<Plan, Misfit>
     requires frame { IsFrame frame.now }
     requires design { IsDesign design.now }
-    requires columns { HaveValues (length design.now.columns.values) frame.now }
+    requires balance { HaveBalance (length design.now.columns.balance) frame.now }
+    requires points { HavePoints (length design.now.columns.near) frame.now }
     ensures misfit { Reports result (misfit_of design.now frame.now) }
     ensures plan { IfOk result (λ plan. plan ≡ parts_of design.now frame.now) }
 

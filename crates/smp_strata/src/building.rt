@@ -2,7 +2,7 @@
 
 ghost use Rattle.std.specs.Prelude.{◌≡◌, ◌<◌, ◌≤◌, ℕ, None, false, All, IfOk, IfSome, OnOk, length, map, option_map, slice_index};
 ghost use Rattle.std.specs.Prelude.{slice_index_or};
-ghost use Rattle.smp_frame.specs.Bounds.{HaveValues, IsFrame};
+ghost use Rattle.smp_frame.specs.Bounds.{HaveBalance, HavePoints, IsFrame};
 ghost use Rattle.smp_strata.specs.{Asked.{AsksAsFrame}, Bounds.{IsPlan}, Clusters.{clusters as clusters_of, strata_numbers}};
 ghost use Rattle.smp_strata.specs.{Draws.{DrawsAsAsked, IsAllocated}, Rows.{is_large}, declared.strata.Seat.{Seat}};
 ghost use Rattle.smp_strata.specs.{Misfits.{Reports, misfit_of, psu_short, psu_too_large, second_too_many, unit_in_two}, Plans.{parts_of}};
@@ -78,9 +78,10 @@ fn first_of(
     rows: &[usize],
 ) -> Result<FirstUnit, Misfit>
     requires frame { IsFrame units.now }
-    requires values { HaveValues (length design.now.columns.values) units.now }
+    requires balance { HaveBalance (length design.now.columns.balance) units.now }
+    requires points { HavePoints (length design.now.columns.near) units.now }
     requires rows { AreRows (length units.now) rows.now }
-    requires small { is_large units.now (length design.now.columns.values) rows.now ≡ false }
+    requires small { is_large units.now (length design.now.columns.balance) rows.now ≡ false }
     requires some { IfSome design.now.second (λ s. 1 ≤ s.n) }
     ensures misfit { Reports result (second_short design.now.second units.now rows.now) }
     ensures value { IfOk result (λ first.
@@ -88,10 +89,11 @@ fn first_of(
     ensures built { OnOk result (IsBuiltFirst design.now units.now rows.now) }
 {
     let second = second_request(alloc, units, design.second, rows)?;
-    let values = values_of(alloc, units, design.columns.values.as_slice().len(), rows)?;
+    let balance = values_of(alloc, units, design.columns.balance.as_slice().len(), rows)?;
     Ok(FirstUnit {
         rows: Group::from_slice(alloc, rows)?,
-        values: Numbers::from_vec(values),
+        balance: Numbers::from_vec(balance),
+        point: Numbers::from_slice(alloc, units[rows[0]].point.as_slice())?,
         second: SecondRequest::new(alloc, second)?,
     })
 }
@@ -134,7 +136,7 @@ fn planned_strata(
     ensures built { IfOk result (λ begun. AreBuilt design.now units.now begun.items) }
     ensures allocated { OnOk result (IsAllocated design.now units.now) }
 {
-    let columns = design.columns.values.as_slice().len();
+    let columns = design.columns.balance.as_slice().len();
     no_unit_in_two(alloc, units, design.second, clusters)?;
     none_too_large(alloc, units, columns, clusters)?;
     let mut begun = begun_strata(alloc, units, design, clusters, strata)?;

@@ -1,7 +1,7 @@
 //! Misfits that are looked for by themselves: of psus, and of strata that are drawn together.
 
 ghost use Rattle.std.specs.{Prelude.{◌≡◌, ◌^◌, ◌<◌, ◌≤◌, Some, All, length, slice_index, slice_index_or, []}, Str.{bytes_eq}};
-ghost use Rattle.smp_frame.specs.Bounds.{HaveValues, IsFrame};
+ghost use Rattle.smp_frame.specs.Bounds.{HaveBalance, IsFrame};
 ghost use Rattle.smp_strata.specs.Rows as Rows;
 ghost use Rattle.smp_strata.specs.{Rows.{psu_at, stratum_at}, Clusters.{clusters as clusters_of, first_row}};
 ghost use Rattle.smp_strata.specs.Misfits.{Reports, first_apart, first_found, row_limit_by, unit_in_two, when};
@@ -85,7 +85,7 @@ pub(crate) fn none_too_large(
     clusters: &Clusters,
 ) -> Result<(), Misfit>
     requires frame { IsFrame units.now }
-    requires values { HaveValues columns units.now }
+    requires balance { HaveBalance columns units.now }
     requires rows { All (AreRows (length units.now)) clusters.now.rows }
     ensures { Reports result (first_found
         (λ rows. when (Rows.is_large units.now columns rows)

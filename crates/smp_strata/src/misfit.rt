@@ -14,7 +14,7 @@ pub enum Misfit {
         /// The psu's name.
         psu: Text,
     },
-    /// The sizes of a psu, or the values of one of its columns, sum up to more than 2,147,483,647.
+    /// The sizes of a psu, or its balancing values in a column, sum up to more than 2,147,483,647.
     PsuTooLarge {
         /// The psu's name.
         psu: Text,

@@ -9,8 +9,11 @@ use smp_prob::Request;
 pub struct FirstUnit {
     /// Its rows in frame order, the first of the frame being row 0.
     pub rows: Group,
-    /// Its balancing values, and then its coordinates, in the order of their columns: the sums over its rows.
-    pub values: Numbers,
+    /// Its balancing values in the order of their columns: the sums over its rows.
+    pub balance: Numbers,
+    /// The coordinates of the point where it lies, in the order of their columns: those of its first row. Only where each
+    /// row is a first stage unit there are any.
+    pub point: Numbers,
     /// The request of its second stage, whose units are places in `rows`; `None` without a second stage.
     pub second: SecondRequest,
 }

@@ -1,5 +1,5 @@
 -- A stratum's part of a path of the whole selection is one of its method's own paths.
-use Rattle.std.proofs.Common.{◌≡◌, ℕ, zero, suc, Bool, true, false, ℤ, List, [], ◌∷◌, length, map, take, get_or, Option, Some, None, arith, refl, sym, ap, ap₂, subst, ◌∙◌, inl, inr}
+use Rattle.std.proofs.Common.{◌≡◌, ℕ, Bool, true, false, List, length, Option, Some, None, arith, refl, sym, ap, subst, ◌∙◌, inl, inr}
 use Rattle.std.specs.Prelude.{◌&&◌, option_map}
 use Rattle.std.specs.List.{slice_get}
 use Rattle.std.proofs.lemmas.Option.{slice_get_within, slice_get-map}
@@ -12,14 +12,12 @@ use Rattle.smp_split.proofs.Embeds.{embedded_lens, embedded_closes}
 use Rattle.smp_split.specs.Laws.Lenses.{came_whole}
 use Rattle.smp_split.specs.Rows.{rows_tree}
 use Rattle.smp_split.specs.Laws.Rows.{row_view, rows_lens, rows_close}
-use Rattle.smp_flight.specs.Requests.{units_of}
 use Rattle.smp_moves.specs.Cubes.{values_in}
 use Rattle.smp_flight.specs.Selections.{Balancing, starting}
-use Rattle.smp_localpiv.specs.Coordinates.{points_from}
 use Rattle.smp_values.specs.Values.{is_one}
 use Rattle.smp_flight.specs.Cube.{cube_of, cube_tree}
 use Rattle.smp_localcube.specs.Local.{Local, local_of, local_tree}
-use Rattle.smp_localcube.specs.Method.{LocalUnits, started}
+use Rattle.smp_localcube.specs.Method.{started}
 use Rattle.smp_design.specs.declared.method.Method.{Method}
 use Rattle.smp_design.specs.declared.method.Method.TheVariants.{Cube, LocalCube}
 use Rattle.smp_design.specs.Words.{balances, draws_together}
@@ -29,43 +27,25 @@ use Rattle.smp_methods.specs.declared.any.AnyState.{AnyState}
 use Rattle.smp_methods.specs.declared.any.AnyState.TheVariants as states
 use Rattle.smp_methods.specs.Designs.{design_by, first_state}
 use Rattle.smp_methods.specs.Methods.{method_of}
-use Rattle.smp_methods.specs.Procedures.{balancing_values}
 use Rattle.smp_split.specs.StagePaths.{GoesByStages, IsStagePath}
 use Rattle.smp_split.specs.Stages.{drawn_within, is_drawn, read, unit_selected, within_of}
 use Rattle.smp_split.specs.Laws.Reads.{some_within}
 use Rattle.smp_strata.specs.Plans.{Parts}
-use Rattle.smp_strata.specs.declared.strata.FirstUnit.{FirstUnit}
 use Rattle.smp_strata.specs.declared.strata.Stratum.{Stratum}
 use Rattle.smp_twostage.specs.Cubes.{IsDrawnByCube, IsDrawnFrom, balancing, by_cube, by_local_cube, leaf_of, local_units}
 use Rattle.smp_twostage.specs.Plans.{CanBeDrawn}
-use Rattle.smp_twostage.specs.Strata.{free_units, free_values, values_of}
-use Rattle.smp_twostage.specs.Selections.{tree_of, first_number, first_stage, stages_of, valued}
+use Rattle.smp_twostage.specs.Strata.{free_units, free_values}
+use Rattle.smp_twostage.specs.Selections.{tree_of, first_number, first_stage, free_points, stages_of}
 use Rattle.smp_twostage.specs.Kept.Sides.{states_of}
 use Rattle.smp_twostage.specs.Laws.Numbering.{first_there}
 use Rattle.smp_twostage.proofs.Columns.{is_planned}
 use Rattle.smp_twostage.proofs.StartsBy.{first_so}
 
--- ---- the values that are balanced are those of the stratum before its coordinates
-
-cut_none : (m : ℕ) → take {A = ℤ} m [] ≡ []
-cut_none zero = refl
-cut_none (suc m) = refl
-
-cut_at : (m : ℕ) (units : List FirstUnit) (k : ℕ) → take m (get_or (map (λ u. u.values) units) k []) ≡ get_or (map (λ u. take m u.values) units) k []
-cut_at m [] k = cut_none m
-cut_at m (u ∷ units) zero = refl
-cut_at m (u ∷ units) (suc k) = cut_at m units k
-
-cut_all : (plan : Parts) (s : Stratum) (free : List ℕ) → map (take plan.procedure.balance) (map (values_of (valued s)) free) ≡ map (values_of (balancing plan s)) free
-cut_all plan s [] = refl
-cut_all plan s (k ∷ free) = ap₂ (λ (v : List ℤ) vs. v ∷ vs) (cut_at plan.procedure.balance s.units k) (cut_all plan s free)
+-- ---- the tree of the first stage, and where it starts
 
 module _ (plan : Parts) (s : Stratum) where
   abbrev design_so : Method → AnyDesign
-  design_so m = design_by m plan.procedure s.request (free_values (valued s))
-
-  same_values : balancing_values plan.procedure.balance (free_values (valued s)) ≡ free_values (balancing plan s)
-  same_values = cut_all plan s s.request.free
+  design_so m = design_by m plan.procedure s.request (free_values (balancing s)) (free_points s)
 
   abbrev cube_out : AnyState → Option Balancing
   cube_out = elim [ states.Cube state ↦ Some state | other ↦ None ]
@@ -73,25 +53,17 @@ module _ (plan : Parts) (s : Stratum) where
   abbrev local_out : AnyState → Option Local
   local_out = elim [ states.LocalCube state ↦ Some state | other ↦ None ]
 
-  -- the tree of the first stage, and where it starts
-  cube_tree_is : plan.procedure.method ≡ Cube → (method_of (design_so plan.procedure.method)).tree ≡ embedded states.Cube cube_out (cube_of (free_units (balancing plan s))).tree
-  cube_tree_is is =
-      ap (λ m. (method_of (design_so m)).tree) is
-      ∙ ap (λ vs. embedded states.Cube cube_out (cube_of (units_of s.request vs)).tree) same_values
+  cube_tree_is : plan.procedure.method ≡ Cube → (method_of (design_so plan.procedure.method)).tree ≡ embedded states.Cube cube_out (cube_of (free_units (balancing s))).tree
+  cube_tree_is is = ap (λ m. (method_of (design_so m)).tree) is
 
-  cube_start_is : plan.procedure.method ≡ Cube → first_state (design_so plan.procedure.method) ≡ states.Cube (starting (free_units (balancing plan s)))
-  cube_start_is is = ap (λ m. first_state (design_so m)) is ∙ ap (λ vs. states.Cube (starting (units_of s.request vs))) same_values
+  cube_start_is : plan.procedure.method ≡ Cube → first_state (design_so plan.procedure.method) ≡ states.Cube (starting (free_units (balancing s)))
+  cube_start_is is = ap (λ m. first_state (design_so m)) is
 
-  local_tree_is : plan.procedure.method ≡ LocalCube → (method_of (design_so plan.procedure.method)).tree ≡ embedded states.LocalCube local_out (local_of (free_units (balancing plan s))).tree
-  local_tree_is is =
-      ap (λ m. (method_of (design_so m)).tree) is
-      ∙ ap (λ vs. embedded states.LocalCube local_out (local_of (units_of s.request vs)).tree) same_values
-
-  abbrev local_so : List (List ℤ) → LocalUnits
-  local_so vs = record { units = units_of s.request vs; coords = points_from plan.procedure.near plan.procedure.balance (free_values (valued s)) }
+  local_tree_is : plan.procedure.method ≡ LocalCube → (method_of (design_so plan.procedure.method)).tree ≡ embedded states.LocalCube local_out (local_of (free_units (balancing s))).tree
+  local_tree_is is = ap (λ m. (method_of (design_so m)).tree) is
 
   local_start_is : plan.procedure.method ≡ LocalCube → first_state (design_so plan.procedure.method) ≡ states.LocalCube (started (local_units plan s))
-  local_start_is is = ap (λ m. first_state (design_so m)) is ∙ ap (λ vs. states.LocalCube (started (local_so vs))) same_values
+  local_start_is is = ap (λ m. first_state (design_so m)) is
 
 -- ---- the part of a path
 
@@ -147,8 +119,8 @@ module _ (plan : Parts) (drawable : CanBeDrawn plan) (path : List Entry) (ends :
   pub drawn_by_cube : balances plan.procedure.method ≡ true → draws_together plan.procedure.method ≡ false → IsDrawnByCube plan h s (goes.part at) ends
   drawn_by_cube balance apart =
       elim (is_cube plan.procedure.method balance apart) [
-        | inl m ↦ by_cube m (drawn_from (cube_tree (free_units (balancing plan s))) (starting (free_units (balancing plan s))) states.Cube (cube_out plan s) (λ _. refl) (cube_tree_is plan s m) (cube_start_is plan s m) (λ _. refl) refl)
-        | inr m ↦ by_local_cube m (drawn_from (local_tree (free_units (balancing plan s))) (started (local_units plan s)) states.LocalCube (local_out plan s) (λ _. refl) (local_tree_is plan s m) (local_start_is plan s m) (λ _. refl) refl)
+        | inl m ↦ by_cube m (drawn_from (cube_tree (free_units (balancing s))) (starting (free_units (balancing s))) states.Cube (cube_out plan s) (λ _. refl) (cube_tree_is plan s m) (cube_start_is plan s m) (λ _. refl) refl)
+        | inr m ↦ by_local_cube m (drawn_from (local_tree (free_units (balancing s))) (started (local_units plan s)) states.LocalCube (local_out plan s) (λ _. refl) (local_tree_is plan s m) (local_start_is plan s m) (λ _. refl) refl)
       ]
 
 -- ---- which units are selected

@@ -27,7 +27,7 @@ use Rattle.smp_strata.specs.Bounds.{IsFirst, DrawsWholeOver}
 use Rattle.smp_strata.specs.Plans.{Parts}
 use Rattle.smp_strata.specs.declared.strata.FirstUnit.{FirstUnit}
 use Rattle.smp_strata.specs.declared.strata.Stratum.{Stratum}
-use Rattle.smp_twostage.specs.Strata.{StratumUnits, free_values, values_of}
+use Rattle.smp_twostage.specs.Strata.{free_values}
 use Rattle.smp_stratcube.specs.Layers.{IsLayer, no_layer}
 use Rattle.smp_stratcube.specs.Kept.Layers.{layer_of}
 use Rattle.smp_stratcube.specs.Units.{IsUnits, units_of}
@@ -37,10 +37,10 @@ use Rattle.smp_stratcube.proofs.Starting.{are_requested, strat_means}
 use Rattle.smp_stratcube.proofs.Stored.{layer_is}
 use Rattle.smp_twostage.specs.Kept.Stages.{EachStarts, IsPlanned, StageStarts}
 use Rattle.smp_twostage.specs.Plans.{CanBeDrawn, TakesRows}
-use Rattle.smp_twostage.specs.Selections.{BelongsToCovered, BelongsToWhole, Selecting, balancing, belongs_to, covered_stages, covered_start, covered_states, first_stage, layers_of, parts_by, second_stage, stage_by, stage_of_strata, stage_within, stages_below, stages_in, stages_of, stages_within, start_of, tree_of, valued}
+use Rattle.smp_twostage.specs.Selections.{BelongsToCovered, BelongsToWhole, Selecting, balancing, belongs_to, covered_stages, covered_start, covered_states, first_stage, free_points, layers_of, parts_by, second_stage, stage_by, stage_of_strata, stage_within, stages_below, stages_in, stages_of, stages_within, start_of, tree_of}
 use Rattle.smp_twostage.specs.Kept.Sides.{states_of}
 use Rattle.smp_twostage.proofs.Columns.{is_planned, takes_free}
-use Rattle.smp_twostage.proofs.Layers.{are_layers, numbers, one_each, same_units}
+use Rattle.smp_twostage.proofs.Layers.{are_layers, numbers, one_each}
 use Rattle.smp_twostage.proofs.Starts.{each_belongs}
 use Rattle.smp_twostage.proofs.Together.{stage_first}
 
@@ -49,14 +49,14 @@ abbrev Own : Stage Selecting → Type 0
 Own stage = StageStarts stage.design (first_state stage.design.design)
 
 -- as the design of its request starts
-stage_starts : (way : Procedure) (units : ℕ) (request : Request) (values : List (List ℤ)) → IsRising request
-    → IsStarted way request values (record { design = design_of way request values; state = first_state (design_of way request values) })
-    → StageStarts (record { units = units; request = request; design = design_of way request values }) (first_state (design_of way request values))
-stage_starts way units request values rising starts = record {
+stage_starts : (way : Procedure) (units : ℕ) (request : Request) (values points : List (List ℤ)) → IsRising request
+    → IsStarted way request values points (record { design = design_of way request values points; state = first_state (design_of way request values points) })
+    → StageStarts (record { units = units; request = request; design = design_of way request values points }) (first_state (design_of way request values points))
+stage_starts way units request values points rising starts = record {
   is = refl;
   member = record { member = starts.starts.means.member; ordered = rising; paired = sym starts.requested.units };
   serves = record { values = starts.requested.values; count = starts.starts.count };
-  adds_up = adds_to_draws (method_of (design_of way request values)).tree request (first_state (design_of way request values)) starts.requested;
+  adds_up = adds_to_draws (method_of (design_of way request values points)).tree request (first_state (design_of way request values points)) starts.requested;
   around = starts.around;
 }
 
@@ -65,17 +65,17 @@ module _ (plan : Parts) where
 
   first_own : (s : Stratum) → IsPlanned plan s → Own (first_stage plan s)
   first_own s planned =
-      stage_starts plan.procedure (length s.units) s.request (free_values (valued s)) planned.stratum.over.rising
-      (is_first plan.procedure s.request (free_values (valued s)) planned.stratum.over.sound (length-map s.request.free (values_of (valued s)))
-      (needs_of plan.procedure s.request planned.whole) (takes_free plan s planned))
+      stage_starts plan.procedure (length s.units) s.request (free_values (balancing s)) (free_points s) planned.stratum.over.rising
+      (is_first plan.procedure s.request (free_values (balancing s)) (free_points s) planned.stratum.over.sound
+      (needs_of plan.procedure s.request planned.whole) (takes_free plan s planned (free_values (balancing s)) (free_points s) (λ _. refl) (λ _. refl)))
 
   -- ---- a second stage
 
   second_own : (method : Method) (request : Request) (rows at k : ℕ) → TakesRows method → DrawsWholeOver rows request → Own (second_stage method request rows at k)
   second_own method request rows at k takes over =
-      stage_starts (without_values method) rows request (map (λ _. []) request.free) over.over.rising
-      (is_first (without_values method) request (map (λ _. []) request.free) over.over.sound (length-map request.free (λ _. []))
-      (needs_whole (without_values method) request over.whole) (takes_none method request.free (bare method takes)))
+      stage_starts (without_values method) rows request [] [] over.over.rising
+      (is_first (without_values method) request [] [] over.over.sound
+      (needs_whole (without_values method) request over.whole) (takes_none method request (bare method takes)))
 
   by_request : (method : Option Method) (request : Option Request) (rows at k : ℕ) → IfSome method TakesRows → IfSome request (DrawsWholeOver rows) → All Own (stage_by method request rows at k)
   by_request (Some method) (Some request) rows at k takes over =
@@ -135,14 +135,13 @@ module _ (plan : Parts) (drawable : CanBeDrawn plan) where
   -- ---- the stage of all strata
 
   module _ (same : draws_together plan.procedure.method ≡ true) where
-    stratum_layer : (h : ℕ) (s : Stratum) → slice_get plan.strata h ≡ Some s → IsLayer (layer_of s.request (free_values (balancing plan s)))
+    stratum_layer : (h : ℕ) (s : Stratum) → slice_get plan.strata h ≡ Some s → IsLayer (layer_of s.request (free_values (balancing s)))
     stratum_layer h s is =
-        subst (λ (u : StratumUnits). IsLayer (layer_of s.request (free_values u))) (sym (same_units plan drawable same h s is))
-        (layer_is s.request (is_planned plan drawable h s is).stratum.over.sound (free_values (valued s)) (one_each plan drawable same h s is) (numbers plan drawable same h s is))
+        layer_is s.request (is_planned plan drawable h s is).stratum.over.sound (free_values (balancing s)) (one_each plan drawable same h s is) (numbers plan drawable same h s is)
 
     each_layer : All IsLayer (layers_of plan)
     each_layer =
-        All-map IsLayer (λ (s : Stratum). layer_of s.request (free_values (balancing plan s))) plan.strata
+        All-map IsLayer (λ (s : Stratum). layer_of s.request (free_values (balancing s))) plan.strata
         (λ h d l. stratum_layer h (get_or plan.strata h d) (slice_get-get_or plan.strata h d l))
 
     each_is : (h : ℕ) → h < length (layers_of plan) → IsLayer (get_or (layers_of plan) h no_layer)

@@ -19,9 +19,9 @@ first_columns columns (s ∷ frame) some all = All-head (λ t. column_count t �
 
 module _ (plan : Parts) (drawable : CanBeDrawn plan) (yes : draws_together plan.procedure.method ≡ true) where
   -- each stratum has as many balanced values a unit as the procedure says
-  counted : All (λ s. column_count s ≡ plan.procedure.balance) (map (balancing plan) plan.strata)
+  counted : All (λ s. column_count s ≡ plan.procedure.balance) (map balancing plan.strata)
   counted =
-      All-map (λ s. column_count s ≡ plan.procedure.balance) (balancing plan) plan.strata
+      All-map (λ s. column_count s ≡ plan.procedure.balance) balancing plan.strata
       (λ h d l. balanced_count plan drawable (together_balances plan.procedure.method yes) h (get_or plan.strata h d) (slice_get-get_or plan.strata h d l))
 
   pub is_frame : IsFrame (frame_of plan)
@@ -29,7 +29,7 @@ module _ (plan : Parts) (drawable : CanBeDrawn plan) (yes : draws_together plan.
       let together = drawable.together yes in
       let some = together.some in
       let rows = together.rows in
-      let count = length-map plan.strata (balancing plan) in
+      let count = length-map plan.strata balancing in
       let balance = (balance_columns (row plan.procedure.method).needs plan.procedure.balance plan.procedure.near (together_balances plan.procedure.method yes) drawable.procedure.columns).0 in
       let columns : columns_in (frame_of plan) ≡ plan.procedure.balance = first_columns plan.procedure.balance (frame_of plan) (omega (arith, some, count)) counted in
       record {
@@ -37,7 +37,7 @@ module _ (plan : Parts) (drawable : CanBeDrawn plan) (yes : draws_together plan.
         few = omega (arith, rows, balance, count);
         rows = omega (arith, rows, columns, count);
         each =
-            All-map AreStratumUnits (balancing plan) plan.strata
+            All-map AreStratumUnits balancing plan.strata
             (λ h d l. is_stratum plan drawable (together_balances plan.procedure.method yes) h (get_or plan.strata h d) (slice_get-get_or plan.strata h d l));
         same = λ h d l. counted h d l ∙ sym columns;
       }

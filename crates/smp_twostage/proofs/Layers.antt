@@ -1,17 +1,16 @@
 -- All strata that are drawn together, as the code goes over them: how many units they have, and what is balanced of each.
-use Rattle.std.proofs.Common.{◌≡◌, ℕ, zero, suc, ◌+◌, ◌-◌, ◌*◌, ◌^◌, ◌<◌, ◌≤◌, true, false, ℤ, List, [], ◌∷◌, ◌++◌, length, map, take, drop, get_or, Some, All, arith, refl, sym, ap, ap₂, subst, ◌∙◌, inl, inr, append_assoc}
+use Rattle.std.proofs.Common.{◌≡◌, ℕ, zero, suc, ◌+◌, ◌-◌, ◌*◌, ◌^◌, ◌<◌, ◌≤◌, true, false, ℤ, List, [], ◌∷◌, ◌++◌, length, map, drop, get_or, Some, All, arith, sym, ap, ap₂, subst, ◌∙◌, inl, inr, append_assoc}
 use Rattle.std.specs.Prelude.{nat_eq}
 use Rattle.std.specs.List.{slice_get}
-use Rattle.std.proofs.Math.Seq.{drop-cons}
 use Rattle.std.proofs.lemmas.Bool.{cases_Bool, eqb-true}
-use Rattle.std.proofs.lemmas.List.{append-nil, drop_all, length-map, take_all}
+use Rattle.std.proofs.lemmas.List.{append-nil, drop_all, length-map}
 use Rattle.std.proofs.lemmas.List.Elements.{All-get_or, All-head, All-map, All-tail, All-weaker}
-use Rattle.std.proofs.lemmas.Option.{get_or_from_slice_get, slice_get-get_or, slice_get_within}
+use Rattle.std.proofs.lemmas.Option.{slice_get-get_or}
 use Rattle.smp_design.specs.Words.{row, draws_together}
-use Rattle.smp_design.proofs.Rows.{balance_columns, no_coordinates, together_balances}
+use Rattle.smp_design.proofs.Rows.{balance_columns, together_balances}
 use Rattle.smp_methods.proofs.Columns.{are_values}
 use Rattle.smp_methods.proofs.OneStratum.{are_numbers}
-use Rattle.smp_twostage.specs.Strata.{StratumUnits, free_values, values_of}
+use Rattle.smp_twostage.specs.Strata.{free_values, values_of}
 use Rattle.smp_stratcube.specs.Layers.{AreLayers, AreNumbers, Layer, no_layer, variables}
 use Rattle.smp_stratcube.specs.Kept.Layers.{width, layer_of}
 use Rattle.smp_prob.specs.declared.requests.Request.{Request}
@@ -21,7 +20,7 @@ use Rattle.smp_strata.specs.declared.strata.FirstUnit.{FirstUnit}
 use Rattle.smp_strata.specs.declared.strata.Stratum.{Stratum}
 use Rattle.smp_twostage.specs.Kept.Stages.{IsPlanned}
 use Rattle.smp_twostage.specs.Plans.{CanBeDrawn, IsTogether}
-use Rattle.smp_twostage.specs.Selections.{balancing, layers_of, numbers_from, units_before, valued}
+use Rattle.smp_twostage.specs.Selections.{balancing, layers_of, numbers_from, units_before}
 use Rattle.smp_twostage.proofs.Columns.{free_counted, free_near, is_planned, stratum_at}
 use Rattle.smp_twostage.proofs.OverAll.{numbers_next, one_before}
 
@@ -73,14 +72,6 @@ last_numbers counted strata h before all done whole so_far =
 
 -- ---- what is balanced
 
--- where no value is cut off
-cut : (n m : ℕ) (units : List FirstUnit) → All (λ (u : FirstUnit). length u.values ≡ n) units → n ≤ m → map (λ (u : FirstUnit). take m u.values) units ≡ map (λ (u : FirstUnit). u.values) units
-cut n m [] counted l = refl
-cut n m (u ∷ units) counted l =
-    let own : length u.values ≡ n = All-head (λ (v : FirstUnit). length v.values ≡ n) u units counted in
-    ap₂ (λ v vs. v ∷ vs) (take_all m u.values (omega (arith, own, l)))
-    (cut n m units (All-tail (λ (v : FirstUnit). length v.values ≡ n) u units counted) l)
-
 module _ (plan : Parts) (drawable : CanBeDrawn plan) (together : draws_together plan.procedure.method ≡ true) where
   abbrev its : IsTogether plan
   its = drawable.together together
@@ -88,10 +79,7 @@ module _ (plan : Parts) (drawable : CanBeDrawn plan) (together : draws_together 
   abbrev balance : ℕ
   balance = plan.procedure.balance
 
-  none_near : plan.procedure.near ≡ 0
-  none_near = no_coordinates plan.procedure together drawable.procedure
-
-  some_balance : 1 ≤ balance
+  pub some_balance : 1 ≤ balance
   some_balance = (balance_columns (row plan.procedure.method).needs balance plan.procedure.near (together_balances plan.procedure.method together) drawable.procedure.columns).0
 
   pub few_strata : length plan.strata ≤ 15
@@ -104,52 +92,21 @@ module _ (plan : Parts) (drawable : CanBeDrawn plan) (together : draws_together 
     abbrev planned : IsPlanned plan s
     planned = is_planned plan drawable h s is
 
-    counted : All (λ (u : FirstUnit). length u.values ≡ balance) s.units
-    counted = All-weaker (λ (u : FirstUnit). length u.values ≡ balance + plan.procedure.near) (λ (u : FirstUnit). length u.values ≡ balance) (λ u long. omega (arith, long, none_near)) s.units planned.counted
+    pub numbers : AreNumbers (free_values (balancing s))
+    numbers = are_numbers (free_values (balancing s)) (are_values balance (free_values (balancing s)) (free_counted plan s planned) (free_near plan s planned) few_columns)
 
-    -- all values of a unit are balanced
-    pub same_units : balancing plan s ≡ valued s
-    same_units = ap (λ vs. record { request = s.request; values = vs }) (cut balance balance s.units counted (omega arith))
-
-    pub whole_counted : All (λ v. length v ≡ balance) (free_values (valued s))
-    whole_counted = All-weaker (λ v. length v ≡ balance + plan.procedure.near) (λ v. length v ≡ balance) (λ v long. omega (arith, long, none_near)) (free_values (valued s)) (free_counted plan s planned)
-
-    pub numbers : AreNumbers (free_values (valued s))
-    numbers = are_numbers (free_values (valued s)) (are_values balance (free_values (valued s)) whole_counted (free_near plan s planned) few_columns)
-
-    pub one_each : length (free_values (valued s)) ≡ length s.request.free
-    one_each = length-map s.request.free (values_of (valued s))
+    pub one_each : length (free_values (balancing s)) ≡ length s.request.free
+    one_each = length-map s.request.free (values_of (balancing s))
 
   -- the values that are read of a stratum
   pub record AreRead (s : Stratum) (values : List (List ℤ)) : Type 0 where
     pub one_each : length values ≡ length s.request.free
     pub numbers : AreNumbers values
 
-  pub are_read : (h : ℕ) (s : Stratum) → h < length plan.strata → s ≡ get_or plan.strata h s → (values : List (List ℤ)) → values ≡ free_values (valued s) → AreRead s values
+  pub are_read : (h : ℕ) (s : Stratum) → h < length plan.strata → s ≡ get_or plan.strata h s → (values : List (List ℤ)) → values ≡ free_values (balancing s) → AreRead s values
   are_read h s within is values own =
       let there : slice_get plan.strata h ≡ Some s = stratum_at plan.strata h s within is in
       record { one_each = ap length own ∙ one_each h s there; numbers = subst AreNumbers (sym own) (numbers h s there) }
-
-  -- ---- one more stratum
-
-  abbrev layer_in : Stratum → Layer
-  layer_in s = layer_of s.request (free_values (balancing plan s))
-
-  pub next_layer : (h : ℕ) (s : Stratum) → slice_get plan.strata h ≡ Some s → (done new : List Layer) (values : List (List ℤ)) → new ≡ done ++ layer_of s.request values ∷ [] → values ≡ free_values (valued s)
-      → done ++ map layer_in (drop h plan.strata) ≡ layers_of plan → new ++ map layer_in (drop (h + 1) plan.strata) ≡ layers_of plan
-  next_layer h s is done new values made own so_far =
-      let on : h + 1 ≡ suc h = omega arith in
-      let front : drop h plan.strata ≡ s ∷ drop (suc h) plan.strata = drop-cons plan.strata h s (slice_get_within plan.strata h s is) ∙ ap (λ (t : Stratum). t ∷ drop (suc h) plan.strata) (get_or_from_slice_get plan.strata h s s is) in
-      let here : layer_of s.request values ≡ layer_in s = ap (layer_of s.request) (own ∙ ap free_values (sym (same_units h s is))) in
-      ap (λ xs. xs ++ map layer_in (drop (h + 1) plan.strata)) (made ∙ ap (λ (x : Layer). done ++ x ∷ []) here)
-      ∙ append_assoc done (layer_in s ∷ []) (map layer_in (drop (h + 1) plan.strata))
-      ∙ ap (λ n. done ++ layer_in s ∷ map layer_in (drop n plan.strata)) on
-      ∙ ap (λ (rest : List Stratum). done ++ map layer_in rest) (sym front) ∙ so_far
-
-  pub last_layer : (h : ℕ) → h ≡ length plan.strata → (done : List Layer) → done ++ map layer_in (drop h plan.strata) ≡ layers_of plan → done ≡ layers_of plan
-  last_layer h all done so_far =
-      let none : drop h plan.strata ≡ [] = drop_all h plan.strata (omega (arith, all)) in
-      sym (append-nil done) ∙ ap (λ (rest : List Stratum). done ++ map layer_in rest) (sym none) ∙ so_far
 
 -- ---- the strata can be balanced together
 
@@ -194,21 +151,20 @@ module _ (columns : ℕ) where
       some_at (suc n) other = omega arith
 
 module _ (plan : Parts) (drawable : CanBeDrawn plan) (together : draws_together plan.procedure.method ≡ true) where
-  filled : (h : ℕ) (s : Stratum) → slice_get plan.strata h ≡ Some s → IsFilled plan.procedure.balance (layer_of s.request (free_values (balancing plan s)))
+  filled : (h : ℕ) (s : Stratum) → slice_get plan.strata h ≡ Some s → IsFilled plan.procedure.balance (layer_of s.request (free_values (balancing s)))
   filled h s is =
       let planned : IsPlanned plan s = is_planned plan drawable h s is in
-      subst (λ (u : StratumUnits). IsFilled plan.procedure.balance (layer_of s.request (free_values u))) (sym (same_units plan drawable together h s is))
-      (record {
+      record {
         paired = one_each plan drawable together h s is ∙ sym planned.stratum.over.sound.paired;
-        wide = λ some. All-get_or (λ v. length v ≡ plan.procedure.balance) (free_values (valued s)) 0 [] some (whole_counted plan drawable together h s is);
-      })
+        wide = λ some. All-get_or (λ v. length v ≡ plan.procedure.balance) (free_values (balancing s)) 0 [] some (free_counted plan s planned);
+      }
 
   pub are_layers : AreLayers (layers_of plan)
   are_layers =
       let its : IsTogether plan = drawable.together together in
-      let count : length (layers_of plan) ≡ length plan.strata = length-map plan.strata (λ (s : Stratum). layer_of s.request (free_values (balancing plan s))) in
+      let count : length (layers_of plan) ≡ length plan.strata = length-map plan.strata (λ (s : Stratum). layer_of s.request (free_values (balancing s))) in
       let all : All (IsFilled plan.procedure.balance) (layers_of plan) =
-      All-map (IsFilled plan.procedure.balance) (λ (s : Stratum). layer_of s.request (free_values (balancing plan s))) plan.strata
+      All-map (IsFilled plan.procedure.balance) (λ (s : Stratum). layer_of s.request (free_values (balancing s))) plan.strata
       (λ k d l. filled k (get_or plan.strata k d) (slice_get-get_or plan.strata k d l)) in
       record {
         some = omega (arith, its.some, count);

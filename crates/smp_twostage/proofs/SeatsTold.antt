@@ -1,13 +1,12 @@
 -- What is told of the first stage units of a section can be told.
-use Rattle.std.proofs.Common.{◌≡◌, ℕ, ◌+◌, ◌-◌, ◌^◌, ◌<◌, ◌≤◌, Bool, true, false, ℤ, List, [], ◌∷◌, ◌++◌, All, length, length-take, map, take, get_or, Option, Some, arith, refl, sym, ap, ◌∙◌, subst}
+use Rattle.std.proofs.Common.{◌≡◌, ℕ, ◌+◌, ◌-◌, ◌^◌, ◌<◌, ◌≤◌, Bool, true, false, ℤ, List, [], ◌∷◌, ◌++◌, All, length, map, get_or, Option, Some, arith, refl, sym, ap, ◌∙◌, subst}
 use Rattle.std.specs.Prelude.{if◌then◌else◌, option_map, unwrap_or}
 use Rattle.std.specs.List.{range_with_len, slice_get}
 use Rattle.std.proofs.lemmas.Bool.{lt-ltb}
 use Rattle.std.proofs.lemmas.Simd.{map-map}
-use Rattle.std.proofs.lemmas.List.Elements.{All-from_get_or, All-get_or, All-take}
+use Rattle.std.proofs.lemmas.List.Elements.{All-from_get_or, All-get_or}
 use Rattle.std.proofs.lemmas.List.FromFn.{get_or-map-range_with_len, length-map-range_with_len, map-range_with_len_more}
 use Rattle.std.proofs.lemmas.Option.{get_or_from_slice_get, slice_get-map, slice_get_within}
-use Rattle.std.specs.Int.RustNames.{unsigned_abs}
 use Rattle.smp_frac.specs.Fractions.{Same}
 use Rattle.smp_frac.specs.declared.fractions.Frac.{Frac}
 use Rattle.smp_frac.specs.Exact.{fraction}
@@ -58,13 +57,13 @@ stands plan p there =
     record { stratum = s.0; unit = u.0; is_stratum = s.1; is_unit = u.1 }
 
 module _ (plan : Parts) (p : Seat) (s : Stratum) (u : FirstUnit) (is_stratum : slice_get plan.strata p.stratum ≡ Some s) (is_unit : slice_get s.units p.unit ≡ Some u) where
-  abbrev cut : FirstUnit → List ℤ
-  cut v = take plan.procedure.balance v.values
+  abbrev of_unit : FirstUnit → List ℤ
+  of_unit v = v.balance
 
-  pub values_there : seat_values plan p ≡ take plan.procedure.balance u.values
+  pub values_there : seat_values plan p ≡ u.balance
   values_there =
-      ap (λ (o : Option Stratum). unwrap_or (option_map (λ (t : Stratum). values_of (balancing plan t) p.unit) o) []) is_stratum
-      ∙ get_or_from_slice_get (map cut s.units) p.unit (take plan.procedure.balance u.values) [] (slice_get-map cut s.units p.unit ∙ ap (option_map cut) is_unit)
+      ap (λ (o : Option Stratum). unwrap_or (option_map (λ (t : Stratum). values_of (balancing t) p.unit) o) []) is_stratum
+      ∙ get_or_from_slice_get (map of_unit s.units) p.unit u.balance [] (slice_get-map of_unit s.units p.unit ∙ ap (option_map of_unit) is_unit)
 
   pub fraction_there : first_fraction plan.strata p.stratum p.unit ≡ asked_fraction s.request p.unit
   fraction_there = rw is_stratum refl
@@ -84,11 +83,11 @@ module _ (plan : Parts) (p : Seat) (there : IsThere plan p) (s : Stratum) (is_s 
   pub unit_there : p.unit < length s.units
   unit_there = subst (λ (o : Option Stratum). p.unit < length (units_at o)) own there.unit
 
-  pub value_is : (u : FirstUnit) → u ≡ get_or s.units p.unit u → take plan.procedure.balance u.values ≡ seat_values plan p
+  pub value_is : (u : FirstUnit) → u ≡ get_or s.units p.unit u → u.balance ≡ seat_values plan p
   value_is u is_u =
       let v = some_within s.units p.unit unit_there in
       let same : u ≡ v.0 = is_u ∙ get_or_from_slice_get s.units p.unit v.0 u v.1 in
-      ap (λ (w : FirstUnit). take plan.procedure.balance w.values) same ∙ sym (values_there plan p s v.0 own v.1)
+      ap (λ (w : FirstUnit). w.balance) same ∙ sym (values_there plan p s v.0 own v.1)
 
 -- ---- where those of a section stand
 
@@ -163,30 +162,27 @@ module _ (c : Coverage) (h : ℕ) where
         at : Stands c.plan seat
         at = stands c.plan seat (seat_here i m).0
 
-        values_at : seat_values c.plan seat ≡ take c.plan.procedure.balance at.unit.values
+        values_at : seat_values c.plan seat ≡ at.unit.balance
         values_at = values_there c.plan seat at.stratum at.unit at.is_stratum at.is_unit
 
         abbrev count : ℕ
-        count = c.plan.procedure.balance + c.plan.procedure.near
+        count = c.plan.procedure.balance
 
-        counted_at : length at.unit.values ≡ c.plan.procedure.balance + c.plan.procedure.near
+        counted_at : length at.unit.balance ≡ count
         counted_at =
-            let counted : All (λ u. length u.values ≡ count) at.stratum.units =
-            subst (λ (s : Stratum). All (λ u. length u.values ≡ count) s.units) (get_or_from_slice_get c.plan.strata seat.stratum at.stratum at.stratum at.is_stratum)
-            (All-get_or (λ (s : Stratum). All (λ u. length u.values ≡ count) s.units) c.plan.strata seat.stratum at.stratum (slice_get_within c.plan.strata seat.stratum at.stratum at.is_stratum) drawable.sound.columns) in
-            subst (λ (u : FirstUnit). length u.values ≡ count) (get_or_from_slice_get at.stratum.units seat.unit at.unit at.unit at.is_unit)
-            (All-get_or (λ (u : FirstUnit). length u.values ≡ count) at.stratum.units seat.unit at.unit (slice_get_within at.stratum.units seat.unit at.unit at.is_unit) counted)
+            let counted : All (λ u. length u.balance ≡ count) at.stratum.units =
+            subst (λ (s : Stratum). All (λ u. length u.balance ≡ count) s.units) (get_or_from_slice_get c.plan.strata seat.stratum at.stratum at.stratum at.is_stratum)
+            (All-get_or (λ (s : Stratum). All (λ u. length u.balance ≡ count) s.units) c.plan.strata seat.stratum at.stratum (slice_get_within c.plan.strata seat.stratum at.stratum at.is_stratum) drawable.sound.balance) in
+            subst (λ (u : FirstUnit). length u.balance ≡ count) (get_or_from_slice_get at.stratum.units seat.unit at.unit at.unit at.is_unit)
+            (All-get_or (λ (u : FirstUnit). length u.balance ≡ count) at.stratum.units seat.unit at.unit (slice_get_within at.stratum.units seat.unit at.unit at.is_unit) counted)
 
-        long_at : c.plan.procedure.balance ≤ length (seat_values c.plan seat)
-        long_at =
-            let n : ℕ = c.plan.procedure.balance in
-            omega (arith, ap length values_at, length-take n at.unit.values, counted_at)
+        long_at : count ≤ length (seat_values c.plan seat)
+        long_at = omega (arith, ap length values_at, counted_at)
 
         small_at : Within (2 ^ 31 - 1) (seat_values c.plan seat)
         small_at =
             let first : IsFirst c.plan.second at.unit = first_is c.plan drawable seat.stratum seat.unit at.stratum at.unit at.is_stratum at.is_unit in
-            subst (Within (2 ^ 31 - 1)) (sym values_at)
-            (All-take (λ z. unsigned_abs z ≤ 2 ^ 31 - 1) c.plan.procedure.balance at.unit.values (near_within at.unit.values first.near))
+            subst (Within (2 ^ 31 - 1)) (sym values_at) (near_within at.unit.balance first.balance)
 
         positive_at : covered_first c states seat.stratum seat.unit ≡ true → 1 ≤ (lowest_terms (first_fraction c.plan.strata seat.stratum seat.unit)).num
         positive_at chosen =

@@ -25,7 +25,7 @@ use Rattle.smp_strata.specs.declared.strata.Stratum.{Stratum}
 use Rattle.smp_twostage.specs.Kept.Stages.{EachStarts, StageStarts}
 use Rattle.smp_twostage.specs.Plans.{CanBeDrawn}
 use Rattle.smp_twostage.specs.Strata.{free_values}
-use Rattle.smp_twostage.specs.Selections.{Selecting, first_number, first_stage, stages_of, tree_of, valued}
+use Rattle.smp_twostage.specs.Selections.{Selecting, balancing, first_number, first_stage, free_points, stages_of, tree_of}
 use Rattle.smp_twostage.specs.Laws.Numbering.{first_there}
 use Rattle.smp_twostage.proofs.Columns.{is_planned}
 use Rattle.smp_twostage.proofs.StartsBy.{FirstSelectsAroundSo, tree_so}
@@ -57,7 +57,7 @@ module _ (plan : Parts) (drawable : CanBeDrawn plan) (other : balances plan.proc
   own_around =
       let over = (is_planned plan drawable h s is).stratum.over in
       rows_around (length s.units) s.request (λ u l. over.free u 0 l) over.apart (method_of own.design).tree starts.member.paired (method_of own.design).belongs first.0
-      (around_unless plan.procedure s.request (free_values (valued s)) first.0 other starts.around)
+      (around_unless plan.procedure s.request (free_values (balancing s)) (free_points s) first.0 other starts.around)
 
   module _ (start_paths : AtEachLeaf (tree_so false plan) (progress tree_of (stages_of plan) states) (λ path leaf. GoesByStages tree_of (stages_of plan) states path leaf.states)) where
     pub firsts_around : FirstSelectsAroundSo false plan (progress tree_of (stages_of plan) states) h s

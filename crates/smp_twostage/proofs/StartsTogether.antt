@@ -51,7 +51,7 @@ module _ (plan : Parts) (drawable : CanBeDrawn plan) (yes : draws_together plan.
   firsts h n s is fills path leaf leads done =
       let goes = starts.paths path leaf leads done in
       let drawn = drawn_together plan path leaf.states goes (stage_member plan drawable started.means).paired in
-      let inside : h < length (units_together plan).firsts = omega (arith, slice_get_within plan.strata h s is, length-map plan.strata (layer_in plan), length-map (layers_of plan) first_of) in
+      let inside : h < length (units_together plan).firsts = omega (arith, slice_get_within plan.strata h s is, length-map plan.strata layer_in, length-map (layers_of plan) first_of) in
       let adds = target_adds plan drawable started.requested h s is started.means.member.are fills.whole in
       let number : selected_in (units_together plan) h drawn.leaf ≡ s.request.r = started.counts h s.request.r inside adds (goes.part 0) drawn.leaf drawn.leads drawn.ended in
       let free : count_by (chosen plan drawable leaf.states drawn.leaf drawn.leaf_is h s is) (range_with_len 0 (length s.request.free)) ≡ s.request.r =

@@ -71,30 +71,30 @@ use Rattle.smp_twostage.proofs.Values.{fraction_is}
 
 -- ---- the free units of a stratum
 
-abbrev pub layer_in : Parts → Stratum → Layer
-layer_in plan s = layer_of s.request (free_values (balancing plan s))
+abbrev pub layer_in : Stratum → Layer
+layer_in s = layer_of s.request (free_values (balancing s))
 
-offset_is : (plan : Parts) (strata : List Stratum) → All (λ (s : Stratum). IsOver (length s.units) s.request) strata → (h : ℕ) → offset (map (layer_in plan) strata) h ≡ free_before strata h
-offset_is plan [] over h = refl
-offset_is plan (s ∷ strata) over zero = refl
-offset_is plan (s ∷ strata) over (suc h) =
+offset_is : (strata : List Stratum) → All (λ (s : Stratum). IsOver (length s.units) s.request) strata → (h : ℕ) → offset (map layer_in strata) h ≡ free_before strata h
+offset_is [] over h = refl
+offset_is (s ∷ strata) over zero = refl
+offset_is (s ∷ strata) over (suc h) =
     let own : IsOver (length s.units) s.request = All-head (λ (t : Stratum). IsOver (length t.units) t.request) s strata over in
-    ap₂ (λ (m n : ℕ). m + n) own.sound.paired (offset_is plan strata (All-tail (λ (t : Stratum). IsOver (length t.units) t.request) s strata over) h)
+    ap₂ (λ (m n : ℕ). m + n) own.sound.paired (offset_is strata (All-tail (λ (t : Stratum). IsOver (length t.units) t.request) s strata over) h)
 
 -- the free units of all strata are those of the design
-free_count : (plan : Parts) (strata : List Stratum) → All (λ (s : Stratum). IsOver (length s.units) s.request) strata → (b count h : ℕ) → length (numbers_from (λ (r : Request). r.free) b strata) ≡ length (members_from count h (map (layer_in plan) strata))
-free_count plan [] over b count h = refl
-free_count plan (s ∷ strata) over b count h =
+free_count : (strata : List Stratum) → All (λ (s : Stratum). IsOver (length s.units) s.request) strata → (b count h : ℕ) → length (numbers_from (λ (r : Request). r.free) b strata) ≡ length (members_from count h (map layer_in strata))
+free_count [] over b count h = refl
+free_count (s ∷ strata) over b count h =
     let own : IsOver (length s.units) s.request = All-head (λ (t : Stratum). IsOver (length t.units) t.request) s strata over in
-    let rest = free_count plan strata (All-tail (λ (t : Stratum). IsOver (length t.units) t.request) s strata over) (b + length s.units) count (suc h) in
+    let rest = free_count strata (All-tail (λ (t : Stratum). IsOver (length t.units) t.request) s strata over) (b + length s.units) count (suc h) in
     omega (
       arith,
       rest,
       own.sound.paired,
       length-append (map (λ u. b + u) s.request.free) (numbers_from (λ (r : Request). r.free) (b + length s.units) strata),
       length-map s.request.free (λ u. b + u),
-      length-append (map (member_of count h (layer_in plan s)) (range_with_len 0 (length s.request.shape))) (members_from count (suc h) (map (layer_in plan) strata)),
-      length-map-range_with_len (member_of count h (layer_in plan s)) 0 (length s.request.shape),
+      length-append (map (member_of count h (layer_in s)) (range_with_len 0 (length s.request.shape))) (members_from count (suc h) (map layer_in strata)),
+      length-map-range_with_len (member_of count h (layer_in s)) 0 (length s.request.shape),
     )
 
 module _ (plan : Parts) (drawable : CanBeDrawn plan) (asked : AreRequested (layers_of plan) (together.started (units_together plan))) where
@@ -108,16 +108,16 @@ module _ (plan : Parts) (drawable : CanBeDrawn plan) (asked : AreRequested (laye
         subst (λ (t : Stratum). IsOver (length t.units) t.request) here
         (All-get_or (λ (t : Stratum). IsOver (length t.units) t.request) plan.strata h s (slice_get_within plan.strata h s is) (are_over plan drawable))
 
-    layer_is : get_or (layers_of plan) h no_layer ≡ layer_in plan s
+    layer_is : get_or (layers_of plan) h no_layer ≡ layer_in s
     layer_is =
-        get_or_from_slice_get (layers_of plan) h (layer_in plan s) no_layer (slice_get-map (layer_in plan) plan.strata h ∙ ap (option_map (layer_in plan)) is)
+        get_or_from_slice_get (layers_of plan) h (layer_in s) no_layer (slice_get-map layer_in plan.strata h ∙ ap (option_map layer_in) is)
 
     -- each free unit has the value that its stratum's request asks for it
     free_value : (j : ℕ) → j < length s.request.free → Same (start_value (free_before plan.strata h + j)) (free_fraction s.request j)
     free_value j l =
-        let within : h < length (layers_of plan) = omega (arith, slice_get_within plan.strata h s is, length-map plan.strata (layer_in plan)) in
+        let within : h < length (layers_of plan) = omega (arith, slice_get_within plan.strata h s is, length-map plan.strata layer_in) in
         let inside : j < length (get_or (layers_of plan) h no_layer).request.shape = subst (λ (t : Layer). j < length t.request.shape) (sym layer_is) (omega (arith, l, own.sound.paired)) in
-        subst (λ n. Same (start_value (n + j)) (free_fraction s.request j)) (offset_is plan plan.strata (are_over plan drawable) h)
+        subst (λ n. Same (start_value (n + j)) (free_fraction s.request j)) (offset_is plan.strata (are_over plan drawable) h)
         (subst (λ (t : Layer). Same (start_value (offset (layers_of plan) h + j)) (over (get_or t.request.shape j 0 * t.request.r) t.request.total)) layer_is (asked h j within inside))
 
     stand_value : (i : Inclusion) → ((j : ℕ) → i ≡ Free j → j < length s.request.free) → Same (row_value start_value (stands_behind (free_before plan.strata h) i)) (fraction_at s.request i)
@@ -148,7 +148,7 @@ module _ (plan : Parts) (drawable : CanBeDrawn plan) (asked : AreRequested (laye
           same_trans (free_value j within) (same_sym (numerator_is_free_fraction s.request own.sound j within))))) whole
 
       in_layers : h < length (layers_of plan)
-      in_layers = omega (arith, slice_get_within plan.strata h s is, length-map plan.strata (layer_in plan))
+      in_layers = omega (arith, slice_get_within plan.strata h s is, length-map plan.strata layer_in)
 
       addend_is : (k : ℕ) → addend (units_together plan) h k ≡ term_of (units_together plan).members h (λ i. fraction_of (share (units_together plan) i)) k
       addend_is k =
@@ -161,7 +161,7 @@ module _ (plan : Parts) (drawable : CanBeDrawn plan) (asked : AreRequested (laye
       pub run_here : (f : ℕ → Fraction) → Same (sum_below (length (units_together plan).members) (term_of (units_together plan).members h f)) (sum_below (length s.request.free) (λ j. f (free_before plan.strata h + j)))
       run_here f =
           let none : 0 + h ≡ h = omega arith in
-          subst (λ n. Same (sum_below (length (units_together plan).members) (term_of (units_together plan).members h f)) (sum_below (length s.request.free) (λ j. f (n + j)))) (offset_is plan plan.strata (are_over plan drawable) h)
+          subst (λ n. Same (sum_below (length (units_together plan).members) (term_of (units_together plan).members h f)) (sum_below (length s.request.free) (λ j. f (n + j)))) (offset_is plan.strata (are_over plan drawable) h)
           (subst (λ n. Same (sum_below (length (units_together plan).members) (term_of (units_together plan).members h f)) (sum_below n (λ j. f (offset (layers_of plan) h + j)))) run_size
           (subst (λ g. Same (sum_below (length (units_together plan).members) (term_of (units_together plan).members g f)) (sum_below (length (get_or (layers_of plan) h no_layer).request.shape) (λ j. f (offset (layers_of plan) h + j)))) none
           (run (length (layers_of plan)) 0 (layers_of plan) h f in_layers)))
@@ -233,7 +233,7 @@ module _ (plan : Parts) (drawable : CanBeDrawn plan) (means : HasMeans (method_o
   stage_member = record {
     member = means.member;
     ordered = over_rises plan.strata (are_over plan drawable);
-    paired = free_count plan plan.strata (are_over plan drawable) 0 (length (layers_of plan)) 0;
+    paired = free_count plan.strata (are_over plan drawable) 0 (length (layers_of plan)) 0;
   }
 
   pub stage_first : EachFirst (stage_of_strata plan ∷ []) (first_state (stage_of_strata plan).design.design ∷ [])

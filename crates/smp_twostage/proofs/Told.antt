@@ -1,11 +1,10 @@
 -- A first stage unit that is selected can be, and a stratum is one that the cube draws from.
-use Rattle.std.proofs.Common.{◌≡◌, ℕ, ◌+◌, ◌-◌, ◌^◌, ◌<◌, ◌≤◌, Bool, true, false, true≢false, ℤ, List, [], ◌∷◌, All, length, map, take, Option, Some, None, refl, sym, ap, ◌∙◌, arith, length-take}
+use Rattle.std.proofs.Common.{◌≡◌, ℕ, ◌-◌, ◌^◌, ◌<◌, ◌≤◌, Bool, true, false, true≢false, ℤ, List, [], ◌∷◌, All, length, map, Option, Some, None, refl, sym, ap, ◌∙◌, arith}
 use Rattle.std.specs.Prelude.{◌||◌}
 use Rattle.std.specs.List.{slice_get}
-use Rattle.std.specs.Int.RustNames.{unsigned_abs}
 use Rattle.std.proofs.lemmas.Bool.{and_parts, eqb-true}
 use Rattle.std.proofs.lemmas.List.{length-map}
-use Rattle.std.proofs.lemmas.List.Elements.{All-get_or, All-map, All-take, All-weaker}
+use Rattle.std.proofs.lemmas.List.Elements.{All-get_or, All-map, All-weaker}
 use Rattle.smp_prob.specs.declared.inclusions.Inclusion.{Inclusion}
 use Rattle.smp_prob.specs.declared.inclusions.Inclusion.TheVariants.{Certain, Free, Never}
 use Rattle.smp_prob.specs.Inclusions.{is_taken, inclusion}
@@ -92,39 +91,34 @@ module _ (plan : Parts) (drawable : CanBeDrawn plan) (balance : balances plan.pr
   abbrev balance_count : ℕ
   balance_count = plan.procedure.balance
 
-  abbrev cut : FirstUnit → List ℤ
-  cut u = take balance_count u.values
-
   -- the columns on which it balances are 1 to 15
   pub balance_few : (1 ≤ balance_count) × (balance_count ≤ 15)
   balance_few = balance_columns (row plan.procedure.method).needs balance_count plan.procedure.near balance drawable.procedure.columns
 
-  cut_counted : All (λ u. length (cut u) ≡ balance_count) s.units
-  cut_counted =
-      All-weaker (λ u. length u.values ≡ balance_count + plan.procedure.near) (λ u. length (cut u) ≡ balance_count)
-      (λ u counted. omega (arith, length-take balance_count u.values, counted)) s.units own.counted
+  abbrev of_unit : FirstUnit → List ℤ
+  of_unit u = u.balance
 
-  values_counted : All (λ (v : List ℤ). length v ≡ balance_count) (map cut s.units)
-  values_counted = All-map (λ (v : List ℤ). length v ≡ balance_count) cut s.units cut_counted
+  values_counted : All (λ (v : List ℤ). length v ≡ balance_count) (map of_unit s.units)
+  values_counted = All-map (λ (v : List ℤ). length v ≡ balance_count) of_unit s.units own.counted
 
   -- so many values are balanced of each unit
-  pub balanced_count : column_count (balancing plan s) ≡ balance_count
+  pub balanced_count : column_count (balancing s) ≡ balance_count
   balanced_count =
-      All-get_or (λ (v : List ℤ). length v ≡ balance_count) (map cut s.units) 0 []
-      (omega (arith, own.stratum.some, length-map s.units cut)) values_counted
+      All-get_or (λ (v : List ℤ). length v ≡ balance_count) (map of_unit s.units) 0 []
+      (omega (arith, own.stratum.some, length-map s.units of_unit)) values_counted
 
-  values_are : AreValues (map (λ u. take balance_count u.values) s.units)
+  values_are : AreValues (map of_unit s.units)
   values_are =
-      are_values balance_count (map (λ u. take balance_count u.values) s.units)
+      are_values balance_count (map of_unit s.units)
       values_counted
-      (All-map (Within (2 ^ 31 - 1)) cut s.units (All-weaker (IsFirst plan.second) (λ u. Within (2 ^ 31 - 1) (cut u)) (λ u first. All-take (λ z. unsigned_abs z ≤ 2 ^ 31 - 1) balance_count u.values (near_within u.values first.near)) s.units own.stratum.firsts))
+      (All-map (Within (2 ^ 31 - 1)) of_unit s.units (All-weaker (IsFirst plan.second) (λ u. Within (2 ^ 31 - 1) u.balance) (λ u first. near_within u.balance first.balance) s.units own.stratum.firsts))
       balance_few.1
 
-  pub is_stratum : AreStratumUnits (balancing plan s)
+  pub is_stratum : AreStratumUnits (balancing s)
   is_stratum = record {
     request = own.stratum.over.sound;
     rising = own.stratum.over.rising;
-    inside = λ u l. (let inside = own.stratum.over.free u 0 l in omega (arith, inside, length-map s.units cut));
+    inside = λ u l. (let inside = own.stratum.over.free u 0 l in omega (arith, inside, length-map s.units of_unit));
     stands = own.stratum.over.apart;
     values = values_are;
   }

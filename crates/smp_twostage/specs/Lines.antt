@@ -28,7 +28,7 @@ told_seats c h =
 -- the balancing values of a first stage unit
 abbrev pub seat_values : Parts → Seat → List ℤ
 seat_values plan p =
-    unwrap_or (option_map (λ s. values_of (balancing plan s) p.unit) (slice_get plan.strata p.stratum)) []
+    unwrap_or (option_map (λ s. values_of (balancing s) p.unit) (slice_get plan.strata p.stratum)) []
 
 -- What was drawn of a section, where the stages are in these states: its number, told from 1; and of each of its first stage units the
 -- balancing values, the probability that is asked for it in its stratum, and whether it is drawn.

@@ -2,7 +2,7 @@
 -- and then, where there is a second stage, rows within each of those that were drawn, certain ones among them (Särndal, Swensson and
 -- Wretman 1992). A method that draws all strata together has one stage for them.
 use Rattle.std.specs.Prelude.{ℕ, zero, Bool, true, suc, ◌+◌, nat_eq, nat_lt, ◌&&◌, ◌||◌, if◌then◌else◌}
-use Rattle.std.specs.Prelude.{List, [], ◌∷◌}
+use Rattle.std.specs.Prelude.{List, [], ◌∷◌, ℤ, slice_index_or}
 use Rattle.std.specs.Prelude.{◌++◌, length, map, take, drop, Option, Some, None, option_map, unwrap_or}
 use Rattle.std.specs.List.{slice_get, list_any, position_or_len, range_with_len}
 use Rattle.smp_twostage.specs.Strata.{StratumUnits, free_values}
@@ -48,16 +48,13 @@ belongs_to s = BelongsToRows s.request (design_tree s.design) (method_of s.desig
 
 -- ---- the stages
 
--- a stratum as it is drawn from: its request, and the values of its first stage units
-abbrev pub valued : stratum.Stratum → StratumUnits
-valued s = record { request = s.request; values = map (λ u. u.values) s.units }
+-- a stratum as it is balanced: its request, and the balancing values of its first stage units
+abbrev pub balancing : stratum.Stratum → StratumUnits
+balancing s = record { request = s.request; values = map (λ u. u.balance) s.units }
 
--- a stratum as it is balanced: its request, and of the values of its first stage units those that aren't coordinates
-abbrev pub balancing : Parts → stratum.Stratum → StratumUnits
-balancing plan s = record {
-  request = s.request;
-  values = map (λ u. take plan.procedure.balance u.values) s.units;
-}
+-- where its free units lie: the coordinates of each, in their order
+abbrev pub free_points : stratum.Stratum → List (List ℤ)
+free_points s = map (λ k. slice_index_or (map (λ u. u.point) s.units) k []) s.request.free
 
 -- the first stage of a stratum: its first stage units, by the plan's procedure
 abbrev pub first_stage : Parts → stratum.Stratum → Stage Selecting
@@ -65,7 +62,7 @@ first_stage plan s = record {
   design = record {
     units = length s.units;
     request = s.request;
-    design = design_of plan.procedure s.request (free_values (valued s));
+    design = design_of plan.procedure s.request (free_values (balancing s)) (free_points s);
   };
   within = None;
 }
@@ -76,7 +73,7 @@ second_stage method request rows at k = record {
   design = record {
     units = rows;
     request = request;
-    design = design_of (without_values method) request (map (λ _. []) request.free);
+    design = design_of (without_values method) request [] [];
   };
   within = Some (record { stage = at; unit = k });
 }
@@ -147,7 +144,7 @@ request_over strata = record {
 
 -- the free units of each stratum, with their balancing values
 abbrev pub layers_of : Parts → List Layer
-layers_of plan = map (λ s. record { request = s.request; values = free_values (balancing plan s) }) plan.strata
+layers_of plan = map (λ s. record { request = s.request; values = free_values (balancing s) }) plan.strata
 
 -- the stage of all strata: their first stage units, drawn together
 abbrev pub stage_of_strata : Parts → Stage Selecting

@@ -165,8 +165,7 @@ fn values_at<'a>(plan: &'a Plan, seat: Seat) -> &'a [i32]
     ensures { result.now ≡ seat_values plan.now seat }
 {
     let stratum = plan.stratum(seat.stratum);
-    let all = stratum.units.as_slice()[seat.unit].values.as_slice();
-    &all[..plan.procedure().balance.min(all.len())]
+    stratum.units.as_slice()[seat.unit].balance.as_slice()
 }
 
 // The probabilities that are asked for them.

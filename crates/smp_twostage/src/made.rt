@@ -1,16 +1,15 @@
 //! The stages of a plan, each with the state that it starts from.
 
 ghost use Rattle.std.specs.Prelude.{◌≡◌, ◌<◌, ◌≤◌, ◌+◌, ◌^◌, suc, ◌++◌, ◌∷◌, [], true, None};
-ghost use Rattle.std.specs.{Prelude.{Some, All, IfOk, OnOk, length, map, slice_index_or}, List.{range_with_len}};
+ghost use Rattle.std.specs.{Prelude.{Some, All, IfOk, OnOk, length, map}, List.{range_with_len}};
 ghost use Rattle.smp_prob.specs.{Requests.{IsRequest}, Inclusions.{IsRising}};
 ghost use Rattle.smp_design.specs.Words.{draws_together};
 ghost use Rattle.smp_methods.specs.{Designs.{design_of, design_of_strata, first_state}, Procedures.{NeedsWhole, TakesValues}};
 ghost use Rattle.smp_methods.specs.Starts.{AreStarted};
-ghost use Rattle.smp_strata.specs.Bounds.{IsFirst};
-ghost use Rattle.smp_twostage.specs.{Kept.Stages.{AreTaken, EachFirst, EachStarts, IsPlanned, StageStarts}, Plans.{CanBeDrawn, TakesRows}};
-ghost use Rattle.smp_twostage.specs.Strata as Strata;
+ghost use Rattle.smp_strata.specs.Bounds.{IsFirst, IsOver};
+ghost use Rattle.smp_twostage.specs.{Kept.Stages.{EachFirst, EachStarts, IsPlanned, StageStarts, free_lists, list_of}, Plans.{CanBeDrawn, TakesRows}};
 ghost use Rattle.smp_twostage.specs.Selections as Selections;
-ghost use Rattle.smp_twostage.specs.Selections.{first_number, first_stage, layers_of, parts_by, stage_of_strata, valued};
+ghost use Rattle.smp_twostage.specs.Selections.{first_number, first_stage, layers_of, parts_by, stage_of_strata};
 ghost use Rattle.smp_twostage.specs.Selections.{stage_by, stages_in, stages_of, stages_within};
 
 use crate::StageDesign;
@@ -37,41 +36,45 @@ pub(crate) struct Made<'a> {
     pub states: Vec<AnyState>,
 }
 
-// The values of a first stage unit; none past the last one.
-fn values_at(alloc: Global, units: &[FirstUnit], unit: usize) -> Result<Numbers, NoMemory>
-    ensures { IfOk result (λ values. values
-        ≡ slice_index_or (map (λ u. u.values) units.now) unit []) }
+// The columns of a kind. A first stage unit has a list of its values in them.
+#[derive(Clone, Copy)]
+enum Columns {
+    // Of balancing values.
+    Balance,
+    // Of coordinates.
+    Near,
+}
+
+// The list of a first stage unit.
+fn list_of<'a>(columns: Columns, first: &'a FirstUnit) -> &'a [i32]
+    ensures { result.now ≡ list_of columns first.now }
 {
-    match units.get(unit) {
-        Some(first) => Numbers::from_slice(alloc, first.values.as_slice()),
-        None => Numbers::from_slice(alloc, &[]),
+    match columns {
+        Columns::Balance => first.balance.as_slice(),
+        Columns::Near => first.point.as_slice(),
     }
 }
 
-// The values of the free units of a stratum, in their order.
-fn free_values(alloc: Global, stratum: &Stratum) -> Result<Vec<Numbers>, NoMemory>
-    ensures { IfOk result (λ values. values.items ≡ Strata.free_values (valued stratum.now)) }
+// The lists of the free units of a stratum, in their order. Where there are no such columns, none is made.
+fn free_lists(
+    alloc: Global,
+    columns: Columns,
+    count: usize,
+    stratum: &Stratum,
+) -> Result<Vec<Numbers>, NoMemory>
+    requires { IsOver (length stratum.now.units) stratum.now.request }
+    ensures { IfOk result (λ lists. 1 ≤ count → lists.items ≡ free_lists columns stratum.now) }
 {
-    let free = stratum.request.free.as_slice();
-    let mut values = Vec::with_capacity(alloc, free.len())?;
-    for unit in free {
-        values.push(values_at(alloc, stratum.units.as_slice(), *unit)?)?;
-    }
-    Ok(values)
-}
-
-// The values of the free units of a stratum that its design takes. Where no column is read, no list of them is made.
-fn taken_values(alloc: Global, plan: &Plan, stratum: &Stratum) -> Result<Vec<Numbers>, NoMemory>
-    requires { IsPlanned plan.now stratum.now }
-    ensures { IfOk result (λ values. AreTaken plan.now.procedure stratum.now.request
-        (Strata.free_values (valued stratum.now)) values.items) }
-{
-    let procedure = plan.procedure();
-    if procedure.balance == 0 && procedure.near == 0 {
+    if count == 0 {
         return Ok(Vec::new(alloc));
     }
-    let values = free_values(alloc, stratum)?;
-    Ok(values)
+    let free = stratum.request.free.as_slice();
+    let units = stratum.units.as_slice();
+    let mut lists = Vec::with_capacity(alloc, free.len())?;
+    for &unit in free {
+        lists.push(Numbers::from_slice(alloc, list_of(columns, &units[unit]))?)?;
+    }
+    Ok(lists)
 }
 
 // The free units of each stratum, with their values.
@@ -83,7 +86,7 @@ fn layers_of(alloc: Global, plan: &Plan) -> Result<Layers, NoMemory>
     let mut layers = Layers::new(alloc);
     for number in 0..plan.strata() {
         let stratum = plan.stratum(number);
-        let values = free_values(alloc, stratum)?;
+        let values = free_lists(alloc, Columns::Balance, plan.procedure().balance, stratum)?;
         layers.push(&stratum.request, values.as_slice())?;
     }
     Ok(layers)
@@ -155,21 +158,20 @@ fn start_stage<'a>(
     units: usize,
     request: &'a Request,
     values: &[Numbers],
+    points: &[Numbers],
 ) -> Result<StartedStage<'a>, NoMemory>
     requires request { IsRequest request.now }
     requires whole { NeedsWhole procedure request.now }
     requires rising { IsRising request.now }
-    requires paired { 1 ≤ procedure.balance + procedure.near
-        → length values.now ≡ length request.now.free }
-    requires values { TakesValues procedure values.now }
+    requires values { TakesValues procedure request.now values.now points.now }
     ensures design { IfOk result (λ s. s.design ≡ record {
       units = units;
       request = request.now;
-      design = design_of procedure request.now values.now;
+      design = design_of procedure request.now values.now points.now;
     }) }
     ensures starts { IfOk result (λ s. StageStarts s.design s.state) }
 {
-    let Started { design, state } = Started::new(alloc, procedure, request, values)?;
+    let Started { design, state } = Started::new(alloc, procedure, request, values, points)?;
     let design = StageDesign::new(units, request, design);
     Ok(StartedStage { design, state })
 }
@@ -203,10 +205,18 @@ impl<'a> Made<'a> {
             ≡ self.old.stages.items ++ first_stage plan.now stratum.now ∷ []) }
         ensures each { OnOk result (EachStarts self.new.stages.items self.new.states.items) }
     {
+        let procedure = plan.procedure();
+        let values = free_lists(alloc, Columns::Balance, procedure.balance, stratum)?;
+        let points = free_lists(alloc, Columns::Near, procedure.near, stratum)?;
         let units = stratum.units.as_slice().len();
-        let values = taken_values(alloc, plan, stratum)?;
-        let request = &stratum.request;
-        let started = start_stage(alloc, plan.procedure(), units, request, values.as_slice())?;
+        let started = start_stage(
+            alloc,
+            procedure,
+            units,
+            &stratum.request,
+            values.as_slice(),
+            points.as_slice(),
+        )?;
         self.push(started, None)
     }
 
@@ -231,7 +241,7 @@ impl<'a> Made<'a> {
         };
         let rows = first.rows.as_slice().len();
         let procedure = Procedure::without_values(method);
-        let started = start_stage(alloc, procedure, rows, request, &[])?;
+        let started = start_stage(alloc, procedure, rows, request, &[], &[])?;
         self.push(started, Some(within))
     }
 

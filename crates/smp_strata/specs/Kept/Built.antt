@@ -83,6 +83,7 @@ AreFirstRequests design units = (number : ℕ) → number < length (stratum_name
 -- what is known of the first stage unit of some rows
 pub record IsBuiltFirst (design : Design) (units : List unit.Unit) (rows : List ℕ) : Type 0 where
   pub first : IsFirst (second_method design) (first_of design units rows)
+  pub point : length (first_of design units rows).point ≡ length design.columns.near
   pub asks : SecondAsks design.second (second_sizes units rows)
       (second_request design.second units rows)
   pub draws : SecondDraws design.second (length rows) (second_request design.second units rows)

@@ -3,7 +3,7 @@ use Rattle.std.specs.Prelude.{ℕ, ◌<◌, ◌≤◌, ◌≡◌, List, [], ◌�
 use Rattle.std.specs.List.{position_or_len, range_with_len}
 use Rattle.std.specs.Str.{bytes_eq}
 use Rattle.smp_frac.specs.Limits.{most_rows}
-use Rattle.smp_frame.specs.Bounds.{HaveValues, IsFrame}
+use Rattle.smp_frame.specs.Bounds.{HaveBalance, HavePoints, IsFrame}
 use Rattle.smp_design.specs.Bounds.{IsDesign}
 use Rattle.smp_design.specs.declared.design.Design.{Design}
 use Rattle.smp_design.specs.declared.design.Second as second
@@ -65,7 +65,8 @@ prob_of units clustered cluster = prob_at units (first_row (slice_index_or clust
 pub record IsLaidOut (asked : Design) (units : List unit.Unit) (clustered : List (List ℕ))
     (strata : Strata) : Type 0 where
   pub frame : IsFrame units
-  pub values : HaveValues (length asked.columns.values) units
+  pub balance : HaveBalance (length asked.columns.balance) units
+  pub points : HavePoints (length asked.columns.near) units
   pub design : IsDesign asked
   pub rows : clustered ≡ clusters asked.second units
   pub all_rows : All (AreRows (length units)) clustered

@@ -1,25 +1,26 @@
 -- What the code keeps of the stages that it makes and of what is told of them.
-use Rattle.std.specs.Prelude.{◌≡◌, ℕ, ℤ, suc, ◌+◌, ◌<◌, ◌≤◌, if◌then◌else◌, All, IfSome, IsTrue}
-use Rattle.std.specs.Prelude.{List, Some, length, map}
+use Rattle.std.specs.Prelude.{◌≡◌, ℕ, suc, ◌<◌, if◌then◌else◌, All, IfSome, IsTrue}
+use Rattle.std.specs.Prelude.{List, [], ℤ, Some, length, map, slice_index_or}
 use Rattle.std.specs.List.{range_with_len, slice_get}
 use Rattle.smp_split.specs.Counts.{AddsUp}
 use Rattle.smp_values.specs.Starts.{DrawsWhole}
-use Rattle.smp_design.specs.declared.procedure.Procedure.{Procedure}
 use Rattle.smp_design.specs.Procedures.{IsProcedure}
 use Rattle.smp_design.specs.Words.{row}
 use Rattle.smp_split.specs.Rows.{SelectsAsRequested}
 use Rattle.smp_methods.specs.declared.any.AnyState.{AnyState}
-use Rattle.smp_methods.specs.Designs.{design_of, first_state}
-use Rattle.smp_methods.specs.Procedures.{TakesValues}
+use Rattle.smp_methods.specs.Designs.{first_state}
 use Rattle.smp_methods.specs.Methods.{method_of}
 use Rattle.smp_split.specs.declared.places.Stage.{Stage}
 use Rattle.smp_split.specs.Stages.{EachBelongs}
 use Rattle.smp_methods.specs.Starts.{SelectsAround}
 use Rattle.smp_strata.specs.Bounds.{IsStratum}
 use Rattle.smp_strata.specs.Plans.{Parts}
+use Rattle.smp_strata.specs.declared.strata.FirstUnit.{FirstUnit}
 use Rattle.smp_strata.specs.declared.strata.Seat.{Seat}
 use Rattle.smp_strata.specs.declared.strata.Stratum.{Stratum}
 use Rattle.smp_prob.specs.declared.requests.Request.{Request}
+use Rattle.smp_twostage.specs.declared.made.Columns.{Columns}
+use Rattle.smp_twostage.specs.declared.made.Columns.TheVariants as columns
 use Rattle.smp_twostage.specs.declared.stage.Asked.{Asked}
 use Rattle.smp_twostage.specs.declared.stage.Asked.TheVariants as asked
 use Rattle.smp_twostage.specs.DrawnLines as balance
@@ -39,14 +40,16 @@ pub record IsPlanned (plan : Parts) (s : Stratum) : Type 0 where
   pub second : IfSome plan.second TakesRows
   pub stratum : IsStratum plan.second s
   pub whole : IsTrue (row plan.procedure.method).draws_whole → DrawsWhole s.request
-  pub counted : All (λ u. length u.values ≡ plan.procedure.balance + plan.procedure.near) s.units
+  pub counted : All (λ u. length u.balance ≡ plan.procedure.balance) s.units
 
--- Values that a procedure takes in place of those of the units, as a list of them or as none: where it has columns there is a list for
--- each free unit, and its design is the same by either.
-pub record AreTaken (way : Procedure) (request : Request) (units values : List (List ℤ)) : Type 0 where
-  pub takes : TakesValues way values
-  pub paired : 1 ≤ way.balance + way.near → length values ≡ length request.free
-  pub same : design_of way request values ≡ design_of way request units
+-- the list of the values that a first stage unit has in the columns of a kind
+abbrev pub list_of : Columns → FirstUnit → List ℤ
+list_of columns.Balance = λ u. u.balance
+list_of columns.Near = λ u. u.point
+
+-- the lists of the free units of a stratum, in their order
+abbrev pub free_lists : Columns → Stratum → List (List ℤ)
+free_lists kind s = map (λ k. slice_index_or (map (list_of kind) s.units) k []) s.request.free
 
 -- the number of the first stage of each section that is covered, and then that of all stages
 abbrev pub first_numbers : Coverage → List ℕ

@@ -8,5 +8,4 @@ new-requires-clause-whole c = needs_whole c.without_values-procedure.result c.ar
 
 pub new-requires-clause-values : goal.new-requires-clause-values
 new-requires-clause-values c =
-    rw (c.as_slice.ensures.value, c.in_ok-values.ensures, c.without_values-procedure.ensures)
-    (takes_none c.args.method c.args.request.now.free (bare_unless_needed c.args.method c.requires.method))
+    rw c.without_values-procedure.ensures (takes_none c.args.method c.args.request.now (bare_unless_needed c.args.method c.requires.method))

@@ -11,7 +11,6 @@ handed : (request : Request) (own design : LocalUnits) → design ≡ own → Is
     → IsRequested (method_of design).tree request (started design)
 handed request own design same = subst (λ (d : LocalUnits). IsRequested (method_of d).tree request (started d)) (sym same)
 
--- src/local.rt:20:1
 pub returns-clause-requested : goal.returns-clause-requested
 returns-clause-requested c = elim c.match-near.branch [
   | in-1+in_ok-located-in-1 w ↦ handed c.args.request.now _ _ (c.of.ensures ∙ ap in_any w.design-is) w.in_ok-located-in-1.ensures.requested

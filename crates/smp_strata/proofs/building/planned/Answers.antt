@@ -10,7 +10,7 @@ use Rattle.smp_strata.specs.declared.strata.Seat as seat
 use Rattle.smp_strata.specs.declared.strata.Stratum as stratum
 use Rattle.smp_strata.specs.Kept.Built.{AreBuilt, AreSeats, seat_by}
 use Rattle.smp_strata.specs.Kept.Layouts.{AreGroups, IsLaidOut, homes_of}
-use Rattle.smp_strata.proofs.Asking.{are_strata, are_whole, asks_as_frame, draws_as_asked, have_columns, long_homes, seated_by, seats_are}
+use Rattle.smp_strata.proofs.Asking.{are_strata, are_whole, asks_as_frame, draws_as_asked, have_balance, have_points, long_homes, seated_by, seats_are}
 use Rattle.smp_strata.proofs.Laid.{all_rows, groups}
 use Rattle.smp_strata.proofs.MisfitOrder.{passed}
 use Rattle.smp_strata.proofs.building.planned.Goals as goal
@@ -44,7 +44,8 @@ returns-clause-sound c =
     rw (c.second_method-second.ensures, c.in_ok-finished.ensures) record {
       strata = are_strata _ _ (all_rows c.requires.layout) list built;
       whole = are_whole _ _ (all_rows c.requires.layout) list built;
-      columns = subst (λ n. All (λ s. All (λ f. length f.values ≡ n) s.units) list) c.requires.layout.design.values (have_columns _ _ (all_rows c.requires.layout) list built);
+      balance = subst (λ n. All (λ s. All (λ f. length f.balance ≡ n) s.units) list) c.requires.layout.design.balance (have_balance _ _ (all_rows c.requires.layout) list built);
+      points = subst (λ n. All (λ s. All (λ f. length f.point ≡ n) s.units) list) c.requires.layout.design.near (have_points _ _ (all_rows c.requires.layout) list built);
       seated = seated_by list c.in_ok-seats.seats.items (seated c.requires.layout c.in_ok-begun.ensures.together built c.requires.homes c.requires.row_groups c.in_ok-seats.ensures.length c.in_ok-seats.ensures.each);
     }
 

@@ -13,7 +13,7 @@ use Rattle.smp_strata.proofs.Members.{names_few}
 use Rattle.smp_strata.proofs.MisfitOrder.{by_parts, kind_1, kind_2, kind_3, last_kind, or_first, or_then, passed}
 use Rattle.smp_strata.proofs.building.planned_strata.Goals as goal
 
-limit_at : (design : Design) (units : List unit.Unit) {together : Bool} {strata variables : ℕ} → together ≡ draws_together design.procedure.method → strata ≡ length (stratum_names units) → variables ≡ length design.columns.values
+limit_at : (design : Design) (units : List unit.Unit) {together : Bool} {strata variables : ℕ} → together ≡ draws_together design.procedure.method → strata ≡ length (stratum_names units) → variables ≡ length design.columns.balance
     → row_limit_by together strata variables ≡ row_limit design units
 limit_at design units a b d = rw (a, b, d) refl
 
@@ -58,7 +58,7 @@ rows_fit-requires-clause-strata c =
 
 pub rows_fit-requires-clause-variables : goal.rows_fit-requires-clause-variables
 rows_fit-requires-clause-variables c =
-    omega (arith, ap (λ (ns : List (List ℕ)). length ns) c.as_slice-columns.ensures, c.requires.layout.design.values, few_columns (row c.args.design.now.procedure.method).needs c.args.design.now.procedure.balance c.args.design.now.procedure.near c.requires.layout.design.procedure.columns)
+    omega (arith, ap (λ (ns : List (List ℕ)). length ns) c.as_slice-columns.ensures, c.requires.layout.design.balance, few_columns (row c.args.design.now.procedure.method).needs c.args.design.now.procedure.balance c.args.design.now.procedure.near c.requires.layout.design.procedure.columns)
 
 pub returns-in_err-rows_fit-clause-misfit : goal.returns-in_err-rows_fit-clause-misfit
 returns-in_err-rows_fit-clause-misfit c =

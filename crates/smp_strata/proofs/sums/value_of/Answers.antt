@@ -12,7 +12,7 @@ loop-row-preserved c =
     let s : ℤ = to_z w64 c.loop-row.sum-bits in
     let v : ℤ = get_or c.as_slice.result.now c.args.column (pos 0) in
     let here = c.requires.rows.within i 0 c.loop-row-test.true in
-    let near : nat_abs v < 2 ^ 31 = value_near c.args.units.now row c.args.column c.as_slice.result.now c.index-units-row.result here c.as_slice.ensures c.args.columns c.requires.frame c.requires.values c.requires.column in
+    let near : nat_abs v < 2 ^ 31 = value_near c.args.units.now row c.args.column c.as_slice.result.now c.index-units-row.result here c.as_slice.ensures c.args.columns c.requires.frame c.requires.balance c.requires.column in
     let few : i < most_rows = omega (arith, c.requires.rows.few, c.loop-row-test.true) in
     record {
       sum =
