@@ -54,7 +54,7 @@ class Draw:
 
     def besides(self):
         """What those at which the page stops reach that are on asked.md, and isn't on the page."""
-        starts = [at for at in self.ends if self.statement.home.get(at) == "asked" and at[1] != "parts"]
+        starts = [at for at in self.ends if self.statement.home.get(at) == "asked" and at[1] != "survey_plan"]
         return [at for at in self.statement.reached(starts, but=self.shown) if at not in self.shown]
 
     def filled(self, lines):

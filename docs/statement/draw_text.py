@@ -112,7 +112,7 @@ FILES = """
 CLOSED = {
     "tree_of": ("the draw tree of a plan, of the plan alone; its units are the rows", "smp_app.specs.Drawn"),
     "start_of": ("the state before the first number, of the plan alone", "smp_app.specs.Drawn"),
-    "parts": ("the strata of a plan, with their first stage units", "smp_plan.specs.Plans"),
+    "survey_plan": ("the strata of a plan, with their first stage units", "smp_plan.specs.Plans"),
     "first_selected": ("whether unit k of stratum h is selected in the first stage, in these states", ""),
     "second_selected": ("whether a row within it is selected in the second stage", ""),
     "IsDrawnBySeed": ("the words of the seed give the values of the path; that they are uniform draws is `fair`", ""),

@@ -23,7 +23,7 @@ use Rattle.smp_methods.specs.Designs.{design_by, left_at}
 use Rattle.smp_split.specs.declared.places.Stage.{Stage}
 use Rattle.smp_split.specs.StagePaths.{GoesByStages}
 use Rattle.smp_split.specs.Stages.{Progress}
-use Rattle.smp_strata.specs.Plans.{Parts}
+use Rattle.smp_strata.specs.Plans.{Plan}
 use Rattle.smp_strata.specs.declared.strata.Stratum.{Stratum}
 use Rattle.smp_twostage.specs.Covered.{covered_left}
 use Rattle.smp_twostage.specs.Laws.Numbering.{first_there}
@@ -38,7 +38,7 @@ use Rattle.smp_twostage.proofs.Cubes.{cube_selected}
 use Rattle.smp_twostage.proofs.StartsBy.{first_so}
 use Rattle.smp_twostage.proofs.Told.{is_stratum as cube_stratum}
 use Rattle.smp_plan.specs.declared.plan.FramePlan.{FramePlan}
-use Rattle.smp_plan.specs.Plans.{Plan, parts}
+use Rattle.smp_plan.specs.Plans.{Survey, survey_plan}
 use Rattle.smp_app.specs.Drawn.{Drawn, covered}
 use Rattle.smp_plan.specs.Planned.{IsPlanned, plan_view}
 use Rattle.smp_app.specs.Draws.{IsDrawnBy, KeepsBalance}
@@ -50,9 +50,9 @@ use Rattle.smp_app.proofs.Together.{tells_together}
 map_same : {A : Type 0} (f g : ℕ → A) (xs : List ℕ) → ((k : ℕ) → f k ≡ g k) → map f xs ≡ map g xs
 map_same f g xs same = ap (λ h. map h xs) (fun_ext same)
 
-module _ (plan : Plan) (drawable : CanBeDrawn (parts plan)) (balance : balances plan.design.procedure.method ≡ true) (apart : draws_together plan.design.procedure.method ≡ false) (h : ℕ) (s : Stratum) (is : slice_get (parts plan).strata h ≡ Some s) where
-  abbrev all : Parts
-  all = parts plan
+module _ (plan : Survey) (drawable : CanBeDrawn (survey_plan plan)) (balance : balances plan.design.procedure.method ≡ true) (apart : draws_together plan.design.procedure.method ≡ false) (h : ℕ) (s : Stratum) (is : slice_get (survey_plan plan).strata h ≡ Some s) where
+  abbrev all : Plan
+  all = survey_plan plan
 
   -- the stratum, as the cube draws from it
   pub is_stratum : AreStratumUnits (balancing s)
@@ -120,7 +120,7 @@ module _ (plan : Plan) (drawable : CanBeDrawn (parts plan)) (balance : balances 
       left = left_is;
     }
 
-left_together : (plan : Parts) → draws_together plan.procedure.method ≡ true → (part : List Entry) (ends : List AnyState) (drawn : IsDrawnTogether plan part ends)
+left_together : (plan : Plan) → draws_together plan.procedure.method ≡ true → (part : List Entry) (ends : List AnyState) (drawn : IsDrawnTogether plan part ends)
     → (told (all_of plan) ends 0).left ≡ left_in drawn.leaf
 left_together plan together part ends drawn =
     let one : covered_left (all_of plan) ends 0 ≡ left_by (slice_get (stage_of_strata plan ∷ []) (place_together plan.strata 0 0).stage) (slice_get ends 0) = rw together refl in
@@ -129,11 +129,11 @@ left_together plan together part ends drawn =
 -- ---- the balance of what is drawn
 
 module _ (plan : FramePlan) (planned : IsPlanned plan) (path : List Entry) (to : Progress AnyState) where
-  abbrev pub Goes : Parts → Type 0
+  abbrev pub Goes : Plan → Type 0
   Goes p = GoesByStages stage_tree (covered_stages (all_of p)) (covered_states (all_of p)) path to.states
 
   -- what the start says of the path and of the leaf
-  record Has (p : Parts) : Type 0 where
+  record Has (p : Plan) : Type 0 where
     goes : Goes p
     cubes : balances p.procedure.method ≡ true → draws_together p.procedure.method ≡ false → (h : ℕ) (s : Stratum) → slice_get p.strata h ≡ Some s → IsDrawnByCube p h s (goes.part (first_number p h)) to.states
     together : draws_together p.procedure.method ≡ true → IsDrawnTogether p (goes.part 0) to.states
@@ -141,7 +141,7 @@ module _ (plan : FramePlan) (planned : IsPlanned plan) (path : List Entry) (to :
 
   pub keeps_balance : (goes : Goes plan.plan) (start : Progress AnyState) → StartsWhole plan.plan start → KeepsBalance (record { plan = plan_view plan; only = None; leaf = to; path = path })
   keeps_balance goes start starts =
-      let has : Has (parts (plan_view plan)) = subst Has planned.parts_are (record {
+      let has : Has (survey_plan (plan_view plan)) = subst Has planned.parts_are (record {
         goes = goes;
         cubes = λ balance apart h s is. starts.cubes balance apart path to.states goes h s is;
         together = λ all. starts.together all path to.states goes;
@@ -165,24 +165,24 @@ module _ (plan : FramePlan) (planned : IsPlanned plan) (path : List Entry) (to :
 
 -- ---- what the report tells of it
 
-module _ (plan : Plan) (drawable : CanBeDrawn (parts plan)) (leaf : Progress AnyState) (path : List Entry) where
+module _ (plan : Survey) (drawable : CanBeDrawn (survey_plan plan)) (leaf : Progress AnyState) (path : List Entry) where
   abbrev drawn_of : Option ℕ → Drawn
   drawn_of only = record { plan = plan; only = only; leaf = leaf; path = path }
 
   tells_all : (kept : KeepsBalance (drawn_of None)) → TellsBalance (drawn_of None) kept
   tells_all kept = record {
     cubes = λ balance apart h s is.
-        tells plan drawable balance apart h s is path (kept.goes.part (first_number (parts plan) h)) leaf (kept.cubes balance apart h s is).drawn_so;
+        tells plan drawable balance apart h s is path (kept.goes.part (first_number (survey_plan plan) h)) leaf (kept.cubes balance apart h s is).drawn_so;
     together = λ all.
         (let drawn_so = (kept.together all).drawn_so in
         record {
           columns = tells_together plan drawable all (kept.goes.part 0) leaf.states drawn_so;
-          left = left_together (parts plan) all (kept.goes.part 0) leaf.states drawn_so;
+          left = left_together (survey_plan plan) all (kept.goes.part 0) leaf.states drawn_so;
         });
   }
 
   tells_by : (only : Option ℕ) → only ≡ None → (kept : KeepsBalance (drawn_of only)) → TellsBalance (drawn_of only) kept
   tells_by only is = subst (λ (o : Option ℕ). (kept : KeepsBalance (drawn_of o)) → TellsBalance (drawn_of o) kept) (sym is) tells_all
 
-pub tells_balance : (drawn : Drawn) → CanBeDrawn (parts drawn.plan) → (by : IsDrawnBy drawn) → TellsBalance drawn by.balance
+pub tells_balance : (drawn : Drawn) → CanBeDrawn (survey_plan drawn.plan) → (by : IsDrawnBy drawn) → TellsBalance drawn by.balance
 tells_balance drawn drawable by = tells_by drawn.plan drawable drawn.leaf drawn.path drawn.only by.all by.balance

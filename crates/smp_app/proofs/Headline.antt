@@ -59,7 +59,7 @@ use Rattle.smp_status.specs.declared.status.Status.{Status}
 use Rattle.smp_status.specs.declared.status.Status.TheVariants as status
 use Rattle.smp_status.specs.declared.status.Status.TheVariants.{TapeLong}
 use Rattle.smp_status.specs.Codes.{class_of, tape_status}
-use Rattle.smp_plan.specs.Plans.{Plan, parts, quick_design}
+use Rattle.smp_plan.specs.Plans.{Survey, survey_plan, quick_design}
 use Rattle.smp_weights.specs.Sample.{sample_file}
 use Rattle.smp_app.specs.Drawn.{Drawn, tree_of, start_of, sections_of, covered, drawn_rows}
 use Rattle.smp_app.specs.Texts.{accepted_text, demo_text, draw_log, draw_sample, log_text, probabilities_text, report_text, sample_text, weighted_row}
@@ -97,11 +97,11 @@ at_leaf made left drawn h =
     ]
 
 -- what is drawn is drawn by the plan, of all strata or of this one
-record Same (plan : Plan) (only : Option ℕ) (drawn : Drawn) : Type 0 where
+record Same (plan : Survey) (only : Option ℕ) (drawn : Drawn) : Type 0 where
   by_plan : drawn.plan ≡ plan
   only_so : drawn.only ≡ only
 
-plan_same : {Rest : Type 0} (plan : Plan) (taken left : Rest → ℕ) (outcome : Outcome (Progress AnyState) Rest) (drawn : Drawn) → drawn_of plan taken left outcome ≡ Ok drawn → Same plan None drawn
+plan_same : {Rest : Type 0} (plan : Survey) (taken left : Rest → ℕ) (outcome : Outcome (Progress AnyState) Rest) (drawn : Drawn) → drawn_of plan taken left outcome ≡ Ok drawn → Same plan None drawn
 plan_same plan taken left (leaf state path end) drawn h =
     subst (Same plan None) (at_leaf (record { plan = plan; only = None; leaf = state; path = path }) (left end) drawn h) (record { by_plan = refl; only_so = refl })
 plan_same plan taken left (stopped state path fault end) drawn h = absurd (cc)
@@ -119,7 +119,7 @@ no_values [] none = refl
 no_values (v ∷ values) none = absurd (omega (arith, none))
 
 -- where the draws came from: the path leads from the start to the leaf
-module _ (plan : Plan) (member : BelongsToWhole (parts plan) (start_of plan)) where
+module _ (plan : Survey) (member : BelongsToWhole (survey_plan plan) (start_of plan)) where
   module _ {Rest : Type 0} (source : Source Rest) (taken left : Rest → ℕ) (rest : Rest) (drawn : Drawn) where
     record Came : Type 0 where
       end : Rest
@@ -139,14 +139,14 @@ module _ (plan : Plan) (member : BelongsToWhole (parts plan) (start_of plan)) wh
   tape_full : (values : List ℕ) (drawn : Drawn) → drawn_by_tape plan values ≡ Ok drawn → IsFull (tree_of plan) (start_of plan) values drawn.path drawn.leaf
   tape_full values drawn h =
       let c = came tape_source values_taken values_left (tape_of_values [] values) drawn _ refl h in
-      runs_full (tree_of plan) (BelongsToWhole (parts plan)) (whole_lawful (parts plan)) (start_of plan) drawn.leaf drawn.path (tape_of_values [] values) c.end member c.ran (no_values c.end.left c.none)
+      runs_full (tree_of plan) (BelongsToWhole (survey_plan plan)) (whole_lawful (survey_plan plan)) (start_of plan) drawn.leaf drawn.path (tape_of_values [] values) c.end member c.ran (no_values c.end.left c.none)
 
   seed_given : (seed : List ℕ) (drawn : Drawn) → drawn_by_seed plan seed ≡ Ok drawn → IsDrawnBySeed seed drawn
   seed_given seed drawn h =
       let c = came (sieve_source key_stream) no_words no_words (words_of_seed seed) drawn _ refl h in
       let is : IsLeaf (sieve_source key_stream) (tree_of plan) (start_of plan) (words_of_seed seed) drawn.leaf drawn.path c.end =
       subst (IsOutcome (sieve_source key_stream) (tree_of plan) (start_of plan) (words_of_seed seed)) c.ran
-      (run_is (sieve_source key_stream) (tree_of plan) (BelongsToWhole (parts plan)) (whole_lawful (parts plan)) (start_of plan) (words_of_seed seed) member) in
+      (run_is (sieve_source key_stream) (tree_of plan) (BelongsToWhole (survey_plan plan)) (whole_lawful (survey_plan plan)) (start_of plan) (words_of_seed seed) member) in
       record {
         left = c.end;
         gives = is.gives;
@@ -165,21 +165,21 @@ module _ (plan : Plan) (member : BelongsToWhole (parts plan) (start_of plan)) wh
       }
 
 -- a draw that came so from the start is what the verdict draws
-module _ (drawn : Drawn) (all : drawn.only ≡ None) (member : BelongsToWhole (parts drawn.plan) (start_of drawn.plan)) (full : IsFullPath (tree_of drawn.plan) (start_of drawn.plan) drawn.path drawn.leaf) where
+module _ (drawn : Drawn) (all : drawn.only ≡ None) (member : BelongsToWhole (survey_plan drawn.plan) (start_of drawn.plan)) (full : IsFullPath (tree_of drawn.plan) (start_of drawn.plan) drawn.path drawn.leaf) where
   abbrev by_only : Option ℕ → Result Drawn Stop
   by_only only = Ok (record { plan = drawn.plan; only = only; leaf = drawn.leaf; path = drawn.path })
 
   tape_again : (values : List ℕ) → values ≡ values_of drawn.path → drawn_by_tape drawn.plan values ≡ Ok drawn
   tape_again values is =
       ap (drawn_of drawn.plan values_taken values_left)
-      (full_runs (tree_of drawn.plan) (BelongsToWhole (parts drawn.plan)) (whole_lawful (parts drawn.plan)) (start_of drawn.plan) drawn.leaf drawn.path [] values member
+      (full_runs (tree_of drawn.plan) (BelongsToWhole (survey_plan drawn.plan)) (whole_lawful (survey_plan drawn.plan)) (start_of drawn.plan) drawn.leaf drawn.path [] values member
       (record { leads = full.leads; done = full.done; all = is }))
       ∙ ap by_only (sym all)
 
   seed_again : (seed : List ℕ) → IsDrawnBySeed seed drawn → drawn_by_seed drawn.plan seed ≡ Ok drawn
   seed_again seed by =
       ap (drawn_of drawn.plan no_words no_words)
-      (run_to_leaf (sieve_source key_stream) (tree_of drawn.plan) (BelongsToWhole (parts drawn.plan)) (whole_lawful (parts drawn.plan)) (start_of drawn.plan) drawn.leaf drawn.path (words_of_seed seed) by.left member
+      (run_to_leaf (sieve_source key_stream) (tree_of drawn.plan) (BelongsToWhole (survey_plan drawn.plan)) (whole_lawful (survey_plan drawn.plan)) (start_of drawn.plan) drawn.leaf drawn.path (words_of_seed seed) by.left member
       (record { leads = full.leads; done = full.done; gives = by.gives }))
       ∙ ap by_only (sym all)
 
@@ -194,7 +194,7 @@ module _ (drawn : Drawn) (all : drawn.only ≡ None) (member : BelongsToWhole (p
   chance_again (Tape tape) fs by = read_again tape by.values (fs tape) by.tape_read (drawn_by_tape drawn.plan) ∙ tape_again by.values by.all
 
 -- all strata are drawn
-chance_same : (plan : Plan) (chance : Chance) (fs : Files) (drawn : Drawn) → drawn_stage plan (source_of chance) fs ≡ Ok drawn → Same plan None drawn
+chance_same : (plan : Survey) (chance : Chance) (fs : Files) (drawn : Drawn) → drawn_stage plan (source_of chance) fs ≡ Ok drawn → Same plan None drawn
 unfolding drawn_stage
 chance_same plan (Seed seed) fs drawn h = plan_same plan no_words no_words (run (sieve_source key_stream) (tree_of plan) (start_of plan) (words_of_seed seed)) drawn h
 chance_same plan (Tape tape) fs drawn h =
@@ -205,12 +205,12 @@ chance_same plan (Tape tape) fs drawn h =
 -- ---- what a log told
 
 -- what was told is of the plan, and its reading is a leaf
-record Told (plan : Plan) (only : Option ℕ) (path : List Entry) (reading : Result (Progress AnyState) ℕ) (drawn : Drawn) : Type 0 where
+record Told (plan : Survey) (only : Option ℕ) (path : List Entry) (reading : Result (Progress AnyState) ℕ) (drawn : Drawn) : Type 0 where
   same : Same plan only drawn
   reads : reading ≡ Ok drawn.leaf
   path_so : drawn.path ≡ path
 
-told_so : (plan : Plan) (only : Option ℕ) (path : List Entry) (reading : Result (Progress AnyState) ℕ) (drawn : Drawn) → told_by plan only path reading ≡ Ok drawn → Told plan only path reading drawn
+told_so : (plan : Survey) (only : Option ℕ) (path : List Entry) (reading : Result (Progress AnyState) ℕ) (drawn : Drawn) → told_by plan only path reading ≡ Ok drawn → Told plan only path reading drawn
 told_so plan only path (Ok state) drawn h =
     let ok : ◌≡◌ {A = Result Drawn Stop} (Ok (record { plan = plan; only = only; leaf = state; path = path })) (Ok drawn) = h in
     let made : record { plan = plan; only = only; leaf = state; path = path } ≡ drawn = cc in
@@ -228,21 +228,21 @@ logged stage name fs drawn h =
     let bytes = step (content name (fs name)) stage drawn h in
     record { log = bytes.value; held = content_is (fs name) name bytes.value bytes.first_is; tells = bytes.then_is }
 
-by_log : (plan : Plan) (name : List ℕ) (fs : Files) (drawn : Drawn) → drawn_stage plan (ByLog name) fs ≡ Ok drawn → Logged (drawn_by_log plan) name fs drawn
+by_log : (plan : Survey) (name : List ℕ) (fs : Files) (drawn : Drawn) → drawn_stage plan (ByLog name) fs ≡ Ok drawn → Logged (drawn_by_log plan) name fs drawn
 unfolding drawn_stage
 by_log plan name fs drawn h = logged (drawn_by_log plan) name fs drawn h
 
-by_old_log : (plan : Plan) (name : List ℕ) (fs : Files) (drawn : Drawn) → drawn_stage plan (ByOldLog name) fs ≡ Ok drawn → Logged (drawn_by_old_log plan) name fs drawn
+by_old_log : (plan : Survey) (name : List ℕ) (fs : Files) (drawn : Drawn) → drawn_stage plan (ByOldLog name) fs ≡ Ok drawn → Logged (drawn_by_old_log plan) name fs drawn
 unfolding drawn_stage
 by_old_log plan name fs drawn h = logged (drawn_by_old_log plan) name fs drawn h
 
-by_section : (plan : Plan) (name : List ℕ) (number h : ℕ) (fs : Files) (drawn : Drawn) → number ≡ h + 1 → drawn_stage plan (BySection name number) fs ≡ Ok drawn → Logged (drawn_by_section plan h) name fs drawn
+by_section : (plan : Survey) (name : List ℕ) (number h : ℕ) (fs : Files) (drawn : Drawn) → number ≡ h + 1 → drawn_stage plan (BySection name number) fs ≡ Ok drawn → Logged (drawn_by_section plan h) name fs drawn
 unfolding drawn_stage
 by_section plan name number h fs drawn is staged =
     let at = step (stratum_at plan number) (λ k. content name (fs name) >>= drawn_by_section plan k) drawn staged in
     subst (λ (k : ℕ). Logged (drawn_by_section plan k) name fs drawn) (omega (arith, stratum_is plan number at.value at.first_is, is)) (logged (drawn_by_section plan at.value) name fs drawn at.then_is)
 
-module _ (plan : Plan) (member : BelongsToWhole (parts plan) (start_of plan)) (is_head : IsHead plan.head) (log : List ℕ) (drawn : Drawn) where
+module _ (plan : Survey) (member : BelongsToWhole (survey_plan plan) (start_of plan)) (is_head : IsHead plan.head) (log : List ℕ) (drawn : Drawn) where
   abbrev any_text : List Entry → List ℕ → Type 0
   any_text = IsAnyText (tree_of plan) (sections_of plan) (start_of plan) plan.head
 
@@ -255,12 +255,12 @@ module _ (plan : Plan) (member : BelongsToWhole (parts plan) (start_of plan)) (i
   any_log : drawn_by_log plan log ≡ Ok drawn → AnyLog
   any_log h =
       let told = told_so plan None (path_told (tree_of plan) (start_of plan) log) (any_reading (tree_of plan) (sections_of plan) (start_of plan) plan.head log) drawn h in
-      let exact = exact_any (tree_of plan) (BelongsToWhole (parts plan)) (whole_lawful (parts plan)) (sections_of plan) (strata_sectioned (all_of (parts plan))) (start_of plan) member plan.head is_head log in
+      let exact = exact_any (tree_of plan) (BelongsToWhole (survey_plan plan)) (whole_lawful (survey_plan plan)) (sections_of plan) (strata_sectioned (all_of (survey_plan plan))) (start_of plan) member plan.head is_head log in
       let genuine : IsAnyGenuine (tree_of plan) (sections_of plan) (start_of plan) plan.head log drawn.leaf = subst (IsAnswer (IsAnyGenuine (tree_of plan) (sections_of plan) (start_of plan) plan.head) log) told.reads exact.right in
       record {
         same = told.same;
         genuine = genuine;
-        path_is = told.path_so ∙ any_told (tree_of plan) (BelongsToWhole (parts plan)) (whole_lawful (parts plan)) (sections_of plan) (strata_sectioned (all_of (parts plan))) (start_of plan) member plan.head is_head log drawn.leaf genuine;
+        path_is = told.path_so ∙ any_told (tree_of plan) (BelongsToWhole (survey_plan plan)) (whole_lawful (survey_plan plan)) (sections_of plan) (strata_sectioned (all_of (survey_plan plan))) (start_of plan) member plan.head is_head log drawn.leaf genuine;
       }
 
   -- the log of version 1 of what is drawn
@@ -272,12 +272,12 @@ module _ (plan : Plan) (member : BelongsToWhole (parts plan) (start_of plan)) (i
   old_log : drawn_by_old_log plan log ≡ Ok drawn → OldLog
   old_log h =
       let told = told_so plan None (path_told (tree_of plan) (start_of plan) log) (log_reading (tree_of plan) (start_of plan) plan.head log) drawn h in
-      let exact = exact_reading (tree_of plan) (BelongsToWhole (parts plan)) (whole_lawful (parts plan)) (start_of plan) member plan.head is_head log in
+      let exact = exact_reading (tree_of plan) (BelongsToWhole (survey_plan plan)) (whole_lawful (survey_plan plan)) (start_of plan) member plan.head is_head log in
       let genuine : IsGenuine (tree_of plan) (start_of plan) plan.head log drawn.leaf = subst (IsAnswer (IsGenuine (tree_of plan) (start_of plan) plan.head) log) told.reads exact.right in
       record {
         same = told.same;
         genuine = genuine;
-        path_is = told.path_so ∙ genuine_told (tree_of plan) (BelongsToWhole (parts plan)) (whole_lawful (parts plan)) (start_of plan) member plan.head log is_head drawn.leaf genuine;
+        path_is = told.path_so ∙ genuine_told (tree_of plan) (BelongsToWhole (survey_plan plan)) (whole_lawful (survey_plan plan)) (start_of plan) member plan.head log is_head drawn.leaf genuine;
       }
 
 -- ---- what a section told
@@ -318,42 +318,42 @@ log_long head count steps =
     let body : List ℕ = flat_map (section_text steps) (range_with_len 0 count) in
     omega (arith, sections_long steps 0 count, length-append body (end_text (length steps)), length-append (sectioned_head head) (body ++ end_text (length steps)))
 
-module _ (plan : Plan) (is_head : IsHead plan.head) (drawable : CanBeDrawn (parts plan)) (h : ℕ) (within : h < section_count (all_of (parts plan))) (log : List ℕ) where
+module _ (plan : Survey) (is_head : IsHead plan.head) (drawable : CanBeDrawn (survey_plan plan)) (h : ℕ) (within : h < section_count (all_of (survey_plan plan))) (log : List ℕ) where
   abbrev own : Coverage
   own = alone plan h
 
-  starts : IsSectionStart (parts plan) h
-  starts = section_start (parts plan) drawable h within
+  starts : IsSectionStart (survey_plan plan) h
+  starts = section_start (survey_plan plan) drawable h within
 
-  member : BelongsToWhole (parts plan) (start_of plan)
-  member = start_belongs (parts plan) drawable
+  member : BelongsToWhole (survey_plan plan) (start_of plan)
+  member = start_belongs (survey_plan plan) drawable
 
   abbrev Reached : Progress AnyState → Type 0
   Reached = IsReached (tree_of plan) (start_of plan)
 
   -- the leaf of the section where the whole log is genuine
   module _ (leaf : Progress AnyState) (short : length log < 2 ^ 64) (genuine : IsSectionedGenuine (tree_of plan) (sections_of plan) (start_of plan) plan.head log leaf) where
-    replays : IsReplayedAlone (tree_of plan) (start_of plan) plan.head log h (covered_tree own) (state_alone (parts plan) h) (is_of_section (parts plan) h) leaf
+    replays : IsReplayedAlone (tree_of plan) (start_of plan) plan.head log h (covered_tree own) (state_alone (survey_plan plan) h) (is_of_section (survey_plan plan) h) leaf
     replays =
         let steps : List (ℕ × Entry) = placed (tree_of plan) (sections_of plan) (start_of plan) genuine.path in
         let long : (sections_of plan).count ≤ length (sections_text plan.head (sections_of plan).count steps) = log_long plan.head (sections_of plan).count steps in
         let size : length log ≡ length (sections_text plan.head (sections_of plan).count steps) = ap length genuine.text in
         let sectioned : IsSectioned (tree_of plan) Reached (sections_of plan) =
-        sectioned_within (tree_of plan) (BelongsToWhole (parts plan)) Reached (reached_own (parts plan) member) (sections_of plan) (strata_sectioned (all_of (parts plan))) in
-        replayed_alone (tree_of plan) Reached (reached_lawful (tree_of plan) (BelongsToWhole (parts plan)) (whole_lawful (parts plan)) (start_of plan) member) (sections_of plan) sectioned h within (covered_tree own) (state_alone (parts plan) h) (is_of_section (parts plan) h) starts.part
+        sectioned_within (tree_of plan) (BelongsToWhole (survey_plan plan)) Reached (reached_own (survey_plan plan) member) (sections_of plan) (strata_sectioned (all_of (survey_plan plan))) in
+        replayed_alone (tree_of plan) Reached (reached_lawful (tree_of plan) (BelongsToWhole (survey_plan plan)) (whole_lawful (survey_plan plan)) (start_of plan) member) (sections_of plan) sectioned h within (covered_tree own) (state_alone (survey_plan plan) h) (is_of_section (survey_plan plan) h) starts.part
         (BelongsToCovered own) (covered_lawful own) (start_of plan) (record { path = []; leads = refl }) (subst (BelongsToCovered own) starts.state starts.member) plan.head is_head log leaf genuine (omega (arith, long, size, short)) short
 
-    section_there : HasSection (covered_tree own) (covered_start own) plan.head (h + 1) log (state_alone (parts plan) h leaf)
-    section_there = subst (λ (s : Progress AnyState). HasSection (covered_tree own) s plan.head (h + 1) log (state_alone (parts plan) h leaf)) (sym starts.state) replays.section
+    section_there : HasSection (covered_tree own) (covered_start own) plan.head (h + 1) log (state_alone (survey_plan plan) h leaf)
+    section_there = subst (λ (s : Progress AnyState). HasSection (covered_tree own) s plan.head (h + 1) log (state_alone (survey_plan plan) h leaf)) (sym starts.state) replays.section
 
-    rows_same : filter ((covered_tree own).selected (state_alone (parts plan) h leaf)) (range_with_len 0 (covered_tree own).units) ≡ filter (is_of_section (parts plan) h) (selected_units (tree_of plan) leaf)
+    rows_same : filter ((covered_tree own).selected (state_alone (survey_plan plan) h leaf)) (range_with_len 0 (covered_tree own).units) ≡ filter (is_of_section (survey_plan plan) h) (selected_units (tree_of plan) leaf)
     rows_same =
-        let units : (covered_tree own).units ≡ (tree_of plan).units = seats_long own ∙ sym (seats_long (all_of (parts plan))) in
-        ap (λ n. filter ((covered_tree own).selected (state_alone (parts plan) h leaf)) (range_with_len 0 n)) units
-        ∙ filter_both ((covered_tree own).selected (state_alone (parts plan) h leaf)) (is_of_section (parts plan) h) ((tree_of plan).selected leaf) 0 (tree_of plan).units (λ k l. replays.selected k (omega (arith, l)))
+        let units : (covered_tree own).units ≡ (tree_of plan).units = seats_long own ∙ sym (seats_long (all_of (survey_plan plan))) in
+        ap (λ n. filter ((covered_tree own).selected (state_alone (survey_plan plan) h leaf)) (range_with_len 0 n)) units
+        ∙ filter_both ((covered_tree own).selected (state_alone (survey_plan plan) h leaf)) (is_of_section (survey_plan plan) h) ((tree_of plan).selected leaf) 0 (tree_of plan).units (λ k l. replays.selected k (omega (arith, l)))
 
-    reads_there : section_reading (covered_tree own) (covered_start own) plan.head (h + 1) log ≡ Ok (state_alone (parts plan) h leaf)
-    reads_there = has_reading (covered_tree own) (BelongsToCovered own) (covered_lawful own) (covered_start own) starts.member plan.head (h + 1) log is_head (state_alone (parts plan) h leaf) section_there
+    reads_there : section_reading (covered_tree own) (covered_start own) plan.head (h + 1) log ≡ Ok (state_alone (survey_plan plan) h leaf)
+    reads_there = has_reading (covered_tree own) (BelongsToCovered own) (covered_lawful own) (covered_start own) starts.member plan.head (h + 1) log is_head (state_alone (survey_plan plan) h leaf) section_there
 
     -- so it is accepted
     is_accepted : is_ok (drawn_by_section plan h log) ≡ true
@@ -366,7 +366,7 @@ module _ (plan : Plan) (is_head : IsHead plan.head) (drawable : CanBeDrawn (part
       section : HasSection (covered_tree own) (covered_start own) plan.head (h + 1) log drawn.leaf
       path_is : drawn.path ≡ section.genuine.path
       rows : (leaf : Progress AnyState) → length log < 2 ^ 64 → IsSectionedGenuine (tree_of plan) (sections_of plan) (start_of plan) plan.head log leaf
-          → selected_units (covered_tree own) drawn.leaf ≡ filter (is_of_section (parts plan) h) (selected_units (tree_of plan) leaf)
+          → selected_units (covered_tree own) drawn.leaf ≡ filter (is_of_section (survey_plan plan) h) (selected_units (tree_of plan) leaf)
 
     section_log : drawn_by_section plan h log ≡ Ok drawn → SectionLog
     section_log staged =
@@ -378,15 +378,15 @@ module _ (plan : Plan) (is_head : IsHead plan.head) (drawable : CanBeDrawn (part
           section = section;
           path_is = told.path_so ∙ has_told (covered_tree own) (BelongsToCovered own) (covered_lawful own) (covered_start own) starts.member plan.head (h + 1) log drawn.leaf section;
           rows = λ leaf short genuine.
-              (let one : ◌≡◌ {A = Result (Progress AnyState) ℕ} (Ok drawn.leaf) (Ok (state_alone (parts plan) h leaf)) = sym told.reads ∙ reads_there leaf short genuine in
-              let same : drawn.leaf ≡ state_alone (parts plan) h leaf = cc in
+              (let one : ◌≡◌ {A = Result (Progress AnyState) ℕ} (Ok drawn.leaf) (Ok (state_alone (survey_plan plan) h leaf)) = sym told.reads ∙ reads_there leaf short genuine in
+              let same : drawn.leaf ≡ state_alone (survey_plan plan) h leaf = cc in
               ap (selected_units (covered_tree own)) same ∙ rows_same leaf short genuine);
         }
 
 -- ---- a draw that ended well
 
 -- the outputs of a job that draws are those of what it draws
-outputs_are : (words : List (List ℕ)) (job : Job) (fs : Files) (before now : Outside) (source : drawing.Source) (files : List DrawnFile) (put : Drawn → List ℕ) (plan : Plan) (drawn : Drawn)
+outputs_are : (words : List (List ℕ)) (job : Job) (fs : Files) (before now : Outside) (source : drawing.Source) (files : List DrawnFile) (put : Drawn → List ℕ) (plan : Survey) (drawn : Drawn)
     → job_for words ≡ Some job → job.work ≡ Draws source files put → plan_stage job.design job.frame fs ≡ Ok plan → drawn_stage plan source fs ≡ Ok drawn → (work : IsWork words job fs before now) → work.outputs ≡ outputs_by files put drawn
 outputs_are words job fs before now source files put plan drawn asked work_is planned_is drawn_is work =
     let staged : outputs_stage job fs ≡ Ok (outputs_by files put drawn) = rw (planned_is, work_is, drawn_is) refl in
@@ -394,7 +394,7 @@ outputs_are words job fs before now source files put plan drawn asked work_is pl
 
 -- what a job that draws has drawn by its plan, and what it has written and put of that
 record Drew (job : Job) (source : drawing.Source) (files : List DrawnFile) (put : Drawn → List ℕ) (fs : Files) (before now : Outside) : Type 0 where
-  plan : Plan
+  plan : Survey
   planned : plan_stage job.design job.frame fs ≡ Ok plan
   drawn : Drawn
   staged : drawn_stage plan source fs ≡ Ok drawn
@@ -422,17 +422,17 @@ drew words job fs before now {source = source} {files = files} {put = put} asked
     }
 
 -- the plan of what is drawn can be drawn
-drawable_of : (plan : Plan) (drawn : Drawn) → drawn.plan ≡ plan → BelongsToWhole (parts plan) (start_of plan) → CanBeDrawn (parts drawn.plan)
-drawable_of plan drawn is member = subst (λ (p : Plan). CanBeDrawn (parts p)) (sym is) member.drawable
+drawable_of : (plan : Survey) (drawn : Drawn) → drawn.plan ≡ plan → BelongsToWhole (survey_plan plan) (start_of plan) → CanBeDrawn (survey_plan drawn.plan)
+drawable_of plan drawn is member = subst (λ (p : Survey). CanBeDrawn (survey_plan p)) (sym is) member.drawable
 
 -- what is drawn of all strata
-by_whole : (plan : Plan) (drawn : Drawn) → drawn.only ≡ None → IsDrawnOf drawn.only plan drawn → IsDrawnWhole plan drawn
+by_whole : (plan : Survey) (drawn : Drawn) → drawn.only ≡ None → IsDrawnOf drawn.only plan drawn → IsDrawnWhole plan drawn
 by_whole plan drawn all by = subst (λ (o : Option ℕ). IsDrawnOf o plan drawn) all by
 
 -- its texts are those by the plan's tree
 module _ (drawn : Drawn) (all : drawn.only ≡ None) where
   abbrev seen : Option ℕ → Coverage
-  seen only = record { plan = parts drawn.plan; only = only }
+  seen only = record { plan = survey_plan drawn.plan; only = only }
 
   log_so : log_text drawn ≡ draw_log drawn
   log_so = ap (λ (o : Option ℕ). sectioned_log_text (covered_tree (seen o)) (strata_sections (seen o)) (covered_start (seen o)) drawn.plan.head drawn.path) all
@@ -450,14 +450,14 @@ module _ (drawn : Drawn) (by : IsDrawnBy drawn) where
   log_path = refl
 
 -- the head of the plan that was read
-head_so : (design frame : List ℕ) (fs : Files) (plan : Plan) → IsReadPlan design frame fs plan → IsHead plan.head
+head_so : (design frame : List ℕ) (fs : Files) (plan : Survey) → IsReadPlan design frame fs plan → IsHead plan.head
 head_so design frame fs plan from = subst IsHead (sym from.frame_is.head) (head_of-is from.design_bytes from.frame_is.frame_bytes)
 
 abbrev ok_drawn : Drawn → Result Drawn Stop
 ok_drawn drawn = Ok drawn
 
 -- the log that is written of it tells it again
-module _ (drawn : Drawn) (by : IsDrawnBy drawn) (is_head : IsHead drawn.plan.head) (member : BelongsToWhole (parts drawn.plan) (start_of drawn.plan)) where
+module _ (drawn : Drawn) (by : IsDrawnBy drawn) (is_head : IsHead drawn.plan.head) (member : BelongsToWhole (survey_plan drawn.plan) (start_of drawn.plan)) where
   abbrev own_log : List ℕ
   own_log = draw_log drawn
 
@@ -468,11 +468,11 @@ module _ (drawn : Drawn) (by : IsDrawnBy drawn) (is_head : IsHead drawn.plan.hea
   own_any = record { path = own_genuine.path; full = own_genuine.full; text = inr own_genuine.text }
 
   read_back : any_reading (tree_of drawn.plan) (sections_of drawn.plan) (start_of drawn.plan) drawn.plan.head own_log ≡ Ok drawn.leaf
-  read_back = sym ((exact_any (tree_of drawn.plan) (BelongsToWhole (parts drawn.plan)) (whole_lawful (parts drawn.plan)) (sections_of drawn.plan) (strata_sectioned (all_of (parts drawn.plan))) (start_of drawn.plan) member drawn.plan.head is_head own_log).alone (Ok drawn.leaf) own_any)
+  read_back = sym ((exact_any (tree_of drawn.plan) (BelongsToWhole (survey_plan drawn.plan)) (whole_lawful (survey_plan drawn.plan)) (sections_of drawn.plan) (strata_sectioned (all_of (survey_plan drawn.plan))) (start_of drawn.plan) member drawn.plan.head is_head own_log).alone (Ok drawn.leaf) own_any)
 
   told_back : path_told (tree_of drawn.plan) (start_of drawn.plan) own_log ≡ drawn.path
   unfolding log_genuine own_genuine own_any
-  told_back = any_told (tree_of drawn.plan) (BelongsToWhole (parts drawn.plan)) (whole_lawful (parts drawn.plan)) (sections_of drawn.plan) (strata_sectioned (all_of (parts drawn.plan))) (start_of drawn.plan) member drawn.plan.head is_head own_log drawn.leaf own_any
+  told_back = any_told (tree_of drawn.plan) (BelongsToWhole (survey_plan drawn.plan)) (whole_lawful (survey_plan drawn.plan)) (sections_of drawn.plan) (strata_sectioned (all_of (survey_plan drawn.plan))) (start_of drawn.plan) member drawn.plan.head is_head own_log drawn.leaf own_any
 
   told_again : drawn_by_log drawn.plan own_log ≡ Ok drawn
   told_again =
@@ -518,16 +518,16 @@ module _ (a : DrawArguments) (fs : Files) (before now : Outside) (words : List (
     one_plan : work.plan ≡ exact.drawn.plan
     one_plan = read_once a.design a.frame fs work.plan exact.drawn.plan (read_plan a.design a.frame fs work.plan (read a.design a.frame fs work.plan work.planned)) exact.read
 
-    own_member : BelongsToWhole (parts exact.drawn.plan) (start_of exact.drawn.plan)
+    own_member : BelongsToWhole (survey_plan exact.drawn.plan) (start_of exact.drawn.plan)
     own_member =
         let same = chance_same work.plan a.chance fs work.drawn work.staged in
-        subst (λ (p : Plan). BelongsToWhole (parts p) (start_of p)) one_plan (by_whole work.plan work.drawn same.only_so work.by_plan).member
+        subst (λ (p : Survey). BelongsToWhole (survey_plan p) (start_of p)) one_plan (by_whole work.plan work.drawn same.only_so work.by_plan).member
 
     -- it is the one that was made
     one_draw : work.drawn ≡ exact.drawn
     one_draw =
         let again : drawn_stage exact.drawn.plan (source_of a.chance) fs ≡ Ok exact.drawn = chance_again exact.drawn exact.by_plan.all own_member exact.by_plan.full a.chance fs exact.is_drawn in
-        drawn_once work.drawn exact.drawn (sym work.staged ∙ ap (λ (p : Plan). drawn_stage p (source_of a.chance) fs) one_plan ∙ again)
+        drawn_once work.drawn exact.drawn (sym work.staged ∙ ap (λ (p : Survey). drawn_stage p (source_of a.chance) fs) one_plan ∙ again)
 
     pub is_accepted_plan : IsAccepted exact.drawn.plan
     is_accepted_plan = subst IsAccepted one_plan (accepted_plan a.design a.frame fs work.plan (read a.design a.frame fs work.plan work.planned))
@@ -581,7 +581,7 @@ module _ (a : DemoArguments) (before now : Outside) (words : List (List ℕ)) (a
         let drawn = drawn_so.drawn in
         let same = chance_same made.plan (Seed (demo_key a.seed)) no_files drawn drawn_so.is_drawn in
         let whole = by_whole made.plan drawn same.only_so drawn_so.by_plan in
-        let member : BelongsToWhole (parts drawn.plan) (start_of drawn.plan) = subst (λ (p : Plan). BelongsToWhole (parts p) (start_of p)) (sym same.by_plan) whole.member in
+        let member : BelongsToWhole (survey_plan drawn.plan) (start_of drawn.plan) = subst (λ (p : Survey). BelongsToWhole (survey_plan p) (start_of p)) (sym same.by_plan) whole.member in
         let is_head : IsHead drawn.plan.head = subst IsHead (sym demo_plan.head) (head_of-is (demo_design_text a.n) (demo_frame_text a.n a.seed)) in
         record {
           drawn = drawn;
@@ -599,7 +599,7 @@ module _ (a : DemoArguments) (before now : Outside) (words : List (List ℕ)) (a
 
 -- ---- a list that ended well
 
-module _ (text : Plan → List ℕ) (a : DesignArguments) (fs : Files) (before now : Outside) (words : List (List ℕ)) (asked : job_for words ≡ Some (held_job a.design a.frame (Lists text))) where
+module _ (text : Survey → List ℕ) (a : DesignArguments) (fs : Files) (before now : Outside) (words : List (List ℕ)) (asked : job_for words ≡ Some (held_job a.design a.frame (Lists text))) where
   abbrev list_job : Job
   list_job = held_job a.design a.frame (Lists text)
 
@@ -622,7 +622,7 @@ module _ (a : QuickArguments) (fs : Files) (before now : Outside) (words : List 
   abbrev quick_read : ReadDesign
   quick_read = record { design = quick_design a.n; bytes = [] }
 
-  quick_planned : (plan : Plan) → design_stage (Given (quick_design a.n)) fs >>= (λ d. frame_stage d (FrameHeld a.frame) fs) ≡ Ok plan → Planned quick_read a.frame fs plan
+  quick_planned : (plan : Survey) → design_stage (Given (quick_design a.n)) fs >>= (λ d. frame_stage d (FrameHeld a.frame) fs) ≡ Ok plan → Planned quick_read a.frame fs plan
   unfolding design_stage
   quick_planned plan h = planned quick_read a.frame fs plan h
 
@@ -638,7 +638,7 @@ module _ (a : QuickArguments) (fs : Files) (before now : Outside) (words : List 
         by_plan = whole.by_plan;
         written = d.written;
         put = d.shown;
-        design = ap (λ (p : Plan). p.design) same.by_plan ∙ from.0;
+        design = ap (λ (p : Survey). p.design) same.by_plan ∙ from.0;
         read = subst (IsReadFrame a.frame [] fs) (sym same.by_plan) from.1;
         accepted = subst IsAccepted (sym same.by_plan) (frame_accepted quick_read a.frame fs d.plan (quick_planned d.plan d.planned));
       }
@@ -675,8 +675,8 @@ module _ (a : ReplayArguments) (fs : Files) (before now : Outside) (words : List
         log_held = logged.held;
         genuine = record {
           path = any.genuine.path;
-          full = subst (λ (p : Plan). IsFullPath (tree_of p) (start_of p) any.genuine.path drawn.leaf) (sym any.same.by_plan) any.genuine.full;
-          text = subst (λ (p : Plan). IsAnyText (tree_of p) (sections_of p) (start_of p) p.head any.genuine.path logged.log) (sym any.same.by_plan) any.genuine.text;
+          full = subst (λ (p : Survey). IsFullPath (tree_of p) (start_of p) any.genuine.path drawn.leaf) (sym any.same.by_plan) any.genuine.full;
+          text = subst (λ (p : Survey). IsAnyText (tree_of p) (sections_of p) (start_of p) p.head any.genuine.path logged.log) (sym any.same.by_plan) any.genuine.text;
         };
         path_is = any.path_is;
         by_plan = whole.by_plan;
@@ -690,11 +690,11 @@ module _ (a : ReplayArguments) (fs : Files) (before now : Outside) (words : List
 
   module _ (h : ℕ) where
     -- what is told of the section, by the plan
-    record Sectioned (drawn : Drawn) (plan : Plan) (log : List ℕ) : Type 0 where
+    record Sectioned (drawn : Drawn) (plan : Survey) (log : List ℕ) : Type 0 where
       section : HasSection (covered_tree (alone plan h)) (covered_start (alone plan h)) plan.head (h + 1) log drawn.leaf
       path_is : drawn.path ≡ section.genuine.path
       rows : (leaf : Progress AnyState) → IsSectionedGenuine (tree_of plan) (sections_of plan) (start_of plan) plan.head log leaf → length log < 2 ^ 64
-          → drawn_rows drawn ≡ filter (is_of_section (parts plan) h) (selected_units (tree_of plan) leaf)
+          → drawn_rows drawn ≡ filter (is_of_section (survey_plan plan) h) (selected_units (tree_of plan) leaf)
 
     pub exact_section_replay : a.stratum ≡ Some (h + 1) → IsExact (job_of (commands.Replay a)) fs → Done words before now → before.files ≡ Some fs → IsExactSection a h fs before now
     exact_section_replay number made done told_files =
@@ -707,20 +707,20 @@ module _ (a : ReplayArguments) (fs : Files) (before now : Outside) (words : List
         let told = told_so plan (Some h) (section_told (covered_tree own) (covered_start own) (h + 1) logged.log) (section_reading (covered_tree own) (covered_start own) plan.head (h + 1) logged.log) drawn logged.tells in
         let by : IsDrawnAlone plan h drawn = subst (λ (o : Option ℕ). IsDrawnOf o plan drawn) told.same.only_so d.by_plan in
         let lone = section_log plan (head_so a.design a.frame fs plan from) by.starts.member.drawable h by.there logged.log drawn logged.tells in
-        let seen : covered drawn ≡ own = ap (λ (p : Plan). record { plan = parts p; only = drawn.only }) lone.same.by_plan ∙ ap (λ (o : Option ℕ). record { plan = parts plan; only = o }) lone.same.only_so in
+        let seen : covered drawn ≡ own = ap (λ (p : Survey). record { plan = survey_plan p; only = drawn.only }) lone.same.by_plan ∙ ap (λ (o : Option ℕ). record { plan = survey_plan plan; only = o }) lone.same.only_so in
         let of_plan : Sectioned drawn plan logged.log = record {
           section = lone.section;
           path_is = lone.path_is;
           rows = λ leaf genuine short. (ap (λ (c : Coverage). selected_units (covered_tree c) drawn.leaf) seen ∙ lone.rows leaf short genuine);
         } in
-        let of_drawn : Sectioned drawn drawn.plan logged.log = subst (λ (p : Plan). Sectioned drawn p logged.log) (sym lone.same.by_plan) of_plan in
+        let of_drawn : Sectioned drawn drawn.plan logged.log = subst (λ (p : Survey). Sectioned drawn p logged.log) (sym lone.same.by_plan) of_plan in
         record {
           drawn = drawn;
           log = logged.log;
           log_held = logged.held;
           section = of_drawn.section;
           path_is = of_drawn.path_is;
-          by_plan = subst (λ (p : Plan). IsDrawnAlone p h drawn) (sym lone.same.by_plan) by;
+          by_plan = subst (λ (p : Survey). IsDrawnAlone p h drawn) (sym lone.same.by_plan) by;
           rows = of_drawn.rows;
           written = d.written;
           put = d.shown;
@@ -747,8 +747,8 @@ module _ (a : MigrateArguments) (fs : Files) (before now : Outside) (words : Lis
         log_held = logged.held;
         old = record {
           path = old.genuine.path;
-          full = subst (λ (p : Plan). IsFullPath (tree_of p) (start_of p) old.genuine.path drawn.leaf) (sym old.same.by_plan) old.genuine.full;
-          text = old.genuine.text ∙ ap (λ (p : Plan). logs.log_text p.head old.genuine.path) (sym old.same.by_plan);
+          full = subst (λ (p : Survey). IsFullPath (tree_of p) (start_of p) old.genuine.path drawn.leaf) (sym old.same.by_plan) old.genuine.full;
+          text = old.genuine.text ∙ ap (λ (p : Survey). logs.log_text p.head old.genuine.path) (sym old.same.by_plan);
         };
         path_is = old.path_is;
         by_plan = whole.by_plan;
@@ -764,8 +764,8 @@ module _ (a : MigrateArguments) (fs : Files) (before now : Outside) (words : Lis
 -- ---- a log that was refused
 
 -- so the log that was read differs
-refused_log : (design frame log : List ℕ) (fs : Files) (line : ℕ) (job : Job) (Differs : Plan → List ℕ → Type 0) → job.design ≡ Held design → job.frame ≡ FrameHeld frame
-    → ((plan : Plan) → IsRefusedFrom plan job.work fs line → RefusesLog (Differs plan) log fs) → IsRefused job fs line → IsRefusedLog design frame log fs Differs
+refused_log : (design frame log : List ℕ) (fs : Files) (line : ℕ) (job : Job) (Differs : Survey → List ℕ → Type 0) → job.design ≡ Held design → job.frame ≡ FrameHeld frame
+    → ((plan : Survey) → IsRefusedFrom plan job.work fs line → RefusesLog (Differs plan) log fs) → IsRefused job fs line → IsRefusedLog design frame log fs Differs
 refused_log design frame log fs line job Differs held frame_held differs refused =
     let staged : design_stage (Held design) fs >>= (λ d. frame_stage d (FrameHeld frame) fs) ≡ Ok refused.plan = rw (← held, ← frame_held) refused.planned in
     record {

@@ -22,7 +22,7 @@ use Rattle.smp_words.specs.declared.command.Command.TheVariants as commands
 use Rattle.smp_words.specs.Words.{command_of}
 use Rattle.smp_status.specs.declared.status.Status.TheVariants as status
 use Rattle.smp_status.specs.Codes.{design_status, frame_status}
-use Rattle.smp_plan.specs.Plans.{Plan, parts}
+use Rattle.smp_plan.specs.Plans.{Survey, survey_plan}
 use Rattle.smp_app.specs.Texts.{joints_text}
 use Rattle.smp_plan.specs.Inputs.{HeldForJoint, FrameForJoint, ReadDesign, has_joints, most_joint_rows, unless_large, unless_no_joints, design_stage, frame_stage, plan_stage}
 use Rattle.smp_app.specs.Commands.{Lists, Job, job_of, job_for}
@@ -78,11 +78,11 @@ designed_for_joint name fs design h =
       has = so.0;
     })
 
-record PlannedForJoint (design : ReadDesign) (frame : List ℕ) (fs : Files) (plan : Plan) : Type 0 where
+record PlannedForJoint (design : ReadDesign) (frame : List ℕ) (fs : Files) (plan : Survey) : Type 0 where
   read : Planned design frame fs plan
   few : length plan.units ≤ most_joint_rows
 
-planned_for_joint : (design : ReadDesign) (frame : List ℕ) (fs : Files) (plan : Plan) → frame_stage design (FrameForJoint frame) fs ≡ Ok plan → PlannedForJoint design frame fs plan
+planned_for_joint : (design : ReadDesign) (frame : List ℕ) (fs : Files) (plan : Survey) → frame_stage design (FrameForJoint frame) fs ≡ Ok plan → PlannedForJoint design frame fs plan
 unfolding frame_stage
 planned_for_joint design frame fs plan h =
     let bytes = step (content frame (fs frame)) _ plan h in
@@ -100,7 +100,7 @@ planned_for_joint design frame fs plan h =
         served = made.0;
         is = made.1;
       };
-      few = subst (λ (p : Plan). length p.units ≤ most_joint_rows) made.1 so.0;
+      few = subst (λ (p : Survey). length p.units ≤ most_joint_rows) made.1 so.0;
     }
 
 module _ (a : DesignArguments) (fs : Files) (before now : Outside) (words : List (List ℕ)) (asked : command_of words ≡ Some (commands.Joint a)) where
@@ -111,7 +111,7 @@ module _ (a : DesignArguments) (fs : Files) (before now : Outside) (words : List
   joint_asked = ap (option_map job_of) asked
 
   -- the plan of what was read, and what it lists
-  joint_of_plan : (plan : Plan) → plan_stage (HeldForJoint a.design) (FrameForJoint a.frame) fs ≡ Ok plan → CanBeDrawn (parts plan) → now.put ≡ with_bytes (joints_text plan) before.put → now.files ≡ Some fs
+  joint_of_plan : (plan : Survey) → plan_stage (HeldForJoint a.design) (FrameForJoint a.frame) fs ≡ Ok plan → CanBeDrawn (survey_plan plan) → now.put ≡ with_bytes (joints_text plan) before.put → now.files ≡ Some fs
       → IsExactJoint a fs before now
   joint_of_plan plan planned_is drawable put same =
       let design = step (design_stage (HeldForJoint a.design) fs) (λ d. frame_stage d (FrameForJoint a.frame) fs) plan planned_is in
@@ -119,14 +119,14 @@ module _ (a : DesignArguments) (fs : Files) (before now : Outside) (words : List
       let planned_so = planned_for_joint design.value a.frame fs plan design.then_is in
       let framed = frame_plan design.value a.frame fs plan planned_so.read in
       let so = draws_so plan.design.procedure.method plan.design.procedure.order plan.design.second (subst (λ (d : Design). has_joints d.procedure.method d.procedure.order d.second ≡ true) (sym framed.0) designed_so.has) in
-      let systematic : IsSystematicPlan (parts plan) = record { method = so.0; order = so.1.0; second = ap (option_map (λ (second : Second). second.method)) so.1.1 } in
+      let systematic : IsSystematicPlan (survey_plan plan) = record { method = so.0; order = so.1.0; second = ap (option_map (λ (second : Second). second.method)) so.1.1 } in
       record {
         plan = plan;
         read = read_plan a.design a.frame fs plan (record { design = design.value; designed = designed_so.read; framed = planned_so.read });
         accepted = frame_accepted design.value a.frame fs plan planned_so.read;
         systematic = systematic;
         few = planned_so.few;
-        joints = joints_hold (parts plan) drawable systematic;
+        joints = joints_hold (survey_plan plan) drawable systematic;
         put = put;
         same = same;
       }

@@ -3,7 +3,7 @@ use Rattle.std.proofs.Common.{◌≡◌, ℕ, List, [], Some, Ok, refl, sym, ap,
 use Rattle.std.specs.Prelude.{option_map}
 use Rattle.smp_io.specs.Sink.{with_bytes}
 use Rattle.smp_io.specs.Store.{Files}
-use Rattle.smp_plan.specs.Plans.{Plan}
+use Rattle.smp_plan.specs.Plans.{Survey}
 use Rattle.smp_plan.specs.Inputs.{DesignSource, FrameSource, plan_stage}
 use Rattle.smp_plan.proofs.Steps.{sees_told}
 use Rattle.smp_app.specs.Commands.{Lists, Job, inputs_of, job_for}
@@ -14,11 +14,11 @@ use Rattle.smp_app.proofs.Ends.{verdict_of}
 use Rattle.smp_app.proofs.PlansRead.{ok_same, some_same}
 
 -- what it puts, and what becomes of the files
-module _ (text : Plan → List ℕ) (design : DesignSource) (frame : FrameSource) (fs : Files) (before now : Outside) (words : List (List ℕ)) where
+module _ (text : Survey → List ℕ) (design : DesignSource) (frame : FrameSource) (fs : Files) (before now : Outside) (words : List (List ℕ)) where
   abbrev listing : Job
   listing = record { design = design; frame = frame; work = Lists text }
 
-  pub listed : job_for words ≡ Some listing → (plan : Plan) → plan_stage design frame fs ≡ Ok plan → Done words before now → before.files ≡ Some fs → (now.put ≡ with_bytes (text plan) before.put) × (now.files ≡ Some fs)
+  pub listed : job_for words ≡ Some listing → (plan : Survey) → plan_stage design frame fs ≡ Ok plan → Done words before now → before.files ≡ Some fs → (now.put ≡ with_bytes (text plan) before.put) × (now.files ≡ Some fs)
   listed asked plan planned done told =
       let same : done.job ≡ listing = some_same _ _ (sym done.asked ∙ asked) in
       let work : IsWork words listing fs before now = subst (λ (j : Job). IsWork words j fs before now) same (done.done fs (sees_told (inputs_of done.job) before.files fs told)) in

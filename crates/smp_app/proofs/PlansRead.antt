@@ -11,7 +11,7 @@ use Rattle.smp_design.specs.declared.fault.DesignFault.{DesignFault}
 use Rattle.smp_log.specs.Heads.{head_of}
 use Rattle.smp_status.specs.declared.status.Status.{Status}
 use Rattle.smp_status.specs.Codes.{design_status, frame_status}
-use Rattle.smp_plan.specs.Plans.{Plan}
+use Rattle.smp_plan.specs.Plans.{Survey}
 use Rattle.smp_plan.specs.Inputs.{Held, FrameHeld, FrameMade, Made, ReadDesign, unless_large, unless_misfit, design_stage, frame_stage, plan_of, plan_stage}
 use Rattle.smp_app.specs.Commands.{Job}
 use Rattle.smp_frac.specs.Faults.{◌>>=◌}
@@ -39,8 +39,8 @@ pub read_is : {A Fault : Type 0} (refusal : Fault → Status) (read : Result A F
 read_is {A} refusal (Ok y) x h = let same : ◌≡◌ {A = Result A Stop} (Ok y) (Ok x) = h in cc
 read_is refusal (Err fault) x h = absurd (cc)
 
-pub plan_is : (plan made : Plan) (found : Option Misfit) → unless_misfit made found ≡ Ok plan → (found ≡ None) × (made ≡ plan)
-plan_is plan made None h = let same : ◌≡◌ {A = Result Plan Stop} (Ok made) (Ok plan) = h in (refl, cc)
+pub plan_is : (plan made : Survey) (found : Option Misfit) → unless_misfit made found ≡ Ok plan → (found ≡ None) × (made ≡ plan)
+plan_is plan made None h = let same : ◌≡◌ {A = Result Survey Stop} (Ok made) (Ok plan) = h in (refl, cc)
 plan_is plan made (Some misfit) h = absurd (cc)
 
 -- what was read for a design
@@ -64,7 +64,7 @@ designed name fs design h =
     ok_is x y e = cc
 
 -- what was read for a plan
-pub record Planned (design : ReadDesign) (frame : List ℕ) (fs : Files) (plan : Plan) : Type 0 where
+pub record Planned (design : ReadDesign) (frame : List ℕ) (fs : Files) (plan : Survey) : Type 0 where
   pub bytes : List ℕ
   pub held : fs frame ≡ Some bytes
   pub units : List unit.Unit
@@ -72,7 +72,7 @@ pub record Planned (design : ReadDesign) (frame : List ℕ) (fs : Files) (plan :
   pub served : misfit_of design.design units ≡ None
   pub is : record { design = design.design; units = units; head = head_of design.bytes bytes } ≡ plan
 
-pub planned : (design : ReadDesign) (frame : List ℕ) (fs : Files) (plan : Plan) → frame_stage design (FrameHeld frame) fs ≡ Ok plan → Planned design frame fs plan
+pub planned : (design : ReadDesign) (frame : List ℕ) (fs : Files) (plan : Survey) → frame_stage design (FrameHeld frame) fs ≡ Ok plan → Planned design frame fs plan
 unfolding frame_stage
 planned design frame fs plan h =
     let bytes = step (content frame (fs frame)) _ plan h in
@@ -90,12 +90,12 @@ planned design frame fs plan h =
 -- ---- what was read for a plan
 
 -- what was read for the plan of a job
-pub record Read (design_name frame_name : List ℕ) (fs : Files) (plan : Plan) : Type 0 where
+pub record Read (design_name frame_name : List ℕ) (fs : Files) (plan : Survey) : Type 0 where
   pub design : ReadDesign
   pub designed : Designed design_name fs design
   pub framed : Planned design frame_name fs plan
 
-pub read : (design_name frame_name : List ℕ) (fs : Files) (plan : Plan) → design_stage (Held design_name) fs >>= (λ d. frame_stage d (FrameHeld frame_name) fs) ≡ Ok plan → Read design_name frame_name fs plan
+pub read : (design_name frame_name : List ℕ) (fs : Files) (plan : Survey) → design_stage (Held design_name) fs >>= (λ d. frame_stage d (FrameHeld frame_name) fs) ≡ Ok plan → Read design_name frame_name fs plan
 read design_name frame_name fs plan h =
     let design = step (design_stage (Held design_name) fs) (λ d. frame_stage d (FrameHeld frame_name) fs) plan h in
     record {
@@ -105,16 +105,16 @@ read design_name frame_name fs plan h =
     }
 
 -- so the plan is what was read
-pub frame_plan : (design : ReadDesign) (frame_name : List ℕ) (fs : Files) (plan : Plan) → Planned design frame_name fs plan → (plan.design ≡ design.design) × IsReadFrame frame_name design.bytes fs plan
+pub frame_plan : (design : ReadDesign) (frame_name : List ℕ) (fs : Files) (plan : Survey) → Planned design frame_name fs plan → (plan.design ≡ design.design) × IsReadFrame frame_name design.bytes fs plan
 frame_plan design frame_name fs plan framed =
-    subst (λ (p : Plan). (p.design ≡ design.design) × IsReadFrame frame_name design.bytes fs p) framed.is
+    subst (λ (p : Survey). (p.design ≡ design.design) × IsReadFrame frame_name design.bytes fs p) framed.is
     (refl, record { frame_bytes = framed.bytes; frame_held = framed.held; frame_read = framed.read; head = refl })
 
 -- and design and frame go together
-pub frame_accepted : (design : ReadDesign) (frame_name : List ℕ) (fs : Files) (plan : Plan) → Planned design frame_name fs plan → IsAccepted plan
+pub frame_accepted : (design : ReadDesign) (frame_name : List ℕ) (fs : Files) (plan : Survey) → Planned design frame_name fs plan → IsAccepted plan
 frame_accepted design frame_name fs plan framed = subst IsAccepted framed.is framed.served
 
-pub read_plan : (design_name frame_name : List ℕ) (fs : Files) (plan : Plan) → Read design_name frame_name fs plan → IsReadPlan design_name frame_name fs plan
+pub read_plan : (design_name frame_name : List ℕ) (fs : Files) (plan : Survey) → Read design_name frame_name fs plan → IsReadPlan design_name frame_name fs plan
 read_plan design_name frame_name fs plan from =
     let framed = frame_plan from.design frame_name fs plan from.framed in
     record {
@@ -127,11 +127,11 @@ read_plan design_name frame_name fs plan from =
     ok_design : Design → Result Design DesignFault
     ok_design d = Ok d
 
-pub accepted_plan : (design_name frame_name : List ℕ) (fs : Files) (plan : Plan) → Read design_name frame_name fs plan → IsAccepted plan
+pub accepted_plan : (design_name frame_name : List ℕ) (fs : Files) (plan : Survey) → Read design_name frame_name fs plan → IsAccepted plan
 accepted_plan design_name frame_name fs plan from = frame_accepted from.design frame_name fs plan from.framed
 
 -- what was made for a plan, of the bytes of a design and of a frame
-pub record MadePlan (design_bytes frame_bytes : List ℕ) (plan : Plan) : Type 0 where
+pub record MadePlan (design_bytes frame_bytes : List ℕ) (plan : Survey) : Type 0 where
   pub design_read : design_of design_bytes ≡ Ok plan.design
   pub frame_read : frame_of plan.design.columns frame_bytes ≡ Ok plan.units
   pub head : plan.head ≡ head_of design_bytes frame_bytes
@@ -147,7 +147,7 @@ made_design bytes fs read h =
     one_read : (x y : ReadDesign) → ◌≡◌ {A = Result ReadDesign Stop} (Ok x) (Ok y) → x ≡ y
     one_read x y e = cc
 
-made_frame : (read : ReadDesign) (bytes : List ℕ) (fs : Files) (plan : Plan) → design_of read.bytes ≡ Ok read.design → frame_stage read (FrameMade bytes) fs ≡ Ok plan → MadePlan read.bytes bytes plan
+made_frame : (read : ReadDesign) (bytes : List ℕ) (fs : Files) (plan : Survey) → design_of read.bytes ≡ Ok read.design → frame_stage read (FrameMade bytes) fs ≡ Ok plan → MadePlan read.bytes bytes plan
 unfolding frame_stage
 made_frame read bytes fs plan designed h =
     let units = step (or_fault frame_status (frame_of read.design.columns bytes))
@@ -161,7 +161,7 @@ made_frame read bytes fs plan designed h =
       accepted = made.0;
     })
 
-pub made_plan : (design_bytes frame_bytes : List ℕ) (fs : Files) (plan : Plan) → plan_stage (Made design_bytes) (FrameMade frame_bytes) fs ≡ Ok plan → MadePlan design_bytes frame_bytes plan
+pub made_plan : (design_bytes frame_bytes : List ℕ) (fs : Files) (plan : Survey) → plan_stage (Made design_bytes) (FrameMade frame_bytes) fs ≡ Ok plan → MadePlan design_bytes frame_bytes plan
 made_plan design_bytes frame_bytes fs plan h =
     let read = step (design_stage (Made design_bytes) fs) (λ r. frame_stage r (FrameMade frame_bytes) fs) plan h in
     let designed = made_design design_bytes fs read.value read.first_is in
@@ -169,7 +169,7 @@ made_plan design_bytes frame_bytes fs plan h =
     (made_frame read.value frame_bytes fs plan (ap design_of designed.1 ∙ designed.0) read.then_is)
 
 -- the same files are read as one plan
-pub read_once : (design frame : List ℕ) (fs : Files) (p q : Plan) → IsReadPlan design frame fs p → IsReadPlan design frame fs q → p ≡ q
+pub read_once : (design frame : List ℕ) (fs : Files) (p q : Survey) → IsReadPlan design frame fs p → IsReadPlan design frame fs q → p ≡ q
 read_once design frame fs p q first again =
     let bytes : first.design_bytes ≡ again.design_bytes = held_once (sym first.design_held ∙ again.design_held) in
     let held : first.frame_is.frame_bytes ≡ again.frame_is.frame_bytes = held_once (sym first.frame_is.frame_held ∙ again.frame_is.frame_held) in
@@ -184,9 +184,9 @@ read_once design frame fs p q first again =
     ok_once : {A E : Type 0} {x y : A} → ◌≡◌ {A = Result A E} (Ok x) (Ok y) → x ≡ y
     ok_once same = cc
 
-    plans_same : (p q : Plan) → p.design ≡ q.design → p.units ≡ q.units → p.head ≡ q.head → p ≡ q
+    plans_same : (p q : Survey) → p.design ≡ q.design → p.units ≡ q.units → p.head ≡ q.head → p ≡ q
     plans_same p q designs units heads =
-        let of : Design → List unit.Unit → List ℕ → Plan = λ d us h. record { design = d; units = us; head = h } in
+        let of : Design → List unit.Unit → List ℕ → Survey = λ d us h. record { design = d; units = us; head = h } in
         ap (λ (d : Design). of d p.units p.head) designs ∙ ap (λ (us : List unit.Unit). of q.design us p.head) units ∙ ap (of q.design q.units) heads
 
 pub ok_same : (x y : Outputs) → ◌≡◌ {A = Result Outputs Stop} (Ok x) (Ok y) → x ≡ y

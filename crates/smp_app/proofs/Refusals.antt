@@ -19,7 +19,7 @@ use Rattle.smp_twostage.specs.Selections.{BelongsToCovered, BelongsToWhole, Cove
 use Rattle.smp_twostage.specs.Laws.Wholes.{covered_lawful, strata_sectioned, whole_lawful}
 use Rattle.smp_status.specs.declared.status.Status.{Status}
 use Rattle.smp_status.specs.declared.status.Status.TheVariants as status
-use Rattle.smp_plan.specs.Plans.{Plan, parts}
+use Rattle.smp_plan.specs.Plans.{Survey, survey_plan}
 use Rattle.smp_plan.specs.Inputs.{DesignSource, Given, Held, HeldForJoint, Made, FrameSource, FrameHeld, FrameForJoint, FrameMade, ReadDesign, design_stage, frame_content, frame_stage, has_joints, is_large, plan_stage, unless_large, unless_misfit, unless_no_joints}
 use Rattle.smp_design.specs.Designs.{design_of}
 use Rattle.smp_design.specs.declared.fault.DesignFault.{DesignFault}
@@ -74,27 +74,27 @@ any_line (Err error) = any_status error
 
 -- ---- what a log tells, where it is refused
 
-told_line : (plan : Plan) (only : Option ℕ) (path : List Entry) (reading : Result (Progress AnyState) ℕ) (line : ℕ) → told_by plan only path reading ≡ Err (Refused (status.LogDiffers line)) → reading ≡ Err line
+told_line : (plan : Survey) (only : Option ℕ) (path : List Entry) (reading : Result (Progress AnyState) ℕ) (line : ℕ) → told_by plan only path reading ≡ Err (Refused (status.LogDiffers line)) → reading ≡ Err line
 told_line plan only path (Ok state) line h = absurd (cc)
 told_line plan only path (Err at) line h =
     let same : ◌≡◌ {A = Result Drawn Stop} (Err (Refused (status.LogDiffers at))) (Err (Refused (status.LogDiffers line))) = h in
     let one : at ≡ line = cc in
     ap Err one
 
-module _ (plan : Plan) (is_head : IsHead plan.head) (log : List ℕ) (line : ℕ) where
+module _ (plan : Survey) (is_head : IsHead plan.head) (log : List ℕ) (line : ℕ) where
   -- the strata for which the log is taken
   abbrev of_plan : Taken → Coverage
-  of_plan taken = record { plan = parts plan; only = only_of taken }
+  of_plan taken = record { plan = survey_plan plan; only = only_of taken }
 
-  module _ (member : BelongsToWhole (parts plan) (start_of plan)) where
+  module _ (member : BelongsToWhole (survey_plan plan) (start_of plan)) where
     whole_differs : drawn_by_log plan log ≡ Err (Refused (status.LogDiffers line)) → WholeDiffers plan log line
     whole_differs h =
-        let exact = exact_any (tree_of plan) (BelongsToWhole (parts plan)) (whole_lawful (parts plan)) (sections_of plan) (strata_sectioned (all_of (parts plan))) (start_of plan) member plan.head is_head log in
+        let exact = exact_any (tree_of plan) (BelongsToWhole (survey_plan plan)) (whole_lawful (survey_plan plan)) (sections_of plan) (strata_sectioned (all_of (survey_plan plan))) (start_of plan) member plan.head is_head log in
         subst (IsAnswer (IsAnyGenuine (tree_of plan) (sections_of plan) (start_of plan) plan.head) log) (told_line plan None (path_told (tree_of plan) (start_of plan) log) _ line h) exact.right
 
     old_differs : drawn_by_old_log plan log ≡ Err (Refused (status.LogDiffers line)) → OldDiffers plan log line
     old_differs h =
-        let exact = exact_reading (tree_of plan) (BelongsToWhole (parts plan)) (whole_lawful (parts plan)) (start_of plan) member plan.head is_head log in
+        let exact = exact_reading (tree_of plan) (BelongsToWhole (survey_plan plan)) (whole_lawful (survey_plan plan)) (start_of plan) member plan.head is_head log in
         subst (IsAnswer (IsGenuine (tree_of plan) (start_of plan) plan.head) log) (told_line plan None (path_told (tree_of plan) (start_of plan) log) _ line h) exact.right
 
   stratum_differs : (h : ℕ) → BelongsToCovered (alone plan h) (covered_start (alone plan h)) → drawn_by_section plan h log ≡ Err (Refused (status.LogDiffers line)) → StratumDiffers h plan log line
@@ -127,7 +127,7 @@ read_line : (name : List ℕ) (held : Option (List ℕ)) (error : Status) (P : �
 read_line name held error P follows = line_of error (content name held) P follows (λ line e. absurd (not_refused name held (status.LogDiffers line) e))
 
 -- where the log couldn't be read, no line is named
-pub unread : {A : Type 0} (plan : Plan) (source : Source) (fs : Files) (name : List ℕ) (error : Status) (answer : Result A Status) → answer ≡ Err error → Follows (Err error) (content name (fs name)) → IfErr answer (IsRefusedBy plan source fs)
+pub unread : {A : Type 0} (plan : Survey) (source : Source) (fs : Files) (name : List ℕ) (error : Status) (answer : Result A Status) → answer ≡ Err error → Follows (Err error) (content name (fs name)) → IfErr answer (IsRefusedBy plan source fs)
 unread plan source fs name error answer ends follows = rw ends (read_line name (fs name) error (IsRefusedAt plan source fs) follows)
 
 -- what differs in the bytes that were read differs in the log
@@ -146,9 +146,9 @@ in_file Differs {name = name} {bytes = bytes} {log = log} fs answer is read same
 -- ---- a stratum by its number
 
 -- the stratum of a number is the one before it, counted from 0
-pub stratum_is : (plan : Plan) (number h : ℕ) → stratum_at plan number ≡ Ok h → h ≡ number - 1
+pub stratum_is : (plan : Survey) (number h : ℕ) → stratum_at plan number ≡ Ok h → h ≡ number - 1
 stratum_is plan number h e =
-    let strata : ℕ = section_count (all_of (parts plan)) in
+    let strata : ℕ = section_count (all_of (survey_plan plan)) in
     elim (cases_Bool (nat_le number strata)) [
       | inl there ↦ (let same : ◌≡◌ {A = Result ℕ Stop} (Ok (number - 1)) (Ok h) = rw there at e in cc)
       | inr beyond ↦ absurd (let same : ◌≡◌ {A = Result ℕ Stop} (Err (Refused (status.NoStratum number strata))) (Ok h) = rw beyond at e in cc)
@@ -179,7 +179,7 @@ module _ (line : ℕ) where
   frame_out frame_fault.NoMemory h = cc
   frame_out other h = cc
 
-  misfit_out : (plan : Plan) (found : Option Misfit) → unless_misfit plan found ≡ Err (Refused (status.LogDiffers line)) → ⊥
+  misfit_out : (plan : Survey) (found : Option Misfit) → unless_misfit plan found ≡ Err (Refused (status.LogDiffers line)) → ⊥
   misfit_out plan None h = cc
   misfit_out plan (Some misfit) h = cc
 

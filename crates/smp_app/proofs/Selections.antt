@@ -32,7 +32,7 @@ use Rattle.smp_design.specs.declared.design.Second as second
 use Rattle.smp_methods.specs.declared.any.AnyState.{AnyState}
 use Rattle.smp_split.specs.Stages.{Progress}
 use Rattle.smp_strata.specs.Draws.{AreAsked, IsFor, SecondDraws, expected_firsts}
-use Rattle.smp_strata.specs.Plans.{Parts, first_probs}
+use Rattle.smp_strata.specs.Plans.{Plan, first_probs}
 use Rattle.smp_strata.specs.declared.strata.FirstUnit.{FirstUnit}
 use Rattle.smp_strata.specs.declared.strata.Stratum.{Stratum}
 use Rattle.smp_twostage.specs.Selections as selections
@@ -53,7 +53,7 @@ use Rattle.smp_app.specs.declared.selection.Taken.TheVariants as takes
 use Rattle.smp_app.specs.Kept.Stages.{EndsAsTold, HasStratum, IsStart, IsWalked, Lines, RefusedAt, StartsOf, drawn_by_taken, end_told, lines_of, only_of, path_by, reading_by}
 use Rattle.smp_app.specs.Draws.{IsDrawnBy, HasProbabilities}
 use Rattle.smp_app.specs.Kept.Exact.{IsDrawnOf, IsDrawnWhole, IsListed}
-use Rattle.smp_plan.specs.Plans.{Plan, parts, row_probability}
+use Rattle.smp_plan.specs.Plans.{Survey, survey_plan, row_probability}
 use Rattle.smp_app.specs.Drawn.{tree_of, start_of, Drawn, covered}
 use Rattle.smp_app.specs.Texts.{log_text}
 use Rattle.smp_app.proofs.Cubes.{keeps_balance}
@@ -67,7 +67,7 @@ told_is {path} {lines} told = let same : ◌≡◌ {A = Option (List Entry)} (So
 -- ---- the run of the draws
 
 -- a run in the plan's draw tree from its start
-module _ {Rest : Type 0} (source : Source Rest) (plan : Plan) (tree : Tree (Progress AnyState)) (tree_is : tree ≡ tree_of plan) (start : Progress AnyState) (start_is : start ≡ start_of plan) (draws : Rest) where
+module _ {Rest : Type 0} (source : Source Rest) (plan : Survey) (tree : Tree (Progress AnyState)) (tree_is : tree ≡ tree_of plan) (start : Progress AnyState) (start_is : start ≡ start_of plan) (draws : Rest) where
   abbrev pub ran_by_plan : Outcome (Progress AnyState) Rest
   ran_by_plan = run source (tree_of plan) (start_of plan) draws
 
@@ -92,7 +92,7 @@ module _ {Rest : Type 0} (source : Source Rest) (plan : Plan) (tree : Tree (Prog
 -- ---- what a log tells
 
 -- the end of a replay is what its log tells, which has this path and this reading
-module _ (plan : Plan) (only : Option ℕ) (state : Progress AnyState) (stage : Result Drawn Stop) where
+module _ (plan : Survey) (only : Option ℕ) (state : Progress AnyState) (stage : Result Drawn Stop) where
   pub ends_told : (told : Result (Unit {0}) ReplayFault) (lines : Lines) (path : List Entry) (reading : Result (Progress AnyState) ℕ) → stage ≡ told_by plan only path reading → AnswersAs told state reading → OnOk told (Some (steps_of lines) ≡ Some path)
       → EndsAsTold plan only stage state (end_told told lines)
   ends_told (Ok done) lines path reading is reads tells =
@@ -115,15 +115,15 @@ on_more (Ok x) P Q f p = f p
 on_more (Err e) P Q f p = tt
 
 -- what is read in a selection that is seen so is what the plan's draw tree reads
-module _ (plan : Plan) (taken : Taken) (log : List ℕ) where
+module _ (plan : Survey) (taken : Taken) (log : List ℕ) where
   abbrev tells_by : Coverage → Progress AnyState → Result Drawn Stop
   tells_by c from = told_by plan (only_of taken) (path_by taken c from log) (reading_by taken c from plan.head log)
 
 -- the strata for which it is taken
-abbrev taken_of : Taken → Parts → Coverage
+abbrev taken_of : Taken → Plan → Coverage
 taken_of taken plan = record { plan = plan; only = only_of taken }
 
-tells_so : (plan : Plan) (taken : Taken) (log : List ℕ) → drawn_by_taken taken plan log ≡ tells_by plan taken log (taken_of taken (parts plan)) (covered_start (taken_of taken (parts plan)))
+tells_so : (plan : Survey) (taken : Taken) (log : List ℕ) → drawn_by_taken taken plan log ≡ tells_by plan taken log (taken_of taken (survey_plan plan)) (covered_start (taken_of taken (survey_plan plan)))
 tells_so plan takes.Either log = refl
 tells_so plan takes.Old log = refl
 tells_so plan (takes.Stratum h) log = refl
@@ -143,27 +143,27 @@ module _ {Rest : Type 0} (source : Source Rest) (own : Coverage) (start : Progre
 -- ---- what is drawn by a plan
 
 -- the state from which a walk starts is one of the selection
-starts_member : (plan : Parts) (only : Option ℕ) (state : Progress AnyState) → StartsOf plan only state → BelongsToCovered (record { plan = plan; only = only }) state
+starts_member : (plan : Plan) (only : Option ℕ) (state : Progress AnyState) → StartsOf plan only state → BelongsToCovered (record { plan = plan; only = only }) state
 starts_member plan None state starts = starts.member
 starts_member plan (Some h) state starts = starts.member
 
-module _ (plan : Parts) (only : Option ℕ) (started : StartedWhole) (start : IsStart plan only started) where
+module _ (plan : Plan) (only : Option ℕ) (started : StartedWhole) (start : IsStart plan only started) where
   pub belongs : BelongsToCovered started.whole started.state
   belongs = subst (λ (c : Coverage). BelongsToCovered c started.state) (sym start.whole) (starts_member plan only started.state start.starts)
 
-one_by : (together : Bool) (plan : Parts) (h : ℕ) → section_count_by together (one_of plan h) ≡ 1
+one_by : (together : Bool) (plan : Plan) (h : ℕ) → section_count_by together (one_of plan h) ≡ 1
 one_by true plan h = refl
 one_by false plan h = refl
 
-is_one_by : (only : Option ℕ) (plan : Parts) → IfSome only (λ h. (strata_sections (record { plan = plan; only = only })).count ≡ 1)
+is_one_by : (only : Option ℕ) (plan : Plan) → IfSome only (λ h. (strata_sections (record { plan = plan; only = only })).count ≡ 1)
 is_one_by None plan = tt
 is_one_by (Some h) plan = one_by (draws_together plan.procedure.method) plan h
 
 -- one section alone is one
-pub is_one : (plan : Parts) (only : Option ℕ) (started : StartedWhole) → IsStart plan only started → IfSome only (λ h. (strata_sections started.whole).count ≡ 1)
+pub is_one : (plan : Plan) (only : Option ℕ) (started : StartedWhole) → IsStart plan only started → IfSome only (λ h. (strata_sections started.whole).count ≡ 1)
 is_one plan only started start = subst (λ (c : Coverage). IfSome only (λ h. (strata_sections c).count ≡ 1)) (sym start.whole) (is_one_by only plan)
 
-pub has_parts : (plan : Parts) (only : Option ℕ) → HasStratum plan only → IfSome only (λ h. h < section_count (all_of plan)) × IfSome only (λ h. h < 2 ^ 32)
+pub has_parts : (plan : Plan) (only : Option ℕ) → HasStratum plan only → IfSome only (λ h. h < section_count (all_of plan)) × IfSome only (λ h. h < 2 ^ 32)
 has_parts plan None has = (tt, tt)
 has_parts plan (Some h) has = has
 
@@ -171,16 +171,16 @@ pub taken_stage : (plan : FramePlan) → IsPlanned plan → (started : StartedWh
     → drawn_by_taken taken (plan_view plan) log ≡ tells_by (plan_view plan) taken log started.whole started.state
 taken_stage plan planned started taken start log =
     let view = plan_view plan in
-    let by : Parts → Result Drawn Stop = λ p. tells_by view taken log (taken_of taken p) (covered_start (taken_of taken p)) in
+    let by : Plan → Result Drawn Stop = λ p. tells_by view taken log (taken_of taken p) (covered_start (taken_of taken p)) in
     tells_so view taken log ∙ sym
     (ap (tells_by view taken log started.whole) start.state
     ∙ ap (λ (c : Coverage). tells_by view taken log c (covered_start (taken_of taken plan.plan))) start.whole
     ∙ ap by planned.parts_are)
 
 pub start_belongs : (plan : FramePlan) → IsPlanned plan → (only : Option ℕ) (started : StartedWhole) → IsStart plan.plan only started
-    → BelongsToCovered (record { plan = parts (plan_view plan); only = only }) (covered_start (record { plan = parts (plan_view plan); only = only }))
+    → BelongsToCovered (record { plan = survey_plan (plan_view plan); only = only }) (covered_start (record { plan = survey_plan (plan_view plan); only = only }))
 start_belongs plan planned only started start =
-    subst (λ (p : Parts). BelongsToCovered (record { plan = p; only = only }) (covered_start (record { plan = p; only = only }))) planned.parts_are
+    subst (λ (p : Plan). BelongsToCovered (record { plan = p; only = only }) (covered_start (record { plan = p; only = only }))) planned.parts_are
     (subst (λ (s : Progress AnyState). BelongsToCovered (record { plan = plan.plan; only = only }) s) start.state (starts_member plan.plan only started.state start.starts))
 
 -- the lines that a walk kept from such a start are those of what it came to
@@ -188,14 +188,14 @@ pub lines_so : (plan : FramePlan) → IsPlanned plan → (only : Option ℕ) (st
     → ArePlaced (covered_tree started.whole) (strata_sections started.whole) started.state to lines → steps_of lines ≡ path → lines ≡ lines_of (record { plan = plan_view plan; only = only; leaf = to; path = path })
 lines_so plan planned only started start to path lines so told =
     let by : Coverage → Progress AnyState → Lines = λ c s. placed (covered_tree c) (strata_sections c) s path in
-    let all : Parts → Coverage = λ p. record { plan = p; only = only } in
+    let all : Plan → Coverage = λ p. record { plan = p; only = only } in
     placed_as (covered_tree started.whole) (strata_sections started.whole) started.state to lines path so told
     ∙ ap (by started.whole) start.state
     ∙ ap (λ (c : Coverage). by c (covered_start (all plan.plan))) start.whole
-    ∙ ap (λ (p : Parts). by (all p) (covered_start (all p))) planned.parts_are
+    ∙ ap (λ (p : Plan). by (all p) (covered_start (all p))) planned.parts_are
 
 module _ (plan : FramePlan) (planned : IsPlanned plan) where
-  pub own_is : (own : Coverage) → own ≡ all_of plan.plan → own ≡ all_of (parts (plan_view plan))
+  pub own_is : (own : Coverage) → own ≡ all_of plan.plan → own ≡ all_of (survey_plan (plan_view plan))
   own_is own is = is ∙ ap all_of planned.parts_are
 
   pub tree_is : (own : Coverage) → own ≡ all_of plan.plan → covered_tree own ≡ tree_of (plan_view plan)
@@ -204,11 +204,11 @@ module _ (plan : FramePlan) (planned : IsPlanned plan) where
   pub start_is : (state : Progress AnyState) → state ≡ selections.start_of plan.plan → state ≡ start_of (plan_view plan)
   start_is state is = is ∙ ap selections.start_of planned.parts_are
 
-  abbrev all : Parts
-  all = parts (plan_view plan)
+  abbrev all : Plan
+  all = survey_plan (plan_view plan)
 
   rows_are : plan.plan.rows ≡ length plan.frame
-  rows_are = ap (λ (p : Parts). p.rows) planned.parts_are
+  rows_are = ap (λ (p : Plan). p.rows) planned.parts_are
 
   -- the probability of a row, in the words of the frame
   pub asked_is : (row : ℕ) → row < length plan.frame → Same (row_fraction plan.plan row) (row_probability (plan_view plan) row)
@@ -217,8 +217,8 @@ module _ (plan : FramePlan) (planned : IsPlanned plan) where
       planned.asked row (place_of plan.plan.strata row) l (place_is_seat plan.plan.strata row seated.seat seated.is)
 
   module _ (state : Progress AnyState) (starts : StartsWhole plan.plan state) (state_is : state ≡ start_of (plan_view plan)) where
-    start_member : BelongsToWhole (parts (plan_view plan)) (start_of (plan_view plan))
-    start_member = subst (λ (s : Progress AnyState). BelongsToWhole (parts (plan_view plan)) s) state_is (subst (λ (c : Coverage). BelongsToCovered c state) (own_is (all_of plan.plan) refl) starts.member)
+    start_member : BelongsToWhole (survey_plan (plan_view plan)) (start_of (plan_view plan))
+    start_member = subst (λ (s : Progress AnyState). BelongsToWhole (survey_plan (plan_view plan)) s) state_is (subst (λ (c : Coverage). BelongsToCovered c state) (own_is (all_of plan.plan) refl) starts.member)
 
     pub probabilities_own : HasProbabilities (plan_view plan)
     probabilities_own = record {
@@ -237,7 +237,7 @@ module _ (plan : FramePlan) (planned : IsPlanned plan) where
       abbrev here : Drawn
       here = record { plan = plan_view plan; only = None; leaf = to; path = path }
 
-      abbrev FirstsBy : Parts → Type 0
+      abbrev FirstsBy : Plan → Type 0
       FirstsBy p =
           (h n : ℕ) (s : Stratum) → slice_get p.strata h ≡ Some s → AreAsked plan.design.columns.prob plan.design plan.frame h n
           → count_by (covered_first (all_of p) to.states h) (range_with_len 0 (length s.units)) ≡ n
@@ -245,13 +245,13 @@ module _ (plan : FramePlan) (planned : IsPlanned plan) where
       firsts_own : FirstsBy plan.plan
       firsts_own h n s is asked = starts.firsts h n s is ((planned.draws h s is).firsts n asked) path to leads done
 
-      abbrev AroundBy : Parts → Type 0
+      abbrev AroundBy : Plan → Type 0
       AroundBy p =
           balances plan.design.procedure.method ≡ false → (h : ℕ) (s : Stratum) → slice_get p.strata h ≡ Some s
           → IfSome plan.design.columns.prob (λ column. IsAround (count_by (covered_first (all_of p) to.states h) (range_with_len 0 (length s.units))) (expected_size (first_probs plan.design plan.frame h)))
 
       method_is : plan.plan.procedure.method ≡ plan.design.procedure.method
-      method_is = ap (λ (p : Parts). p.procedure.method) planned.parts_are
+      method_is = ap (λ (p : Plan). p.procedure.method) planned.parts_are
 
       around_by : (prob : Option (List ℕ)) → (count : ℕ) (expected sum : Fraction) → IfSome prob (λ column. Same expected sum) → IsAround count expected → IfSome prob (λ column. IsAround count sum)
       around_by (Some column) count expected sum same is = around_same count (same_sym same) is
@@ -262,13 +262,13 @@ module _ (plan : FramePlan) (planned : IsPlanned plan) where
           around_by plan.design.columns.prob _ (expected_firsts s) (expected_size (first_probs plan.design plan.frame h)) (planned.draws h s is).expected
           (starts.around (ap balances method_is ∙ other) h s is path to leads done)
 
-      abbrev SecondsBy : Parts → Type 0
+      abbrev SecondsBy : Plan → Type 0
       SecondsBy p =
           (h k : ℕ) (s : Stratum) (u : FirstUnit) (asked : second.Second) → slice_get p.strata h ≡ Some s → slice_get s.units k ≡ Some u → plan.design.second ≡ Some asked
           → covered_first (all_of p) to.states h k ≡ true → count_by (second_selected p to.states h k) (range_with_len 0 (length u.rows)) ≡ asked.n
 
       second_is : plan.plan.second ≡ option_map (λ s. s.method) plan.design.second
-      second_is = ap (λ (p : Parts). p.second) planned.parts_are
+      second_is = ap (λ (p : Plan). p.second) planned.parts_are
 
       seconds_by : (h k : ℕ) (s : Stratum) (u : FirstUnit) (asked : second.Second) → slice_get plan.plan.strata h ≡ Some s → slice_get s.units k ≡ Some u
           → (request : Option Request) → u.second ≡ request → is_some request ≡ true → IfSome request (λ r. IsFor r (length u.rows) asked.n)
@@ -309,7 +309,7 @@ module _ (plan : FramePlan) (planned : IsPlanned plan) where
     probabilities = probabilities_own (selections.start_of plan.plan) (whole_starts plan.plan planned.drawable) (start_is (selections.start_of plan.plan) refl);
   }
 
-  abbrev view : Plan
+  abbrev view : Survey
   view = plan_view plan
 
   -- a walk of all strata that came to a leaf
@@ -339,9 +339,9 @@ module _ (plan : FramePlan) (planned : IsPlanned plan) where
       let start = started.state in
       let starts : StartsAlone plan.plan h start = begun.starts in
       let from : start ≡ covered_start (one_of plan.plan h) = begun.state in
-      let seen : own ≡ alone view h = is ∙ ap (λ (p : Parts). one_of p h) planned.parts_are in
-      let begins : start ≡ covered_start (alone view h) = from ∙ ap (λ (p : Parts). covered_start (one_of p h)) planned.parts_are in
-      let own_starts : StartsAlone (parts view) h (covered_start (alone view h)) = subst (λ (p : Parts). StartsAlone p h (covered_start (one_of p h))) planned.parts_are (subst (StartsAlone plan.plan h) from starts) in
+      let seen : own ≡ alone view h = is ∙ ap (λ (p : Plan). one_of p h) planned.parts_are in
+      let begins : start ≡ covered_start (alone view h) = from ∙ ap (λ (p : Plan). covered_start (one_of p h)) planned.parts_are in
+      let own_starts : StartsAlone (survey_plan view) h (covered_start (alone view h)) = subst (λ (p : Plan). StartsAlone p h (covered_start (one_of p h))) planned.parts_are (subst (StartsAlone plan.plan h) from starts) in
       subst (λ (p : List Entry). IsWalked view own lines (record { plan = view; only = Some h; leaf = to; path = p })) (sym same)
       (record {
         whole = seen;
@@ -351,7 +351,7 @@ module _ (plan : FramePlan) (planned : IsPlanned plan) where
         by_plan = record {
           plan_is = refl;
           only = refl;
-          there = omega (arith, within, ap (λ (p : Parts). section_count (all_of p)) planned.parts_are);
+          there = omega (arith, within, ap (λ (p : Plan). section_count (all_of p)) planned.parts_are);
           lawful = reached_lawful (covered_tree (alone view h)) (BelongsToCovered (alone view h)) (covered_lawful (alone view h)) (covered_start (alone view h)) own_starts.member;
           starts = own_starts;
           full = subst (λ (s : Progress AnyState). IsFullPath (covered_tree (alone view h)) s path to) begins (subst (λ (c : Coverage). IsFullPath (covered_tree c) start path to) seen full);
@@ -367,7 +367,7 @@ module _ (plan : FramePlan) (planned : IsPlanned plan) where
 -- ---- the log of what is drawn
 
 -- what is drawn has the path of a full tape, and where it is of one stratum alone, the plan has it
-module _ (plan : Plan) (leaf : Progress AnyState) (path : List Entry) where
+module _ (plan : Survey) (leaf : Progress AnyState) (path : List Entry) where
   abbrev pub drawn_of_only : Option ℕ → Drawn
   drawn_of_only only = record { plan = plan; only = only; leaf = leaf; path = path }
 
@@ -379,7 +379,7 @@ module _ (plan : Plan) (leaf : Progress AnyState) (path : List Entry) where
   member_of None by = by.member
   member_of (Some h) by = by.starts.member
 
-  there_of : (only : Option ℕ) → IsDrawnOf only plan (drawn_of_only only) → IfSome only (λ h. h < section_count (all_of (parts plan)))
+  there_of : (only : Option ℕ) → IsDrawnOf only plan (drawn_of_only only) → IfSome only (λ h. h < section_count (all_of (survey_plan plan)))
   there_of None by = tt
   there_of (Some h) by = by.there
 
@@ -388,7 +388,7 @@ module _ (plan : FramePlan) (planned : IsPlanned plan) (only : Option ℕ) (leaf
   drawn_here = record { plan = plan_view plan; only = only; leaf = leaf; path = path }
 
   pub own_strata : IfSome only (λ h. h < section_count (all_of plan.plan))
-  own_strata = subst (λ (p : Parts). IfSome only (λ h. h < section_count (all_of p))) (sym planned.parts_are) (there_of (plan_view plan) leaf path only by)
+  own_strata = subst (λ (p : Plan). IfSome only (λ h. h < section_count (all_of p))) (sym planned.parts_are) (there_of (plan_view plan) leaf path only by)
 
   -- the sections of its lines rise
   pub own_rise : (lines : Lines) → lines ≡ lines_of drawn_here → (design : Coverage) → design ≡ covered drawn_here → (count : ℕ) → count ≡ (strata_sections design).count → RiseFrom count 0 lines
@@ -407,10 +407,10 @@ module _ (plan : FramePlan) (planned : IsPlanned plan) (only : Option ℕ) (leaf
   -- in the selection that is made once more
   module _ (own : Coverage) (is : own ≡ record { plan = plan.plan; only = only }) (start : Progress AnyState) (from : start ≡ covered_start (record { plan = plan.plan; only = only })) where
     seen : own ≡ covered drawn_here
-    seen = is ∙ ap (λ (p : Parts). record { plan = p; only = only }) planned.parts_are
+    seen = is ∙ ap (λ (p : Plan). record { plan = p; only = only }) planned.parts_are
 
     begins : start ≡ covered_start (covered drawn_here)
-    begins = from ∙ ap (λ (p : Parts). covered_start (record { plan = p; only = only })) planned.parts_are
+    begins = from ∙ ap (λ (p : Plan). covered_start (record { plan = p; only = only })) planned.parts_are
 
     pub own_path : IsFullPath (covered_tree own) start path leaf
     own_path =

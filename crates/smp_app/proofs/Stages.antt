@@ -1,7 +1,7 @@
 -- What the work of a job draws and writes.
 use Rattle.std.proofs.Common.{◌≡◌, List, [], ◌∷◌, map, Result, Ok, Err, refl, ap}
 use Rattle.smp_io.specs.Store.{Files}
-use Rattle.smp_plan.specs.Plans.{Plan}
+use Rattle.smp_plan.specs.Plans.{Survey}
 use Rattle.smp_app.specs.Drawn.{Drawn}
 use Rattle.smp_plan.specs.Inputs.{plan_stage}
 use Rattle.smp_app.specs.Commands.{DrawnFile, Job, written_by}
@@ -16,7 +16,7 @@ pub plan_refused : (job : Job) (fs : Files) (error : Status) → Follows (Err er
 plan_refused job fs error follows = plan_line job.design job.frame fs error (IsRefused job fs) follows
 
 -- a job ends as its work does by the plan of the job
-pub exact_end : {A : Type 0} (job : Job) (plan : Plan) (fs : Files) (result : Result A Status) → plan_stage job.design job.frame fs ≡ Ok plan → EndsExactFrom plan job.work fs result → EndsExact job fs result
+pub exact_end : {A : Type 0} (job : Job) (plan : Survey) (fs : Files) (result : Result A Status) → plan_stage job.design job.frame fs ≡ Ok plan → EndsExactFrom plan job.work fs result → EndsExact job fs result
 exact_end job plan fs (Ok outputs) planned exact = record { plan = plan; planned = planned; from_plan = exact }
 exact_end job plan fs (Err refusal) planned refused =
     line_more refusal (IsRefusedFrom plan job.work fs) (IsRefused job fs) (λ line at. record { plan = plan; planned = planned; by_plan = at }) refused

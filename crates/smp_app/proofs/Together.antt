@@ -25,7 +25,7 @@ use Rattle.smp_split.specs.Laws.Reads.{some_within}
 use Rattle.smp_frame.specs.declared.frame.Unit as frame
 use Rattle.smp_strata.specs.Clusters.{clusters, clusters_in, strata_numbers}
 use Rattle.smp_strata.proofs.Ranges.{map_range_ext}
-use Rattle.smp_strata.specs.Plans.{Parts, first_of, stratum_of}
+use Rattle.smp_strata.specs.Plans.{Plan, first_of, stratum_of}
 use Rattle.smp_strata.specs.Rows.{rows_of}
 use Rattle.smp_strata.specs.Seats.{IsSeat, first_at, first_fraction, unit_fraction}
 use Rattle.smp_strata.specs.declared.strata.FirstUnit.{FirstUnit}
@@ -42,7 +42,7 @@ use Rattle.smp_twostage.proofs.Columns.{is_planned}
 use Rattle.smp_twostage.proofs.DrawnTogether.{selected_at}
 use Rattle.smp_twostage.proofs.OverAll.{free_before}
 use Rattle.smp_twostage.proofs.StartsBy.{first_so}
-use Rattle.smp_plan.specs.Plans.{Plan, parts}
+use Rattle.smp_plan.specs.Plans.{Survey, survey_plan}
 use Rattle.smp_split.specs.Paths.{Entry}
 
 -- ---- the rows of a plan in one stage
@@ -50,7 +50,7 @@ use Rattle.smp_split.specs.Paths.{Entry}
 abbrev pub HasLoneRows : List Stratum → Type 0
 HasLoneRows strata = All (λ (s : Stratum). All (λ (u : FirstUnit). length u.rows ≡ 1) s.units) strata
 
-module _ (plan : Parts) (drawable : CanBeDrawn plan) (together : draws_together plan.procedure.method ≡ true) (lone : HasLoneRows plan.strata) where
+module _ (plan : Plan) (drawable : CanBeDrawn plan) (together : draws_together plan.procedure.method ≡ true) (lone : HasLoneRows plan.strata) where
   abbrev rows : List ℕ
   rows = range_with_len 0 plan.rows
 
@@ -224,12 +224,12 @@ module _ (design : Design) (units : List frame.Unit) where
       All-map (λ (u : FirstUnit). length u.rows ≡ 1) (first_of design units) (clusters_in design units number)
       (All-filter _ (λ (rows : List ℕ). length rows ≡ 1) (clusters design.second units) (lone_clusters design.second one))
 
-pub lone_rows : (plan : Plan) → (parts plan).second ≡ None → HasLoneRows (parts plan).strata
+pub lone_rows : (plan : Survey) → (survey_plan plan).second ≡ None → HasLoneRows (survey_plan plan).strata
 lone_rows plan one =
     All-map (λ (s : Stratum). All (λ (u : FirstUnit). length u.rows ≡ 1) s.units) (stratum_of plan.design plan.units) (strata_numbers plan.units) (λ k d l. lone_in plan.design plan.units one (get_or (strata_numbers plan.units) k d))
 
 -- what is told of a draw of all strata together
-pub tells_together : (plan : Plan) → CanBeDrawn (parts plan) → draws_together plan.design.procedure.method ≡ true → (part : List Entry) (ends : List AnyState) (drawn : IsDrawnTogether (parts plan) part ends)
-    → (column : ℕ) → TellsColumn (told (all_of (parts plan)) ends 0) (frame_of (parts plan)) (is_one (values_in drawn.leaf)) column
+pub tells_together : (plan : Survey) → CanBeDrawn (survey_plan plan) → draws_together plan.design.procedure.method ≡ true → (part : List Entry) (ends : List AnyState) (drawn : IsDrawnTogether (survey_plan plan) part ends)
+    → (column : ℕ) → TellsColumn (told (all_of (survey_plan plan)) ends 0) (frame_of (survey_plan plan)) (is_one (values_in drawn.leaf)) column
 tells_together plan drawable together part ends drawn column =
-    tells_variable (parts plan) drawable together (lone_rows plan (drawable.together together).one_stage) ends drawn.leaf drawn.leaf_is column
+    tells_variable (survey_plan plan) drawable together (lone_rows plan (drawable.together together).one_stage) ends drawn.leaf drawn.leaf_is column

@@ -12,7 +12,7 @@ use Rattle.smp_frac.specs.Exact.{fraction, fraction_text}
 use Rattle.smp_frac.proofs.Texts.{fraction_text-same}
 use Rattle.smp_design.specs.Words.{draws_together}
 use Rattle.smp_frame.specs.declared.frame.Unit as unit
-use Rattle.smp_strata.specs.Plans.{Parts}
+use Rattle.smp_strata.specs.Plans.{Plan}
 use Rattle.smp_strata.specs.Seats.{IsSeat, seat_fraction}
 use Rattle.smp_strata.specs.declared.strata.Seat.{Seat}
 use Rattle.smp_twostage.specs.Selections.{Coverage, covered_seats, covered_tree, is_of_section, place_of}
@@ -25,7 +25,7 @@ use Rattle.smp_weights.specs.Sample.{sample_row}
 use Rattle.smp_joint.proofs.RowTexts.{all_rows, answer_is}
 use Rattle.smp_plan.specs.declared.plan.FramePlan.{FramePlan}
 use Rattle.smp_app.specs.declared.selection.Selection.{Selection}
-use Rattle.smp_plan.specs.Plans.{Plan, parts, row_id, row_probability}
+use Rattle.smp_plan.specs.Plans.{Survey, survey_plan, row_id, row_probability}
 use Rattle.smp_app.specs.Drawn.{covered, drawn_rows}
 use Rattle.smp_plan.specs.Planned.{IsPlanned, plan_view}
 use Rattle.smp_app.specs.Kept.Stages.{IsSelection, selection_view}
@@ -56,30 +56,30 @@ module _ (p : ℕ → Bool) (n k : ℕ) (here : k < n) where
 
 -- ---- rows of a plan
 
-module _ (plan : Plan) (r : ℕ) (u : unit.Unit) (within : r < length plan.units) (is : u ≡ get_or plan.units r u) where
+module _ (plan : Survey) (r : ℕ) (u : unit.Unit) (within : r < length plan.units) (is : u ≡ get_or plan.units r u) where
   -- the id of the unit in a row
   pub id_is : u.id ≡ row_id plan r
   id_is = sym (get_or-map (λ (v : unit.Unit). v.id) plan.units r u [] within ∙ ap (λ (v : unit.Unit). v.id) (sym is))
 
 module _ (plan : FramePlan) (planned : IsPlanned plan) (h r : ℕ) where
-  section_by : (together : Bool) → draws_together plan.plan.procedure.method ≡ together → is_of_section (parts (plan_view plan)) h r ≡ is_in_section together plan.plan h r
-  section_by together is = ap (λ (p : Parts). is_of_section p h r) (sym planned.parts_are) ∙ ap (λ (b : Bool). is_in_section b plan.plan h r) is
+  section_by : (together : Bool) → draws_together plan.plan.procedure.method ≡ together → is_of_section (survey_plan (plan_view plan)) h r ≡ is_in_section together plan.plan h r
+  section_by together is = ap (λ (p : Plan). is_of_section p h r) (sym planned.parts_are) ∙ ap (λ (b : Bool). is_in_section b plan.plan h r) is
 
   -- where all strata are drawn together, each row is of the section
-  pub stands_in_all : draws_together plan.plan.procedure.method ≡ true → is_of_section (parts (plan_view plan)) h r ≡ true
+  pub stands_in_all : draws_together plan.plan.procedure.method ≡ true → is_of_section (survey_plan (plan_view plan)) h r ≡ true
   stands_in_all together = section_by true together
 
   -- else it is one of the stratum of its seat
   pub stands_in_its : draws_together plan.plan.procedure.method ≡ false → r < length plan.frame → (seat : Seat) → ((other : Seat) → IsSeat plan.plan.strata r other → other ≡ seat)
-      → is_of_section (parts (plan_view plan)) h r ≡ nat_eq seat.stratum h
+      → is_of_section (survey_plan (plan_view plan)) h r ≡ nat_eq seat.stratum h
   stands_in_its apart within seat once =
-      let seated = planned.drawable.sound.seated.seats r (omega (arith, within, ap (λ (p : Parts). p.rows) planned.parts_are)) in
+      let seated = planned.drawable.sound.seated.seats r (omega (arith, within, ap (λ (p : Plan). p.rows) planned.parts_are)) in
       let same : place_of plan.plan.strata r ≡ seat = once (place_of plan.plan.strata r) (place_is_seat plan.plan.strata r seated.seat seated.is) in
       section_by false apart ∙ ap (λ (at : Seat). nat_eq at.stratum h) same
 
 module _ (plan : FramePlan) (planned : IsPlanned plan) (r : ℕ) (within : r < length plan.frame) (f : Frac) (asked : (seat : Seat) → IsSeat plan.plan.strata r seat → Same (fraction f) (seat_fraction plan.plan.strata seat)) where
   inside : r < plan.plan.rows
-  inside = omega (arith, within, ap (λ (p : Parts). p.rows) planned.parts_are)
+  inside = omega (arith, within, ap (λ (p : Plan). p.rows) planned.parts_are)
 
   place_there : IsSeat plan.plan.strata r (place_of plan.plan.strata r)
   place_there = let seated = planned.drawable.sound.seated.seats r inside in place_is_seat plan.plan.strata r seated.seat seated.is
@@ -135,4 +135,4 @@ module _ (plan : FramePlan) (selection : Selection) (is : IsSelection (plan_view
   drawn_asked planned f asked =
       positive plan planned drawn_row drawn_below f asked
       (covered_positive (record { plan = plan.plan; only = selection.only }) planned.drawable selection.state drawn_row (inside plan planned drawn_row drawn_below f asked)
-      (subst (λ (p : Parts). (covered_tree (record { plan = p; only = selection.only })).selected selection.state drawn_row ≡ true) (sym planned.parts_are) there.1))
+      (subst (λ (p : Plan). (covered_tree (record { plan = p; only = selection.only })).selected selection.state drawn_row ≡ true) (sym planned.parts_are) there.1))

@@ -6,7 +6,7 @@ use Rattle.smp_words.specs.declared.command.Chance.{Chance}
 use Rattle.smp_words.specs.declared.command.Chance.TheVariants.{Tape, Seed}
 use Rattle.smp_words.specs.Words.{command_of}
 use Rattle.smp_app.specs.declared.outputs.OutputFile.{OutputFile}
-use Rattle.smp_plan.specs.Plans.{Plan, quick_design}
+use Rattle.smp_plan.specs.Plans.{Survey, quick_design}
 use Rattle.smp_app.specs.Drawn.{Drawn}
 use Rattle.smp_app.specs.Texts.{ids_text, steps_text, log_text, sample_text, report_text, migrated_text, demo_text, probabilities_text}
 use Rattle.smp_app.specs.Texts.{accepted_text, joints_text}
@@ -40,7 +40,7 @@ log_source name (Some number) = BySection name number
 
 -- How a command goes on from the plan. It puts a text of it; or it selects by a source, writes files, and puts a text.
 pub data Work : Type 0 where
-  Lists : (text : Plan → List ℕ) → Work
+  Lists : (text : Survey → List ℕ) → Work
   Draws : (source : Source) → (files : List DrawnFile) → (put : Drawn → List ℕ) → Work
 
 pub record Job : Type 0 where

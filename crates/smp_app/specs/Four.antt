@@ -22,7 +22,7 @@ use Rattle.smp_strata.specs.Rows.{size_of, stratum_at}
 use Rattle.smp_split.specs.Stages.{Progress}
 use Rattle.smp_twostage.specs.Starts.{known, weighted}
 use Rattle.smp_weights.specs.Sample.{sample_file, sample_row}
-use Rattle.smp_plan.specs.Plans.{Plan, quick_design, row_id, row_probability}
+use Rattle.smp_plan.specs.Plans.{Survey, quick_design, row_id, row_probability}
 use Rattle.smp_app.specs.Drawn.{Drawn, selected_rows, start_of, tree_of}
 use Rattle.smp_app.specs.Draws.{firsts_drawn}
 use Rattle.smp_app.specs.Texts.{draw_sample, report_text, weighted_row}
@@ -32,7 +32,7 @@ abbrev pub units : List unit.Unit
 units = sized_unit (codes "a") 1 ∷ sized_unit (codes "b") 2 ∷ sized_unit (codes "c") 3 ∷ sized_unit (codes "d") 4 ∷ []
 
 -- the design's plan: two units by pivotal steps, in frame order
-abbrev pub plan : Plan
+abbrev pub plan : Survey
 plan = record { design = quick_design 2; units = units; head = [] }
 
 -- the state of the only stage with these values over 5, and the number of the stage that is under way

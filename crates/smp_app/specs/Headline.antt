@@ -36,7 +36,7 @@ use Rattle.smp_joint.specs.JointRows.{HasJoints, IsSystematicPlan}
 use Rattle.smp_status.specs.declared.status.Status.{Status}
 use Rattle.smp_status.specs.declared.status.Status.TheVariants as status
 use Rattle.smp_plan.specs.Inputs.{most_joint_rows}
-use Rattle.smp_plan.specs.Plans.{Plan, parts, quick_design}
+use Rattle.smp_plan.specs.Plans.{Survey, survey_plan, quick_design}
 use Rattle.smp_app.specs.Drawn.{Drawn, tree_of, start_of, sections_of, drawn_rows}
 use Rattle.smp_app.specs.Draws.{HasProbabilities, IsDrawnAlone, IsDrawnBy, OldDiffers, RefusesLog, StratumDiffers, WholeDiffers}
 use Rattle.smp_app.specs.Texts.{accepted_text, demo_text, ids_text, joints_text, draw_log, draw_sample, migrated_text, probabilities_text}
@@ -68,21 +68,21 @@ IsDrawnByChance (Seed seed) fs drawn = IsDrawnBySeed seed drawn
 
 -- The bytes in the file of a frame are what the plan says: its rows, by the columns of the design. The head names these very bytes, and
 -- those of the design, by their digests.
-pub record IsReadFrame (frame design_bytes : List ℕ) (fs : Files) (plan : Plan) : Type 0 where
+pub record IsReadFrame (frame design_bytes : List ℕ) (fs : Files) (plan : Survey) : Type 0 where
   pub frame_bytes : List ℕ
   pub frame_held : fs frame ≡ Some frame_bytes
   pub frame_read : frame_of plan.design.columns frame_bytes ≡ Ok plan.units
   pub head : plan.head ≡ head_of design_bytes frame_bytes
 
 -- A plan is what the bytes in the files of a design and of a frame say.
-pub record IsReadPlan (design frame : List ℕ) (fs : Files) (plan : Plan) : Type 0 where
+pub record IsReadPlan (design frame : List ℕ) (fs : Files) (plan : Survey) : Type 0 where
   pub design_bytes : List ℕ
   pub design_held : fs design ≡ Some design_bytes
   pub design_read : design_of design_bytes ≡ Ok plan.design
   pub frame_is : IsReadFrame frame design_bytes fs plan
 
 -- The design and the frame go together: none of the misfits of the two is there.
-abbrev pub IsAccepted : Plan → Type 0
+abbrev pub IsAccepted : Survey → Type 0
 IsAccepted plan = misfit_of plan.design plan.units ≡ None
 
 -- ---- a draw
@@ -110,9 +110,9 @@ pub record IsExactDraw (a : DrawArguments) (fs : Files) (now : Option Files) : T
 -- that log alone, of which `IsExactSection` says what is drawn. A file has less than 2^64 bytes.
 pub record IsReplayed (drawn : Drawn) : Type 0 where
   -- the draw starts from a state of the selection by the plan
-  pub start : BelongsToWhole (parts drawn.plan) (start_of drawn.plan)
+  pub start : BelongsToWhole (survey_plan drawn.plan) (start_of drawn.plan)
   pub same : drawn_by_log drawn.plan (draw_log drawn) ≡ Ok drawn
-  pub sections : (h : ℕ) → h < section_count (all_of (parts drawn.plan))
+  pub sections : (h : ℕ) → h < section_count (all_of (survey_plan drawn.plan))
       → length (draw_log drawn) < 2 ^ 64
       → is_ok (drawn_by_section drawn.plan h (draw_log drawn)) ≡ true
 
@@ -161,7 +161,7 @@ IsAsInWhole drawn h log =
     (leaf : Progress AnyState)
     → IsSectionedGenuine (tree_of drawn.plan) (sections_of drawn.plan) (start_of drawn.plan)
     drawn.plan.head log leaf → length log < 2 ^ 64
-    → drawn_rows drawn ≡ filter (is_of_section (parts drawn.plan) h)
+    → drawn_rows drawn ≡ filter (is_of_section (survey_plan drawn.plan) h)
     (selected_units (tree_of drawn.plan) leaf)
 
 -- What a `replay` of section h, counted from 0, that ended well has done: of a stratum, or of all that are drawn together.
@@ -234,9 +234,9 @@ pub record IsExactDemo (a : DemoArguments) (before now : Outside) : Type 0 where
 -- ---- probabilities
 
 -- What a `probs` or a `check` that ended well has done: it put this text of the plan.
-pub record IsExactList (text : Plan → List ℕ) (a : DesignArguments) (fs : Files)
+pub record IsExactList (text : Survey → List ℕ) (a : DesignArguments) (fs : Files)
     (before now : Outside) : Type 0 where
-  pub plan : Plan
+  pub plan : Survey
   pub read : IsReadPlan a.design a.frame fs plan
   pub accepted : IsAccepted plan
   -- A draw by the plan selects each row with exactly the probability that is listed for it.
@@ -249,15 +249,15 @@ pub record IsExactList (text : Plan → List ℕ) (a : DesignArguments) (fs : Fi
 -- What a `joint` that ended well has done.
 pub record IsExactJoint (a : DesignArguments) (fs : Files) (before now : Outside) : Type 0 where
   -- The plan is what was read. It draws systematically, in the order of the frame and in one stage, from 2,000 rows at most.
-  pub plan : Plan
+  pub plan : Survey
   pub read : IsReadPlan a.design a.frame fs plan
   pub accepted : IsAccepted plan
-  pub systematic : IsSystematicPlan (parts plan)
+  pub systematic : IsSystematicPlan (survey_plan plan)
   pub few : length plan.units ≤ most_joint_rows
   -- Over draws that are uniform below each bound and independent of those before, each two rows are both selected with exactly the joint
   -- probability that is listed for them; and where the probabilities of a stratum's units add up to a whole number, those of a unit with
   -- all others of the stratum add up to one less than it times the unit's own.
-  pub joints : HasJoints (parts plan)
+  pub joints : HasJoints (survey_plan plan)
   pub put : now.put ≡ with_bytes (joints_text plan) before.put
   pub same : now.files ≡ Some fs
 
@@ -265,8 +265,8 @@ pub record IsExactJoint (a : DesignArguments) (fs : Files) (before now : Outside
 
 -- A log was refused at a line: the plan is what was read, and the log in its file differs there.
 pub record IsRefusedLog (design frame log : List ℕ) (fs : Files)
-    (Differs : Plan → List ℕ → Type 0) : Type 0 where
-  pub plan : Plan
+    (Differs : Survey → List ℕ → Type 0) : Type 0 where
+  pub plan : Survey
   pub read : IsReadPlan design frame fs plan
   pub accepted : IsAccepted plan
   pub refused : RefusesLog (Differs plan) log fs

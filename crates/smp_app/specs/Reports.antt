@@ -12,7 +12,7 @@ use Rattle.smp_design.specs.Words.{balances, draws_together}
 use Rattle.smp_strata.specs.declared.strata.Stratum.{Stratum}
 use Rattle.smp_twostage.specs.Cubes.{balancing, frame_of, leaf_of}
 use Rattle.smp_twostage.specs.Lines.{told}
-use Rattle.smp_plan.specs.Plans.{parts}
+use Rattle.smp_plan.specs.Plans.{survey_plan}
 use Rattle.smp_app.specs.Drawn.{Drawn, covered}
 use Rattle.smp_app.specs.Draws.{KeepsBalance}
 use Rattle.smp_app.specs.Texts.{report_text}
@@ -30,13 +30,13 @@ pub record TellsSection (lines : balance.Drawn) (frame : List StratumUnits) (sel
 pub record TellsBalance (drawn : Drawn) (kept : KeepsBalance drawn) : Type 0 where
   pub cubes : (balanced : balances drawn.plan.design.procedure.method ≡ true)
       (apart : draws_together drawn.plan.design.procedure.method ≡ false) (h : ℕ) (s : Stratum)
-      (is : slice_get (parts drawn.plan).strata h ≡ Some s)
+      (is : slice_get (survey_plan drawn.plan).strata h ≡ Some s)
       → let leaf = leaf_of (kept.cubes balanced apart h s is).drawn_so in
       TellsSection (told (covered drawn) drawn.leaf.states h) (balancing s ∷ [])
       (is_one (values_in leaf)) (left_in leaf)
   pub together : (all : draws_together drawn.plan.design.procedure.method ≡ true)
       → let leaf = (kept.together all).drawn_so.leaf in
-      TellsSection (told (covered drawn) drawn.leaf.states 0) (frame_of (parts drawn.plan))
+      TellsSection (told (covered drawn) drawn.leaf.states 0) (frame_of (survey_plan drawn.plan))
       (together.is_one (values_in leaf)) (left_in leaf)
 
 -- The report of what is drawn was put, and it tells that.

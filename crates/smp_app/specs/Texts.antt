@@ -12,35 +12,35 @@ use Rattle.smp_twostage.specs.Covered.{covered_left}
 use Rattle.smp_twostage.specs.Lines.{balance_lines}
 use Rattle.smp_twostage.specs.Selections.{covered_start, covered_tree, covers, strata_sections}
 use Rattle.smp_joint.specs.JointText.{joint_text}
-use Rattle.smp_plan.specs.Plans.{Plan, parts, row_id, row_probability}
+use Rattle.smp_plan.specs.Plans.{Survey, survey_plan, row_id, row_probability}
 use Rattle.smp_app.specs.Drawn.{Drawn, covered, drawn_rows, rows_by, sections_of, selected_rows, start_of, tree_of}
 
 -- ---- texts of a plan
 
 -- the row of a unit with its requested probability
-abbrev pub probability_row : Plan → ℕ → List ℕ
+abbrev pub probability_row : Survey → ℕ → List ℕ
 probability_row plan r = row (row_id plan r ∷ fraction_text (row_probability plan r) ∷ [])
 
 -- the probabilities: the header `id,probability`, then a row for each unit
-abbrev pub probabilities_text : Plan → List ℕ
+abbrev pub probabilities_text : Survey → List ℕ
 probabilities_text plan =
     row (codes "id" ∷ codes "probability" ∷ [])
     ++ flat_map (probability_row plan) (range_with_len 0 (length plan.units))
 
 -- what is said of a plan: its units, and in how many strata they are
-abbrev pub accepted_text : Plan → List ℕ
+abbrev pub accepted_text : Survey → List ℕ
 accepted_text plan =
     codes "accepted " ++ (decimal (length plan.units)
-    ++ (codes " units in " ++ (decimal (length (parts plan).strata) ++ codes " strata\n")))
+    ++ (codes " units in " ++ (decimal (length (survey_plan plan).strata) ++ codes " strata\n")))
 
 -- the joint probabilities of each two units (Särndal, Swensson and Wretman 1992)
-abbrev pub joints_text : Plan → List ℕ
-joints_text plan = joint_text (map (λ u. u.id) plan.units) (parts plan)
+abbrev pub joints_text : Survey → List ℕ
+joints_text plan = joint_text (map (λ u. u.id) plan.units) (survey_plan plan)
 
 -- ---- texts of what is drawn
 
 -- the row of a drawn unit: its id
-abbrev pub id_row : Plan → ℕ → List ℕ
+abbrev pub id_row : Survey → ℕ → List ℕ
 id_row plan r = row (row_id plan r ∷ [])
 
 -- the ids of the drawn units: the header `id`, then an id a row
@@ -66,7 +66,7 @@ log_text drawn =
 -- the id of a row and its probability, whose inverse is its weight
 -- = (id, π)
 -- e.g. (`c`, 6/10)
-abbrev pub weighted_row : Plan → ℕ → List ℕ × Fraction
+abbrev pub weighted_row : Survey → ℕ → List ℕ × Fraction
 weighted_row plan r = (row_id plan r, row_probability plan r)
 
 -- the sample of a draw of all strata: the drawn units with their design weights
@@ -99,7 +99,7 @@ left_text drawn h = codes " " ++ decimal (covered_left (covered drawn) drawn.lea
 -- the same of each stratum that is drawn
 abbrev pub lefts_text : Drawn → List ℕ
 lefts_text drawn =
-    flat_map (left_text drawn) (filter (covers (covered drawn)) (range_with_len 0 (length (parts drawn.plan).strata)))
+    flat_map (left_text drawn) (filter (covers (covered drawn)) (range_with_len 0 (length (survey_plan drawn.plan).strata)))
 
 -- the summary of the demonstration: how many units were drawn of how many, in how many steps, and what was left to the landings; and that
 -- the log of the draw was replayed

@@ -27,7 +27,7 @@ use Rattle.smp_status.specs.declared.status.Status.TheVariants as status
 use Rattle.smp_status.specs.Codes.{tape_status}
 use Rattle.smp_app.specs.Deliveries.{Outputs}
 use Rattle.smp_twostage.specs.Selections.{Coverage, all_of, covered_start, covered_tree, one_of, section_count}
-use Rattle.smp_plan.specs.Plans.{Plan, parts}
+use Rattle.smp_plan.specs.Plans.{Survey, survey_plan}
 use Rattle.smp_app.specs.Drawn.{Drawn, tree_of, start_of, sections_of}
 use Rattle.smp_plan.specs.Inputs.{plan_stage}
 use Rattle.smp_app.specs.Commands.{Source, ByTape, BySeed, ByLog, ByOldLog, BySection, Work, Lists, Draws, Job, job_of, outputs_by}
@@ -47,7 +47,7 @@ draw_status (TooBig place value) bound taken = TapeValue place value bound
 draw_status (Rejected rejected) bound taken = status.Rejected rejected
 
 -- what a run comes to, by how many values are taken then and how many are left
-abbrev pub drawn_of : {Rest : Type 0} → Plan → (taken left : Rest → ℕ)
+abbrev pub drawn_of : {Rest : Type 0} → Survey → (taken left : Rest → ℕ)
     → Outcome (Progress AnyState) Rest → Result Drawn Stop
 drawn_of plan taken left (leaf state path rest) =
     drawn_at (record { plan = plan; only = None; leaf = state; path = path }) (left rest)
@@ -55,7 +55,7 @@ drawn_of plan taken left (stopped state path fault rest) =
     Err (Refused (draw_status fault (weight_sum ((tree_of plan).parts state)) (taken rest)))
 
 -- what the draws of a source come to by a plan: they lead through its draw tree
-abbrev pub drawn_from : {Rest : Type 0} → sources.Source Rest → (taken left : Rest → ℕ) → Plan → Rest
+abbrev pub drawn_from : {Rest : Type 0} → sources.Source Rest → (taken left : Rest → ℕ) → Survey → Rest
     → Result Drawn Stop
 drawn_from source taken left plan rest =
     drawn_of plan taken left (run source (tree_of plan) (start_of plan) rest)
@@ -67,7 +67,7 @@ values_taken tape = length tape.taken
 abbrev pub values_left : Values → ℕ
 values_left tape = length tape.left
 
-abbrev pub drawn_by_tape : Plan → List ℕ → Result Drawn Stop
+abbrev pub drawn_by_tape : Survey → List ℕ → Result Drawn Stop
 drawn_by_tape plan values =
     drawn_from tape_source values_taken values_left plan (tape_of_values [] values)
 
@@ -75,40 +75,40 @@ drawn_by_tape plan values =
 abbrev pub no_words : Place → ℕ
 no_words words = 0
 
-abbrev pub drawn_by_seed : Plan → List ℕ → Result Drawn Stop
+abbrev pub drawn_by_seed : Survey → List ℕ → Result Drawn Stop
 drawn_by_seed plan seed =
     drawn_from (sieve_source key_stream) no_words no_words plan (words_of_seed seed)
 
 -- what a log tells of all strata or of one alone, where this is the path that it tells and its reading
-abbrev pub told_by : Plan → Option ℕ → List Entry → Result (Progress AnyState) ℕ → Result Drawn Stop
+abbrev pub told_by : Survey → Option ℕ → List Entry → Result (Progress AnyState) ℕ → Result Drawn Stop
 told_by plan only path (Ok state) =
     Ok (record { plan = plan; only = only; leaf = state; path = path })
 told_by plan only path (Err line) = Err (Refused (LogDiffers line))
 
 -- a log of either version: the leaf and the path of the draw of which it is the log
-abbrev pub drawn_by_log : Plan → List ℕ → Result Drawn Stop
+abbrev pub drawn_by_log : Survey → List ℕ → Result Drawn Stop
 drawn_by_log plan log =
     told_by plan None (path_told (tree_of plan) (start_of plan) log)
     (any_reading (tree_of plan) (sections_of plan) (start_of plan) plan.head log)
 
 -- a log of version 1 alone
-abbrev pub drawn_by_old_log : Plan → List ℕ → Result Drawn Stop
+abbrev pub drawn_by_old_log : Survey → List ℕ → Result Drawn Stop
 drawn_by_old_log plan log =
     told_by plan None (path_told (tree_of plan) (start_of plan) log)
     (log_reading (tree_of plan) (start_of plan) plan.head log)
 
 -- the section of a number, counted from 0, where the plan has one: a stratum, or all where they are drawn together
-abbrev pub stratum_at : Plan → ℕ → Result ℕ Stop
+abbrev pub stratum_at : Survey → ℕ → Result ℕ Stop
 stratum_at plan number =
-    let strata = section_count (all_of (parts plan)) in
+    let strata = section_count (all_of (survey_plan plan)) in
     if nat_le number strata then Ok (number - 1) else Err (Refused (NoStratum number strata))
 
 -- section h of a plan alone
-abbrev pub alone : Plan → ℕ → Coverage
-alone plan h = one_of (parts plan) h
+abbrev pub alone : Survey → ℕ → Coverage
+alone plan h = one_of (survey_plan plan) h
 
 -- section h in a log of version 2
-abbrev pub drawn_by_section : Plan → ℕ → List ℕ → Result Drawn Stop
+abbrev pub drawn_by_section : Survey → ℕ → List ℕ → Result Drawn Stop
 drawn_by_section plan h log =
     let tree = covered_tree (alone plan h) in
     let start = covered_start (alone plan h) in
@@ -118,7 +118,7 @@ drawn_by_section plan h log =
 -- ---- the order of work
 
 -- the tape or the log where there is one, and the draw
-unfoldable pub drawn_stage : Plan → Source → Files → Result Drawn Stop
+unfoldable pub drawn_stage : Survey → Source → Files → Result Drawn Stop
 drawn_stage plan (BySeed seed) fs = drawn_by_seed plan seed
 drawn_stage plan (ByLog log) fs = content_of log fs >>= drawn_by_log plan
 drawn_stage plan (ByOldLog log) fs = content_of log fs >>= drawn_by_old_log plan
@@ -132,7 +132,7 @@ drawn_stage plan (ByTape tape) fs = do
   drawn_by_tape plan values
 
 -- what is to be written and put, from the plan on
-abbrev pub work_stage : Work → Plan → Files → Result Outputs Stop
+abbrev pub work_stage : Work → Survey → Files → Result Outputs Stop
 work_stage (Lists text) plan fs = Ok (record { files = []; put = text plan })
 work_stage (Draws source files put) plan fs =
     drawn_stage plan source fs >>= λ drawn. Ok (outputs_by files put drawn)

@@ -29,7 +29,7 @@ use Rattle.smp_split.specs.declared.places.Seat.TheVariants as seat
 use Rattle.smp_split.specs.declared.places.Stage.{Stage}
 use Rattle.smp_split.specs.Laws.Reads.{some_within}
 use Rattle.smp_split.specs.Stages.{IsUnderWay, Progress, progress}
-use Rattle.smp_strata.specs.Plans.{Parts}
+use Rattle.smp_strata.specs.Plans.{Plan}
 use Rattle.smp_strata.specs.Seats.{first_fraction, unit_fraction}
 use Rattle.smp_prob.specs.Inclusions.{asked_fraction}
 use Rattle.smp_strata.specs.declared.strata.FirstUnit.{FirstUnit}
@@ -63,7 +63,7 @@ none_within at units (suc n) = ap (λ xs. xs ++ stage_within None at n (slice_ge
     none_at (Some u) = refl
     none_at None = refl
 
-module _ (plan : Parts) (one : plan.second ≡ None) where
+module _ (plan : Plan) (one : plan.second ≡ None) where
   alone_in : (at : ℕ) (s : Stratum) → stages_in plan at (Some s) ≡ first_stage plan s ∷ []
   alone_in at s =
       ap (λ m. first_stage plan s ∷ stages_within m at s.units (length s.units)) one ∙ ap (λ xs. first_stage plan s ∷ xs) (none_within at s.units (length s.units))
@@ -105,7 +105,7 @@ systematic_is : (way : Procedure) (request : Request) (values points : List (Lis
 systematic_is way request values points method order =
     ap (λ (m : Method). design_by m way request values points) method ∙ ap (λ (o : Order). designs.Systematic (started request o)) order
 
-module _ (plan : Parts) (drawable : CanBeDrawn plan) (so : IsSystematicPlan plan) where
+module _ (plan : Plan) (drawable : CanBeDrawn plan) (so : IsSystematicPlan plan) where
   -- ---- the stage of a stratum
 
   -- so many units and a request for them, drawn systematically in the order of the frame

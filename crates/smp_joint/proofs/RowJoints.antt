@@ -15,7 +15,7 @@ use Rattle.smp_prob.specs.Inclusions.{asked_fraction, fraction_at, inclusion}
 use Rattle.smp_prob.specs.Requests.{IsRequest}
 use Rattle.smp_prob.specs.Shares.{Shares, common_divisor, shares_of}
 use Rattle.smp_split.specs.Laws.Rows.{free_within}
-use Rattle.smp_strata.specs.Plans.{Parts}
+use Rattle.smp_strata.specs.Plans.{Plan}
 use Rattle.smp_strata.specs.Seats.{first_fraction}
 use Rattle.smp_strata.specs.declared.strata.Seat.{Seat}
 use Rattle.smp_strata.specs.declared.strata.Stratum.{Stratum}
@@ -41,7 +41,7 @@ stands strata seat row s there sound number standing asked = record {
 }
 
 -- one of the rows of a plan
-pub row_stands : (plan : Parts) (rows : List Row) (k : ℕ) (row : Row) → AreRows plan rows → k < plan.rows → row ≡ get_or rows k row → StandsAt plan.strata (place_of plan.strata k) row
+pub row_stands : (plan : Plan) (rows : List Row) (k : ℕ) (row : Row) → AreRows plan rows → k < plan.rows → row ≡ get_or rows k row → StandsAt plan.strata (place_of plan.strata k) row
 row_stands plan rows k row all within read = subst (StandsAt plan.strata (place_of plan.strata k)) (sym read) (all.each k row within)
 
 -- one row more

@@ -6,7 +6,7 @@ use Rattle.smp_prob.specs.Inclusions.{asked_fraction}
 use Rattle.smp_split.specs.Means.{joint_probability}
 use Rattle.smp_design.specs.declared.method.Method.TheVariants.{Systematic}
 use Rattle.smp_strata.specs.Draws.{expected_firsts}
-use Rattle.smp_strata.specs.Plans.{Parts}
+use Rattle.smp_strata.specs.Plans.{Plan}
 use Rattle.smp_strata.specs.Seats.{first_fraction}
 use Rattle.smp_strata.specs.declared.strata.Seat as seat
 use Rattle.smp_strata.specs.declared.strata.Stratum as stratum
@@ -26,12 +26,12 @@ joint_at_seats strata a b =
     else times (first_fraction strata a.stratum a.unit) (first_fraction strata b.stratum b.unit)
 
 -- the joint probability of two rows
-abbrev pub joint_fraction : Parts → ℕ → ℕ → Fraction
+abbrev pub joint_fraction : Plan → ℕ → ℕ → Fraction
 joint_fraction plan j k =
     joint_at_seats plan.strata (place_of plan.strata j) (place_of plan.strata k)
 
 -- the plan draws systematically, in the order of the frame and in one stage
-pub record IsSystematicPlan (plan : Parts) : Type 0 where
+pub record IsSystematicPlan (plan : Plan) : Type 0 where
   pub method : plan.procedure.method ≡ Systematic
   pub order : plan.procedure.order ≡ Frame
   pub second : plan.second ≡ None
@@ -41,7 +41,7 @@ abbrev pub with_other : stratum.Stratum → ℕ → ℕ → Fraction
 with_other s unit other = cond (nat_eq other unit) (whole 0) (joint_of s.request unit other)
 
 -- what holds of the joint probabilities of a plan
-pub record HasJoints (plan : Parts) : Type 0 where
+pub record HasJoints (plan : Plan) : Type 0 where
   -- Over draws that are uniform below each bound and independent of those before, two rows are both selected with exactly their joint
   -- fraction: that is the mean over the whole draw tree of the number that is 1 where both are selected, and 0 elsewhere.
   pub joint : (j k : ℕ) → j < plan.rows → k < plan.rows

@@ -5,7 +5,7 @@ use Rattle.smp_frac.specs.Exact.{fraction}
 use Rattle.smp_prob.specs.declared.inclusions.Inclusion.TheVariants.{Free}
 use Rattle.smp_prob.specs.Inclusions.{fraction_at, inclusion}
 use Rattle.smp_prob.specs.Shares.{shares_of}
-use Rattle.smp_strata.specs.Plans.{Parts}
+use Rattle.smp_strata.specs.Plans.{Plan}
 use Rattle.smp_strata.specs.declared.strata.Seat.{Seat}
 use Rattle.smp_strata.specs.declared.strata.Stratum.{Stratum}
 use Rattle.smp_twostage.specs.Selections.{place_of}
@@ -23,7 +23,7 @@ pub record StandsAt (strata : List Stratum) (seat : Seat) (row : Row) : Type 0 w
       → place < length (shares_of stratum.request).numer
 
 -- there is a row for each one of the plan, by the seat where it stands
-pub record AreRows (plan : Parts) (rows : List Row) : Type 0 where
+pub record AreRows (plan : Plan) (rows : List Row) : Type 0 where
   pub count : length rows ≡ plan.rows
   pub each : (row : ℕ) (d : Row) → row < plan.rows
       → StandsAt plan.strata (place_of plan.strata row) (slice_index_or rows row d)

@@ -23,10 +23,10 @@ pub(crate) struct Pairs<'a> {
 
 impl<'a> Model for Pairs<'a> {
     ghost use Rattle.std.specs.Prelude.{◌≡◌};
-    ghost use Rattle.smp_strata.specs.Plans.{Parts};
+    ghost use Rattle.smp_strata.specs.Plans.{Plan};
     ghost use Rattle.smp_joint.specs.{Kept.{arcs_of}, Rows.{AreRows}};
 
-    ghost Value = { Parts };
+    ghost Value = { Plan };
 
     ghost view = { λ p. p.plan.now };
 

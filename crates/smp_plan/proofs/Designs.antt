@@ -17,7 +17,7 @@ use Rattle.smp_design.specs.declared.method.Method.TheVariants.{Pivotal}
 use Rattle.smp_strata.specs.Bounds.{IsPlan}
 use Rattle.smp_strata.specs.Clusters.{strata_numbers, stratum_names}
 use Rattle.smp_strata.specs.Misfits.{misfit_of, row_limit_by}
-use Rattle.smp_strata.specs.Plans.{Parts, parts_of, stratum_of}
+use Rattle.smp_strata.specs.Plans.{Plan, strata_plan, stratum_of}
 use Rattle.smp_strata.specs.declared.misfit.Misfit.TheVariants.{RowLimit}
 use Rattle.smp_strata.proofs.Founds.{when_false}
 use Rattle.smp_strata.proofs.MisfitOrder.{rows_fit}
@@ -44,11 +44,11 @@ some_names [] some = absurd (omega (arith, some))
 some_names (u ∷ units) some = omega arith
 
 module _ (design : Design) (units : List unit.Unit) (is : IsDesign design) (some : 1 ≤ length units) (few : length units ≤ most_rows) (fits : misfit_of design units ≡ None) where
-  strata_count : length (parts_of design units).strata ≡ length (stratum_names units)
+  strata_count : length (strata_plan design units).strata ≡ length (stratum_names units)
   strata_count =
       length-map (strata_numbers units) (stratum_of design units) ∙ length-range_with_len 0 (length (stratum_names units))
 
-  together : draws_together design.procedure.method ≡ true → IsTogether (parts_of design units)
+  together : draws_together design.procedure.method ≡ true → IsTogether (strata_plan design units)
   together joined = record {
     one_stage = no_second design.procedure.method design.second is.second_apart joined;
     some = (let names = some_names units some in omega (arith, names, strata_count));
@@ -58,7 +58,7 @@ module _ (design : Design) (units : List unit.Unit) (is : IsDesign design) (some
     few = few;
   }
 
-  parts_drawn : IsPlan (parts_of design units) → CanBeDrawn (parts_of design units)
+  parts_drawn : IsPlan (strata_plan design units) → CanBeDrawn (strata_plan design units)
   parts_drawn sound = record {
     sound = sound;
     procedure = is.procedure;
@@ -67,7 +67,7 @@ module _ (design : Design) (units : List unit.Unit) (is : IsDesign design) (some
   }
 
   -- the plan of a design and a frame
-  pub can_be_drawn : (plan : Parts) → plan ≡ parts_of design units → IsPlan plan → CanBeDrawn plan
+  pub can_be_drawn : (plan : Plan) → plan ≡ strata_plan design units → IsPlan plan → CanBeDrawn plan
   can_be_drawn plan are sound = subst CanBeDrawn (sym are) (parts_drawn (subst IsPlan are sound))
 
 none_ascend : Ascend []

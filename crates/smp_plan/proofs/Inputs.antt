@@ -14,7 +14,7 @@ use Rattle.smp_frame.specs.declared.frame.Unit as unit
 use Rattle.smp_frame.specs.Frames.{frame_of}
 use Rattle.smp_strata.specs.declared.misfit.Misfit.{Misfit}
 use Rattle.smp_strata.specs.declared.misfit.Misfit.TheVariants as misfits
-use Rattle.smp_plan.specs.Plans.{Plan}
+use Rattle.smp_plan.specs.Plans.{Survey}
 use Rattle.smp_plan.specs.Inputs.{DesignSource, Held, HeldForJoint, Given, Made, FrameSource, FrameHeld, FrameForJoint, FrameMade, is_large, design_names, frame_names, input_names, ReadDesign, frame_content, design_stage, frame_stage, plan_of, plan_stage}
 use Rattle.smp_frac.specs.Memory as memory
 use Rattle.smp_frac.specs.Faults.{◌>>=◌}
@@ -51,17 +51,17 @@ plan_ignores design frame name differs fs =
 
 -- what was read of a frame leads to its plan
 module _ (design : ReadDesign) (frame : FrameSource) (bytes : List ℕ) (units : List unit.Unit) (before now : Told) (read : Reads (frame_names frame) (frame_content frame) (Ok bytes) before now) (framed : frame_of design.design.columns bytes ≡ Ok units) (few : is_large frame (length units) ≡ false) where
-  abbrev pub made : Plan
+  abbrev pub made : Survey
   made = record { design = design.design; units = units; head = head_of design.bytes bytes }
 
   staged : (fs : Files) → Sees (frame_names frame) before.files fs → frame_stage design frame fs ≡ plan_of made
   unfolding frame_stage
   staged fs told = rw (read.follows fs told, framed, few) refl
 
-  pub plan_read : (plan : Plan) → plan_of made ≡ Ok plan → Reads (frame_names frame) (frame_stage design frame) (Ok plan) before now
+  pub plan_read : (plan : Survey) → plan_of made ≡ Ok plan → Reads (frame_names frame) (frame_stage design frame) (Ok plan) before now
   plan_read plan is = read_for read (λ fs told. staged fs told ∙ is) tt tt
 
-  abbrev pub refusal_of : Misfit → Result Plan Status
+  abbrev pub refusal_of : Misfit → Result Survey Status
   refusal_of misfit = Err (misfit_status misfit)
 
   refused_so : (misfit : Misfit) (class : Class) → class_of (misfit_status misfit) ≡ class → IsOfInputs class (misfit_status misfit) → ((fs : Files) → Sees (frame_names frame) before.files fs → IsErrorOf class (misfit_status misfit) (frame_stage design frame fs)) → IsCaused class (ReadCause (frame_names frame) (frame_stage design frame) before now)
@@ -85,7 +85,7 @@ module _ (design : ReadDesign) (frame : FrameSource) (bytes : List ℕ) (units :
   unfolding frame_stage
   large_staged fs told = rw (read.follows fs told, framed, large) refl
 
-  pub large_read : Reads {A = Plan} (frame_names frame) (frame_stage design frame) (Err (status.JointLarge (length units))) before now
+  pub large_read : Reads {A = Survey} (frame_names frame) (frame_stage design frame) (Err (status.JointLarge (length units))) before now
   large_read = read_for read large_staged refl tt
 
 -- ---- a design that is made of bytes with the command

@@ -7,7 +7,7 @@ use Rattle.smp_design.specs.declared.method.Method.TheVariants.{Systematic}
 use Rattle.smp_design.specs.declared.design.Second as second
 use Rattle.smp_frame.specs.declared.frame.Unit as unit
 use Rattle.smp_design.specs.declared.design.Design.{Design}
-use Rattle.smp_plan.specs.Plans.{Plan}
+use Rattle.smp_plan.specs.Plans.{Survey}
 use Rattle.smp_io.specs.Store.{Files}
 use Rattle.smp_log.specs.Heads.{head_of}
 use Rattle.smp_frame.specs.Frames.{frame_of}
@@ -57,11 +57,11 @@ pub record ReadDesign : Type 0 where
   pub bytes : List ℕ
 
 -- the plan of a design and the rows of a frame, unless the frame doesn't serve the design
-abbrev pub unless_misfit : Plan → Option Misfit → Result Plan Stop
+abbrev pub unless_misfit : Survey → Option Misfit → Result Survey Stop
 unless_misfit plan None = Ok plan
 unless_misfit plan (Some misfit) = Err (Refused (status.Misfit misfit))
 
-abbrev pub plan_of : Plan → Result Plan Stop
+abbrev pub plan_of : Survey → Result Survey Stop
 plan_of plan = unless_misfit plan (misfit_of plan.design plan.units)
 
 -- ---- joint probabilities
@@ -113,12 +113,12 @@ frame_content (FrameHeld name) fs = content_of name fs
 frame_content (FrameForJoint name) fs = content_of name fs
 frame_content (FrameMade bytes) fs = Ok bytes
 
-unfoldable pub frame_stage : ReadDesign → FrameSource → Files → Result Plan Stop
+unfoldable pub frame_stage : ReadDesign → FrameSource → Files → Result Survey Stop
 frame_stage read frame fs = do
   bytes ← frame_content frame fs
   units ← or_fault frame_status (frame_of read.design.columns bytes)
   few ← unless_large frame units
   plan_of (record { design = read.design; units = few; head = head_of read.bytes bytes })
 
-abbrev pub plan_stage : DesignSource → FrameSource → Files → Result Plan Stop
+abbrev pub plan_stage : DesignSource → FrameSource → Files → Result Survey Stop
 plan_stage design frame fs = design_stage design fs >>= λ read. frame_stage read frame fs

@@ -15,14 +15,14 @@ use Rattle.smp_plan.specs.declared.source.DesignSource.TheVariants as sources
 use Rattle.smp_plan.specs.declared.source.FrameSource as code_frame
 use Rattle.smp_plan.specs.declared.source.FrameSource.TheVariants as frames
 use Rattle.smp_cases.specs.Demo.{demo_design_text, demo_frame_text}
-use Rattle.smp_plan.specs.Plans.{Plan, parts, quick_design}
+use Rattle.smp_plan.specs.Plans.{Survey, survey_plan, quick_design}
 use Rattle.smp_plan.specs.Inputs.{DesignSource, Held, HeldForJoint, Given, Made}
 use Rattle.smp_plan.specs.Inputs.{FrameSource, FrameHeld, FrameForJoint, FrameMade, ReadDesign}
 use Rattle.smp_plan.specs.Stops.{Stop, Refused}
 
 -- ---- values of the code as the definitions see them
 
-abbrev pub plan_view : FramePlan → Plan
+abbrev pub plan_view : FramePlan → Survey
 plan_view plan = record { design = plan.design; units = plan.frame; head = plan.head }
 
 abbrev pub read_view : code_design.ReadDesign → ReadDesign
@@ -42,7 +42,7 @@ frame_view (frames.Demo n seed) = FrameMade (demo_frame_text n seed)
 -- ---- the plan
 
 -- A plan is that of the definition, unless memory ran out.
-abbrev pub GivesPlan : Result Plan Misfit → Result Plan Stop → Type 0
+abbrev pub GivesPlan : Result Survey Misfit → Result Survey Stop → Type 0
 GivesPlan (Ok plan) stage = stage ≡ Ok plan
 GivesPlan (Err misfits.NoMemory) stage = Unit {0}
 GivesPlan (Err misfit) stage = stage ≡ Err (Refused (status.Misfit misfit))
@@ -50,7 +50,7 @@ GivesPlan (Err misfit) stage = stage ≡ Err (Refused (status.Misfit misfit))
 -- the plan is that of a design and a frame that serves it
 pub record IsPlanned (plan : FramePlan) : Type 0 where
   pub frame : IsFrame plan.frame
-  pub parts_are : plan.plan ≡ parts (plan_view plan)
+  pub parts_are : plan.plan ≡ survey_plan (plan_view plan)
   pub drawable : CanBeDrawn plan.plan
   pub asked : AsksAsFrame plan.design plan.frame plan.plan
   pub draws : DrawsAsAsked plan.design plan.frame plan.plan

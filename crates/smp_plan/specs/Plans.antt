@@ -7,7 +7,7 @@ use Rattle.smp_design.specs.declared.design.Design.{Design}
 use Rattle.smp_design.specs.declared.method.Method.TheVariants.{Pivotal}
 use Rattle.smp_design.specs.Procedures.{without_values}
 use Rattle.smp_strata.specs.Asked.{row_fraction}
-use Rattle.smp_strata.specs.Plans.{Parts, parts_of}
+use Rattle.smp_strata.specs.Plans.{Plan, strata_plan}
 
 -- the design of `quick`: n units by pivotal steps in frame order, with the columns `id` and `size`
 abbrev pub quick_design : ℕ → Design
@@ -23,22 +23,22 @@ quick_design n = record {
 -- ---- the plan
 
 -- a design, the rows of the frame of which it asks, and the first lines of a log, which name the bytes that both were read from
-pub record Plan : Type 0 where
+pub record Survey : Type 0 where
   pub design : Design
   pub units : List unit.Unit
   pub head : List ℕ
 
 -- the strata, their first stage units, and the requests over them
-abbrev pub parts : Plan → Parts
-parts plan = parts_of plan.design plan.units
+abbrev pub survey_plan : Survey → Plan
+survey_plan plan = strata_plan plan.design plan.units
 
 -- the probability that is asked for a row (Tillé 2006)
 -- = π(row)
 -- e.g. of c 3/5
-abbrev pub row_probability : Plan → ℕ → Fraction
+abbrev pub row_probability : Survey → ℕ → Fraction
 row_probability plan row = row_fraction plan.design plan.units row
 
 -- the id of a row
 -- e.g. of row 2: `c`
-abbrev pub row_id : Plan → ℕ → List ℕ
+abbrev pub row_id : Survey → ℕ → List ℕ
 row_id plan row = slice_index_or (map (λ u. u.id) plan.units) row []

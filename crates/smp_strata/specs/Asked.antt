@@ -7,7 +7,7 @@ use Rattle.smp_design.specs.declared.design.Design.{Design}
 use Rattle.smp_design.specs.declared.design.Second as second
 use Rattle.smp_frame.specs.declared.frame.Unit as unit
 use Rattle.smp_strata.specs.Clusters.{first_row, in_psu, stratum_number}
-use Rattle.smp_strata.specs.Plans.{Parts, sample_size, first_sizes, second_sizes}
+use Rattle.smp_strata.specs.Plans.{Plan, sample_size, first_sizes, second_sizes}
 use Rattle.smp_strata.specs.Rows.{prob_at, psu_at, size_of, second_size_at}
 use Rattle.smp_strata.specs.Seats.{IsSeat, seat_fraction}
 use Rattle.smp_strata.specs.declared.strata.Seat as seat
@@ -50,7 +50,7 @@ row_fraction design units row =
     times (fraction_in_stratum design units row) (fraction_in_psu design.second units row)
 
 -- the probability that a plan gives each row is the one that is asked for it
-abbrev pub AsksAsFrame : Design → List unit.Unit → Parts → Type 0
+abbrev pub AsksAsFrame : Design → List unit.Unit → Plan → Type 0
 AsksAsFrame design units plan =
     (row : ℕ) (seat : seat.Seat) → row < length units → IsSeat plan.strata row seat
     → Same (seat_fraction plan.strata seat) (row_fraction design units row)

@@ -8,7 +8,7 @@ use Rattle.smp_prob.specs.Inclusions.{AreApart, IsRising}
 use Rattle.smp_values.specs.Starts.{DrawsWhole}
 use Rattle.smp_design.specs.declared.method.Method.{Method}
 use Rattle.smp_design.specs.Words.{row}
-use Rattle.smp_strata.specs.Plans.{Parts}
+use Rattle.smp_strata.specs.Plans.{Plan}
 use Rattle.smp_strata.specs.Seats.{IsSeat, Seated}
 use Rattle.smp_strata.specs.declared.strata.FirstUnit as first
 use Rattle.smp_strata.specs.declared.strata.Seat as seat
@@ -50,7 +50,7 @@ pub record AreSeated (rows : ℕ) (strata : List stratum.Stratum) : Type 0 where
   pub below : (row : ℕ) (s : seat.Seat) → IsSeat strata row s → row < rows
 
 -- a plan, whose first stage units have a balancing value and a coordinate in each of the procedure's columns of these
-pub record IsPlan (plan : Parts) : Type 0 where
+pub record IsPlan (plan : Plan) : Type 0 where
   pub strata : All (IsStratum plan.second) plan.strata
   -- where the method draws a whole number of units alone, a whole number is asked of each stratum
   pub whole : IsTrue (row plan.procedure.method).draws_whole → All (λ s. DrawsWhole s.request) plan.strata

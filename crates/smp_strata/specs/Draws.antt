@@ -10,7 +10,7 @@ use Rattle.smp_design.specs.declared.design.Design.{Design}
 use Rattle.smp_design.specs.declared.design.Second as second
 use Rattle.smp_frame.specs.declared.frame.Unit as unit
 use Rattle.smp_strata.specs.Allocations.{IsAllocation}
-use Rattle.smp_strata.specs.Plans.{Parts, cluster_counts, first_probs, sample_size, sample_sizes}
+use Rattle.smp_strata.specs.Plans.{Plan, cluster_counts, first_probs, sample_size, sample_sizes}
 use Rattle.smp_strata.specs.declared.strata.Stratum as stratum
 
 -- a request for a whole number of units selects n of so many
@@ -51,7 +51,7 @@ pub record DrawsInStratum (design : Design) (units : List unit.Unit) (number : �
       Same (expected_firsts s) (expected_size (first_probs design units number)))
 
 -- every stratum of a plan draws as the design asks
-abbrev pub DrawsAsAsked : Design → List unit.Unit → Parts → Type 0
+abbrev pub DrawsAsAsked : Design → List unit.Unit → Plan → Type 0
 DrawsAsAsked design units plan =
     (number : ℕ) (s : stratum.Stratum) → slice_get plan.strata number ≡ Some s
     → DrawsInStratum design units number s

@@ -19,7 +19,7 @@ use Rattle.smp_strata.specs.declared.strata.Stratum as stratum
 
 -- What a plan says: by which procedure the first stage units of each stratum are drawn; by which method the rows within them, where
 -- there is a second stage; how many rows the frame has; and the strata.
-pub record Parts : Type 0 where
+pub record Plan : Type 0 where
   pub procedure : Procedure
   pub second : Option Method
   pub rows : ℕ
@@ -100,8 +100,8 @@ stratum_of design units stratum = record {
 }
 
 -- the plan of a frame that has no misfit
-abbrev pub parts_of : Design → List unit.Unit → Parts
-parts_of design units = record {
+abbrev pub strata_plan : Design → List unit.Unit → Plan
+strata_plan design units = record {
   procedure = design.procedure;
   second = option_map (λ second. second.method) design.second;
   rows = length units;

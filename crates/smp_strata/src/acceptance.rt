@@ -4,7 +4,7 @@ ghost use Rattle.std.specs.Prelude.{◌≡◌, IfOk, length};
 ghost use Rattle.smp_frame.specs.Bounds.{HaveBalance, HavePoints, IsFrame};
 ghost use Rattle.smp_design.specs.Bounds.{IsDesign};
 ghost use Rattle.smp_strata.specs.{Asked.{AsksAsFrame}, Bounds.{IsPlan}, Draws.{DrawsAsAsked, IsAllocated}, Misfits.{Reports, misfit_of}};
-ghost use Rattle.smp_strata.specs.Plans.{parts_of};
+ghost use Rattle.smp_strata.specs.Plans.{strata_plan};
 
 use crate::building::planned;
 use crate::layout::{clusters_of, strata_of};
@@ -24,7 +24,7 @@ pub fn accept(alloc: Global, frame: &Frame, design: &Design) -> Result<Plan, Mis
     requires balance { HaveBalance (length design.now.columns.balance) frame.now }
     requires points { HavePoints (length design.now.columns.near) frame.now }
     ensures misfit { Reports result (misfit_of design.now frame.now) }
-    ensures plan { IfOk result (λ plan. plan ≡ parts_of design.now frame.now) }
+    ensures plan { IfOk result (λ plan. plan ≡ strata_plan design.now frame.now) }
 
     // what is true of every plan
     ensures sound { IfOk result IsPlan }

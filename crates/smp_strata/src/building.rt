@@ -5,7 +5,7 @@ ghost use Rattle.std.specs.Prelude.{slice_index_or};
 ghost use Rattle.smp_frame.specs.Bounds.{HaveBalance, HavePoints, IsFrame};
 ghost use Rattle.smp_strata.specs.{Asked.{AsksAsFrame}, Bounds.{IsPlan}, Clusters.{clusters as clusters_of, strata_numbers}};
 ghost use Rattle.smp_strata.specs.{Draws.{DrawsAsAsked, IsAllocated}, Rows.{is_large}, declared.strata.Seat.{Seat}};
-ghost use Rattle.smp_strata.specs.{Misfits.{Reports, misfit_of, psu_short, psu_too_large, second_too_many, unit_in_two}, Plans.{parts_of}};
+ghost use Rattle.smp_strata.specs.{Misfits.{Reports, misfit_of, psu_short, psu_too_large, second_too_many, unit_in_two}, Plans.{strata_plan}};
 ghost use Rattle.smp_strata.specs.Plans as Plans;
 ghost use Rattle.smp_strata.specs.Kept.Built.{AreBuilt, AreFirstRequests, IsBuiltFirst, IsSizedRequest, bare, seat_by, second_short};
 ghost use Rattle.smp_strata.specs.Kept.Layouts.{AreGroups, AreRows, IsLaidOut, homes_of};
@@ -206,7 +206,7 @@ pub(crate) fn planned(
     requires row_groups { AreGroups clusters.now.homes (length clusters.now.rows)
         clusters.now.rows clusters.now.places }
     ensures misfit { Reports result (misfit_of design.now units.now) }
-    ensures plan { IfOk result (λ plan. plan ≡ parts_of design.now units.now) }
+    ensures plan { IfOk result (λ plan. plan ≡ strata_plan design.now units.now) }
     ensures sound { IfOk result IsPlan }
     ensures asked { IfOk result (AsksAsFrame design.now units.now) }
     ensures drawn { IfOk result (DrawsAsAsked design.now units.now) }

@@ -22,9 +22,9 @@ pub struct Plan {
 
 impl Model for Plan {
     ghost use Rattle.std.specs.Prelude.{All, length};
-    ghost use Rattle.smp_strata.specs.{Plans.{Parts}, Bounds.{IsStratum}, Kept.Built.{AreSeats}};
+    ghost use Rattle.smp_strata.specs.{Plans.{Plan}, Bounds.{IsStratum}, Kept.Built.{AreSeats}};
 
-    ghost Value = { Parts };
+    ghost Value = { Plan };
 
     ghost view = { λ p. record {
       procedure = p.procedure;

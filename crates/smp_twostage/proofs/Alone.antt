@@ -20,7 +20,7 @@ use Rattle.smp_split.specs.OwnStages.{AreTheirOwn, run_of, seat_later, sections_
 use Rattle.smp_split.specs.StageStarts.{StartsInStages}
 use Rattle.smp_split.specs.Stages.{IsUnderWay, Progress, progress, seat_selected, seat_value, unit_selected, unit_value}
 use Rattle.smp_split.proofs.OwnStages.{is_part}
-use Rattle.smp_strata.specs.Plans.{Parts}
+use Rattle.smp_strata.specs.Plans.{Plan}
 use Rattle.smp_strata.specs.declared.strata.FirstUnit.{FirstUnit}
 use Rattle.smp_strata.specs.declared.strata.Seat.{Seat}
 use Rattle.smp_strata.specs.declared.strata.Stratum.{Stratum}
@@ -75,12 +75,12 @@ module _ (before : ℕ) where
       ∙ ap (λ xs. xs ++ map (stage_later before) (stage_within method 0 n (slice_get units n))) (units_later method units n)
       ∙ ap (λ xs. stages_within method before units n ++ xs) (within_later method n (slice_get units n))
 
-  stratum_later : (plan : Parts) (s : Option Stratum) → map (stage_later before) (stages_in plan 0 s) ≡ stages_in plan before s
+  stratum_later : (plan : Plan) (s : Option Stratum) → map (stage_later before) (stages_in plan 0 s) ≡ stages_in plan before s
   stratum_later plan (Some s) = ap (λ (xs : List (Stage Selecting)). first_stage plan s ∷ xs) (units_later plan.second s.units (length s.units))
   stratum_later plan None = refl
 
 -- the stages of the first strata, and then those of the others
-module _ (plan : Parts) where
+module _ (plan : Plan) where
   others : (m n : ℕ) → m ≤ n → (rest : List (Stage Selecting)) × (stages_below plan n ≡ stages_below plan m ++ rest)
   others m zero l = let none : 0 ≡ m = omega arith in ([], ap (stages_below plan) none ∙ sym (append-nil (stages_below plan m)))
   others m (suc n) l =
@@ -110,7 +110,7 @@ module _ (plan : Parts) where
         ∙ ap (take (length its_stages)) (drop-append_seam (stages_below plan h) (its_stages ++ stages_are.0))
         ∙ take_seam its_stages stages_are.0
 
-module _ (plan : Parts) (drawable : CanBeDrawn plan) (h : ℕ) (s : Stratum) (is : slice_get plan.strata h ≡ Some s) where
+module _ (plan : Plan) (drawable : CanBeDrawn plan) (h : ℕ) (s : Stratum) (is : slice_get plan.strata h ≡ Some s) where
   abbrev number : ℕ
   number = first_number plan h
 

@@ -11,7 +11,7 @@ use Rattle.smp_split.specs.Laws.Steps.{leads_belong}
 use Rattle.smp_methods.specs.declared.any.AnyState.{AnyState}
 use Rattle.smp_split.specs.OwnStages.{own_progress, sections_by}
 use Rattle.smp_split.specs.Stages.{IsUnderWay, Progress, progress, staged_tree}
-use Rattle.smp_strata.specs.Plans.{Parts}
+use Rattle.smp_strata.specs.Plans.{Plan}
 use Rattle.smp_twostage.specs.Covered.{StartsAlone, state_alone}
 use Rattle.smp_twostage.specs.Laws.Wholes.{whole_lawful}
 use Rattle.smp_twostage.specs.Selections.{BelongsToWhole, all_of, belongs_to, covered_tree, is_of_section, is_together, one_of, start_of, strata_sections, whole_tree}
@@ -20,7 +20,7 @@ use Rattle.smp_twostage.specs.Kept.Sides.{is_in_section, seats_in, section_count
 use Rattle.smp_twostage.specs.Starts.{row_fraction}
 use Rattle.smp_twostage.proofs.StartsBy.{states_so, stages_so, tree_so}
 
-module _ (together : Bool) (plan : Parts) (h : ℕ) where
+module _ (together : Bool) (plan : Plan) (h : ℕ) where
   abbrev pub tree_alone : Tree (Progress AnyState)
   tree_alone = staged_tree tree_of (stages_by together (one_of plan h)) (seats_in together (one_of plan h))
 
@@ -40,17 +40,17 @@ module _ (together : Bool) (plan : Parts) (h : ℕ) where
     pub state : start ≡ own_state (progress tree_of (stages_so together plan) (states_so together plan))
 
 -- a state to which a path leads from the whole start is one of the whole selection
-pub reached_own : (plan : Parts) → BelongsToWhole plan (start_of plan) → (s : Progress AnyState) → IsReached (whole_tree plan) (start_of plan) s → BelongsToWhole plan s
+pub reached_own : (plan : Plan) → BelongsToWhole plan (start_of plan) → (s : Progress AnyState) → IsReached (whole_tree plan) (start_of plan) s → BelongsToWhole plan s
 reached_own plan own s reached = leads_belong (whole_tree plan) (BelongsToWhole plan) (whole_lawful plan) reached.path (start_of plan) s reached.leads own
 
-pub reached_part : (plan : Parts) → BelongsToWhole plan (start_of plan) → (h : ℕ)
+pub reached_part : (plan : Plan) → BelongsToWhole plan (start_of plan) → (h : ℕ)
     → IsPartOf (whole_tree plan) (BelongsToWhole plan) (strata_sections (all_of plan)) h (covered_tree (one_of plan h)) (state_alone plan h) (is_of_section plan h)
     → IsPartOf (whole_tree plan) (IsReached (whole_tree plan) (start_of plan)) (strata_sections (all_of plan)) h (covered_tree (one_of plan h)) (state_alone plan h) (is_of_section plan h)
 reached_part plan own h is =
     part_within (whole_tree plan) (BelongsToWhole plan) (IsReached (whole_tree plan) (start_of plan)) (reached_own plan own) (strata_sections (all_of plan)) h (covered_tree (one_of plan h)) (state_alone plan h) (is_of_section plan h) is
 
 -- as it is by the plan's method
-pub starts_alone_by : (plan : Parts) → BelongsToWhole plan (start_of plan) → (h : ℕ) (start : Progress AnyState) → AloneBy (is_together (all_of plan)) plan h start → StartsAlone plan h start
+pub starts_alone_by : (plan : Plan) → BelongsToWhole plan (start_of plan) → (h : ℕ) (start : Progress AnyState) → AloneBy (is_together (all_of plan)) plan h start → StartsAlone plan h start
 starts_alone_by plan own h start starts = record {
   member = record { drawable = own.drawable; member = starts.member };
   values = starts.values;

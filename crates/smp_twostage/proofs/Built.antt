@@ -4,7 +4,7 @@ use Rattle.std.specs.List.{slice_get, range_with_len}
 use Rattle.std.proofs.lemmas.List.FromFn.{map-range_with_len_more}
 use Rattle.smp_design.specs.declared.method.Method.{Method}
 use Rattle.smp_split.specs.declared.places.Stage.{Stage}
-use Rattle.smp_strata.specs.Plans.{Parts}
+use Rattle.smp_strata.specs.Plans.{Plan}
 use Rattle.smp_strata.specs.declared.strata.FirstUnit.{FirstUnit}
 use Rattle.smp_strata.specs.declared.strata.Stratum.{Stratum}
 use Rattle.smp_twostage.specs.Selections.{Selecting, first_number, stage_by, stages_below, stages_in, stages_within}
@@ -19,7 +19,7 @@ next_within method at units k u before done new is so_far more =
     ∙ append_assoc before (stages_within (Some method) at units k) (stage_by (Some method) u.second (length u.rows) at k)
     ∙ last ∙ ap (λ n. before ++ stages_within (Some method) at units n) on
 
-module _ (plan : Parts) where
+module _ (plan : Plan) where
   -- the stages of one more stratum
   pub next_below : (h : ℕ) (s : Stratum) (done new : List (Stage Selecting)) → slice_get plan.strata h ≡ Some s → done ≡ stages_below plan h → new ≡ done ++ stages_in plan (length done) (Some s) → new ≡ stages_below plan (h + 1)
   next_below h s done new is so_far more =

@@ -11,7 +11,7 @@ use Rattle.smp_methods.specs.Designs.{design_of}
 use Rattle.smp_methods.specs.Procedures.{TakesValues}
 use Rattle.smp_methods.proofs.Columns.{procedure_takes, same_design}
 use Rattle.smp_strata.specs.Bounds.{IsFirst, IsOver, IsStratum}
-use Rattle.smp_strata.specs.Plans.{Parts}
+use Rattle.smp_strata.specs.Plans.{Plan}
 use Rattle.smp_strata.specs.declared.strata.FirstUnit.{FirstUnit}
 use Rattle.smp_strata.specs.declared.strata.Stratum.{Stratum}
 use Rattle.smp_twostage.specs.Kept.Stages.{IsPlanned}
@@ -35,7 +35,7 @@ next_free of s i u done x whole l within there is so_far =
     next_mapped (λ k. get_or (map of s.units) k []) s.request.free 0 i done x whole l
     (is ∙ ap of there ∙ sym (get_or-map of s.units (get_or s.request.free i 0) u [] within)) so_far
 
-module _ (plan : Parts) (s : Stratum) (planned : IsPlanned plan s) where
+module _ (plan : Plan) (s : Stratum) (planned : IsPlanned plan s) where
   -- what holds of the balancing values of each unit holds of those of the free ones
   free_at : (P : List ℤ → Type 0) → All (λ u. P u.balance) s.units → All P (free_values (balancing s))
   free_at P holds =
@@ -66,7 +66,7 @@ module _ (plan : Parts) (s : Stratum) (planned : IsPlanned plan s) where
 
 -- ---- the strata of a plan that can be drawn
 
-module _ (plan : Parts) (drawable : CanBeDrawn plan) (h : ℕ) (s : Stratum) (is : slice_get plan.strata h ≡ Some s) where
+module _ (plan : Plan) (drawable : CanBeDrawn plan) (h : ℕ) (s : Stratum) (is : slice_get plan.strata h ≡ Some s) where
   pub is_planned : IsPlanned plan s
   is_planned =
       let within = slice_get_within plan.strata h s is in
@@ -80,6 +80,6 @@ module _ (plan : Parts) (drawable : CanBeDrawn plan) (h : ℕ) (s : Stratum) (is
       }
 
 -- the request of each stratum is over its units
-pub are_over : (plan : Parts) → CanBeDrawn plan → All (λ (s : Stratum). IsOver (length s.units) s.request) plan.strata
+pub are_over : (plan : Plan) → CanBeDrawn plan → All (λ (s : Stratum). IsOver (length s.units) s.request) plan.strata
 are_over plan drawable =
     All-weaker (IsStratum plan.second) (λ (s : Stratum). IsOver (length s.units) s.request) (λ s is. is.over) plan.strata drawable.sound.strata

@@ -30,7 +30,7 @@ use Rattle.smp_methods.specs.Methods.{method_of}
 use Rattle.smp_split.specs.StagePaths.{GoesByStages, IsStagePath}
 use Rattle.smp_split.specs.Stages.{drawn_within, is_drawn, read, unit_selected, within_of}
 use Rattle.smp_split.specs.Laws.Reads.{some_within}
-use Rattle.smp_strata.specs.Plans.{Parts}
+use Rattle.smp_strata.specs.Plans.{Plan}
 use Rattle.smp_strata.specs.declared.strata.Stratum.{Stratum}
 use Rattle.smp_twostage.specs.Cubes.{IsDrawnByCube, IsDrawnFrom, balancing, by_cube, by_local_cube, leaf_of, local_units}
 use Rattle.smp_twostage.specs.Plans.{CanBeDrawn}
@@ -43,7 +43,7 @@ use Rattle.smp_twostage.proofs.StartsBy.{first_so}
 
 -- ---- the tree of the first stage, and where it starts
 
-module _ (plan : Parts) (s : Stratum) where
+module _ (plan : Plan) (s : Stratum) where
   abbrev design_so : Method → AnyDesign
   design_so m = design_by m plan.procedure s.request (free_values (balancing s)) (free_points s)
 
@@ -67,7 +67,7 @@ module _ (plan : Parts) (s : Stratum) where
 
 -- ---- the part of a path
 
-module _ (plan : Parts) (drawable : CanBeDrawn plan) (path : List Entry) (ends : List AnyState) (goes : GoesByStages tree_of (stages_of plan) (states_of plan) path ends) (h : ℕ) (s : Stratum) (is : slice_get plan.strata h ≡ Some s) where
+module _ (plan : Plan) (drawable : CanBeDrawn plan) (path : List Entry) (ends : List AnyState) (goes : GoesByStages tree_of (stages_of plan) (states_of plan) path ends) (h : ℕ) (s : Stratum) (is : slice_get plan.strata h ≡ Some s) where
   abbrev at : ℕ
   at = first_number plan h
 
@@ -125,7 +125,7 @@ module _ (plan : Parts) (drawable : CanBeDrawn plan) (path : List Entry) (ends :
 
 -- ---- which units are selected
 
-module _ (plan : Parts) (ends : List AnyState) (h : ℕ) (s : Stratum) (is : slice_get plan.strata h ≡ Some s) where
+module _ (plan : Plan) (ends : List AnyState) (h : ℕ) (s : Stratum) (is : slice_get plan.strata h ≡ Some s) where
   module _ (state : AnyState) (state_is : slice_get ends (first_number plan h) ≡ Some state) where
     abbrev selected_by : Tree AnyState → ℕ → Bool
     selected_by tree k = is_taken (tree.selected state) (inclusion s.request k)

@@ -22,7 +22,7 @@ use Rattle.smp_methods.specs.Designs.{first_state}
 use Rattle.smp_split.specs.StagePaths.{GoesByStages, IsStagePath}
 use Rattle.smp_split.specs.Stages.{read}
 use Rattle.smp_split.specs.Laws.Reads.{some_within}
-use Rattle.smp_strata.specs.Plans.{Parts}
+use Rattle.smp_strata.specs.Plans.{Plan}
 use Rattle.smp_strata.specs.declared.strata.Stratum.{Stratum}
 use Rattle.smp_moves.specs.Cubes.{values_in}
 use Rattle.smp_stratcube.specs.States.{Balancing, started}
@@ -38,7 +38,7 @@ use Rattle.smp_twostage.proofs.StartsBy.{first_so}
 abbrev strata_out : AnyState → Option Balancing
 strata_out = elim [ states.StratifiedCube state ↦ Some state | other ↦ None ]
 
-module _ (plan : Parts) (path : List Entry) (ends : List AnyState)
+module _ (plan : Plan) (path : List Entry) (ends : List AnyState)
     (goes : GoesByStages tree_of (stage_of_strata plan ∷ []) (first_state (stage_of_strata plan).design.design ∷ []) path ends) where
   abbrev last : (state : AnyState) × (slice_get ends 0 ≡ Some state)
   last = some_within ends 0 (omega (arith, goes.paired))
@@ -81,7 +81,7 @@ counts_same p q (x ∷ xs) same =
     ∙ ap₂ (λ (b : Bool) (n : ℕ). cond b 1 0 + n) (All-head (λ y. p y ≡ q y) x xs same) (counts_same p q xs (All-tail (λ y. p y ≡ q y) x xs same))
     ∙ sym (sum_by-cons (λ (y : ℕ). cond (q y) 1 0) x xs)
 
-module _ (plan : Parts) (drawable : CanBeDrawn plan) (ends : List AnyState) (leaf : Balancing) (leaf_is : slice_get ends 0 ≡ Some (states.StratifiedCube leaf))
+module _ (plan : Plan) (drawable : CanBeDrawn plan) (ends : List AnyState) (leaf : Balancing) (leaf_is : slice_get ends 0 ≡ Some (states.StratifiedCube leaf))
     (h : ℕ) (s : Stratum) (is : slice_get plan.strata h ≡ Some s) where
   -- the free units of the stratum that are selected
   abbrev pub chosen : ℕ → Bool

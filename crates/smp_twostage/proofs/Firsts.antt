@@ -24,7 +24,7 @@ use Rattle.smp_methods.proofs.Wholes.{needs_of, needs_whole}
 use Rattle.smp_split.specs.declared.places.Stage.{Stage}
 use Rattle.smp_split.specs.Stages.{EachBelongs}
 use Rattle.smp_strata.specs.Bounds.{IsFirst, DrawsWholeOver}
-use Rattle.smp_strata.specs.Plans.{Parts}
+use Rattle.smp_strata.specs.Plans.{Plan}
 use Rattle.smp_strata.specs.declared.strata.FirstUnit.{FirstUnit}
 use Rattle.smp_strata.specs.declared.strata.Stratum.{Stratum}
 use Rattle.smp_twostage.specs.Strata.{free_values}
@@ -60,7 +60,7 @@ stage_starts way units request values points rising starts = record {
   around = starts.around;
 }
 
-module _ (plan : Parts) where
+module _ (plan : Plan) where
   -- ---- a stratum's first stage
 
   first_own : (s : Stratum) → IsPlanned plan s → Own (first_stage plan s)
@@ -122,7 +122,7 @@ each_own stages all = record {
       subst (StageStarts stage.design) (same_Some (first_state stage.design.design) state (sym first ∙ is_state)) own);
 }
 
-module _ (plan : Parts) (drawable : CanBeDrawn plan) where
+module _ (plan : Plan) (drawable : CanBeDrawn plan) where
   all_planned : All (IsPlanned plan) plan.strata
   all_planned h d l = is_planned plan drawable h (get_or plan.strata h d) (slice_get-get_or plan.strata h d l)
 

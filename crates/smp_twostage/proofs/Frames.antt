@@ -8,7 +8,7 @@ use Rattle.smp_twostage.specs.Strata.{AreStratumUnits, StratumUnits, column_coun
 use Rattle.smp_twostage.proofs.BalancedTogether.{each_frame_is_balanced}
 use Rattle.smp_design.specs.Words.{row, draws_together}
 use Rattle.smp_design.proofs.Rows.{balance_columns, together_balances}
-use Rattle.smp_strata.specs.Plans.{Parts}
+use Rattle.smp_strata.specs.Plans.{Plan}
 use Rattle.smp_twostage.specs.Cubes.{balancing, frame_of}
 use Rattle.smp_twostage.specs.Plans.{CanBeDrawn}
 use Rattle.smp_twostage.proofs.Told.{balanced_count, is_stratum}
@@ -17,7 +17,7 @@ first_columns : (columns : ℕ) (frame : List StratumUnits) → 1 ≤ length fra
 first_columns columns [] some all = absurd (omega (arith, some))
 first_columns columns (s ∷ frame) some all = All-head (λ t. column_count t ≡ columns) s frame all
 
-module _ (plan : Parts) (drawable : CanBeDrawn plan) (yes : draws_together plan.procedure.method ≡ true) where
+module _ (plan : Plan) (drawable : CanBeDrawn plan) (yes : draws_together plan.procedure.method ≡ true) where
   -- each stratum has as many balanced values a unit as the procedure says
   counted : All (λ s. column_count s ≡ plan.procedure.balance) (map balancing plan.strata)
   counted =

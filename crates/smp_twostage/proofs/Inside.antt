@@ -13,7 +13,7 @@ use Rattle.smp_split.specs.declared.places.Stage.{Stage}
 use Rattle.smp_split.specs.Stages.{Progress, IsUnderWay, selected_in, staged_tree, units_of}
 use Rattle.smp_split.specs.Laws.Reads.{some_within}
 use Rattle.smp_strata.specs.declared.strata.Stratum.{Stratum}
-use Rattle.smp_strata.specs.Plans.{Parts}
+use Rattle.smp_strata.specs.Plans.{Plan}
 use Rattle.smp_twostage.specs.Plans.{CanBeDrawn}
 use Rattle.smp_twostage.specs.Starts.{left_by}
 use Rattle.smp_twostage.specs.Laws.Covered.{alone_there, before_within}
@@ -43,7 +43,7 @@ module _ (c : Coverage) (firsts : List ℕ) (are : firsts ≡ first_numbers c) w
   first_at h d l = ap (λ ns. get_or ns h d) are ∙ get_or-map-range_with_len (stages_before c) 0 (suc (section_count c)) h h d (omega (arith, l)) (omega arith)
 
 -- the numbers of the first stages of strata that are drawn one by one
-module _ (plan : Parts) (firsts : List ℕ) (are : firsts ≡ map (first_number plan) (range_with_len 0 (suc (length plan.strata)))) where
+module _ (plan : Plan) (firsts : List ℕ) (are : firsts ≡ map (first_number plan) (range_with_len 0 (suc (length plan.strata)))) where
   pub length_numbers : length firsts ≡ suc (length plan.strata)
   length_numbers = ap length are ∙ length-map-range_with_len (first_number plan) 0 (suc (length plan.strata))
 
@@ -55,7 +55,7 @@ module _ (plan : Parts) (firsts : List ℕ) (are : firsts ≡ map (first_number 
 pub covered_within : (c : Coverage) (h : ℕ) → covers c h ≡ true → h < length c.plan.strata
 covered_within c h covered = ltb-true h (length c.plan.strata) (and_parts _ _ covered).0
 
-there_by : (plan : Parts) (only : Option ℕ) (h : ℕ) → is_only only h ≡ true → (s : Stratum) → slice_get plan.strata h ≡ Some s → slice_get (parts_by plan only).strata (number_by only h) ≡ Some s
+there_by : (plan : Plan) (only : Option ℕ) (h : ℕ) → is_only only h ≡ true → (s : Stratum) → slice_get plan.strata h ≡ Some s → slice_get (parts_by plan only).strata (number_by only h) ≡ Some s
 there_by plan None h is s there = there
 there_by plan (Some only) h is s there = alone_there plan only s (ap (slice_get plan.strata) (sym (eqb-true h only is)) ∙ there)
 

@@ -15,7 +15,7 @@ use Rattle.smp_stratcube.specs.Layers.{AreLayers, AreNumbers, Layer, no_layer, v
 use Rattle.smp_stratcube.specs.Kept.Layers.{width, layer_of}
 use Rattle.smp_prob.specs.declared.requests.Request.{Request}
 use Rattle.smp_strata.specs.Bounds.{IsStratum}
-use Rattle.smp_strata.specs.Plans.{Parts}
+use Rattle.smp_strata.specs.Plans.{Plan}
 use Rattle.smp_strata.specs.declared.strata.FirstUnit.{FirstUnit}
 use Rattle.smp_strata.specs.declared.strata.Stratum.{Stratum}
 use Rattle.smp_twostage.specs.Kept.Stages.{IsPlanned}
@@ -34,7 +34,7 @@ before_most (s ∷ strata) few (suc h) =
     let rest = before_most strata (All-tail (λ (t : Stratum). length t.units ≤ 200000) s strata few) h in
     omega (arith, own, rest)
 
-module _ (plan : Parts) (drawable : CanBeDrawn plan) (few : length plan.strata ≤ 16) where
+module _ (plan : Plan) (drawable : CanBeDrawn plan) (few : length plan.strata ≤ 16) where
   pub few_before : (h : ℕ) → h ≤ length plan.strata → units_before plan.strata h ≤ 3200000
   few_before h l =
       let most = before_most plan.strata (All-weaker (IsStratum plan.second) (λ (s : Stratum). length s.units ≤ 200000) (λ s is. is.few) plan.strata drawable.sound.strata) h in
@@ -72,7 +72,7 @@ last_numbers counted strata h before all done whole so_far =
 
 -- ---- what is balanced
 
-module _ (plan : Parts) (drawable : CanBeDrawn plan) (together : draws_together plan.procedure.method ≡ true) where
+module _ (plan : Plan) (drawable : CanBeDrawn plan) (together : draws_together plan.procedure.method ≡ true) where
   abbrev its : IsTogether plan
   its = drawable.together together
 
@@ -150,7 +150,7 @@ module _ (columns : ℕ) where
       some_at zero other = absurd (cc)
       some_at (suc n) other = omega arith
 
-module _ (plan : Parts) (drawable : CanBeDrawn plan) (together : draws_together plan.procedure.method ≡ true) where
+module _ (plan : Plan) (drawable : CanBeDrawn plan) (together : draws_together plan.procedure.method ≡ true) where
   filled : (h : ℕ) (s : Stratum) → slice_get plan.strata h ≡ Some s → IsFilled plan.procedure.balance (layer_of s.request (free_values (balancing s)))
   filled h s is =
       let planned : IsPlanned plan s = is_planned plan drawable h s is in

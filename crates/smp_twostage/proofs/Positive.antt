@@ -19,7 +19,7 @@ use Rattle.smp_split.specs.declared.places.Place.{Place}
 use Rattle.smp_split.specs.declared.places.Stage.{Stage}
 use Rattle.smp_split.specs.Stages.{Progress, read, seat_selected, staged_tree, unit_selected}
 use Rattle.smp_strata.specs.Bounds.{DrawsWholeOver}
-use Rattle.smp_strata.specs.Plans.{Parts}
+use Rattle.smp_strata.specs.Plans.{Plan}
 use Rattle.smp_strata.specs.Seats.{first_at, first_fraction, place_fraction, stage_fraction, unit_fraction}
 use Rattle.smp_strata.specs.declared.strata.Seat.{Seat}
 use Rattle.smp_twostage.specs.Plans.{CanBeDrawn}
@@ -67,7 +67,7 @@ module _ (request : Request) (sound : IsRequest request) (chosen : ℕ → Bool)
   taken_positive unit = taken_at (inclusion request unit) (free_within request unit)
 
 -- what the second stage does to the probability of a row
-module _ (plan : Parts) (row : ℕ) (here : StandsIn plan.strata row (place_of plan.strata row)) where
+module _ (plan : Plan) (row : ℕ) (here : StandsIn plan.strata row (place_of plan.strata row)) where
   abbrev seat : Seat
   seat = place_of plan.strata row
 
@@ -83,7 +83,7 @@ module _ (plan : Parts) (row : ℕ) (here : StandsIn plan.strata row (place_of p
 -- ---- a row that is selected, where all strata are drawn or one alone
 
 -- the strata that are drawn, of which that of the row has this number
-module _ (plan : Parts) (drawable : CanBeDrawn plan) (drawn : Parts) (second_same : drawn.second ≡ plan.second) (number : ℕ) (states : List AnyState) where
+module _ (plan : Plan) (drawable : CanBeDrawn plan) (drawn : Plan) (second_same : drawn.second ≡ plan.second) (number : ℕ) (states : List AnyState) where
   -- a unit that is selected in its stage
   selected_at : (stage : Stage Selecting) (unit : ℕ) (state : Option AnyState) → IsRequest stage.design.request → read tree_of false (λ tree s. tree.selected s unit) (Some stage) state ≡ true → is_positive (asked_fraction stage.design.request unit).num ≡ true
   selected_at stage unit (Some state) sound selected = taken_positive stage.design.request sound ((method_of stage.design.design).tree.selected state) unit selected
@@ -129,7 +129,7 @@ module _ (plan : Parts) (drawable : CanBeDrawn plan) (drawn : Parts) (second_sam
 
 -- ---- a row that is selected, where all strata are drawn together
 
-module _ (plan : Parts) (drawable : CanBeDrawn plan) (row : ℕ) (here : StandsIn plan.strata row (place_of plan.strata row)) where
+module _ (plan : Plan) (drawable : CanBeDrawn plan) (row : ℕ) (here : StandsIn plan.strata row (place_of plan.strata row)) where
   abbrev its : Seat
   its = place_of plan.strata row
 
@@ -152,7 +152,7 @@ module _ (plan : Parts) (drawable : CanBeDrawn plan) (row : ℕ) (here : StandsI
 
 -- ---- by the plan
 
-module _ (plan : Parts) (drawable : CanBeDrawn plan) (leaf : Progress AnyState) (row : ℕ) (l : row < plan.rows) where
+module _ (plan : Plan) (drawable : CanBeDrawn plan) (leaf : Progress AnyState) (row : ℕ) (l : row < plan.rows) where
   abbrev stands : StandsIn plan.strata row (place_of plan.strata row)
   stands = place_stands plan drawable row l
 

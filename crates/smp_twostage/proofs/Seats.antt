@@ -9,7 +9,7 @@ use Rattle.smp_prob.specs.declared.requests.Request.{Request}
 use Rattle.smp_design.specs.declared.method.Method.{Method}
 use Rattle.smp_split.specs.declared.places.Seat as seats
 use Rattle.smp_split.specs.declared.places.Seat.TheVariants.{First, Nowhere}
-use Rattle.smp_strata.specs.Plans.{Parts}
+use Rattle.smp_strata.specs.Plans.{Plan}
 use Rattle.smp_strata.specs.Seats.{IsSeat}
 use Rattle.smp_strata.specs.declared.strata.Seat.{Seat}
 use Rattle.smp_twostage.specs.Plans.{CanBeDrawn}
@@ -20,7 +20,7 @@ use Rattle.smp_twostage.specs.Laws.Places.{StandsIn, place_is_seat}
 use Rattle.smp_twostage.specs.Laws.Staged.{place_stands, seconds_in}
 use Rattle.smp_twostage.proofs.Columns.{is_planned}
 
-module _ (plan : Parts) (drawable : CanBeDrawn plan) (row : ℕ) (l : row < plan.rows) (p : Seat) (once : (s : Seat) → IsSeat plan.strata row s → s ≡ p) where
+module _ (plan : Plan) (drawable : CanBeDrawn plan) (row : ℕ) (l : row < plan.rows) (p : Seat) (once : (s : Seat) → IsSeat plan.strata row s → s ≡ p) where
   place_is : place_of plan.strata row ≡ p
   place_is = let seated = drawable.sound.seated.seats row l in once (place_of plan.strata row) (place_is_seat plan.strata row seated.seat seated.is)
 

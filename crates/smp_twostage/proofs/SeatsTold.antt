@@ -22,7 +22,7 @@ use Rattle.smp_design.specs.Words.{balances}
 use Rattle.smp_methods.specs.declared.any.AnyState.{AnyState}
 use Rattle.smp_split.specs.Laws.Reads.{some_within}
 use Rattle.smp_strata.specs.Bounds.{IsFirst}
-use Rattle.smp_strata.specs.Plans.{Parts}
+use Rattle.smp_strata.specs.Plans.{Plan}
 use Rattle.smp_strata.specs.Seats.{IsSeat, first_fraction}
 use Rattle.smp_strata.specs.declared.strata.FirstUnit.{FirstUnit}
 use Rattle.smp_strata.specs.declared.strata.Seat.{Seat}
@@ -44,19 +44,19 @@ next_told f i done new x so_far is more =
 
 -- ---- a first stage unit, by its place
 
-pub record Stands (plan : Parts) (p : Seat) : Type 0 where
+pub record Stands (plan : Plan) (p : Seat) : Type 0 where
   pub stratum : Stratum
   pub unit : FirstUnit
   pub is_stratum : slice_get plan.strata p.stratum ≡ Some stratum
   pub is_unit : slice_get stratum.units p.unit ≡ Some unit
 
-pub stands : (plan : Parts) (p : Seat) → IsThere plan p → Stands plan p
+pub stands : (plan : Plan) (p : Seat) → IsThere plan p → Stands plan p
 stands plan p there =
     let s = some_within plan.strata p.stratum there.stratum in
     let u = some_within s.0.units p.unit (subst (λ (o : Option Stratum). p.unit < length (units_at o)) s.1 there.unit) in
     record { stratum = s.0; unit = u.0; is_stratum = s.1; is_unit = u.1 }
 
-module _ (plan : Parts) (p : Seat) (s : Stratum) (u : FirstUnit) (is_stratum : slice_get plan.strata p.stratum ≡ Some s) (is_unit : slice_get s.units p.unit ≡ Some u) where
+module _ (plan : Plan) (p : Seat) (s : Stratum) (u : FirstUnit) (is_stratum : slice_get plan.strata p.stratum ≡ Some s) (is_unit : slice_get s.units p.unit ≡ Some u) where
   abbrev of_unit : FirstUnit → List ℤ
   of_unit v = v.balance
 
@@ -69,14 +69,14 @@ module _ (plan : Parts) (p : Seat) (s : Stratum) (u : FirstUnit) (is_stratum : s
   fraction_there = rw is_stratum refl
 
 -- its probability, as the code finds it
-pub asked_so : (plan : Parts) (p : Seat) → IsThere plan p → (f : Frac) → Same (fraction f) (first_fraction plan.strata p.stratum p.unit) → f ≡ lowest_terms (first_fraction plan.strata p.stratum p.unit)
+pub asked_so : (plan : Plan) (p : Seat) → IsThere plan p → (f : Frac) → Same (fraction f) (first_fraction plan.strata p.stratum p.unit) → f ≡ lowest_terms (first_fraction plan.strata p.stratum p.unit)
 asked_so plan p there f h =
     let at = stands plan p there in
     let is : first_fraction plan.strata p.stratum p.unit ≡ asked_fraction at.stratum.request p.unit = fraction_there plan p at.stratum at.unit at.is_stratum at.is_unit in
     asked_is at.stratum.request f p.unit (subst (Same (fraction f)) is h) ∙ ap lowest_terms (sym is)
 
 -- its values, as the code finds them
-module _ (plan : Parts) (p : Seat) (there : IsThere plan p) (s : Stratum) (is_s : s ≡ get_or plan.strata p.stratum s) where
+module _ (plan : Plan) (p : Seat) (there : IsThere plan p) (s : Stratum) (is_s : s ≡ get_or plan.strata p.stratum s) where
   own : slice_get plan.strata p.stratum ≡ Some s
   own = stratum_at plan.strata p.stratum s there.stratum is_s
 
@@ -217,7 +217,7 @@ module _ (c : Coverage) (h : ℕ) where
           }
 
       -- what the code says of it
-      pub told_found : (plan : Parts) → plan ≡ c.plan
+      pub told_found : (plan : Plan) → plan ≡ c.plan
           → (left columns : ℕ) (values : List (List ℤ)) (asked : List Frac) (chosen : List Bool) → left ≡ (told c states h).left → columns ≡ plan.procedure.balance
           → values ≡ each_told (seat_values c.plan) c h (told_count c h) → asked ≡ each_told asked_in c h (told_count c h) → chosen ≡ each_told chosen_in c h (told_count c h)
           → ◌≡◌ {A = balance.Drawn} (record { number = h + 1; left = left; columns = columns; values = values; asked = asked; chosen = chosen }) (told c states h)
@@ -225,7 +225,7 @@ module _ (c : Coverage) (h : ℕ) where
           let d : balance.Drawn = told c states h in
           ap (λ (n : ℕ). record { number = h + 1; left = n; columns = columns; values = values; asked = asked; chosen = chosen }) left_is
           ∙ ap (λ (n : ℕ). record { number = h + 1; left = d.left; columns = n; values = values; asked = asked; chosen = chosen })
-          (columns_is ∙ ap (λ (p : Parts). p.procedure.balance) plan_is)
+          (columns_is ∙ ap (λ (p : Plan). p.procedure.balance) plan_is)
           ∙ ap (λ (vs : List (List ℤ)). record { number = h + 1; left = d.left; columns = d.columns; values = vs; asked = asked; chosen = chosen }) (values_are ∙ sym (each_is (seat_values c.plan)))
           ∙ ap (λ (ps : List Frac). record { number = h + 1; left = d.left; columns = d.columns; values = d.values; asked = ps; chosen = chosen }) (asked_are ∙ sym (each_is asked_in))
           ∙ ap (λ (bs : List Bool). record { number = h + 1; left = d.left; columns = d.columns; values = d.values; asked = d.asked; chosen = bs }) (chosen_are ∙ sym (each_is chosen_in))

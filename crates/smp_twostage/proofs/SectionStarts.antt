@@ -7,7 +7,7 @@ use Rattle.smp_split.specs.Sectioning.{IsPartOf}
 use Rattle.smp_split.specs.OwnStages.{sections_by}
 use Rattle.smp_split.specs.Stages.{progress}
 use Rattle.smp_split.specs.Laws.Reads.{some_within}
-use Rattle.smp_strata.specs.Plans.{Parts}
+use Rattle.smp_strata.specs.Plans.{Plan}
 use Rattle.smp_twostage.specs.Covered.{state_alone}
 use Rattle.smp_twostage.specs.Plans.{CanBeDrawn}
 use Rattle.smp_twostage.specs.Selections.{BelongsToCovered, BelongsToWhole, all_of, covered_start, covered_tree, is_of_section, one_of, parts_by, section_count, stages_of, start_of, strata_sections, tree_of, whole_tree}
@@ -19,17 +19,17 @@ use Rattle.smp_twostage.proofs.StartsBy.{states_so, stages_so, tree_so}
 use Rattle.smp_twostage.proofs.Together.{together_part}
 
 -- what holds of the start of section h alone
-pub record IsSectionStart (plan : Parts) (h : ℕ) : Type 0 where
+pub record IsSectionStart (plan : Plan) (h : ℕ) : Type 0 where
   pub member : BelongsToCovered (one_of plan h) (covered_start (one_of plan h))
   pub part : IsPartOf (whole_tree plan) (IsReached (whole_tree plan) (start_of plan)) (strata_sections (all_of plan)) h (covered_tree (one_of plan h)) (state_alone plan h) (is_of_section plan h)
   pub state : covered_start (one_of plan h) ≡ state_alone plan h (start_of plan)
 
 -- by whether all strata are drawn together
-record StartBy (together : Bool) (plan : Parts) (h : ℕ) : Type 0 where
+record StartBy (together : Bool) (plan : Plan) (h : ℕ) : Type 0 where
   part : IsPartOf (tree_so together plan) (BelongsToWhole plan) (sections_by (stages_before_by together (all_of plan)) (section_count_by together (all_of plan))) h (tree_alone together plan h) (own_state together plan h) (is_in_section together plan h)
   state : progress tree_of (stages_by together (one_of plan h)) (map (λ stage. first_state stage.design.design) (stages_by together (one_of plan h))) ≡ own_state together plan h (progress tree_of (stages_so together plan) (states_so together plan))
 
-module _ (plan : Parts) (drawable : CanBeDrawn plan) where
+module _ (plan : Plan) (drawable : CanBeDrawn plan) where
   start_by : (together : Bool) → draws_together plan.procedure.method ≡ together → (h : ℕ) → h < section_count_by together (all_of plan) → StartBy together plan h
   start_by true same h within =
       let first : h ≡ 0 = omega (arith, within) in

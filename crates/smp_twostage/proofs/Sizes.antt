@@ -20,7 +20,7 @@ use Rattle.smp_split.specs.StagePaths.{GoesByStages, IsStagePath}
 use Rattle.smp_split.specs.Stages.{is_drawn, progress}
 use Rattle.smp_split.specs.Laws.Reads.{some_within}
 use Rattle.smp_strata.specs.Draws.{expected_firsts}
-use Rattle.smp_strata.specs.Plans.{Parts}
+use Rattle.smp_strata.specs.Plans.{Plan}
 use Rattle.smp_strata.specs.declared.strata.Stratum.{Stratum}
 use Rattle.smp_twostage.specs.Kept.Stages.{EachStarts, StageStarts}
 use Rattle.smp_twostage.specs.Plans.{CanBeDrawn}
@@ -30,7 +30,7 @@ use Rattle.smp_twostage.specs.Laws.Numbering.{first_there}
 use Rattle.smp_twostage.proofs.Columns.{is_planned}
 use Rattle.smp_twostage.proofs.StartsBy.{FirstSelectsAroundSo, tree_so}
 
-module _ (plan : Parts) (drawable : CanBeDrawn plan) (other : balances plan.procedure.method ≡ false) (states : List AnyState) (each : EachStarts (stages_of plan) states)
+module _ (plan : Plan) (drawable : CanBeDrawn plan) (other : balances plan.procedure.method ≡ false) (states : List AnyState) (each : EachStarts (stages_of plan) states)
     (h : ℕ) (s : Stratum) (is : slice_get plan.strata h ≡ Some s) where
   abbrev at : ℕ
   at = first_number plan h

@@ -24,7 +24,7 @@ use Rattle.smp_split.specs.Laws.Reads.{some_within}
 use Rattle.std.proofs.lemmas.Bool.{and_parts}
 use Rattle.std.proofs.lemmas.Option.{slice_get_within}
 use Rattle.smp_strata.specs.Draws.{IsFor}
-use Rattle.smp_strata.specs.Plans.{Parts}
+use Rattle.smp_strata.specs.Plans.{Plan}
 use Rattle.smp_strata.specs.Seats.{first_at, first_fraction, place_fraction, stage_fraction, unit_fraction}
 use Rattle.smp_strata.specs.declared.strata.FirstUnit.{FirstUnit}
 use Rattle.smp_strata.specs.declared.strata.Stratum.{Stratum}
@@ -104,21 +104,21 @@ place_positive (Some u) place = stage_positive u.second place
 times_positive : (a b : Fraction) → IsProbability a → IsProbability b → IsProbability (times a b)
 times_positive a b (m, is_a) (n, is_b) = (m * n, rw (is_a, is_b) refl)
 
-row_positive : (plan : Parts) (row : ℕ) → IsProbability (row_fraction plan row)
+row_positive : (plan : Plan) (row : ℕ) → IsProbability (row_fraction plan row)
 row_positive plan row =
     let seat = place_of plan.strata row in
     times_positive (first_fraction plan.strata seat.stratum seat.unit) (place_fraction (first_at plan.strata seat.stratum seat.unit) seat.place)
     (first_positive (slice_get plan.strata seat.stratum) seat.unit) (place_positive (first_at plan.strata seat.stratum seat.unit) seat.place)
 
 -- so a row whose value is its probability is known, weighted by it
-pub weighs_row : (plan : Parts) (row : ℕ) (asked value : Fraction) (x : ℤ) → Same asked (row_fraction plan row) → Same value (row_fraction plan row) → Same (times (weighted asked x) value) (integer (known asked x))
+pub weighs_row : (plan : Plan) (row : ℕ) (asked value : Fraction) (x : ℤ) → Same asked (row_fraction plan row) → Same value (row_fraction plan row) → Same (times (weighted asked x) value) (integer (known asked x))
 weighs_row plan row asked value x same is =
     let probability : IsProbability asked = probability_same asked (row_fraction plan row) same (row_positive plan row) in
     same_trans (times_same (same_refl (weighted asked x)) (same_trans is (same_sym same))) (weighs_any asked probability.0 probability.1 x)
 
 -- ---- how many units are selected
 
-module _ (plan : Parts) (drawable : CanBeDrawn plan) (states : List AnyState) (each : EachStarts (stages_of plan) states)
+module _ (plan : Plan) (drawable : CanBeDrawn plan) (states : List AnyState) (each : EachStarts (stages_of plan) states)
     (starts : StartsInStages tree_of belongs_to (stages_of plan) (seats_of plan) states (progress tree_of (stages_of plan) states)) where
   abbrev start : Progress AnyState
   start = progress tree_of (stages_of plan) states
@@ -199,7 +199,7 @@ states_are (s ∷ stages) (t ∷ states) each =
 pub each_first : (stages : List (Stage Selecting)) (states : List AnyState) → EachStarts stages states → EachFirst stages states
 each_first stages states each = record { are = states_are stages states each; belong = each_belongs stages states each }
 
-pub starts_whole : (plan : Parts) → CanBeDrawn plan → (states : List AnyState) → EachStarts (stages_of plan) states
+pub starts_whole : (plan : Plan) → CanBeDrawn plan → (states : List AnyState) → EachStarts (stages_of plan) states
     → (state : Progress AnyState) → state ≡ progress tree_of (stages_of plan) states → StartsInStages tree_of belongs_to (stages_of plan) (seats_of plan) states state → draws_together plan.procedure.method ≡ false → StartsWhole plan state
 starts_whole plan drawable states each state is starts apart =
     starts_whole_by plan drawable state

@@ -15,7 +15,7 @@ use Rattle.smp_split.specs.declared.places.Stage.{Stage}
 use Rattle.smp_split.specs.StagePaths.{GoesByStages}
 use Rattle.smp_split.specs.Stages.{IsUnderWay, Progress, selected_in, staged_tree}
 use Rattle.smp_strata.specs.Draws.{IsFor, expected_firsts}
-use Rattle.smp_strata.specs.Plans.{Parts}
+use Rattle.smp_strata.specs.Plans.{Plan}
 use Rattle.smp_strata.specs.declared.strata.FirstUnit.{FirstUnit}
 use Rattle.smp_strata.specs.declared.strata.Stratum.{Stratum}
 use Rattle.smp_twostage.specs.Cubes.{IsDrawnByCube, IsDrawnTogether, frame_of}
@@ -24,7 +24,7 @@ use Rattle.smp_twostage.specs.Selections.{Selecting, all_of, belongs_to, first_n
 use Rattle.smp_twostage.specs.Kept.Sides.{first_place_by, seats_in, stages_by}
 use Rattle.smp_twostage.specs.Starts.{StartsWhole, known, row_fraction, weighted}
 
-module _ (together : Bool) (plan : Parts) where
+module _ (together : Bool) (plan : Plan) where
   abbrev pub stages_so : List (Stage Selecting)
   stages_so = stages_by together (all_of plan)
 
@@ -73,7 +73,7 @@ module _ (together : Bool) (plan : Parts) where
     pub balanced : draws_together plan.procedure.method ≡ true → IsBalancedFrame (frame_of plan)
 
 -- as it is by the plan's method
-pub starts_whole_by : (plan : Parts) → CanBeDrawn plan → (start : Progress AnyState) → StartsBy (is_together (all_of plan)) plan start → StartsWhole plan start
+pub starts_whole_by : (plan : Plan) → CanBeDrawn plan → (start : Progress AnyState) → StartsBy (is_together (all_of plan)) plan start → StartsWhole plan start
 starts_whole_by plan drawable start starts = record {
   member = record { drawable = drawable; member = starts.member };
   values = starts.values;

@@ -14,7 +14,7 @@ use Rattle.smp_methods.specs.Starts.{AreStarted}
 use Rattle.smp_split.specs.StageStarts.{StartsInStages}
 use Rattle.smp_split.specs.Stages.{Progress, progress, seat_value, unit_value}
 use Rattle.smp_strata.specs.Draws.{IsFor}
-use Rattle.smp_strata.specs.Plans.{Parts}
+use Rattle.smp_strata.specs.Plans.{Plan}
 use Rattle.smp_strata.specs.declared.strata.Stratum.{Stratum}
 use Rattle.smp_stratcube.specs.Counts.{selected_in}
 use Rattle.smp_stratcube.specs.Kept.Layers.{first_of}
@@ -33,7 +33,7 @@ use Rattle.smp_twostage.proofs.Starts.{weighs_row}
 use Rattle.smp_twostage.proofs.StartsBy.{FirstSelectsSo, StartsBy, starts_whole_by}
 use Rattle.smp_twostage.proofs.Together.{layer_in, row_value_is, run_counts, stage_member, target_adds, together_part}
 
-module _ (plan : Parts) (drawable : CanBeDrawn plan) (yes : draws_together plan.procedure.method ≡ true)
+module _ (plan : Plan) (drawable : CanBeDrawn plan) (yes : draws_together plan.procedure.method ≡ true)
     (started : AreStarted (layers_of plan) (record { design = design_of_strata (layers_of plan); state = first_state (design_of_strata (layers_of plan)) }))
     (starts : StartsInStages tree_of belongs_to (stage_of_strata plan ∷ []) (seats_together plan) (first_state (stage_of_strata plan).design.design ∷ [])
     (progress tree_of (stage_of_strata plan ∷ []) (first_state (stage_of_strata plan).design.design ∷ []))) where

@@ -34,7 +34,7 @@ use Rattle.smp_split.specs.OwnStages.{AreTheirOwn, seat_later, sections_by}
 use Rattle.smp_split.specs.Stages.{IsUnderWay, seat_value, unit_value}
 use Rattle.smp_split.proofs.OwnStages.{is_part}
 use Rattle.smp_strata.specs.Bounds.{IsOver}
-use Rattle.smp_strata.specs.Plans.{Parts}
+use Rattle.smp_strata.specs.Plans.{Plan}
 use Rattle.smp_strata.specs.Seats.{stage_fraction}
 use Rattle.smp_strata.specs.declared.strata.Seat.{Seat}
 use Rattle.smp_strata.specs.declared.strata.Stratum.{Stratum}
@@ -97,7 +97,7 @@ free_count (s ∷ strata) over b count h =
       length-map-range_with_len (member_of count h (layer_in s)) 0 (length s.request.shape),
     )
 
-module _ (plan : Parts) (drawable : CanBeDrawn plan) (asked : AreRequested (layers_of plan) (together.started (units_together plan))) where
+module _ (plan : Plan) (drawable : CanBeDrawn plan) (asked : AreRequested (layers_of plan) (together.started (units_together plan))) where
   abbrev start_value : ℕ → Fraction
   start_value unit = value_at (values_in (together.started (units_together plan))) unit
 
@@ -227,7 +227,7 @@ module _ (plan : Parts) (drawable : CanBeDrawn plan) (asked : AreRequested (laye
 
 -- ---- the stage
 
-module _ (plan : Parts) (drawable : CanBeDrawn plan) (means : HasMeans (method_of (design_of_strata (layers_of plan))) (first_state (design_of_strata (layers_of plan)))) where
+module _ (plan : Plan) (drawable : CanBeDrawn plan) (means : HasMeans (method_of (design_of_strata (layers_of plan))) (first_state (design_of_strata (layers_of plan)))) where
   -- the state from which it starts is one of its own
   pub stage_member : belongs_to (stage_of_strata plan).design (first_state (stage_of_strata plan).design.design)
   stage_member = record {
@@ -260,14 +260,14 @@ seat_same_at : (o : Option Seat_in_stages) → o ≡ option_map (seat_later 0) o
 seat_same_at None = refl
 seat_same_at (Some seat) = ap Some (sym (seat_same seat))
 
-their_own : (plan : Parts) → AreTheirOwn (stage_of_strata plan ∷ []) (seats_together plan) 0 (stage_of_strata plan ∷ []) (seats_together plan) (λ row. true)
+their_own : (plan : Plan) → AreTheirOwn (stage_of_strata plan ∷ []) (seats_together plan) 0 (stage_of_strata plan ∷ []) (seats_together plan) (λ row. true)
 their_own plan = record {
   run = refl;
   seated = λ row l own. seat_same_at (slice_get (seats_together plan) row);
   others = λ row l other. absurd (true≢false other);
 }
 
-pub together_part : (plan : Parts) → CanBeDrawn plan → draws_together plan.procedure.method ≡ true
+pub together_part : (plan : Plan) → CanBeDrawn plan → draws_together plan.procedure.method ≡ true
     → IsPartOf (tree_so true plan) (BelongsToWhole plan) (sections_by (stages_before_by true (all_of plan)) (section_count_by true (all_of plan))) 0 (tree_alone true plan 0) (own_state true plan 0) (is_in_section true plan 0)
 together_part plan drawable together =
     is_part tree_of belongs_to (stage_of_strata plan ∷ []) (seats_together plan) (BelongsToWhole plan)

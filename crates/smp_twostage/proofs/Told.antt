@@ -21,7 +21,7 @@ use Rattle.smp_split.specs.declared.places.Stage.{Stage}
 use Rattle.smp_split.specs.declared.places.Place.{Place}
 use Rattle.smp_split.specs.Stages.{is_drawn, read, selected_in, unit_selected}
 use Rattle.smp_strata.specs.Bounds.{IsFirst}
-use Rattle.smp_strata.specs.Plans.{Parts}
+use Rattle.smp_strata.specs.Plans.{Plan}
 use Rattle.smp_strata.specs.declared.strata.FirstUnit.{FirstUnit}
 use Rattle.smp_strata.specs.declared.strata.Stratum.{Stratum}
 use Rattle.smp_twostage.specs.Cubes.{balancing}
@@ -56,7 +56,7 @@ stage_open stages states place stage is selected =
 
 -- ---- the strata that are covered
 
-module _ (plan : Parts) (h : ℕ) (s : Stratum) (is : slice_get plan.strata h ≡ Some s) where
+module _ (plan : Plan) (h : ℕ) (s : Stratum) (is : slice_get plan.strata h ≡ Some s) where
   there_by : (only : Option ℕ) → is_only only h ≡ true → slice_get (parts_by plan only).strata (covered_number (record { plan = plan; only = only }) h) ≡ Some s
   there_by None covered = is
   there_by (Some one) covered =
@@ -84,7 +84,7 @@ module _ (c : Coverage) (drawable : CanBeDrawn c.plan) (states : List AnyState) 
 
 -- ---- the stratum, as the cube draws from it
 
-module _ (plan : Parts) (drawable : CanBeDrawn plan) (balance : balances plan.procedure.method ≡ true) (h : ℕ) (s : Stratum) (is : slice_get plan.strata h ≡ Some s) where
+module _ (plan : Plan) (drawable : CanBeDrawn plan) (balance : balances plan.procedure.method ≡ true) (h : ℕ) (s : Stratum) (is : slice_get plan.strata h ≡ Some s) where
   abbrev own : IsPlanned plan s
   own = is_planned plan drawable h s is
 

@@ -15,7 +15,7 @@ use Rattle.smp_methods.specs.Methods.{method_of}
 use Rattle.smp_split.specs.declared.places.Place.{Place}
 use Rattle.smp_split.specs.declared.places.Stage.{Stage}
 use Rattle.smp_split.specs.Stages.{seat_value, unit_value, read}
-use Rattle.smp_strata.specs.Plans.{Parts}
+use Rattle.smp_strata.specs.Plans.{Plan}
 use Rattle.smp_strata.specs.Seats.{place_fraction, seat_fraction, stage_fraction, unit_fraction}
 use Rattle.smp_strata.specs.declared.strata.FirstUnit.{FirstUnit}
 use Rattle.smp_strata.specs.declared.strata.Seat.{Seat}
@@ -43,7 +43,7 @@ module _ (stages : List (Stage Selecting)) (states : List AnyState) (each : Each
 
 -- ---- a row that stands in stratum h
 
-module _ (plan : Parts) (states : List AnyState) (each : EachStarts (stages_of plan) states) (h : ℕ) (place : Seat) (s : Stratum) (u : FirstUnit) (is_stratum : slice_get plan.strata h ≡ Some s) (is_unit : slice_get s.units place.unit ≡ Some u) (staged : is_some u.second ≡ is_some plan.second)
+module _ (plan : Plan) (states : List AnyState) (each : EachStarts (stages_of plan) states) (h : ℕ) (place : Seat) (s : Stratum) (u : FirstUnit) (is_stratum : slice_get plan.strata h ≡ Some s) (is_unit : slice_get s.units place.unit ≡ Some u) (staged : is_some u.second ≡ is_some plan.second)
     (seconds : (method : Method) → plan.second ≡ Some method → HaveSeconds s.units) where
   abbrev at : ℕ
   at = first_number plan h
@@ -81,7 +81,7 @@ module _ (strata : List Stratum) (row : ℕ) (place : Seat) (here : StandsIn str
       ap (λ o. times (unit_fraction o place.unit) (place_fraction (option_and_then (λ s. slice_get s.units place.unit) o) place.place)) here.is_stratum
       ∙ ap (λ o. times (asked_fraction here.stratum.request place.unit) (place_fraction o place.place)) here.is_unit
 
-module _ (plan : Parts) (drawable : CanBeDrawn plan) where
+module _ (plan : Plan) (drawable : CanBeDrawn plan) where
   -- in the whole selection
   pub row_value_is : (states : List AnyState) → EachStarts (stages_of plan) states → (row : ℕ) → row < plan.rows → Same (seat_value (unit_value tree_of (stages_of plan) states) (slice_get (seats_of plan) row)) (row_fraction plan row)
   row_value_is states each row l =

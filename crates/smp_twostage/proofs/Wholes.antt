@@ -4,7 +4,7 @@ use Rattle.smp_design.specs.Words.{draws_together}
 use Rattle.smp_methods.specs.Designs.{first_state}
 use Rattle.smp_split.specs.Stages.{progress}
 use Rattle.smp_split.proofs.StageStarts.{starts_in_stages}
-use Rattle.smp_strata.specs.Plans.{Parts}
+use Rattle.smp_strata.specs.Plans.{Plan}
 use Rattle.smp_twostage.specs.Plans.{CanBeDrawn}
 use Rattle.smp_twostage.specs.Selections.{belongs_to, seats_of, seats_together, stage_of_strata, stages_of, start_of, tree_of}
 use Rattle.smp_twostage.specs.Kept.Sides.{states_of}
@@ -17,7 +17,7 @@ use Rattle.smp_twostage.proofs.Starts.{each_belongs, starts_whole}
 use Rattle.smp_twostage.proofs.StartsBy.{stages_so, states_so}
 use Rattle.smp_twostage.proofs.StartsTogether.{whole_together}
 
-module _ (plan : Parts) (drawable : CanBeDrawn plan) where
+module _ (plan : Plan) (drawable : CanBeDrawn plan) where
   start_by : (together : Bool) → draws_together plan.procedure.method ≡ together → StartsWhole plan (progress tree_of (stages_so together plan) (states_so together plan))
   start_by true same =
       let states = first_state (stage_of_strata plan).design.design ∷ [] in

@@ -8,7 +8,7 @@ use Rattle.smp_split.specs.Sectioning.{IsPartOf}
 use Rattle.smp_methods.specs.declared.any.AnyState.{AnyState}
 use Rattle.smp_split.specs.OwnStages.{own_progress}
 use Rattle.smp_split.specs.Stages.{Progress}
-use Rattle.smp_strata.specs.Plans.{Parts}
+use Rattle.smp_strata.specs.Plans.{Plan}
 use Rattle.smp_twostage.specs.Selections.{Coverage, BelongsToCovered, all_of, covered_stages, covered_tree, first_place}
 use Rattle.smp_twostage.specs.Selections.{is_of_section, one_of, stages_before, start_of, strata_sections, tree_of, whole_tree}
 use Rattle.smp_twostage.specs.Starts.{left_by, row_fraction}
@@ -25,15 +25,15 @@ covered_left c states h =
 -- ---- one section alone: a stratum, or all strata that are drawn together
 
 -- the probability that a plan gives a row of section h, and 0 for each other row
-abbrev pub alone_fraction : Parts → ℕ → ℕ → Fraction
+abbrev pub alone_fraction : Plan → ℕ → ℕ → Fraction
 alone_fraction plan h row = if is_of_section plan h row then row_fraction plan row else whole 0
 
 -- the state of section h in a state of the whole selection
-abbrev pub state_alone : Parts → ℕ → Progress AnyState → Progress AnyState
+abbrev pub state_alone : Plan → ℕ → Progress AnyState → Progress AnyState
 state_alone plan h s = own_progress tree_of (stages_before (all_of plan) h) (covered_stages (one_of plan h)) s
 
 -- What holds of the start of a selection of section h alone.
-pub record StartsAlone (plan : Parts) (h : ℕ) (start : Progress AnyState) : Type 0 where
+pub record StartsAlone (plan : Plan) (h : ℕ) (start : Progress AnyState) : Type 0 where
   pub member : BelongsToCovered (one_of plan h) start
   -- Each row of the section has the value that the plan gives it, and exactly that probability of selection. Each other row has 0.
   pub values : (row : ℕ) → row < plan.rows

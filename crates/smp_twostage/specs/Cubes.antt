@@ -15,7 +15,7 @@ use Rattle.smp_twostage.specs.Strata.{StratumUnits, free_units}
 use Rattle.smp_design.specs.declared.method.Method.TheVariants as method
 use Rattle.smp_methods.specs.declared.any.AnyState.{AnyState}
 use Rattle.smp_methods.specs.declared.any.AnyState.TheVariants as states
-use Rattle.smp_strata.specs.Plans.{Parts}
+use Rattle.smp_strata.specs.Plans.{Plan}
 use Rattle.smp_strata.specs.declared.strata.Stratum.{Stratum}
 use Rattle.smp_twostage.specs.Selections.{first_number, free_points, layers_of}
 pub use Rattle.smp_twostage.specs.Selections.{balancing}
@@ -29,14 +29,14 @@ pub record IsDrawnFrom {State : Type 0} (tree : Tree State) (from : State) (into
   pub ended : tree.done leaf ≡ true
 
 -- the units that the local cube draws from, and where they lie
-abbrev pub local_units : Parts → Stratum → LocalUnits
+abbrev pub local_units : Plan → Stratum → LocalUnits
 local_units plan s = record {
   units = free_units (balancing s);
   coords = points_of plan.procedure.near (free_points s);
 }
 
 -- The stratum is drawn so from the requested probabilities, by the cube or by the local cube.
-pub data IsDrawnByCube (plan : Parts) (h : ℕ) (s : Stratum) (part : List Entry) (ends : List AnyState) : Type 0 where
+pub data IsDrawnByCube (plan : Plan) (h : ℕ) (s : Stratum) (part : List Entry) (ends : List AnyState) : Type 0 where
   by_cube : plan.procedure.method ≡ method.Cube
       → IsDrawnFrom (cube_tree (free_units (balancing s))) (starting (free_units (balancing s)))
       states.Cube (first_number plan h) part ends → IsDrawnByCube plan h s part ends
@@ -45,7 +45,7 @@ pub data IsDrawnByCube (plan : Parts) (h : ℕ) (s : Stratum) (part : List Entry
       states.LocalCube (first_number plan h) part ends → IsDrawnByCube plan h s part ends
 
 -- the leaf, as a state of flight and landing
-abbrev pub leaf_of : {plan : Parts} {h : ℕ} {s : Stratum} {part : List Entry} {ends : List AnyState}
+abbrev pub leaf_of : {plan : Plan} {h : ℕ} {s : Stratum} {part : List Entry} {ends : List AnyState}
     → IsDrawnByCube plan h s part ends → Balancing
 leaf_of (by_cube is drawn) = drawn.leaf
 leaf_of (by_local_cube is drawn) = drawn.leaf.at
@@ -53,14 +53,14 @@ leaf_of (by_local_cube is drawn) = drawn.leaf.at
 -- ---- all strata together
 
 -- all strata as they are balanced
-abbrev pub frame_of : Parts → List StratumUnits
+abbrev pub frame_of : Plan → List StratumUnits
 frame_of plan = map balancing plan.strata
 
 -- the units of all strata that are free, as they are balanced together
-abbrev pub units_together : Parts → strata.Units
+abbrev pub units_together : Plan → strata.Units
 units_together plan = strata.units_of (layers_of plan)
 
 -- The path leads from the requested probabilities to a leaf of the cube over all strata, and it ends the selection.
-abbrev pub IsDrawnTogether : Parts → List Entry → List AnyState → Type 0
+abbrev pub IsDrawnTogether : Plan → List Entry → List AnyState → Type 0
 IsDrawnTogether plan part ends = IsDrawnFrom (strat_tree (units_together plan)) (together.started (units_together plan))
     states.StratifiedCube 0 part ends

@@ -6,7 +6,7 @@ use Rattle.smp_twostage.specs.Strata.{values_of}
 use Rattle.smp_design.specs.Words.{balances}
 use Rattle.smp_frac.specs.LowestTerms.{lowest_terms}
 use Rattle.smp_methods.specs.declared.any.AnyState.{AnyState}
-use Rattle.smp_strata.specs.Plans.{Parts}
+use Rattle.smp_strata.specs.Plans.{Plan}
 use Rattle.smp_strata.specs.Seats.{first_fraction}
 use Rattle.smp_strata.specs.declared.strata.Seat.{Seat}
 use Rattle.smp_twostage.specs.Covered.{covered_left}
@@ -26,7 +26,7 @@ told_seats c h =
     else map (λ k. record { stratum = h; unit = k; place = 0 }) (range_with_len 0 (length (units_at (slice_get c.plan.strata h))))
 
 -- the balancing values of a first stage unit
-abbrev pub seat_values : Parts → Seat → List ℤ
+abbrev pub seat_values : Plan → Seat → List ℤ
 seat_values plan p =
     unwrap_or (option_map (λ s. values_of (balancing s) p.unit) (slice_get plan.strata p.stratum)) []
 

@@ -17,7 +17,7 @@ use Rattle.smp_methods.specs.declared.any.AnyDesign.{AnyDesign}
 use Rattle.smp_methods.specs.declared.any.AnyState.{AnyState}
 use Rattle.smp_methods.specs.Designs.{design_of, design_of_strata, design_tree, first_state}
 use Rattle.smp_methods.specs.Methods.{method_of}
-use Rattle.smp_strata.specs.Plans.{Parts}
+use Rattle.smp_strata.specs.Plans.{Plan}
 use Rattle.smp_strata.specs.declared.strata.FirstUnit as unit
 use Rattle.smp_strata.specs.declared.strata.Seat as place
 use Rattle.smp_strata.specs.declared.strata.Stratum as stratum
@@ -57,7 +57,7 @@ abbrev pub free_points : stratum.Stratum → List (List ℤ)
 free_points s = map (λ k. slice_index_or (map (λ u. u.point) s.units) k []) s.request.free
 
 -- the first stage of a stratum: its first stage units, by the plan's procedure
-abbrev pub first_stage : Parts → stratum.Stratum → Stage Selecting
+abbrev pub first_stage : Plan → stratum.Stratum → Stage Selecting
 first_stage plan s = record {
   design = record {
     units = length s.units;
@@ -95,22 +95,22 @@ stages_within method at units zero = []
 stages_within method at units (suc n) = stages_within method at units n ++ stage_within method at n (slice_get units n)
 
 -- the stages of a stratum: its first stage, which has the number `at`, and those within its units
-abbrev pub stages_in : Parts → ℕ → Option stratum.Stratum → List (Stage Selecting)
+abbrev pub stages_in : Plan → ℕ → Option stratum.Stratum → List (Stage Selecting)
 stages_in plan at (Some s) = first_stage plan s ∷ stages_within plan.second at s.units (length s.units)
 stages_in plan at None = []
 
 -- the stages of the first n strata
-abbrev pub stages_below : Parts → ℕ → List (Stage Selecting)
+abbrev pub stages_below : Plan → ℕ → List (Stage Selecting)
 stages_below plan zero = []
 stages_below plan (suc n) = stages_below plan n
     ++ stages_in plan (length (stages_below plan n)) (slice_get plan.strata n)
 
 -- all stages
-abbrev pub stages_of : Parts → List (Stage Selecting)
+abbrev pub stages_of : Plan → List (Stage Selecting)
 stages_of plan = stages_below plan (length plan.strata)
 
 -- the number of a stratum's first stage
-abbrev pub first_number : Parts → ℕ → ℕ
+abbrev pub first_number : Plan → ℕ → ℕ
 first_number plan h = length (stages_below plan h)
 
 -- ---- strata that are drawn together
@@ -143,11 +143,11 @@ request_over strata = record {
 }
 
 -- the free units of each stratum, with their balancing values
-abbrev pub layers_of : Parts → List Layer
+abbrev pub layers_of : Plan → List Layer
 layers_of plan = map (λ s. record { request = s.request; values = free_values (balancing s) }) plan.strata
 
 -- the stage of all strata: their first stage units, drawn together
-abbrev pub stage_of_strata : Parts → Stage Selecting
+abbrev pub stage_of_strata : Plan → Stage Selecting
 stage_of_strata plan = record {
   design = record {
     units = unit_count plan.strata;
@@ -167,7 +167,7 @@ seat_by (Some method) at p = Second (record { stage = at; unit = p.unit })
     (record { stage = suc (at + p.unit); unit = p.place })
 
 -- the seat of a row, with the number that the stratum's first stage has
-abbrev pub seat_of : Parts → place.Seat → Seat
+abbrev pub seat_of : Plan → place.Seat → Seat
 seat_of plan p = seat_by plan.second (first_number plan p.stratum) p
 
 -- whether a row is one of a first stage unit
@@ -193,7 +193,7 @@ place_of strata row =
     }
 
 -- the seats of all rows, in frame order
-abbrev pub seats_of : Parts → List Seat
+abbrev pub seats_of : Plan → List Seat
 seats_of plan = map (λ row. seat_of plan (place_of plan.strata row)) (range_with_len 0 plan.rows)
 
 -- where unit k of stratum h stands where all strata are drawn together, in the one stage
@@ -201,45 +201,45 @@ abbrev pub place_together : List stratum.Stratum → ℕ → ℕ → Place
 place_together strata h k = record { stage = 0; unit = units_before strata h + k }
 
 -- the seat of a row where all strata are drawn together
-abbrev pub seat_together : Parts → ℕ → Seat
+abbrev pub seat_together : Plan → ℕ → Seat
 seat_together plan row =
     let p = place_of plan.strata row in
     First (place_together plan.strata p.stratum p.unit)
 
 -- the seats of all rows where all strata are drawn together
-abbrev pub seats_together : Parts → List Seat
+abbrev pub seats_together : Plan → List Seat
 seats_together plan = map (seat_together plan) (range_with_len 0 plan.rows)
 
 -- ---- the whole selection
 
 -- the stages: one of all strata where these are drawn together, or those of each stratum
-abbrev pub whole_stages : Parts → List (Stage Selecting)
+abbrev pub whole_stages : Plan → List (Stage Selecting)
 whole_stages plan = if draws_together plan.procedure.method then stage_of_strata plan ∷ [] else stages_of plan
 
 -- the states from which they start
-abbrev pub whole_states : Parts → List AnyState
+abbrev pub whole_states : Plan → List AnyState
 whole_states plan = map (λ stage. first_state stage.design.design) (whole_stages plan)
 
 -- the seats of all rows in them
-abbrev pub whole_seats : Parts → List Seat
+abbrev pub whole_seats : Plan → List Seat
 whole_seats plan = if draws_together plan.procedure.method then seats_together plan else seats_of plan
 
 -- where unit k of stratum h stands in them
-abbrev pub whole_place : Parts → ℕ → ℕ → Place
+abbrev pub whole_place : Plan → ℕ → ℕ → Place
 whole_place plan h k =
     if draws_together plan.procedure.method then place_together plan.strata h k
     else record { stage = first_number plan h; unit = k }
 
 -- the draw tree, whose units are the rows of the frame
-abbrev pub whole_tree : Parts → Tree (Progress AnyState)
+abbrev pub whole_tree : Plan → Tree (Progress AnyState)
 whole_tree plan = staged_tree tree_of (whole_stages plan) (whole_seats plan)
 
 -- the state before the first step
-abbrev pub start_of : Parts → Progress AnyState
+abbrev pub start_of : Plan → Progress AnyState
 start_of plan = progress tree_of (whole_stages plan) (whole_states plan)
 
 -- the sections of the draw, by how many stages stand before each and how many they are: each stratum is one, or all strata together
-abbrev pub whole_sections : Parts → Sectioning (Progress AnyState)
+abbrev pub whole_sections : Plan → Sectioning (Progress AnyState)
 whole_sections plan = sections_by (λ h. if draws_together plan.procedure.method then h else first_number plan h)
     (if draws_together plan.procedure.method then 1 else length plan.strata)
 
@@ -248,15 +248,15 @@ whole_sections plan = sections_by (λ h. if draws_together plan.procedure.method
 -- A plan, and the number of the stratum that is drawn alone; where there is none, all are drawn, and what is said of the covered strata
 -- is what is said of the whole.
 pub record Coverage : Type 0 where
-  pub plan : Parts
+  pub plan : Plan
   pub only : Option ℕ
 
 -- all strata
-abbrev pub all_of : Parts → Coverage
+abbrev pub all_of : Plan → Coverage
 all_of plan = record { plan = plan; only = None }
 
 -- stratum h alone
-abbrev pub one_of : Parts → ℕ → Coverage
+abbrev pub one_of : Plan → ℕ → Coverage
 one_of plan h = record { plan = plan; only = Some h }
 
 -- whether stratum h is drawn, by the number of the one that is drawn alone
@@ -282,12 +282,12 @@ abbrev pub strata_count : Coverage → ℕ
 strata_count c = count_by c.only (length c.plan.strata)
 
 -- the plan, without the strata that aren't drawn
-abbrev pub parts_by : Parts → Option ℕ → Parts
+abbrev pub parts_by : Plan → Option ℕ → Plan
 parts_by plan None = plan
 parts_by plan (Some h) = record plan { strata = take 1 (drop h plan.strata) }
 
 -- the plan of the strata that are covered
-abbrev pub covered_parts : Coverage → Parts
+abbrev pub covered_parts : Coverage → Plan
 covered_parts c = parts_by c.plan c.only
 
 -- the stages: one of all strata, or those of the strata that are drawn
@@ -319,21 +319,21 @@ first_place c h k =
     else record { stage = first_number (covered_parts c) (covered_number c h); unit = k }
 
 -- whether a row is one of stratum h
-abbrev pub is_of_stratum : Parts → ℕ → ℕ → Bool
+abbrev pub is_of_stratum : Plan → ℕ → ℕ → Bool
 is_of_stratum plan h row = nat_eq (place_of plan.strata row).stratum h
 
 -- whether a row is one of section h: of its stratum, or any where all strata are drawn together
-abbrev pub is_of_section : Parts → ℕ → ℕ → Bool
+abbrev pub is_of_section : Plan → ℕ → ℕ → Bool
 is_of_section plan h row =
     if draws_together plan.procedure.method then true else is_of_stratum plan h row
 
 -- the seat of a row where stratum h is drawn alone, whose first stage has the number 0; rows of other strata have none
-abbrev pub seat_alone : Parts → ℕ → ℕ → Seat
+abbrev pub seat_alone : Plan → ℕ → ℕ → Seat
 seat_alone plan h row =
     if is_of_stratum plan h row then seat_by plan.second 0 (place_of plan.strata row) else Nowhere
 
 -- the seats of all rows, in frame order, where all strata are drawn or one alone
-abbrev pub seats_by : Parts → Option ℕ → List Seat
+abbrev pub seats_by : Plan → Option ℕ → List Seat
 seats_by plan None = seats_of plan
 seats_by plan (Some h) = map (seat_alone plan h) (range_with_len 0 plan.rows)
 
@@ -363,5 +363,5 @@ abbrev pub strata_sections : Coverage → Sectioning (Progress AnyState)
 strata_sections c = sections_by (stages_before c) (section_count c)
 
 -- the state is one of the selection of all strata by a plan that can be drawn
-abbrev pub BelongsToWhole : Parts → Progress AnyState → Type 0
+abbrev pub BelongsToWhole : Plan → Progress AnyState → Type 0
 BelongsToWhole plan = BelongsToCovered (all_of plan)

@@ -10,7 +10,7 @@ use Rattle.smp_design.specs.Words.{balances, draws_together}
 use Rattle.smp_prob.specs.declared.requests.Request.{Request}
 use Rattle.smp_methods.specs.declared.any.AnyState.{AnyState}
 use Rattle.smp_strata.specs.Draws.{IsFor, expected_firsts}
-use Rattle.smp_strata.specs.Plans.{Parts}
+use Rattle.smp_strata.specs.Plans.{Plan}
 use Rattle.smp_strata.specs.Seats.{seat_fraction}
 use Rattle.smp_strata.specs.declared.strata.FirstUnit as unit
 use Rattle.smp_strata.specs.declared.strata.Stratum as stratum
@@ -24,7 +24,7 @@ use Rattle.smp_twostage.specs.Selections.{Coverage, Selecting, BelongsToWhole, c
 use Rattle.smp_twostage.specs.Selections.{first_place, place_of, tree_of, whole_place, whole_stages, whole_states, whole_tree}
 
 -- the probability that a plan gives a row
-abbrev pub row_fraction : Parts → ℕ → Fraction
+abbrev pub row_fraction : Plan → ℕ → Fraction
 row_fraction plan row = seat_fraction plan.strata (place_of plan.strata row)
 
 -- ---- weighted totals
@@ -50,7 +50,7 @@ weighted asked x = times (integer (known asked x)) (inverse asked)
 -- ---- units that are selected
 
 -- whether unit k of stratum h is selected in the first stage, where the stages are in these states
-abbrev pub first_selected : Parts → List AnyState → ℕ → ℕ → Bool
+abbrev pub first_selected : Plan → List AnyState → ℕ → ℕ → Bool
 first_selected plan states h k = selected_in tree_of (whole_stages plan) states (whole_place plan h k)
 
 -- the same where the covered stages are in these states
@@ -58,7 +58,7 @@ abbrev pub covered_first : Coverage → List AnyState → ℕ → ℕ → Bool
 covered_first c states h k = selected_in tree_of (covered_stages c) states (first_place c h k)
 
 -- whether a row within it is selected in the second stage, by its place among the rows of the unit
-abbrev pub second_selected : Parts → List AnyState → ℕ → ℕ → ℕ → Bool
+abbrev pub second_selected : Plan → List AnyState → ℕ → ℕ → ℕ → Bool
 second_selected plan states h k row = selected_in tree_of (whole_stages plan) states
     (record { stage = suc ((whole_place plan h k).stage + k); unit = row })
 
@@ -68,28 +68,28 @@ left_by (Some stage) (Some state) = left_at stage.design.design state
 left_by stage state = 0
 
 -- at each leaf n of the first stage units of stratum h are selected
-abbrev pub FirstSelects : Parts → Progress AnyState → ℕ → stratum.Stratum → ℕ → Type 0
+abbrev pub FirstSelects : Plan → Progress AnyState → ℕ → stratum.Stratum → ℕ → Type 0
 FirstSelects plan start h s n =
     AtEachLeaf (whole_tree plan) start (λ path leaf.
     count_by (first_selected plan leaf.states h) (range_with_len 0 (length s.units)) ≡ n)
 
 -- at each leaf as many of them are selected as are expected of the stratum, or one of the two whole numbers around that where it
 -- isn't whole
-abbrev pub FirstSelectsAround : Parts → Progress AnyState → ℕ → stratum.Stratum → Type 0
+abbrev pub FirstSelectsAround : Plan → Progress AnyState → ℕ → stratum.Stratum → Type 0
 FirstSelectsAround plan start h s =
     AtEachLeaf (whole_tree plan) start (λ path leaf.
     IsAround (count_by (first_selected plan leaf.states h) (range_with_len 0 (length s.units)))
     (expected_firsts s))
 
 -- at each leaf at which unit k of stratum h is selected, n of its rows are
-abbrev pub SecondSelects : Parts → Progress AnyState → ℕ → ℕ → unit.FirstUnit → ℕ → Type 0
+abbrev pub SecondSelects : Plan → Progress AnyState → ℕ → ℕ → unit.FirstUnit → ℕ → Type 0
 SecondSelects plan start h k u n =
     AtEachLeaf (whole_tree plan) start (λ path leaf. first_selected plan leaf.states h k ≡ true
     → count_by (second_selected plan leaf.states h k) (range_with_len 0 (length u.rows)) ≡ n)
 
 -- ---- the start
 
-pub record StartsWhole (plan : Parts) (start : Progress AnyState) : Type 0 where
+pub record StartsWhole (plan : Plan) (start : Progress AnyState) : Type 0 where
   pub member : BelongsToWhole plan start
   -- Each row's value is the probability that the plan gives it.
   pub values : (row : ℕ) → row < plan.rows

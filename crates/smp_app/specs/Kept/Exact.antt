@@ -7,7 +7,7 @@ use Rattle.smp_status.specs.Codes.{Class, IsDone, IsRefusal}
 use Rattle.smp_twostage.specs.Plans.{CanBeDrawn}
 use Rattle.smp_twostage.specs.Selections.{BelongsToWhole}
 use Rattle.smp_plan.specs.Inputs.{plan_stage}
-use Rattle.smp_plan.specs.Plans.{Plan, parts}
+use Rattle.smp_plan.specs.Plans.{Survey, survey_plan}
 use Rattle.smp_plan.specs.Reads.{Sees}
 use Rattle.smp_app.specs.Commands.{Source, ByLog, ByOldLog, BySection, Work, Lists, Draws, Job, inputs_of, job_for}
 use Rattle.smp_app.specs.Drawn.{Drawn, start_of}
@@ -17,33 +17,33 @@ use Rattle.smp_app.specs.Verdict.{drawn_stage}
 -- ---- what is drawn
 
 -- what is drawn of all strata by this plan, from a state of the selection
-pub record IsDrawnWhole (plan : Plan) (drawn : Drawn) : Type 0 where
+pub record IsDrawnWhole (plan : Survey) (drawn : Drawn) : Type 0 where
   pub plan_is : drawn.plan ≡ plan
-  pub member : BelongsToWhole (parts plan) (start_of plan)
+  pub member : BelongsToWhole (survey_plan plan) (start_of plan)
   pub by_plan : IsDrawnBy drawn
 
-abbrev pub IsDrawnOf : Option ℕ → Plan → Drawn → Type 0
+abbrev pub IsDrawnOf : Option ℕ → Survey → Drawn → Type 0
 IsDrawnOf None plan drawn = IsDrawnWhole plan drawn
 IsDrawnOf (Some h) plan drawn = IsDrawnAlone plan h drawn
 
 -- what a source draws by a plan
-pub record IsDrawFrom (plan : Plan) (source : Source) (fs : Files) : Type 0 where
+pub record IsDrawFrom (plan : Survey) (source : Source) (fs : Files) : Type 0 where
   pub drawn : Drawn
   pub is_drawn : drawn_stage plan source fs ≡ Ok drawn
   pub by_plan : IsDrawnOf drawn.only plan drawn
 
 -- What holds of a plan of which a job lists: it can be drawn, and by its draw tree each row has its probability.
-pub record IsListed (plan : Plan) : Type 0 where
-  pub drawable : CanBeDrawn (parts plan)
+pub record IsListed (plan : Survey) : Type 0 where
+  pub drawable : CanBeDrawn (survey_plan plan)
   pub probabilities : HasProbabilities plan
 
-abbrev pub IsExactFrom : Plan → Work → Files → Type 0
+abbrev pub IsExactFrom : Survey → Work → Files → Type 0
 IsExactFrom plan (Lists text) fs = IsListed plan
 IsExactFrom plan (Draws source files put) fs = IsDrawFrom plan source fs
 
 -- what a job draws by its plan is drawn with the requested probabilities
 pub record IsExact (job : Job) (fs : Files) : Type 0 where
-  pub plan : Plan
+  pub plan : Survey
   pub planned : plan_stage job.design job.frame fs ≡ Ok plan
   pub from_plan : IsExactFrom plan job.work fs
 
@@ -55,32 +55,32 @@ IfLine (status.LogDiffers line) holds = holds line
 IfLine other holds = Unit {0}
 
 -- a plan and a source whose log is refused at a line
-abbrev pub IsRefusedAt : Plan → Source → Files → ℕ → Type 0
+abbrev pub IsRefusedAt : Survey → Source → Files → ℕ → Type 0
 IsRefusedAt plan (ByLog log) fs line = RefusesLog (λ bytes. WholeDiffers plan bytes line) log fs
 IsRefusedAt plan (ByOldLog log) fs line = RefusesLog (λ bytes. OldDiffers plan bytes line) log fs
 IsRefusedAt plan (BySection log number) fs line =
     RefusesLog (λ bytes. StratumDiffers (number - 1) plan bytes line) log fs
 IsRefusedAt plan other fs line = Unit {0}
 
-abbrev pub IsRefusedBy : Plan → Source → Files → Status → Type 0
+abbrev pub IsRefusedBy : Survey → Source → Files → Status → Type 0
 IsRefusedBy plan source fs refusal = IfLine refusal (IsRefusedAt plan source fs)
 
 -- ---- what a job ends with: what is drawn, or a refusal
 
-abbrev pub IsRefusedFrom : Plan → Work → Files → ℕ → Type 0
+abbrev pub IsRefusedFrom : Survey → Work → Files → ℕ → Type 0
 IsRefusedFrom plan (Lists text) fs = λ line. Unit {0}
 IsRefusedFrom plan (Draws source files put) fs = IsRefusedAt plan source fs
 
 -- what a job refuses at a line, by its plan
 pub record IsRefused (job : Job) (fs : Files) (line : ℕ) : Type 0 where
-  pub plan : Plan
+  pub plan : Survey
   pub planned : plan_stage job.design job.frame fs ≡ Ok plan
   pub by_plan : IsRefusedFrom plan job.work fs line
 
 abbrev pub IsExactRefusal : Job → Status → Files → Type 0
 IsExactRefusal job refusal fs = IfLine refusal (IsRefused job fs)
 
-abbrev pub EndsExactFrom : {A : Type 0} → Plan → Work → Files → Result A Status → Type 0
+abbrev pub EndsExactFrom : {A : Type 0} → Survey → Work → Files → Result A Status → Type 0
 EndsExactFrom plan work fs (Ok outputs) = IsExactFrom plan work fs
 EndsExactFrom plan work fs (Err refusal) = IfLine refusal (IsRefusedFrom plan work fs)
 

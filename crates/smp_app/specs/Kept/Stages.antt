@@ -9,7 +9,7 @@ use Rattle.smp_split.specs.Runs.{Outcome, leaf, stopped}
 use Rattle.smp_split.specs.Trees.{weight_sum}
 use Rattle.smp_methods.specs.declared.any.AnyState.{AnyState}
 use Rattle.smp_split.specs.Stages.{Progress}
-use Rattle.smp_strata.specs.Plans.{Parts}
+use Rattle.smp_strata.specs.Plans.{Plan}
 use Rattle.smp_twostage.specs.declared.whole.StartedWhole.{StartedWhole}
 use Rattle.smp_twostage.specs.Covered.{StartsAlone}
 use Rattle.smp_twostage.specs.Selections.{BelongsToCovered, Coverage, all_of, covered_start, covered_tree, section_count, strata_sections}
@@ -39,7 +39,7 @@ use Rattle.smp_app.specs.declared.job.Work as code_work
 use Rattle.smp_app.specs.declared.job.Work.TheVariants as works
 use Rattle.smp_app.specs.declared.job.Job as code_job
 use Rattle.smp_status.specs.Codes.{Class, IsUsage, IsRefusal}
-use Rattle.smp_plan.specs.Plans.{Plan}
+use Rattle.smp_plan.specs.Plans.{Survey}
 use Rattle.smp_app.specs.Drawn.{tree_of, Drawn, covered, drawn_rows}
 use Rattle.smp_app.specs.Texts.{ids_text, steps_text, log_text, sample_text, report_text, migrated_text, demo_text, probabilities_text}
 use Rattle.smp_app.specs.Texts.{accepted_text, joints_text}
@@ -59,15 +59,15 @@ use Rattle.smp_plan.specs.Planned.{source_view, frame_view, IsInRanges, IsFrameI
 abbrev pub Lines : Type 0
 Lines = List (ℕ × Entry)
 
-abbrev pub selection_view : Plan → Selection → Drawn
+abbrev pub selection_view : Survey → Selection → Drawn
 selection_view plan selection =
     record { plan = plan; only = selection.only; leaf = selection.state; path = steps_of selection.lines }
 
-abbrev pub walked_view : Plan → Walked → Lines → Drawn
+abbrev pub walked_view : Survey → Walked → Lines → Drawn
 walked_view plan walked lines =
     record { plan = plan; only = walked.only; leaf = walked.state; path = steps_of lines }
 
-abbrev pub plan_text : PlanText → Plan → List ℕ
+abbrev pub plan_text : PlanText → Survey → List ℕ
 plan_text plan_texts.Probabilities = probabilities_text
 plan_text plan_texts.Accepted = accepted_text
 plan_text plan_texts.Joints = joints_text
@@ -103,15 +103,15 @@ job_view job =
 -- ---- selections
 
 -- where one section alone is drawn, the plan has it
-abbrev pub HasStratum : Parts → Option ℕ → Type 0
+abbrev pub HasStratum : Plan → Option ℕ → Type 0
 HasStratum plan only = IfSome only (λ h. (h < section_count (all_of plan)) × (h < 2 ^ 32))
 
 -- where a walk of all strata starts, or of the one with this number
-abbrev pub StartsOf : Parts → Option ℕ → Progress AnyState → Type 0
+abbrev pub StartsOf : Plan → Option ℕ → Progress AnyState → Type 0
 StartsOf plan None state = StartsWhole plan state
 StartsOf plan (Some h) state = StartsAlone plan h state
 
-pub record IsStart (plan : Parts) (only : Option ℕ) (started : StartedWhole) : Type 0 where
+pub record IsStart (plan : Plan) (only : Option ℕ) (started : StartedWhole) : Type 0 where
   pub whole : started.whole ≡ record { plan = plan; only = only }
   pub state : started.state ≡ covered_start (record { plan = plan; only = only })
   pub starts : StartsOf plan only started.state
@@ -134,25 +134,25 @@ reading_by takes.Old c from head log = log_reading (covered_tree c) from head lo
 reading_by (takes.Stratum h) c from head log = section_reading (covered_tree c) from head (h + 1) log
 
 -- what it tells by a plan, and the line where it differs
-abbrev pub drawn_by_taken : Taken → Plan → List ℕ → Result Drawn Stop
+abbrev pub drawn_by_taken : Taken → Survey → List ℕ → Result Drawn Stop
 drawn_by_taken takes.Either plan log = drawn_by_log plan log
 drawn_by_taken takes.Old plan log = drawn_by_old_log plan log
 drawn_by_taken (takes.Stratum h) plan log = drawn_by_section plan h log
 
-abbrev pub DiffersTaken : Taken → Plan → List ℕ → ℕ → Type 0
+abbrev pub DiffersTaken : Taken → Survey → List ℕ → ℕ → Type 0
 DiffersTaken takes.Either plan log line = WholeDiffers plan log line
 DiffersTaken takes.Old plan log line = OldDiffers plan log line
 DiffersTaken (takes.Stratum h) plan log line = StratumDiffers h plan log line
 
 -- where a run stopped: at a state whose draw was refused
-pub record RefusedAt {Rest : Type 0} (plan : Plan) (outcome : Outcome (Progress AnyState) Rest)
+pub record RefusedAt {Rest : Type 0} (plan : Survey) (outcome : Outcome (Progress AnyState) Rest)
     (state : Progress AnyState) (fault : DrawFault) (bound : ℕ) (left : Rest) : Type 0 where
   pub path : List Entry
   pub ran : outcome ≡ stopped state path fault left
   pub bound_is : bound ≡ weight_sum ((tree_of plan).parts state)
 
 -- a walk ended as the run over its draws, unless memory ran out
-abbrev pub EndsAs : {Rest : Type 0} → Plan → Outcome (Progress AnyState) Rest → Rest
+abbrev pub EndsAs : {Rest : Type 0} → Survey → Outcome (Progress AnyState) Rest → Rest
     → Progress AnyState → Result Lines Stopped → Type 0
 EndsAs plan outcome left state (Ok lines) = outcome ≡ leaf state (steps_of lines) left
 EndsAs plan outcome left state (Err (stops.Draw fault bound)) = RefusedAt plan outcome state fault bound left
@@ -160,7 +160,7 @@ EndsAs plan outcome left state (Err (stops.Log line)) = ⊥
 EndsAs plan outcome left state (Err stops.NoMemory) = Unit {0}
 
 -- a replay of all strata or of one alone ended as the log tells, unless memory ran out
-abbrev pub EndsAsTold : Plan → Option ℕ → Result Drawn Stop → Progress AnyState
+abbrev pub EndsAsTold : Survey → Option ℕ → Result Drawn Stop → Progress AnyState
     → Result Lines Stopped → Type 0
 EndsAsTold plan only stage state (Ok lines) =
     stage ≡ Ok (record { plan = plan; only = only; leaf = state; path = steps_of lines })
@@ -182,7 +182,7 @@ stopped_status (stops.Log line) taken = status.LogDiffers line
 stopped_status stops.NoMemory taken = status.NoMemory
 
 -- What is answered follows from the end of a walk, where so many values are taken and so many left.
-abbrev pub FollowsEnd : Plan → Option ℕ → Result Drawn Status → Progress AnyState
+abbrev pub FollowsEnd : Survey → Option ℕ → Result Drawn Status → Progress AnyState
     → Result Lines Stopped → (taken left : ℕ) → Type 0
 FollowsEnd plan only answer state (Ok lines) taken left =
     Follows answer (drawn_at (record { plan = plan; only = only; leaf = state; path = steps_of lines }) left)
@@ -195,7 +195,7 @@ lines_of drawn =
     placed (covered_tree own) (strata_sections own) (covered_start own) drawn.path
 
 -- where a walk came to a leaf: a done state of the selection by the plan, the path to it, and its lines
-pub record IsWalked (plan : Plan) (design : Coverage) (lines : Lines) (drawn : Drawn) : Type 0 where
+pub record IsWalked (plan : Survey) (design : Coverage) (lines : Lines) (drawn : Drawn) : Type 0 where
   pub whole : design ≡ covered drawn
   pub belongs : BelongsToCovered design drawn.leaf
   pub done : (covered_tree (covered drawn)).done drawn.leaf ≡ true
@@ -203,7 +203,7 @@ pub record IsWalked (plan : Plan) (design : Coverage) (lines : Lines) (drawn : D
   pub by_plan : IsDrawnOf drawn.only plan drawn
 
 -- what is drawn by a plan: the rows of such a state
-pub record IsSelection (plan : Plan) (selection : Selection) : Type 0 where
+pub record IsSelection (plan : Survey) (selection : Selection) : Type 0 where
   pub whole : selection.whole ≡ covered (selection_view plan selection)
   pub belongs : BelongsToCovered selection.whole selection.state
   pub done : (covered_tree (covered (selection_view plan selection))).done selection.state ≡ true

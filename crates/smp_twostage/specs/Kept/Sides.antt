@@ -5,7 +5,7 @@ use Rattle.smp_methods.specs.Designs.{first_state}
 use Rattle.smp_split.specs.declared.places.Place.{Place}
 use Rattle.smp_split.specs.declared.places.Seat.{Seat}
 use Rattle.smp_split.specs.declared.places.Stage.{Stage}
-use Rattle.smp_strata.specs.Plans.{Parts}
+use Rattle.smp_strata.specs.Plans.{Plan}
 use Rattle.smp_twostage.specs.Selections.{Coverage, Selecting, covered_number, covered_parts, first_number, is_of_stratum, place_together}
 use Rattle.smp_twostage.specs.Selections.{seats_by, seats_together, stage_of_strata, stages_of, strata_count}
 
@@ -18,7 +18,7 @@ module _ (together : Bool) where
       if together then place_together c.plan.strata h k
       else record { stage = first_number (covered_parts c) (covered_number c h); unit = k }
 
-  abbrev pub is_in_section : Parts → ℕ → ℕ → Bool
+  abbrev pub is_in_section : Plan → ℕ → ℕ → Bool
   is_in_section plan h row = if together then true else is_of_stratum plan h row
 
   abbrev pub seats_in : Coverage → List Seat
@@ -31,5 +31,5 @@ module _ (together : Bool) where
   stages_before_by c h = if together then h else first_number (covered_parts c) h
 
 -- the states from which the stages of strata that are drawn one by one start
-abbrev pub states_of : Parts → List AnyState
+abbrev pub states_of : Plan → List AnyState
 states_of plan = map (λ stage. first_state stage.design.design) (stages_of plan)

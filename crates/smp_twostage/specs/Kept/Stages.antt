@@ -14,7 +14,7 @@ use Rattle.smp_split.specs.declared.places.Stage.{Stage}
 use Rattle.smp_split.specs.Stages.{EachBelongs}
 use Rattle.smp_methods.specs.Starts.{SelectsAround}
 use Rattle.smp_strata.specs.Bounds.{IsStratum}
-use Rattle.smp_strata.specs.Plans.{Parts}
+use Rattle.smp_strata.specs.Plans.{Plan}
 use Rattle.smp_strata.specs.declared.strata.FirstUnit.{FirstUnit}
 use Rattle.smp_strata.specs.declared.strata.Seat.{Seat}
 use Rattle.smp_strata.specs.declared.strata.Stratum.{Stratum}
@@ -35,7 +35,7 @@ asked_view (asked.Stratum request) = request.now
 asked_view (asked.Strata request) = request
 
 -- a stratum of a plan that can be drawn
-pub record IsPlanned (plan : Parts) (s : Stratum) : Type 0 where
+pub record IsPlanned (plan : Plan) (s : Stratum) : Type 0 where
   pub procedure : IsProcedure plan.procedure
   pub second : IfSome plan.second TakesRows
   pub stratum : IsStratum plan.second s
@@ -79,7 +79,7 @@ pub record EachStarts (stages : List (Stage Selecting)) (states : List AnyState)
 -- ---- what is told
 
 -- a place among the first stage units of the strata of a plan
-pub record IsThere (plan : Parts) (p : Seat) : Type 0 where
+pub record IsThere (plan : Plan) (p : Seat) : Type 0 where
   pub stratum : p.stratum < length plan.strata
   pub unit : p.unit < length (units_at (slice_get plan.strata p.stratum))
 

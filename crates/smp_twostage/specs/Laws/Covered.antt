@@ -13,7 +13,7 @@ use Rattle.smp_split.specs.declared.places.Seat.TheVariants as seat
 use Rattle.smp_split.specs.OwnStages.{AreSections}
 use Rattle.smp_split.specs.Stages.{IsFirstUnit, IsStaged, IsUnitWithin, within_of}
 use Rattle.smp_split.proofs.OwnStages.{run_at}
-use Rattle.smp_strata.specs.Plans.{Parts}
+use Rattle.smp_strata.specs.Plans.{Plan}
 use Rattle.smp_strata.specs.declared.strata.Stratum.{Stratum}
 use Rattle.smp_twostage.specs.Plans.{CanBeDrawn}
 use Rattle.smp_twostage.specs.Selections.{Coverage, count_by, covered_seats, covered_stages, first_number, is_of_stratum, is_together}
@@ -26,7 +26,7 @@ use Rattle.smp_twostage.specs.Laws.Staged.{first_seat, place_stands, second_seat
 
 -- ---- the sections of the strata
 
-module _ (plan : Parts) where
+module _ (plan : Plan) where
   pub number_rises : (h : ℕ) → first_number plan h ≤ first_number plan (suc h)
   number_rises h = omega (
     arith,
@@ -64,7 +64,7 @@ strata_are_sections c = sections_case (is_together c) c
 
 -- ---- one stratum alone
 
-module _ (plan : Parts) (h : ℕ) (s : Stratum) (is : slice_get plan.strata h ≡ Some s) where
+module _ (plan : Plan) (h : ℕ) (s : Stratum) (is : slice_get plan.strata h ≡ Some s) where
   -- it is the first of those that are drawn
   pub alone_there : slice_get (parts_by plan (Some h)).strata 0 ≡ Some s
   alone_there = let same : h + 0 ≡ h = omega arith in run_at plan.strata h 1 0 (omega arith) ∙ ap (slice_get plan.strata) same ∙ is
@@ -77,8 +77,8 @@ made_at f n row l =
     slice_get-map f (range_with_len 0 n) row
     ∙ ap (option_map f) (slice_get-get_or (range_with_len 0 n) row 0 within ∙ ap Some number)
 
-module _ (plan : Parts) (drawable : CanBeDrawn plan) (h : ℕ) where
-  abbrev alone : Parts
+module _ (plan : Plan) (drawable : CanBeDrawn plan) (h : ℕ) where
+  abbrev alone : Plan
   alone = parts_by plan (Some h)
 
   -- the seat of a row is that of its place, where the row is in the stratum
@@ -148,7 +148,7 @@ before_within (t ∷ strata) zero k s is l =
     omega (arith, here)
 before_within (t ∷ strata) (suc h) k s is l = omega (arith, before_within strata h k s is l)
 
-module _ (plan : Parts) (drawable : CanBeDrawn plan) where
+module _ (plan : Plan) (drawable : CanBeDrawn plan) where
   pub length_together : length (seats_together plan) ≡ plan.rows
   length_together = length-map (range_with_len 0 plan.rows) (seat_together plan) ∙ length-range_with_len 0 plan.rows
 
@@ -187,7 +187,7 @@ module _ (plan : Parts) (drawable : CanBeDrawn plan) where
 
 -- ---- the stages of those that are covered
 
-staged_by : (plan : Parts) → CanBeDrawn plan → (only : Option ℕ)
+staged_by : (plan : Plan) → CanBeDrawn plan → (only : Option ℕ)
     → IsStaged tree_of (stages_of (parts_by plan only)) (seats_by plan only)
 staged_by plan drawable None = whole_staged plan drawable
 staged_by plan drawable (Some h) = alone_staged plan drawable h

@@ -9,7 +9,7 @@ use Rattle.smp_split.specs.Laws.Reads.{some_within}
 use Rattle.smp_prob.specs.declared.requests.Request.{Request}
 use Rattle.smp_design.specs.declared.method.Method.{Method}
 use Rattle.smp_split.specs.declared.places.Stage.{Stage}
-use Rattle.smp_strata.specs.Plans.{Parts}
+use Rattle.smp_strata.specs.Plans.{Plan}
 use Rattle.smp_strata.specs.declared.strata.FirstUnit.{FirstUnit}
 use Rattle.smp_strata.specs.declared.strata.Stratum.{Stratum}
 use Rattle.smp_twostage.specs.Selections.{Selecting, first_stage, second_stage, stage_by, stage_within, stages_within, stages_in}
@@ -62,7 +62,7 @@ module _ (method : Option Method) (at : ℕ) (units : List FirstUnit) where
         | inr same ↦ ap (λ k. slice_get (stages_within method at units k) i) (sym same) ∙ is
       ]
 
-module _ (plan : Parts) where
+module _ (plan : Plan) where
   pub below_kept : (m n i : ℕ) (stage : Stage Selecting) → m ≤ n → slice_get (stages_below plan m) i ≡ Some stage
       → slice_get (stages_below plan n) i ≡ Some stage
   below_kept m zero i stage l is = let none : m ≡ 0 = omega (arith, l) in

@@ -17,7 +17,7 @@ use Rattle.smp_split.specs.declared.places.Stage.{Stage}
 use Rattle.smp_split.specs.Stages.{IsStaged, IsFirstUnit, IsUnitWithin, within_of}
 use Rattle.smp_split.proofs.Grown.{none_staged, one_more_stage}
 use Rattle.smp_strata.specs.Bounds.{IsFirst, IsStratum}
-use Rattle.smp_strata.specs.Plans.{Parts}
+use Rattle.smp_strata.specs.Plans.{Plan}
 use Rattle.smp_strata.specs.declared.strata.FirstUnit.{FirstUnit}
 use Rattle.smp_strata.specs.declared.strata.Seat.{Seat}
 use Rattle.smp_strata.specs.declared.strata.Stratum.{Stratum}
@@ -30,7 +30,7 @@ use Rattle.smp_twostage.specs.Laws.Places.{StandsIn, stands_in, place_is_seat}
 
 -- ---- the stages are in their order
 
-module _ (plan : Parts) (xs : List (Stage Selecting)) (s : Stratum) where
+module _ (plan : Plan) (xs : List (Stage Selecting)) (s : Stratum) where
   abbrev with_first : ℕ → List (Stage Selecting)
   with_first n = xs ++ first_stage plan s ∷ stages_within plan.second (length xs) s.units n
 
@@ -64,7 +64,7 @@ module _ (plan : Parts) (xs : List (Stage Selecting)) (s : Stratum) where
       (stage_within plan.second (length xs) n (slice_get s.units n)))
       (unit_more n (staged_within staged n (omega (arith, l))) (slice_get s.units n) refl l)
 
-module _ (plan : Parts) where
+module _ (plan : Plan) where
   staged_in : (xs : List (Stage Selecting)) → IsStaged tree_of xs [] → (s : Option Stratum)
       → IsStaged tree_of (xs ++ stages_in plan (length xs) s) []
   staged_in xs staged (Some s) = staged_within plan xs s staged (length s.units) (omega arith)
@@ -76,7 +76,7 @@ module _ (plan : Parts) where
 
 -- ---- the seat of a row that stands in stratum h
 
-module _ (plan : Parts) (h : ℕ) (place : Seat) (s : Stratum) (u : FirstUnit) (row : ℕ)
+module _ (plan : Plan) (h : ℕ) (place : Seat) (s : Stratum) (u : FirstUnit) (row : ℕ)
     (is_stratum : slice_get plan.strata h ≡ Some s) (is_unit : slice_get s.units place.unit ≡ Some u)
     (is_row : slice_get u.rows place.place ≡ Some row)
     (seconds : (method : Method) → plan.second ≡ Some method → HaveSeconds s.units) where
@@ -113,7 +113,7 @@ module _ (plan : Parts) (h : ℕ) (place : Seat) (s : Stratum) (u : FirstUnit) (
 
 -- ---- and the rows have seats in them
 
-module _ (plan : Parts) (drawable : CanBeDrawn plan) where
+module _ (plan : Plan) (drawable : CanBeDrawn plan) where
   stratum_is : (h : ℕ) (s : Stratum) → slice_get plan.strata h ≡ Some s → IsStratum plan.second s
   stratum_is h s is =
       subst (IsStratum plan.second) (get_or_from_slice_get plan.strata h s s is)
@@ -168,7 +168,7 @@ module _ (plan : Parts) (drawable : CanBeDrawn plan) where
         place = place_stands row inside;
       }
 
-module _ (plan : Parts) (drawable : CanBeDrawn plan) where
+module _ (plan : Plan) (drawable : CanBeDrawn plan) where
   module _ (row : ℕ) (here : StandsIn plan.strata row (place_of plan.strata row)) where
     first_in : (unit : Place) → seat.First unit ≡ seat_of plan (place_of plan.strata row) → IsFirstUnit tree_of (stages_of plan) unit
     first_in =

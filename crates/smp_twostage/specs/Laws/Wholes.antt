@@ -9,7 +9,7 @@ use Rattle.smp_split.specs.Laws.Rows.{rows_lawful}
 use Rattle.smp_split.specs.Stages.{Progress, IsUnderWay}
 use Rattle.smp_split.specs.Laws.Staged.{staged_lawful}
 use Rattle.smp_split.proofs.StageSections.{staged_sectioned}
-use Rattle.smp_strata.specs.Plans.{Parts}
+use Rattle.smp_strata.specs.Plans.{Plan}
 use Rattle.smp_twostage.specs.Plans.{CanBeDrawn}
 use Rattle.smp_twostage.specs.Selections.{BelongsToCovered, BelongsToWhole, Coverage, Selecting, all_of, belongs_to, covered_seats}
 use Rattle.smp_twostage.specs.Selections.{covered_stages, covered_tree, section_count, stages_before, strata_sections, tree_of}
@@ -53,7 +53,7 @@ covered_lawful c = record {
 abbrev pub covered_method : (c : Coverage) → Method (Progress AnyState)
 covered_method c = record { tree = covered_tree c; belongs = BelongsToCovered c; lawful = covered_lawful c }
 
-pub whole_lawful : (plan : Parts) → Lawful (whole_tree plan) (BelongsToWhole plan)
+pub whole_lawful : (plan : Plan) → Lawful (whole_tree plan) (BelongsToWhole plan)
 whole_lawful plan = covered_lawful (all_of plan)
 
 -- ---- it goes through its strata, one after the other

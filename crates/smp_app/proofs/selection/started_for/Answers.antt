@@ -1,12 +1,12 @@
 use Rattle.std.proofs.Common.{◌≡◌, ℕ, Option, Some, None, Result, Ok, Err}
 use Rattle.std.specs.Prelude.{IfOk}
-use Rattle.smp_strata.specs.Plans.{Parts}
+use Rattle.smp_strata.specs.Plans.{Plan}
 use Rattle.smp_twostage.specs.Selections.{covered_start}
 use Rattle.smp_twostage.specs.declared.whole.StartedWhole.{StartedWhole}
 use Rattle.smp_app.specs.Kept.Stages.{IsStart, StartsOf}
 use Rattle.smp_app.proofs.selection.started_for.Goals as goal
 
-starts_so : {E : Type 0} (plan : Parts) (only : Option ℕ) (result : Result StartedWhole E) → IfOk result (λ s. s.whole ≡ record { plan = plan; only = only })
+starts_so : {E : Type 0} (plan : Plan) (only : Option ℕ) (result : Result StartedWhole E) → IfOk result (λ s. s.whole ≡ record { plan = plan; only = only })
     → IfOk result (λ s. s.state ≡ covered_start (record { plan = plan; only = only })) → IfOk result (λ s. StartsOf plan only s.state) → IfOk result (IsStart plan only)
 starts_so plan only (Ok s) whole state starts = record { whole = whole; state = state; starts = starts }
 starts_so plan only (Err e) whole state starts = tt

@@ -1,11 +1,11 @@
 use Rattle.std.proofs.Common.{◌≡◌, ℕ, ◌<◌, ◌≤◌, ◌++◌, true, false, length, arith, sym, ap, ◌∙◌, codes}
 use Rattle.std.specs.Prelude.{string_bytes}
 use Rattle.std.specs.Fmt.{decimal}
-use Rattle.smp_strata.specs.Plans.{Parts}
+use Rattle.smp_strata.specs.Plans.{Plan}
 use Rattle.smp_twostage.specs.Covered.{covered_left}
 use Rattle.smp_twostage.specs.Selections.{Coverage, covers}
 use Rattle.smp_app.specs.Drawn.{covered}
-use Rattle.smp_plan.specs.Plans.{parts}
+use Rattle.smp_plan.specs.Plans.{survey_plan}
 use Rattle.smp_plan.specs.Planned.{plan_view}
 use Rattle.smp_app.specs.Kept.Stages.{selection_view}
 use Rattle.smp_app.specs.Texts.{left_text, lefts_text}
@@ -18,10 +18,10 @@ loop-stratum-preserved c =
     let plan = c.args.plan.now in
     let selection = c.args.selection.now in
     let drawn = selection_view (plan_view plan) selection in
-    let n = length (parts (plan_view plan)).strata in
+    let n = length (survey_plan (plan_view plan)).strata in
     let i = c.loop-stratum.stratum in
     let old = string_bytes c.loop-stratum.text in
-    let within : i < n = omega (arith, c.loop-stratum-test.true, c.strata-stratum-end.ensures, ap (λ (p : Parts). length p.strata) c.requires.planned.parts_are) in
+    let within : i < n = omega (arith, c.loop-stratum-test.true, c.strata-stratum-end.ensures, ap (λ (p : Plan). length p.strata) c.requires.planned.parts_are) in
     let seen : covers selection.whole i ≡ covers (covered drawn) i = ap (λ (w : Coverage). covers w i) c.requires.selection.whole in
     elim c.if-covers.branch [
       | then-covers+in_ok-push_left w ↦
@@ -39,6 +39,6 @@ pub returns : goal.returns
 returns c =
     let plan = c.args.plan.now in
     let drawn = selection_view (plan_view plan) c.args.selection.now in
-    let n = length (parts (plan_view plan)).strata in
-    let ended : n ≤ c.loop-stratum.stratum = omega (arith, c.loop-stratum-test.false, c.strata-stratum-end.ensures, ap (λ (p : Parts). length p.strata) c.requires.planned.parts_are) in
+    let n = length (survey_plan (plan_view plan)).strata in
+    let ended : n ≤ c.loop-stratum.stratum = omega (arith, c.loop-stratum-test.false, c.strata-stratum-end.ensures, ap (λ (p : Plan). length p.strata) c.requires.planned.parts_are) in
     lines_all (left_text drawn) (covers (covered drawn)) n c.loop-stratum.stratum (string_bytes c.loop-stratum.text) _ ended c.loop-stratum.invariant

@@ -2,7 +2,7 @@ use Rattle.std.proofs.Common.{◌≡◌, ◌++◌, length}
 use Rattle.std.specs.Prelude.{string_bytes}
 use Rattle.smp_twostage.specs.Selections.{covers}
 use Rattle.smp_app.specs.Drawn.{covered}
-use Rattle.smp_plan.specs.Plans.{parts}
+use Rattle.smp_plan.specs.Plans.{survey_plan}
 use Rattle.smp_plan.specs.Planned.{plan_view}
 use Rattle.smp_app.specs.Kept.Stages.{selection_view}
 use Rattle.smp_app.specs.Texts.{left_text, lefts_text}
@@ -13,5 +13,5 @@ use Rattle.smp_app.proofs.texts.lefts_text.Given as goal
 abbrev pub invariant-loop-stratum : goal.invariant-loop-stratum
 invariant-loop-stratum l =
     let drawn = selection_view (plan_view l.plan) l.selection in
-    string_bytes l.text ++ lines_from (left_text drawn) (covers (covered drawn)) (length (parts (plan_view l.plan)).strata) l.stratum
+    string_bytes l.text ++ lines_from (left_text drawn) (covers (covered drawn)) (length (survey_plan (plan_view l.plan)).strata) l.stratum
     ≡ lefts_text drawn

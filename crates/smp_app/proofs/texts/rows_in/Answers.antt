@@ -1,7 +1,7 @@
 use Rattle.std.proofs.Common.{◌<◌, true, false, length, arith, sym, ◌∙◌}
 use Rattle.std.proofs.lemmas.Bool.{eq-eqb, ne_eqb}
 use Rattle.smp_twostage.specs.Selections.{is_of_section}
-use Rattle.smp_plan.specs.Plans.{parts}
+use Rattle.smp_plan.specs.Plans.{survey_plan}
 use Rattle.smp_plan.specs.Planned.{plan_view}
 use Rattle.smp_app.proofs.Written.{count_from, stands_in_all, stands_in_its}
 use Rattle.smp_app.proofs.texts.rows_in.Goals.{then-draws_together, then-draws_together-via-then-draws_together, then-draws_together-via-else-draws_together+then-seat-stratum, else-draws_together+else-seat-stratum}
@@ -10,7 +10,7 @@ use Rattle.smp_app.proofs.texts.rows_in.Goals as goal
 pub loop-row-preserved : goal.loop-row-preserved
 loop-row-preserved c =
     let plan = c.args.plan.now in
-    let p = is_of_section (parts (plan_view plan)) c.args.stratum in
+    let p = is_of_section (survey_plan (plan_view plan)) c.args.stratum in
     let n = length c.units-units.result.now in
     let row = c.loop-row.row in
     let here : row < n = c.loop-row-test.true in

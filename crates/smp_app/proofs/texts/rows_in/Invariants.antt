@@ -1,7 +1,7 @@
 use Rattle.std.proofs.Common.{◌≡◌, ◌+◌, ◌-◌, ◌≤◌, Some}
 use Rattle.std.specs.List.{count_by, range_with_len}
 use Rattle.smp_twostage.specs.Selections.{is_of_section}
-use Rattle.smp_plan.specs.Plans.{parts}
+use Rattle.smp_plan.specs.Plans.{survey_plan}
 use Rattle.smp_app.specs.Drawn.{rows_by}
 use Rattle.smp_plan.specs.Planned.{plan_view}
 use Rattle.smp_app.proofs.texts.rows_in.Given as goal
@@ -10,5 +10,5 @@ use Rattle.smp_app.proofs.texts.rows_in.Given as goal
 abbrev pub invariant-loop-row : goal.invariant-loop-row
 invariant-loop-row l = record {
   small : l.rows ≤ l.row;
-  counted : l.rows + count_by (is_of_section (parts (plan_view l.plan)) l.stratum) (range_with_len l.row (l.units - l.row)) ≡ rows_by (plan_view l.plan) (Some l.stratum);
+  counted : l.rows + count_by (is_of_section (survey_plan (plan_view l.plan)) l.stratum) (range_with_len l.row (l.units - l.row)) ≡ rows_by (plan_view l.plan) (Some l.stratum);
 }

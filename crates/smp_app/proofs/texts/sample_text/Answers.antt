@@ -2,7 +2,7 @@ use Rattle.std.proofs.Common.{◌≡◌, ◌≤◌, length, map, ap, arith, rule
 use Rattle.std.proofs.lemmas.List.{get_or-map, length-map}
 use Rattle.smp_frac.specs.Exact.{fraction}
 use Rattle.smp_frame.specs.declared.frame.Unit as unit
-use Rattle.smp_strata.specs.Plans.{Parts}
+use Rattle.smp_strata.specs.Plans.{Plan}
 use Rattle.smp_weights.specs.Sample.{sample_row, sample_row_of}
 use Rattle.smp_plan.specs.Planned.{plan_view}
 use Rattle.smp_app.specs.Texts.{weighted_row}
@@ -22,7 +22,7 @@ pub asked-requires : goal.asked-requires
 asked-requires c =
     let items = rw c.as_slice-row-items.ensures.value at c.loop-row-test.true in
     let within = drawn_below c.args.plan.now c.args.selection.now c.requires.selection c.loop-row.row-index items in
-    let rows : c.args.plan.now.plan.rows ≡ length c.args.plan.now.frame = ap (λ (p : Parts). p.rows) c.requires.planned.parts_are in
+    let rows : c.args.plan.now.plan.rows ≡ length c.args.plan.now.frame = ap (λ (p : Plan). p.rows) c.requires.planned.parts_are in
     rw c.as_slice-row-items.ensures.value (omega (arith, within, rows))
 
 pub push_sample_row-requires : goal.push_sample_row-requires

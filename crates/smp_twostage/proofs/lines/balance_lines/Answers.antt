@@ -3,7 +3,7 @@ use Rattle.std.specs.Prelude.{string_bytes}
 use Rattle.std.specs.List.{flat_map}
 use Rattle.smp_design.specs.declared.procedure.Procedure.{Procedure}
 use Rattle.smp_design.specs.Words.{balances}
-use Rattle.smp_strata.specs.Plans.{Parts}
+use Rattle.smp_strata.specs.Plans.{Plan}
 use Rattle.smp_twostage.specs.Kept.Stages.{section_lines}
 use Rattle.smp_twostage.specs.Lines.{told_sections}
 use Rattle.smp_twostage.specs.Selections.{all_of, covers, section_count}
@@ -19,7 +19,7 @@ loop-section-preserved c =
     let i = c.loop-section.section in
     let old = string_bytes c.loop-section.text in
     let all = flat_map (section_lines whole states) (told_sections whole) in
-    let within : i < n = omega (arith, c.loop-section-test.true, c.section_count-section-end.ensures, ap (λ (p : Parts). section_count (all_of p)) c.plan-plan.ensures) in
+    let within : i < n = omega (arith, c.loop-section-test.true, c.section_count-section-end.ensures, ap (λ (p : Plan). section_count (all_of p)) c.plan-plan.ensures) in
     elim c.if-covers.branch [
       | then-covers+in_ok-push_lines w ↦
           (let passes : covers whole i ≡ true = sym c.covers.ensures ∙ w.if-covers.true in
@@ -34,7 +34,7 @@ pub returns : goal.returns
 returns c =
     let whole = c.args.whole.now in
     let n : ℕ = section_count (all_of whole.plan) in
-    let ended : n ≤ c.loop-section.section = omega (arith, c.loop-section-test.false, c.section_count-section-end.ensures, ap (λ (p : Parts). section_count (all_of p)) c.plan-plan.ensures) in
-    let said : c.balances.result ≡ balances whole.plan.procedure.method = c.balances.ensures ∙ ap (λ (way : Procedure). balances way.method) (c.procedure.ensures ∙ ap (λ (p : Parts). p.procedure) c.plan-plan.ensures) in
+    let ended : n ≤ c.loop-section.section = omega (arith, c.loop-section-test.false, c.section_count-section-end.ensures, ap (λ (p : Plan). section_count (all_of p)) c.plan-plan.ensures) in
+    let said : c.balances.result ≡ balances whole.plan.procedure.method = c.balances.ensures ∙ ap (λ (way : Procedure). balances way.method) (c.procedure.ensures ∙ ap (λ (p : Plan). p.procedure) c.plan-plan.ensures) in
     let on : balances whole.plan.procedure.method ≡ true = sym said ∙ c.if-not-balances.false in
     rw on (lines_all (section_lines whole c.args.state.now.states) (covers whole) n c.loop-section.section (string_bytes c.loop-section.text) _ ended c.loop-section.invariant)

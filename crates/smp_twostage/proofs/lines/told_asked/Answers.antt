@@ -1,6 +1,6 @@
 use Rattle.std.proofs.Common.{ap, ◌∙◌}
 use Rattle.smp_frac.specs.LowestTerms.{lowest_terms}
-use Rattle.smp_strata.specs.Plans.{Parts}
+use Rattle.smp_strata.specs.Plans.{Plan}
 use Rattle.smp_strata.specs.Seats.{first_fraction}
 use Rattle.smp_strata.specs.declared.strata.Seat.{Seat}
 use Rattle.smp_twostage.specs.Kept.Stages.{told_seat}
@@ -13,6 +13,6 @@ loop-number-preserved c =
     let seat = c.told_seat.result in
     next_told (λ i. lowest_terms (first_fraction whole.plan.strata (told_seat whole c.args.section i).stratum (told_seat whole c.args.section i).unit))
     c.loop-number.number c.loop-number.asked.items c.push.new.self.items c.asked_at.result c.loop-number.invariant
-    (c.asked_at.ensures ∙ ap (λ (p : Parts). lowest_terms (first_fraction p.strata seat.stratum seat.unit)) c.plan.ensures
+    (c.asked_at.ensures ∙ ap (λ (p : Plan). lowest_terms (first_fraction p.strata seat.stratum seat.unit)) c.plan.ensures
     ∙ ap (λ (q : Seat). lowest_terms (first_fraction whole.plan.strata q.stratum q.unit)) c.told_seat.ensures.is)
     c.in_ok-push.ensures.items

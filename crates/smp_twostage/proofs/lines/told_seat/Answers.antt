@@ -1,7 +1,7 @@
 use Rattle.std.proofs.Common.{◌≡◌, true, sym, ap, subst, ◌∙◌}
 use Rattle.smp_design.specs.declared.procedure.Procedure.{Procedure}
 use Rattle.smp_design.specs.Words.{draws_together}
-use Rattle.smp_strata.specs.Plans.{Parts}
+use Rattle.smp_strata.specs.Plans.{Plan}
 use Rattle.smp_strata.specs.Seats.{IsSeat}
 use Rattle.smp_strata.specs.declared.strata.Seat.{Seat}
 use Rattle.smp_twostage.specs.Kept.Stages.{IsThere}
@@ -13,9 +13,9 @@ pub returns-then-draws_together-clause-is : goal.returns-then-draws_together-cla
 returns-then-draws_together-clause-is c =
     let whole = c.args.whole.now in
     let yes : is_together whole ≡ true =
-    ap (λ (p : Parts). draws_together p.procedure.method) (sym c.plan-plan.ensures) ∙ ap (λ (way : Procedure). draws_together way.method) (sym c.procedure.ensures) ∙ sym c.draws_together.ensures ∙ c.if-draws_together.true in
+    ap (λ (p : Plan). draws_together p.procedure.method) (sym c.plan-plan.ensures) ∙ ap (λ (way : Procedure). draws_together way.method) (sym c.procedure.ensures) ∙ sym c.draws_together.ensures ∙ c.if-draws_together.true in
     let once : (q : Seat) → IsSeat whole.plan.strata c.args.number q → q ≡ c.seat.result =
-    subst (λ (p : Parts). (q : Seat) → IsSeat p.strata c.args.number q → q ≡ c.seat.result) c.plan-plan.ensures c.seat.ensures.once in
+    subst (λ (p : Plan). (q : Seat) → IsSeat p.strata c.args.number q → q ≡ c.seat.result) c.plan-plan.ensures c.seat.ensures.once in
     row_told whole c.args.section c.requires.drawable c.requires.within c.requires.covered yes c.args.number c.seat.result c.requires.number once
 
 pub returns-then-draws_together-clause-there : goal.returns-then-draws_together-clause-there

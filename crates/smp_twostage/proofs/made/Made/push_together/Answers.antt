@@ -6,7 +6,7 @@ use Rattle.smp_methods.specs.declared.start.Started.{Started}
 use Rattle.smp_methods.specs.Designs.{design_of_strata, first_state}
 use Rattle.smp_methods.specs.Starts.{AreStarted}
 use Rattle.smp_split.specs.declared.places.Stage.{Stage}
-use Rattle.smp_strata.specs.Plans.{Parts}
+use Rattle.smp_strata.specs.Plans.{Plan}
 use Rattle.smp_stratcube.specs.Layers.{AreLayers, Layer}
 use Rattle.smp_twostage.specs.Kept.Stages.{EachFirst}
 use Rattle.smp_twostage.specs.Selections.{Selecting, layers_of, request_over, stage_of_strata, unit_count}
@@ -15,23 +15,23 @@ use Rattle.smp_twostage.proofs.Together.{stage_first}
 use Rattle.smp_twostage.proofs.made.Made.push_together.Goals as goal
 
 -- the stage of all strata, and what it starts with
-stage_made : (plan : Parts) (units : ℕ) (request : Request) (design : AnyDesign) → units ≡ unit_count plan.strata → request ≡ request_over plan.strata → design ≡ design_of_strata (layers_of plan)
+stage_made : (plan : Plan) (units : ℕ) (request : Request) (design : AnyDesign) → units ≡ unit_count plan.strata → request ≡ request_over plan.strata → design ≡ design_of_strata (layers_of plan)
     → record { design = record { units = units; request = request; design = design }; within = None } ≡ stage_of_strata plan
 stage_made plan units request design counted asked is =
     ap (λ n. record { design = record { units = n; request = request; design = design }; within = None }) counted
     ∙ ap (λ r. record { design = record { units = unit_count plan.strata; request = r; design = design }; within = None }) asked
     ∙ ap (λ d. record { design = record { units = unit_count plan.strata; request = request_over plan.strata; design = d }; within = None }) is
 
-are_made : (plan : Parts) (layers : List Layer) (started : Started) → layers ≡ layers_of plan → AreStarted layers started
+are_made : (plan : Plan) (layers : List Layer) (started : Started) → layers ≡ layers_of plan → AreStarted layers started
     → AreStarted (layers_of plan) (record { design = design_of_strata (layers_of plan); state = first_state (design_of_strata (layers_of plan)) })
 are_made plan layers started is starts =
     let made : AreStarted (layers_of plan) started = subst (λ (ls : List Layer). AreStarted ls started) is starts in
     subst (AreStarted (layers_of plan)) (ap₂ (λ (d : AnyDesign) (s : AnyState). record { design = d; state = s }) made.design made.state) made
 
-design_made : (plan : Parts) (layers : List Layer) (started : Started) → layers ≡ layers_of plan → AreStarted layers started → started.design ≡ design_of_strata (layers_of plan)
+design_made : (plan : Plan) (layers : List Layer) (started : Started) → layers ≡ layers_of plan → AreStarted layers started → started.design ≡ design_of_strata (layers_of plan)
 design_made plan layers started is starts = starts.design ∙ ap design_of_strata is
 
-state_made : (plan : Parts) (layers : List Layer) (started : Started) → layers ≡ layers_of plan → AreStarted layers started → started.state ≡ first_state (design_of_strata (layers_of plan))
+state_made : (plan : Plan) (layers : List Layer) (started : Started) → layers ≡ layers_of plan → AreStarted layers started → started.state ≡ first_state (design_of_strata (layers_of plan))
 state_made plan layers started is starts = starts.state ∙ ap (λ (ls : List Layer). first_state (design_of_strata ls)) is
 
 pub request_over-requires-clause-few : goal.request_over-requires-clause-few
